@@ -1,0 +1,66 @@
+use Rattle.std.proofs.Common.{◌≡◌, ℕ, ◌<◌, List, [], sym, refl, ap, subst, cond, inl, inr, ⊎_elim, length, None}
+use Rattle.std.proofs.lemmas.Bool.{lt-ltb}
+use Rattle.std.specs.Option.{IfSome}
+use Rattle.std.specs.Str.{is_utf8}
+use Rattle.funnel_io.specs.declared.end.End.TheVariants as end_of
+use Rattle.funnel_model.specs.declared.reply.Reply.TheVariants as reply
+use Rattle.line_proto.specs.Forms.{Malformed, call_of_text, form_of, item_from, item_of, without_return}
+use Rattle.funnel.specs.Answering.{Replies}
+use Rattle.funnel.specs.Kept.{limits_of}
+use Rattle.funnel.specs.Serving.{IsOver}
+use Rattle.funnel.proofs.ServingLemmas.{over_done, over_limit, over_read}
+use Rattle.funnel.proofs.serving.Server.answer_next.Goals as goal
+
+-- a line that is too long has no form
+malformed : (line : List ℕ) → 65536 < length line → item_of line ≡ Malformed
+unfolding form_of
+malformed line long =
+    ap (λ b. item_from (cond b None (cond (is_utf8 (without_return line)) (call_of_text (without_return line)) None))) (lt-ltb 65536 (length line) long)
+
+pub returns-in-Whole-clause-answered : goal.returns-in-Whole-clause-answered
+returns-in-Whole-clause-answered g c =
+    let a = c.in-Whole.ensures.advances in
+    record {
+      bytes = a.bytes;
+      takes = a.takes;
+      item = item_of c.next_line.new.self.line;
+      gives = λ rest pending. let w = a.gives rest pending in record { line = c.next_line.new.self.line; rest = w.rest; ends = w.ends; kept = w.pending; item_is = refl };
+      replies = subst (λ (bs : List ℕ). Replies (limits_of c.args.self.now.index.slices) c.args.self.now.index.history (item_of bs) c.answer.new.index.history c.answer.new.text.items) c.line-line.ensures c.answer.ensures.replies;
+    }
+
+pub returns-in-Long-clause-answered : goal.returns-in-Long-clause-answered
+returns-in-Long-clause-answered g c =
+    let a = c.in-Long.ensures.advances in
+    record {
+      bytes = a.bytes;
+      takes = a.takes;
+      item = Malformed;
+      gives = λ rest pending. let w = a.gives rest pending in record { line = w.line; rest = w.rest; ends = w.ends; kept = w.pending; item_is = malformed w.line w.too_long };
+      replies = record { reply = reply.Line; answers = (refl, refl); text_is = elim c.render.ensures.text [ inl is ↦ is | inr lost ↦ cc ] };
+    }
+
+pub returns-in-Finished-clause-over : goal.returns-in-Finished-clause-over
+returns-in-Finished-clause-over g c start written lim p =
+    let a = c.in-Finished.ensures.advances in
+    let f = a.gives p.rest p.kept in
+    over_done (limits_of c.args.self.now.index.slices) start c.args.self.now.reader c.next_line.new.self c.args.self.now.index.history c.args.self.now.index.history
+    (g.C.Source.left c.args.input.now) (g.C.Source.left c.next_line.new.conn) (g.C.Source.taken c.args.input.now) (g.C.Source.taken c.next_line.new.conn) written written
+    c.args.left.now c.next_line.new.left p a.bytes a.takes f.nothing
+    (λ is. ⊎_elim (λ old. subst (λ conn. IfSome (g.C.Source.left conn) (λ bs. bs ≡ [])) (sym (c.next_line.ensures.untouched (inr (inl old)))) (p.none_left old)) (λ none. none) (c.next_line.ensures.at_end f.at_end))
+
+pub returns-in-Failed-clause-over : goal.returns-in-Failed-clause-over
+returns-in-Failed-clause-over g c start written lim p =
+    let a = c.in-Failed.ensures.advances in
+    let f = a.gives p.rest p.kept in
+    over_read (limits_of c.args.self.now.index.slices) start c.args.self.now.reader c.next_line.new.self c.args.self.now.index.history c.args.self.now.index.history
+    (g.C.Source.left c.args.input.now) (g.C.Source.left c.next_line.new.conn) (g.C.Source.taken c.args.input.now) (g.C.Source.taken c.next_line.new.conn) written written
+    c.args.left.now c.next_line.new.left p a.bytes a.takes c.next_line.ensures.stays_at_end f.clean f.not_at_end
+
+pub returns-in-Limit-clause-over : goal.returns-in-Limit-clause-over
+returns-in-Limit-clause-over g c start written lim p =
+    let a = c.in-Limit.ensures.advances in
+    let f = a.gives p.rest p.kept in
+    subst (λ n. IsOver (limits_of c.args.self.now.index.slices) start c.args.self.now.index.history (g.C.Source.left c.next_line.new.conn) (g.C.Source.taken c.next_line.new.conn) written (end_of.ByteLimit n)) lim
+    (over_limit (limits_of c.args.self.now.index.slices) start c.args.self.now.reader c.next_line.new.self c.args.self.now.index.history c.args.self.now.index.history
+    (g.C.Source.left c.args.input.now) (g.C.Source.left c.next_line.new.conn) (g.C.Source.taken c.args.input.now) (g.C.Source.taken c.next_line.new.conn) written written
+    c.args.left.now c.next_line.new.left p a.bytes a.takes c.next_line.ensures.stays_at_end f.clean f.not_at_end (c.in-Limit.ensures.limit refl))

@@ -1,0 +1,46 @@
+use Rattle.std.proofs.Common.{◌≡◌, ℕ, ◌+◌, List, [], sym, subst, arith, length}
+use Rattle.std.proofs.lemmas.List.{nil_from_length}
+use Rattle.funnel_io.specs.Bytes.{AppendedPart, AppendedTo}
+use Rattle.line_proto.specs.Forms.{Item}
+use Rattle.funnel.specs.Answering.{Replies}
+use Rattle.funnel.specs.Kept.{limits_of}
+use Rattle.funnel.proofs.ServingLemmas.{over_write, progress_on}
+use Rattle.funnel.proofs.WorkLemmas.{less_work}
+use Rattle.funnel.proofs.serving.Server.turn.Goals as goal
+
+none_taken : (bytes : List ℕ) (may may' : ℕ) → may' + length bytes ≡ may → may' ≡ may → bytes ≡ []
+none_taken bytes may may' count same = nil_from_length bytes (omega arith)
+
+pub returns-in-Ok-clause-progress : goal.returns-in-Ok-clause-progress
+returns-in-Ok-clause-progress g c start lim p =
+    let a = c.in_default.ensures.answered in
+    let l = a.gives p.rest p.kept in
+    let i = c.args.self.now.index in
+    let after = c.answer_next.new.self in
+    progress_on (limits_of i.slices) start c.args.self.now.reader after.reader i.history after.index.history
+    (g.C.Source.left c.args.input.now) (g.C.Source.left c.answer_next.new.input) (g.C.Source.taken c.args.input.now) (g.C.Source.taken c.answer_next.new.input)
+    (g.K.Sink.written c.args.output.now) (g.K.Sink.written c.write_all.new.sink) c.args.left.now c.answer_next.new.left p a.bytes a.takes
+    l.line l.rest l.ends l.kept (λ old. none_taken a.bytes c.args.left.now c.answer_next.new.left a.takes.count (c.answer_next.ensures.untouched old))
+    (λ at_end. c.answer_next.ensures.none_left at_end p.none_left) after.text.items
+    (subst (λ (item : Item). Replies (limits_of i.slices) i.history item after.index.history after.text.items) (sym l.item_is) a.replies)
+    (subst (λ (bs : List ℕ). AppendedTo (g.K.Sink.written c.args.output.now) bs (g.K.Sink.written c.write_all.new.sink)) c.as_slice.ensures.value c.in-Ok.ensures.ok)
+
+pub returns-in-Ok-clause-smaller : goal.returns-in-Ok-clause-smaller
+returns-in-Ok-clause-smaller g c rest pending =
+    let a = c.in_default.ensures.answered in
+    let l = a.gives rest pending in
+    less_work c.args.self.now.reader c.answer_next.new.self.reader rest a.bytes l.line l.rest c.args.left.now c.answer_next.new.left pending a.takes.count l.ends l.kept
+
+pub returns-in-Err-clause-progress : goal.returns-in-Err-clause-progress
+returns-in-Err-clause-progress g c start lim p =
+    let a = c.in_default.ensures.answered in
+    let l = a.gives p.rest p.kept in
+    let i = c.args.self.now.index in
+    let after = c.answer_next.new.self in
+    over_write (limits_of i.slices) start c.args.self.now.reader after.reader i.history after.index.history
+    (g.C.Source.left c.args.input.now) (g.C.Source.left c.answer_next.new.input) (g.C.Source.taken c.args.input.now) (g.C.Source.taken c.answer_next.new.input)
+    (g.K.Sink.written c.args.output.now) (g.K.Sink.written c.write_all.new.sink) c.args.left.now c.answer_next.new.left p a.bytes a.takes
+    l.line l.rest l.ends l.kept (λ old. none_taken a.bytes c.args.left.now c.answer_next.new.left a.takes.count (c.answer_next.ensures.untouched old))
+    (λ at_end. c.answer_next.ensures.none_left at_end p.none_left) after.text.items
+    (subst (λ (item : Item). Replies (limits_of i.slices) i.history item after.index.history after.text.items) (sym l.item_is) a.replies)
+    (subst (λ (bs : List ℕ). AppendedPart (g.K.Sink.written c.args.output.now) bs (g.K.Sink.written c.write_all.new.sink)) c.as_slice.ensures.value c.in-Err.ensures.part)

@@ -1,0 +1,13 @@
+pub mod Answering
+pub mod Ended
+pub mod Foot
+pub mod HeldBytes
+pub mod Kept
+pub mod Matches
+pub mod Pending
+pub mod Reading
+pub mod Running
+pub mod Serving
+pub mod Session
+pub mod Taking
+pub mod Turns

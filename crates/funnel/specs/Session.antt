@@ -1,0 +1,82 @@
+-- What a session writes for what it reads.
+use Rattle.std.specs.Prelude.{◌≡◌, ℕ, ◌<◌, true, false, List, [], ◌∷◌, ◌++◌, length, Option, Some, None}
+use Rattle.std.specs.List.{filter_map}
+use Rattle.funnel_io.specs.Lines.{lines}
+use Rattle.funnel_io.specs.declared.end.End.{End}
+use Rattle.funnel_io.specs.declared.end.End.TheVariants as end_of
+use Rattle.funnel_model.specs.declared.call.Call.{Call}
+use Rattle.funnel_model.specs.declared.event.Event.{Event}
+use Rattle.funnel_model.specs.declared.reply.Reply.{Reply}
+use Rattle.funnel_model.specs.declared.reply.Reply.TheVariants as reply
+use Rattle.funnel_model.specs.Legal.{Limits}
+use Rattle.funnel_model.specs.Steps.{Step}
+use Rattle.line_proto.specs.Forms.{Item, Asks, Malformed, items}
+use Rattle.line_proto.specs.Texts.{text_of, texts}
+
+-- a call is answered by a step of the pass, and a line of no form by its refusal and no step
+abbrev pub AnswersItem : Limits → ℕ → List Event → Item → Reply → List Event → Type 0
+AnswersItem limits pass before (Asks asked) given after = Step limits pass before after asked given
+AnswersItem limits pass before Malformed given after = (given ≡ reply.Line) × (before ≡ after)
+
+-- the items are answered by these replies in order, from front to front
+abbrev pub Answers : Limits → ℕ → List Event → List Item → List Reply → List Event → Type 0
+Answers limits pass before [] [] after = before ≡ after
+Answers limits pass before (item ∷ items) (given ∷ replies) after =
+    (middle : List Event) × AnswersItem limits pass before item given middle × Answers limits pass middle items replies after
+Answers limits pass before [] (given ∷ replies) after = ⊥
+Answers limits pass before (item ∷ items) [] after = ⊥
+
+-- the call that an item asks for
+abbrev pub asked_by : Item → Option Call
+asked_by (Asks asked) = Some asked
+asked_by Malformed = None
+
+-- the calls that the items ask for, in order
+abbrev pub calls_of : List Item → List Call
+calls_of items = filter_map asked_by items
+
+-- of the replies to the items, those to their calls
+abbrev pub replies_to_calls : List Item → List Reply → List Reply
+replies_to_calls [] replies = []
+replies_to_calls (item ∷ items) [] = []
+replies_to_calls (Asks asked ∷ items) (given ∷ replies) = given ∷ replies_to_calls items replies
+replies_to_calls (Malformed ∷ items) (given ∷ replies) = replies_to_calls items replies
+
+-- every item is answered, and what is written is the text of the replies
+pub record AnswersAll (limits : Limits) (pass : ℕ) (before after : List Event) (asked : List Item) (written : List ℕ) : Type 0 where
+  pub replies : List Reply
+  pub answers : Answers limits pass before asked replies after
+  pub text : written ≡ texts replies
+
+-- only the first items are answered; what is written is the text of their replies without the last one's, and a part of that one's
+pub record AnswersSome (limits : Limits) (pass : ℕ) (before after : List Event) (asked : List Item) (written : List ℕ) : Type 0 where
+  pub first : List Item
+  pub others : List Item
+  pub of_these : asked ≡ first ++ others
+  pub replies : List Reply
+  pub last : Reply
+  pub answers : Answers limits pass before first (replies ++ last ∷ []) after
+  pub part : List ℕ
+  pub missing : List ℕ
+  pub cut : text_of last ≡ part ++ missing
+  pub proper : 0 < length missing
+  pub text : written ≡ texts replies ++ part
+
+-- nothing was read, written or answered
+pub record Nothing (before after : List Event) (taken written : List ℕ) : Type 0 where
+  pub taken_none : taken ≡ []
+  pub written_none : written ≡ []
+  pub same : after ≡ before
+
+-- the limit was reached, and every whole line before it was answered
+pub record AtLimit (limits : Limits) (pass limit : ℕ) (before after : List Event) (taken written : List ℕ) : Type 0 where
+  pub full : length taken ≡ limit
+  pub answered : AnswersAll limits pass before after (items (lines taken false)) written
+
+-- what a session of a pass writes for the bytes that it took, by its end, and the fronts before and after it
+abbrev pub Session : Limits → ℕ → List Event → List Event → List ℕ → List ℕ → End → Type 0
+Session limits pass before after taken written end_of.Done = AnswersAll limits pass before after (items (lines taken true)) written
+Session limits pass before after taken written end_of.ReadFault = AnswersAll limits pass before after (items (lines taken false)) written
+Session limits pass before after taken written end_of.WriteFault = AnswersSome limits pass before after (items (lines taken true)) written
+Session limits pass before after taken written (end_of.ByteLimit limit) = AtLimit limits pass limit before after taken written
+Session limits pass before after taken written end_of.Memory = Nothing before after taken written

@@ -1,0 +1,41 @@
+ghost use Rattle.std.specs.Prelude.{◌≡◌, ◌↔◌, ◌^◌, codes, [], ◌∷◌, map, IfNone};
+ghost use Rattle.funnel.specs.Kept.{limits_of};
+ghost use Rattle.funnel.specs.Running.{EndsCommand};
+
+use crate::ended::{Ended, Why};
+use crate::running::run_with;
+use funnel_io::{Gate, Sink, Source};
+use std::alloc::Global;
+
+/// How many slices `run` has.
+const RUN_SLICES: u32 = 1;
+
+/// Runs the command that the words are. There is one: `run` answers the lines of `input` on `output`. `config` is not
+/// read, and `gates` come back as they came.
+pub fn funnel_main<C: Source, S: Source, K: Sink, G: Gate + Send>(
+    alloc: Global,
+    words: &[&str],
+    config: &mut C,
+    input: &mut S,
+    output: &mut K,
+    gates: Vec<G>,
+) -> Ended<G>
+    ensures gates { result.gates ≡ gates }
+    ensures config { config.new ≡ config.old }
+    ensures usage { result.why ≡ Why.Usage ↔ (map (λ word. word.now) words.now ≡ codes "run" ∷ [] → ⊥) }
+    ensures ran { EndsCommand (limits_of 1) (2 ^ 40)
+        record { left = S.left input.old; taken = S.taken input.old; written = K.written output.old; reads = S.read_faults input.old; writes = K.write_faults output.old }
+        record { left = S.left input.new; taken = S.taken input.new; written = K.written output.new; reads = S.read_faults input.new; writes = K.write_faults output.new }
+        result.why result.closed }
+    ensures input_untouched { IfNone result.closed (input.new ≡ input.old) }
+    ensures output_untouched { IfNone result.closed (output.new ≡ output.old) }
+    ensures source_borrowed { S.borrowed input.new ≡ S.borrowed input.old }
+    ensures sink_borrowed { K.borrowed output.new ≡ K.borrowed output.old }
+{
+    let _ = config;
+    let (why, closed) = match words {
+        ["run"] => run_with(alloc, RUN_SLICES, input, output),
+        _ => (Why::Usage, None),
+    };
+    Ended { why, gates, closed }
+}

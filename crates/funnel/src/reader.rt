@@ -1,0 +1,215 @@
+ghost use Rattle.std.specs.Prelude.{◌≡◌, ◌<◌, ◌≤◌, ◌+◌, ◌⊎◌, [], true, false, nat_lt, ◌||◌, if◌then◌else◌, IfOk, IfSome, MatchOption, length, ⊤};
+ghost use Rattle.funnel_io.specs.Answers.{MatchGot};
+ghost use Rattle.funnel_io.specs.Counts.{Rose};
+ghost use Rattle.funnel_io.specs.Lines.{HasNoNewline};
+ghost use Rattle.funnel.specs.Pending.{KeepsAll, most_lines};
+ghost use Rattle.funnel.specs.Reading.{IsPending, IsDecided, Gives, Advances, Continues, IsOfBytes, IsLine};
+
+use crate::held::{Held, LEAST_ROOM};
+use funnel_io::{Got, Memory, Source};
+use line_proto::MAX_LINE_LEN;
+use std::alloc::Global;
+use std::marker::Model;
+
+/// What one call of [`LineReader::next_line`] gave.
+#[derive(Clone, Copy, Debug, PartialEq, Eq)]
+pub enum Line {
+    /// A line of at most 65,536 bytes ended.
+    Whole,
+    /// A longer line ended.
+    Long,
+    /// The source is at its end, and every line was given.
+    Finished,
+    /// A read failed.
+    Failed,
+    /// Another byte would have to be read, and none may be.
+    Limit,
+}
+
+/// Turns the bytes of a source into lines, however its reads cut them. A line ends at a newline,
+/// which is no part of it, or at the end of the source where it is not empty there.
+#[derive(Drop)]
+pub struct LineReader {
+    held: Held,
+    long: bool,
+    ended: bool,
+}
+
+impl Model for LineReader {
+    ghost use Rattle.funnel.specs.Pending.{Pending};
+
+    ghost Value = { Pending };
+
+    ghost view = { λ r. record {
+      held = r.held.bytes;
+      long = r.long;
+      ended = r.ended;
+      line = r.held.line;
+    } };
+}
+
+impl LineReader {
+    /// A reader that holds nothing. It takes all the memory that it ever needs.
+    pub fn new(alloc: Global) -> Result<LineReader, Memory>
+        ensures { IfOk result (λ reader. reader ≡ record {
+          held = [];
+          long = false;
+          ended = false;
+          line = [];
+        }) }
+    {
+        Ok(LineReader {
+            held: Held::new(alloc)?,
+            long: false,
+            ended: false,
+        })
+    }
+
+    /// The line that was given last, after [`Line::Whole`].
+    pub fn line(&self) -> &[u8]
+        ensures { result.now ≡ self.now.line }
+    {
+        self.held.line()
+    }
+
+    /// Gives the next line, and takes at most `left` bytes for it, which it counts down. It reads
+    /// only where the bytes that it holds decide no answer, and takes no memory.
+    pub fn next_line<C: Source>(&mut self, conn: &mut C, left: &mut u64) -> Line
+        ensures never_falls { C.read_faults conn.old ≤ C.read_faults conn.new }
+        ensures borrowed { C.borrowed conn.new ≡ C.borrowed conn.old }
+        ensures beside { C.beside_read conn.new ≡ C.beside_read conn.old }
+        ensures advances { Advances self.old self.new result (C.left conn.old) (C.left conn.new)
+            (C.taken conn.old) (C.taken conn.new) left.old left.new }
+
+        // Where nothing has to be read or nothing may be, the source is not touched.
+        ensures untouched { IsDecided self.old left.old → conn.new ≡ conn.old }
+        ensures uncounted { IsDecided self.old left.old → left.new ≡ left.old }
+        ensures at_end { self.new.ended ≡ true
+            → (self.old.ended ≡ true) ⊎ IfSome (C.left conn.new) (λ bytes. bytes ≡ []) }
+        ensures stays_at_end { self.old.ended ≡ true → self.new.ended ≡ true }
+        ensures failed { result ≡ Line.Failed → Rose (C.read_faults conn.old) (C.read_faults conn.new) }
+        ensures failed_below_limit { result ≡ Line.Failed → 0 < left.new }
+        ensures limit { result ≡ Line.Limit → left.new ≡ 0 }
+
+        // A line that is given leaves fewer that can still come.
+        ensures fewer { IsLine result → most_lines self.new.held self.new.long + left.new
+            < most_lines self.old.held self.old.long + left.old }
+    {
+        loop {
+            if let Some(line) = self.held_line() {
+                return line;
+            }
+            if *left == 0 {
+                return Line::Limit;
+            }
+            match self.read_more(conn, left) {
+                Got::Bytes(_) => {}
+                Got::End => return self.last_line(),
+                Got::Failed => return Line::Failed,
+            }
+        }
+    }
+
+    // The answer that the bytes at hand decide, if they do.
+    fn held_line(&mut self) -> Option<Line>
+        ensures line { MatchOption result (self.new ≡ self.old)
+            (λ line. (rest : _) → IsPending self.old rest → Gives line rest self.new) }
+        ensures clean { MatchOption result (HasNoNewline self.new.held) (λ _. ⊤) }
+        ensures not_at_end { MatchOption result (self.new.ended ≡ false) (λ _. ⊤) }
+        ensures ended { self.new.ended ≡ self.old.ended }
+        ensures decided { MatchOption result ⊤ IsOfBytes }
+        ensures fewer { MatchOption result ⊤ (λ line. IsLine line
+            → most_lines self.new.held self.new.long < most_lines self.old.held self.old.long) }
+    {
+        if self.held.take_line() {
+            let line = judge(self.long, self.held.line());
+            self.long = false;
+            return Some(line);
+        }
+        if self.ended {
+            Some(self.last_line())
+        } else {
+            None
+        }
+    }
+
+    // The answer at the end of the source, where no newline is held.
+    fn last_line(&mut self) -> Line
+        requires at_end { self.old.ended ≡ true }
+        requires clean { HasNoNewline self.old.held }
+        ensures line { (rest : _) → IsPending self.old rest → Gives result rest self.new }
+        ensures ended { self.new.ended ≡ true }
+        ensures decided { IsOfBytes result }
+        ensures fewer { IsLine result
+            → most_lines self.new.held self.new.long < most_lines self.old.held self.old.long }
+    {
+        if !self.long && self.held.len() == 0 {
+            return Line::Finished;
+        }
+        self.held.take_rest();
+        let line = judge(self.long, self.held.line());
+        self.long = false;
+        line
+    }
+
+    // Reads once, into room that it makes where there is too little.
+    fn read_more<C: Source>(&mut self, conn: &mut C, left: &mut u64) -> Got
+        requires not_at_end { self.old.ended ≡ false }
+        requires clean { HasNoNewline self.old.held }
+        requires some { 0 < left.old }
+        ensures never_falls { C.read_faults conn.old ≤ C.read_faults conn.new }
+        ensures borrowed { C.borrowed conn.new ≡ C.borrowed conn.old }
+        ensures beside { C.beside_read conn.new ≡ C.beside_read conn.old }
+        ensures continues { Continues self.old self.new (C.left conn.old) (C.left conn.new)
+            (C.taken conn.old) (C.taken conn.new) left.old left.new }
+        ensures no_more { most_lines self.new.held self.new.long + left.new
+            ≤ most_lines self.old.held self.old.long + left.old }
+        ensures some { MatchGot result (λ _. left.new < left.old) ⊤ ⊤ }
+        ensures nothing { MatchGot result (λ _. ⊤) (left.new ≡ left.old) (left.new ≡ left.old) }
+        ensures clean { MatchGot result (λ _. ⊤) (HasNoNewline self.new.held) (HasNoNewline self.new.held) }
+        ensures ended { MatchGot result (λ _. self.new.ended ≡ false) (self.new.ended ≡ true) (self.new.ended ≡ false) }
+        ensures end { MatchGot result (λ _. ⊤) (IfSome (C.left conn.new) (λ bytes. bytes ≡ [])) ⊤ }
+        ensures failed { MatchGot result (λ _. ⊤) ⊤ (Rose (C.read_faults conn.old) (C.read_faults conn.new)) }
+    {
+        self.long = make_room(&mut self.held, self.long);
+        let got = self.held.read(conn, left);
+        if let Got::End = got {
+            self.ended = true;
+        }
+        got
+    }
+}
+
+// The answer for a line that ended; `long` tells that bytes of it were dropped.
+fn judge(long: bool, line: &[u8]) -> Line
+    ensures { result ≡ (if long || nat_lt MAX_LINE_LEN (length line.now) then Line.Long else Line.Whole) }
+{
+    if long || line.len() > MAX_LINE_LEN {
+        Line::Long
+    } else {
+        Line::Whole
+    }
+}
+
+// Makes room for a read behind bytes of a line that has not ended: it moves them to the front, or
+// drops them where the line is too long. The result tells that bytes of the line were dropped.
+fn make_room(held: &mut Held, long: bool) -> bool
+    requires { HasNoNewline held.old.bytes }
+    ensures clean { HasNoNewline held.new.bytes }
+    ensures room { LEAST_ROOM ≤ held.new.room }
+    ensures pending { KeepsAll held.old.bytes long held.new.bytes result }
+    ensures no_more { most_lines held.new.bytes result ≤ most_lines held.old.bytes long }
+{
+    if held.room() >= LEAST_ROOM {
+        return long;
+    }
+    if long || held.len() > MAX_LINE_LEN {
+        held.clear();
+        return true;
+    }
+    held.move_to_front();
+    long
+}
+
+#[cfg(test)]
+mod tests;

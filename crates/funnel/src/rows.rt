@@ -1,0 +1,63 @@
+ghost use Rattle.std.specs.Prelude.{◌≡◌, ◌↔◌, ◌⊎◌, ◌<◌, ◌≤◌, ◌+◌, ◌*◌, ◌^◌, ℕ, List, length, map, string_bytes, slice_index, Contains, IfOk};
+ghost use Rattle.std.specs.List.{All};
+ghost use Rattle.std.specs.List.Sorted.{IsStrictlySortedBy};
+ghost use Rattle.std.specs.Ordering.{nat_cmp};
+ghost use Rattle.funnel.specs.Foot.{HasBit, IsSetIn, rows_of_words, slice_rows};
+
+use std::alloc::{AllocError, Global};
+use term_hash::row_of;
+
+/// How many rows a slice has, each of one word.
+pub const SLICE_ROWS: usize = 1024;
+
+/// The rows of these words in rising order, each once.
+pub fn rows_of(alloc: Global, words: &[String]) -> Result<Vec<u32>, AllocError>
+    ensures rising { IfOk result (λ rows. IsStrictlySortedBy nat_cmp rows.items) }
+    ensures exactly { IfOk result (λ rows. (row : ℕ) → Contains rows.items row ↔ Contains (rows_of_words (map string_bytes words.now)) row) }
+    ensures within { IfOk result (λ rows. All (λ row. row < slice_rows) rows.items) }
+{
+    let mut rows = rows_by_word(alloc, words)?;
+    rows.sort_unstable();
+    rows.dedup();
+    Ok(rows)
+}
+
+/// The rows of each word, as they come.
+fn rows_by_word(alloc: Global, words: &[String]) -> Result<Vec<u32>, AllocError>
+    ensures rows { IfOk result (λ rows. rows.items ≡ rows_of_words (map string_bytes words.now)) }
+    ensures within { IfOk result (λ rows. All (λ row. row < slice_rows) rows.items) }
+{
+    let mut rows = Vec::new(alloc);
+    for word in words {
+        rows.push(row_of(word.as_bytes(), 0, SLICE_ROWS as u32))?;
+        rows.push(row_of(word.as_bytes(), 1, SLICE_ROWS as u32))?;
+    }
+    Ok(rows)
+}
+
+/// Sets the bit of the column in each of these rows of the slice that begins at `base`.
+pub fn set_column(words: &mut [u64], base: usize, rows: &[u32], column: u32)
+    requires rows { All (λ row. base + row < length words.old) rows.now }
+    requires column { column < 64 }
+    ensures length { length words.new ≡ length words.old }
+    ensures kept { (word bit : ℕ) → HasBit (slice_index words.old word) bit → HasBit (slice_index words.new word) bit }
+    ensures only { (word bit : ℕ) → HasBit (slice_index words.new word) bit → HasBit (slice_index words.old word) bit ⊎ IsSetIn rows.now base column word bit }
+    ensures set { (row : ℕ) → Contains rows.now row → HasBit (slice_index words.new (base + row)) column }
+{
+    for row in rows {
+        words[base + *row as usize] |= 1 << column;
+    }
+}
+
+/// The columns whose bit is set in each of these rows of the slice that begins at `base`, as bits of a word.
+pub fn columns_in_all(words: &[u64], base: usize, rows: &[u32]) -> u64
+    requires { All (λ row. base + row < length words.now) rows.now }
+    ensures every { (column : ℕ) → column < 64 → ((row : ℕ) → Contains rows.now row → HasBit (slice_index words.now (base + row)) column) → HasBit result column }
+    ensures only { (column row : ℕ) → Contains rows.now row → HasBit result column → HasBit (slice_index words.now (base + row)) column }
+{
+    let mut columns = u64::MAX;
+    for row in rows {
+        columns &= words[base + *row as usize];
+    }
+    columns
+}

@@ -1,0 +1,60 @@
+ghost use Rattle.std.specs.Prelude.{◌≡◌, ◌≤◌, ◌^◌, IfNone};
+ghost use Rattle.funnel.specs.Kept.{limits_of};
+ghost use Rattle.funnel.specs.Running.{RanOrNot};
+
+use crate::closed::Closed;
+use crate::ended::Why;
+use crate::serving::Server;
+use funnel_io::{Sink, Source};
+use std::alloc::Global;
+
+/// A session takes at most so many bytes.
+pub const MOST_BYTES: u64 = 1 << 40;
+
+/// Answers the lines of an input over a new index of so many slices, and gives back what is left of it. It has no index
+/// where memory was wanting for one; then nothing was read or written.
+pub fn run_with<S: Source, K: Sink>(
+    alloc: Global,
+    slices: u32,
+    input: &mut S,
+    output: &mut K,
+) -> (Why, Option<Closed>)
+    requires some { 1 ≤ slices }
+    requires few { slices ≤ 1024 }
+    ensures ran { RanOrNot (limits_of slices) (2 ^ 40)
+        record { left = S.left input.old; taken = S.taken input.old; written = K.written output.old; reads = S.read_faults input.old; writes = K.write_faults output.old }
+        record { left = S.left input.new; taken = S.taken input.new; written = K.written output.new; reads = S.read_faults input.new; writes = K.write_faults output.new }
+        result.0 result.1 }
+    ensures input_untouched { IfNone result.1 (input.new ≡ input.old) }
+    ensures output_untouched { IfNone result.1 (output.new ≡ output.old) }
+    ensures source_borrowed { S.borrowed input.new ≡ S.borrowed input.old }
+    ensures sink_borrowed { K.borrowed output.new ≡ K.borrowed output.old }
+{
+    run_up_to(alloc, slices, input, output, MOST_BYTES)
+}
+
+/// As [`run_with`], with another limit of the bytes taken.
+pub(crate) fn run_up_to<S: Source, K: Sink>(
+    alloc: Global,
+    slices: u32,
+    input: &mut S,
+    output: &mut K,
+    limit: u64,
+) -> (Why, Option<Closed>)
+    requires some { 1 ≤ slices }
+    requires few { slices ≤ 1024 }
+    ensures ran { RanOrNot (limits_of slices) limit
+        record { left = S.left input.old; taken = S.taken input.old; written = K.written output.old; reads = S.read_faults input.old; writes = K.write_faults output.old }
+        record { left = S.left input.new; taken = S.taken input.new; written = K.written output.new; reads = S.read_faults input.new; writes = K.write_faults output.new }
+        result.0 result.1 }
+    ensures input_untouched { IfNone result.1 (input.new ≡ input.old) }
+    ensures output_untouched { IfNone result.1 (output.new ≡ output.old) }
+    ensures source_borrowed { S.borrowed input.new ≡ S.borrowed input.old }
+    ensures sink_borrowed { K.borrowed output.new ≡ K.borrowed output.old }
+{
+    let Ok(mut server) = Server::new(alloc, slices) else {
+        return (Why::Memory, None);
+    };
+    let end = server.serve(alloc, input, output, limit);
+    (Why::from(end), Some(server.close()))
+}

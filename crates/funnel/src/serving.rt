@@ -1,0 +1,151 @@
+ghost use Rattle.std.specs.Prelude.{◌≡◌, ◌≤◌, ◌<◌, ⊤, ℕ, List, [], Option, true, MatchOption, IfNone, IfSome, IfOk, vec_capacity};
+ghost use Rattle.std.specs.List.{All};
+ghost use Rattle.funnel_model.specs.Events.{pass_of};
+ghost use Rattle.funnel_model.specs.Legal.{IsIdle, IsLegal};
+ghost use Rattle.funnel.specs.Answering.{IsAnswered};
+ghost use Rattle.funnel.specs.Kept.{limits_of};
+ghost use Rattle.funnel.specs.Serving.{IsFresh, IsOver, Progress, Start};
+ghost use Rattle.funnel.specs.Reading.{IsPending};
+ghost use Rattle.funnel.specs.Turns.{EndsReading, HasCause, work_left};
+
+use crate::answering::{TEXT_ROOM, answer, render};
+use crate::closed::Closed;
+use crate::index::Index;
+use crate::reader::{Line, LineReader};
+use funnel_io::{End, Sink, Source, write_all};
+use funnel_model::{Memory, Reply};
+use std::alloc::Global;
+
+/// What a session keeps: its index, its reader, and the text of a reply.
+#[derive(Drop)]
+pub struct Server {
+    pub index: Index,
+    pub reader: LineReader,
+    pub text: Vec<u8>,
+}
+
+impl Server {
+    /// A session over a new index of so many slices. It takes the room of its reader and of the texts of its replies.
+    pub fn new(alloc: Global, slices: u32) -> Result<Self, Memory>
+        requires some { 1 ≤ slices }
+        requires few { slices ≤ 1024 }
+        ensures fresh { IfOk result (IsFresh slices) }
+    {
+        Ok(Server {
+            index: Index::new(alloc, slices)?,
+            reader: LineReader::new(alloc).map_err(|_| Memory)?,
+            text: Vec::with_capacity(alloc, TEXT_ROOM)?,
+        })
+    }
+
+    /// Answers lines until the input is at its end, or so many bytes were taken, or a read or a write fails.
+    pub fn serve<C: Source, K: Sink>(
+        &mut self,
+        alloc: Global,
+        input: &mut C,
+        output: &mut K,
+        limit: u64,
+    ) -> End
+        requires fresh { IsFresh self.old.index.slices self.old }
+        ensures slices { self.new.index.slices ≡ self.old.index.slices }
+        ensures reads { C.read_faults input.old ≤ C.read_faults input.new }
+        ensures writes { K.write_faults output.old ≤ K.write_faults output.new }
+        ensures source_borrowed { C.borrowed input.new ≡ C.borrowed input.old }
+        ensures sink_borrowed { K.borrowed output.new ≡ K.borrowed output.old }
+        ensures cause { HasCause (C.read_faults input.old) (C.read_faults input.new) (K.write_faults output.old) (K.write_faults output.new) limit result }
+        ensures over { IsOver (limits_of self.old.index.slices) record { left = C.left input.old; taken = C.taken input.old; written = K.written output.old; limit = limit }
+            self.new.index.history (C.left input.new) (C.taken input.new) (K.written output.new) result }
+    {
+        let mut left = limit;
+        loop {
+            if let Some(end) = self.turn(alloc, input, output, &mut left, limit) {
+                return end;
+            }
+        }
+    }
+
+    /// What is left at the end. It takes no memory.
+    pub fn close(self) -> Closed
+        ensures history { result.history ≡ self.index.history }
+        ensures legal { IsLegal (limits_of self.index.slices) self.index.history }
+        ensures alone { All (λ e. pass_of e ≡ 0) self.index.history }
+    {
+        self.index.close()
+    }
+
+    /// Answers the next line, or says how the session ends.
+    fn turn<C: Source, K: Sink>(
+        &mut self,
+        alloc: Global,
+        input: &mut C,
+        output: &mut K,
+        left: &mut u64,
+        limit: u64,
+    ) -> Option<End>
+        requires idle { IsIdle 0 self.old.index.history }
+        requires legal { IsLegal (limits_of self.old.index.slices) self.old.index.history }
+        requires room { TEXT_ROOM ≤ vec_capacity self.old.text }
+        ensures slices { self.new.index.slices ≡ self.old.index.slices }
+        ensures reads { C.read_faults input.old ≤ C.read_faults input.new }
+        ensures writes { K.write_faults output.old ≤ K.write_faults output.new }
+        ensures source_borrowed { C.borrowed input.new ≡ C.borrowed input.old }
+        ensures sink_borrowed { K.borrowed output.new ≡ K.borrowed output.old }
+        ensures on { MatchOption result
+            (IsIdle 0 self.new.index.history × IsLegal (limits_of self.new.index.slices) self.new.index.history × (TEXT_ROOM ≤ vec_capacity self.new.text))
+            (HasCause (C.read_faults input.old) (C.read_faults input.new) (K.write_faults output.old) (K.write_faults output.new) limit) }
+        ensures progress { (start : Start) → start.limit ≡ limit →
+            Progress (limits_of self.old.index.slices) start self.old.reader self.old.index.history (C.left input.old) (C.taken input.old) (K.written output.old) left.old →
+            MatchOption result
+            (Progress (limits_of self.old.index.slices) start self.new.reader self.new.index.history (C.left input.new) (C.taken input.new) (K.written output.new) left.new)
+            (IsOver (limits_of self.old.index.slices) start self.new.index.history (C.left input.new) (C.taken input.new) (K.written output.new)) }
+        ensures smaller { (rest : List ℕ) → IsPending self.old.reader rest → MatchOption result (work_left self.new.reader left.new < work_left self.old.reader left.old) (λ _. ⊤) }
+    {
+        if let Some(end) = self.answer_next(alloc, input, left, limit) {
+            return Some(end);
+        }
+        match write_all(output, self.text.as_slice()) {
+            Ok(()) => None,
+            Err(_) => Some(End::WriteFault),
+        }
+    }
+
+    /// Reads the next line and sets `text` to its reply, or says how the session ends.
+    fn answer_next<C: Source>(
+        &mut self,
+        alloc: Global,
+        input: &mut C,
+        left: &mut u64,
+        limit: u64,
+    ) -> Option<End>
+        requires idle { IsIdle 0 self.old.index.history }
+        requires legal { IsLegal (limits_of self.old.index.slices) self.old.index.history }
+        requires room { TEXT_ROOM ≤ vec_capacity self.old.text }
+        ensures slices { self.new.index.slices ≡ self.old.index.slices }
+        ensures reads { C.read_faults input.old ≤ C.read_faults input.new }
+        ensures source_borrowed { C.borrowed input.new ≡ C.borrowed input.old }
+        ensures room { TEXT_ROOM ≤ vec_capacity self.new.text }
+        ensures answered { IfNone result (IsAnswered (limits_of self.old.index.slices) self.old.reader self.new.reader self.old.index.history self.new.index.history
+            (C.left input.old) (C.left input.new) (C.taken input.old) (C.taken input.new) left.old left.new self.new.text.items) }
+        ensures untouched { self.old.reader.ended ≡ true → left.new ≡ left.old }
+        ensures none_left { self.new.reader.ended ≡ true → (self.old.reader.ended ≡ true → IfSome (C.left input.old) (λ bytes. bytes ≡ [])) → IfSome (C.left input.new) (λ bytes. bytes ≡ []) }
+        ensures cause { IfSome result (λ end. EndsReading (C.read_faults input.old) (C.read_faults input.new) limit end) }
+        ensures over { (start : Start) (written : Option (List ℕ)) → start.limit ≡ limit →
+            Progress (limits_of self.old.index.slices) start self.old.reader self.old.index.history (C.left input.old) (C.taken input.old) written left.old →
+            IfSome result (IsOver (limits_of self.old.index.slices) start self.new.index.history (C.left input.new) (C.taken input.new) written) }
+    {
+        match self.reader.next_line(input, left) {
+            Line::Whole => {
+                let line = self.reader.line();
+                answer(&mut self.index, alloc, line, &mut self.text);
+                None
+            }
+            Line::Long => {
+                render(Reply::Line, &mut self.text);
+                None
+            }
+            Line::Finished => Some(End::Done),
+            Line::Failed => Some(End::ReadFault),
+            Line::Limit => Some(End::ByteLimit(limit)),
+        }
+    }
+}

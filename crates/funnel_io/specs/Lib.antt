@@ -1,0 +1,10 @@
+pub mod Counts
+pub mod Bytes
+pub mod Borrowed
+pub mod Sides
+pub mod Answers
+pub mod Served
+pub mod Memory
+pub mod Places
+pub mod MemGates
+pub mod Lines

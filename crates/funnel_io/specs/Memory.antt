@@ -1,0 +1,80 @@
+-- Sources and sinks in memory, as contracts see them.
+use Rattle.std.specs.Prelude.{◌≡◌, ◌↔◌, ℕ, ◌+◌, ◌<◌, ◌⊎◌, ⊤, List, [], ◌∷◌, drop, length, min, Contains}
+use Rattle.std.specs.List.{concat}
+use Rattle.funnel_io.specs.declared.source.Got.{Got}
+use Rattle.funnel_io.specs.declared.source.Got.TheVariants as got
+use Rattle.funnel_io.specs.declared.sink.Put.{Put}
+use Rattle.funnel_io.specs.declared.sink.Put.TheVariants as put
+use Rattle.funnel_io.specs.Answers.{MatchGot, MatchPut}
+use Rattle.funnel_io.specs.Counts.{raised}
+
+-- a source: the pieces left, the bytes taken, the number of reads made, the numbers of the reads
+-- that fail, and the count of those that failed
+pub record SourceState : Type 0 where
+  pub pieces : List (List ℕ)
+  pub taken : List ℕ
+  pub reads : ℕ
+  pub fails : List ℕ
+  pub faults : ℕ
+
+-- a sink: the bytes written, the room left, the number of writes made, the numbers of the writes
+-- that fail, and the count of those that failed
+pub record SinkState : Type 0 where
+  pub written : List ℕ
+  pub room : ℕ
+  pub writes : ℕ
+  pub fails : List ℕ
+  pub faults : ℕ
+
+-- the bytes left: the pieces joined
+abbrev pub bytes_left : SourceState → List ℕ
+bytes_left source = concat source.pieces
+
+-- the pieces without the empty ones at their front
+abbrev pub unread : List (List ℕ) → List (List ℕ)
+unread [] = []
+unread ([] ∷ pieces) = unread pieces
+unread ((byte ∷ bytes) ∷ pieces) = (byte ∷ bytes) ∷ pieces
+
+-- the first piece, or no bytes where there is none
+abbrev pub first_piece : List (List ℕ) → List ℕ
+first_piece [] = []
+first_piece (piece ∷ pieces) = piece
+
+-- the pieces without so many bytes of the first
+abbrev pub drop_front : ℕ → List (List ℕ) → List (List ℕ)
+drop_front n [] = []
+drop_front n (piece ∷ pieces) = drop n piece ∷ pieces
+
+-- the count of faults after a read
+abbrev pub faults_after_read : Got → ℕ → ℕ
+faults_after_read (got.Bytes n) faults = faults
+faults_after_read got.End faults = faults
+faults_after_read got.Failed faults = raised faults
+
+-- the count of faults after a write
+abbrev pub faults_after_write : Put → ℕ → ℕ
+faults_after_write (put.Bytes n) faults = faults
+faults_after_write put.Failed faults = raised faults
+
+-- a read into so much room is the next by number, fails by its number alone, and otherwise gives
+-- as many bytes of the next piece as fit
+pub record IsRead (old : SourceState) (room : ℕ) (answer : Got) (new : SourceState) : Type 0 where
+  pub reads : new.reads ≡ raised old.reads
+  pub fails : new.fails ≡ old.fails
+  pub by_number : (answer ≡ got.Failed) ↔ Contains old.fails new.reads
+  pub faults : new.faults ≡ faults_after_read answer old.faults
+  pub one_piece : MatchGot answer
+      (λ n. n ≡ min room (length (first_piece (unread old.pieces)))) (unread old.pieces ≡ []) ⊤
+  pub pieces : MatchGot answer
+      (λ n. new.pieces ≡ drop_front n (unread old.pieces)) (new.pieces ≡ []) (new.pieces ≡ old.pieces)
+
+-- a write is the next by number, fails by its number or for want of room, and otherwise takes the
+-- whole piece and its length from the room
+pub record IsWrite (old : SinkState) (piece : List ℕ) (answer : Put) (new : SinkState) : Type 0 where
+  pub writes : new.writes ≡ raised old.writes
+  pub fails : new.fails ≡ old.fails
+  pub where_it_must : (answer ≡ put.Failed) ↔ (Contains old.fails new.writes ⊎ (old.room < length piece))
+  pub faults : new.faults ≡ faults_after_write answer old.faults
+  pub whole : MatchPut answer (λ n. n ≡ length piece) ⊤
+  pub room : MatchPut answer (λ n. old.room ≡ new.room + n) (new.room ≡ old.room)

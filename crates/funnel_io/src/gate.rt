@@ -1,0 +1,69 @@
+ghost use Rattle.std.specs.Prelude.{◌≡◌, ◌<◌, ◌≤◌, ◌+◌, ℕ, List, [], ◌∷◌, ◌++◌, Option, IfSome, OnSome, ⊤};
+ghost use Rattle.std.specs.Option.{option_map};
+ghost use Rattle.funnel_io.specs.Counts.{Rose};
+ghost use Rattle.funnel_io.specs.Answers.{MatchNext};
+ghost use Rattle.funnel_io.specs.Served.{Served, IsFresh};
+
+use crate::connection::Connection;
+use crate::end::End;
+
+/// What a gate gave.
+#[derive(Debug, Drop)]
+pub enum Next<C> {
+    /// The next connection.
+    Conn(C),
+    /// No connection waits any more.
+    Closed,
+    /// The gate failed.
+    Fault,
+}
+
+/// Where connections come from, and where they go back to.
+pub trait Gate {
+    type Conn: Connection;
+
+    // How many calls of `next` failed, up to the counter's last value.
+    ghost gate_faults: { Self → ℕ };
+
+    // The connections that wait, in the order in which they come, where the gate tells them.
+    ghost waiting: { Self → Option (List Self.Conn) };
+
+    // How many of its connections are out, where the gate tells the waiting ones.
+    ghost out: { Self → ℕ };
+
+    // The connections that came back, oldest first, where the gate tells them.
+    ghost served: { Self → Option (List Served) };
+
+    /// Waits for the next connection and hands it out.
+    fn next(&mut self) -> Next<Self::Conn>
+        ensures never_falls { gate_faults self.old ≤ gate_faults self.new }
+        ensures served { served self.new ≡ served self.old }
+        ensures waiting { MatchNext result
+            (λ conn. waiting self.old ≡ option_map (λ rest. conn ∷ rest) (waiting self.new))
+            (waiting self.new ≡ waiting self.old)
+            (waiting self.new ≡ waiting self.old) }
+        ensures out { MatchNext result
+            (λ _. OnSome (waiting self.old) (out self.new ≡ out self.old + 1))
+            (out self.new ≡ out self.old)
+            (out self.new ≡ out self.old) }
+        ensures fresh { MatchNext result
+            (λ conn. IsFresh (Self.Conn.taken conn) (Self.Conn.written conn)
+            (Self.Conn.read_faults conn) (Self.Conn.write_faults conn))
+            ⊤ ⊤ }
+        ensures closed { MatchNext result (λ _. ⊤) (IfSome (waiting self.old) (λ conns. conns ≡ [])) ⊤ }
+        ensures fault { MatchNext result (λ _. ⊤) ⊤ (Rose (gate_faults self.old) (gate_faults self.new)) };
+
+    /// Takes back a connection of its own, with the end of its session.
+    fn done(&mut self, conn: Self::Conn, end: End)
+        requires { OnSome (waiting self.old) (0 < out self.old) }
+        ensures count { gate_faults self.new ≡ gate_faults self.old }
+        ensures waiting { waiting self.new ≡ waiting self.old }
+        ensures out { OnSome (waiting self.old) (out self.old ≡ out self.new + 1) }
+        ensures served { served self.new ≡ option_map (λ list. list ++ record {
+          bytes_in = Self.Conn.taken conn;
+          bytes_out = Self.Conn.written conn;
+          read_faults = Self.Conn.read_faults conn;
+          write_faults = Self.Conn.write_faults conn;
+          session_end = end;
+        } ∷ []) (served self.old) };
+}

@@ -1,0 +1,46 @@
+//! The outside of the engine: where bytes come from, where they go, and where connections come
+//! from. A [`Source`] is read, a [`Sink`] is written, a [`Connection`] is both, and a [`Gate`]
+//! hands out connections and takes them back. Each keeps a count of faults that never falls, and
+//! tells the bytes or tells nothing of them. `Mem..` are such objects in memory, which tell
+//! everything; `StdinSource` and `StdoutSink` stand over the process's own streams.
+#![tactic(auto)]
+
+mod borrower;
+mod connection;
+mod cutting;
+mod end;
+mod gate;
+mod mem_conn;
+mod mem_gate;
+mod mem_sink;
+mod mem_source;
+mod memory;
+mod pair;
+mod served_conn;
+mod sink;
+mod source;
+mod stdin_source;
+mod stdout_sink;
+mod streams;
+mod writing;
+
+pub use borrower::Borrower;
+pub use connection::Connection;
+pub use cutting::{lines_grow, lines_join};
+pub use end::End;
+pub use gate::{Gate, Next};
+pub use mem_conn::MemConn;
+pub use mem_gate::MemGate;
+pub use mem_sink::MemSink;
+pub use mem_source::MemSource;
+pub use memory::Memory;
+pub use pair::Pair;
+pub use served_conn::ServedConn;
+pub use sink::{Put, Sink};
+pub use source::{Got, Source};
+pub use stdin_source::StdinSource;
+pub use stdout_sink::StdoutSink;
+pub use writing::{WriteFailed, write_all};
+
+#[cfg(test)]
+mod tests;

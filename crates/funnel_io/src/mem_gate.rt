@@ -1,0 +1,123 @@
+ghost use Rattle.std.specs.Prelude.{◌≡◌, ◌<◌, ◌≤◌, ◌+◌, ◌-◌, [], ◌∷◌, ◌++◌, Some, IfOk, map, ⊤, All};
+ghost use Rattle.funnel_io.specs.MemGates.{GateState, IsNext, IsUnused, served_of};
+ghost use Rattle.funnel_io.specs.Answers.{MatchNext};
+
+use crate::end::End;
+use crate::gate::{Gate, Next};
+use crate::mem_conn::MemConn;
+use crate::memory::Memory;
+use crate::served_conn::ServedConn;
+use std::alloc::Global;
+use std::marker::Model;
+
+/// A gate that hands out stored connections, and whose calls of given numbers fail.
+// The connections wait in reverse, and `total` is the number that waits, is out or was served.
+#[derive(Debug, Drop)]
+pub struct MemGate {
+    waiting: Vec<MemConn>,
+    total: usize,
+    served: Vec<ServedConn>,
+    calls: u64,
+    fails: Vec<u64>,
+    faults: u64,
+}
+
+impl Model for MemGate {
+    ghost use Rattle.std.specs.Prelude.{◌+◌, ◌-◌, ◌≤◌, All, reverse, vec_len, vec_capacity};
+    ghost use Rattle.funnel_io.specs.MemGates.{GateState, IsUnused};
+
+    ghost Value = { GateState };
+
+    ghost view = { λ g. record {
+      waiting = reverse g.waiting.items;
+      out = g.total - (vec_len g.waiting + vec_len g.served);
+      served = g.served.items;
+      calls = g.calls;
+      fails = g.fails.items;
+      faults = g.faults;
+    } };
+
+    ghost invariant = { λ g. (vec_len g.waiting + vec_len g.served ≤ g.total) × (g.total ≤ vec_capacity g.served) × All IsUnused g.waiting.items };
+}
+
+impl MemGate {
+    /// A gate of these connections, which were not used yet. Calls of `next` are numbered from 1,
+    /// and those in `fails` fail.
+    pub fn new(alloc: Global, mut waiting: Vec<MemConn>, fails: Vec<u64>) -> Result<MemGate, Memory>
+        requires { All IsUnused waiting.items }
+        ensures { IfOk result (λ gate. gate ≡ record {
+          waiting = waiting.items;
+          out = 0;
+          served = [];
+          calls = 0;
+          fails = fails.items;
+          faults = 0;
+        }) }
+    {
+        let total = waiting.len();
+        let served = Vec::with_capacity(alloc, total)?;
+        waiting.reverse();
+        Ok(MemGate {
+            waiting,
+            total,
+            served,
+            calls: 0,
+            fails,
+            faults: 0,
+        })
+    }
+
+    /// The connections that came back, oldest first.
+    pub fn served(&self) -> &[ServedConn]
+        ensures { result.now ≡ self.now.served }
+    {
+        &self.served
+    }
+}
+
+impl Gate for MemGate {
+    type Conn = MemConn;
+
+    ghost use Rattle.std.specs.Prelude.{Some, map};
+    ghost use Rattle.funnel_io.specs.MemGates.{served_of};
+
+    ghost gate_faults = { λ g. g.faults };
+
+    ghost waiting = { λ g. Some g.waiting };
+
+    ghost out = { λ g. g.out };
+
+    ghost served = { λ g. Some (map served_of g.served) };
+
+    fn next(&mut self) -> Next<MemConn>
+        ensures never_falls { self.old.faults ≤ self.new.faults }
+        ensures fresh { MatchNext result IsUnused ⊤ ⊤ }
+
+        // Which calls fail, and what each other one gives.
+        ensures exact { IsNext self.old result self.new }
+    {
+        self.calls = self.calls.saturating_add(1);
+        if self.fails.contains(&self.calls) {
+            self.faults = self.faults.saturating_add(1);
+            return Next::Fault;
+        }
+        match self.waiting.pop() {
+            Some(conn) => Next::Conn(conn),
+            None => Next::Closed,
+        }
+    }
+
+    fn done(&mut self, conn: MemConn, end: End)
+        requires { 0 < self.old.out }
+        ensures { self.new ≡ record self.old {
+          out = self.old.out - 1;
+          served = self.old.served ++ record { conn = conn; session_end = end } ∷ [];
+        } }
+    {
+        let served = ServedConn {
+            conn,
+            session_end: end,
+        };
+        self.served.push(served).unwrap();
+    }
+}

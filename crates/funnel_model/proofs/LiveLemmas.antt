@@ -1,0 +1,212 @@
+-- The live documents after one more event.
+use Rattle.std.proofs.Common.{◌≡◌, ◌≢◌, ℕ, ◌+◌, ◌<◌, ◌≤◌, Bool, true, false, not, cond, ◌||◌, List, [], ◌∷◌, ◌++◌, length, map, filter, Option, Some, None, ⊎_elim, sym, refl, ap, ◌∙◌, subst, append_assoc, arith}
+use Rattle.std.proofs.lemmas.List.{append-nil, length-append}
+use Rattle.std.proofs.lemmas.List.Elements.{filter_map-append, filter-append, All-append, All-weaker, All-nil, All-cons, All-filter}
+use Rattle.std.proofs.lemmas.List.Folds.{list_any-append}
+use Rattle.std.proofs.lemmas.List.Kept.{AllPairs-filter}
+use Rattle.std.proofs.lemmas.List.Quantifiers.{all_pairs_push}
+use Rattle.std.specs.List.{cons_option, find, list_any, All, AllPairs}
+use Rattle.std.specs.Prelude.{option_to_list}
+use Rattle.std.specs.Option.{option_map, option_map_or, is_some}
+use Rattle.funnel_model.specs.declared.event.Event.{Event}
+use Rattle.funnel_model.specs.declared.event.Event.TheVariants as event
+use Rattle.funnel_model.specs.Events.{commit_of, added_by, deletes}
+use Rattle.std.proofs.lemmas.Bool.{or_parts, eqb-false, eqb-true}
+use Rattle.std.proofs.lemmas.Bool.Decides.{eqb_tells}
+use Rattle.std.specs.Prelude.{◌==◌}
+use Rattle.funnel_model.proofs.Histories.{holds_of_legal}
+use Rattle.funnel_model.specs.Legal.{Limits, IsAllowed, IsLegal}
+use Rattle.funnel_model.specs.History.{Document, commits, place, document_at, live_from, live, is_live, answer}
+use Rattle.funnel_model.specs.Words.{meets}
+
+-- commits and places, for one more event
+pub commits-append : (xs ys : List Event) → commits (xs ++ ys) ≡ commits xs ++ commits ys
+commits-append xs ys = filter_map-append commit_of xs ys
+
+pub place-append : (xs ys : List Event) → place (xs ++ ys) ≡ place xs + place ys
+place-append xs ys = ap length (commits-append xs ys) ∙ length-append (commits xs) (commits ys)
+
+-- whether a document stays live with an event
+abbrev pub survives : Event → Document → Bool
+survives e d = not (deletes d.id e)
+
+-- the document that an event at this place adds
+abbrev pub added_at : ℕ → Event → List Document
+added_at before e = option_to_list (document_at before (added_by e) [])
+
+kept_unless : {A : Type 0} (p : A → Bool) (x : A) (gone more : Bool) → p x ≡ not more →
+    option_to_list (cond (gone || more) None (Some x)) ≡ filter p (option_to_list (cond gone None (Some x)))
+kept_unless p x true more is = refl
+kept_unless p x false true is = sym (ap (λ b. cond b (x ∷ []) []) is)
+kept_unless p x false false is = sym (ap (λ b. cond b (x ∷ []) []) is)
+
+-- whether a later event deletes a document, for one more event
+survives_or : (id : ℕ) (e : Event) → not (deletes id e) ≡ not (list_any (deletes id) (e ∷ []))
+survives_or id e = refl
+
+document_at-push : (before : ℕ) (added : Option (ℕ × List ℕ)) (later : List Event) (e : Event) →
+    option_to_list (document_at before added (later ++ e ∷ [])) ≡ filter (survives e) (option_to_list (document_at before added later))
+document_at-push before None later e = refl
+document_at-push before (Some added) later e =
+    let d : Document = record { id = added.0; text = added.1; place = before + 1 } in
+    ap (λ b. option_to_list (cond b None (Some d))) (list_any-append (deletes added.0) later (e ∷ []))
+    ∙ kept_unless (survives e) d (list_any (deletes added.0) later) (list_any (deletes added.0) (e ∷ [])) (survives_or added.0 e)
+
+pub live_from-push : (before : ℕ) (history : List Event) (e : Event) →
+    live_from before (history ++ e ∷ []) ≡ filter (survives e) (live_from before history) ++ added_at (before + place history) e
+live_from-push before [] e = append-nil _ ∙ ap (λ n. added_at n e) (let h : before ≡ before + place [] = omega arith in h)
+live_from-push before (x ∷ xs) e =
+    let first = option_to_list (document_at before (added_by x) xs) in
+    let rest = live_from (before + place (x ∷ [])) xs in
+    let at : before + place (x ∷ []) + place xs ≡ before + place (x ∷ xs) = omega (arith, place-append (x ∷ []) xs) in
+    ap (λ ds. ds ++ live_from (before + place (x ∷ [])) (xs ++ e ∷ [])) (document_at-push before (added_by x) xs e)
+    ∙ ap (λ ds. filter (survives e) first ++ ds) (live_from-push (before + place (x ∷ [])) xs e)
+    ∙ sym (append_assoc (filter (survives e) first) (filter (survives e) rest) (added_at (before + place (x ∷ []) + place xs) e))
+    ∙ ap (λ ds. ds ++ added_at (before + place (x ∷ []) + place xs) e) (sym (filter-append (survives e) first rest))
+    ∙ ap (λ n. filter (survives e) (first ++ rest) ++ added_at n e) at
+
+-- one more event takes away the document that it deletes, and puts the one that it adds to the end
+pub live-push : (history : List Event) (e : Event) → live (history ++ e ∷ []) ≡ filter (survives e) (live history) ++ added_at (place history) e
+live-push history e = live_from-push 0 history e ∙ ap (λ n. filter (survives e) (live history) ++ added_at n e) (let h : 0 + place history ≡ place history = omega arith in h)
+
+-- what holds of the empty history, and stays with each event, holds of each history
+pub by_push_from : (P : List Event → Type 0) → ((h : List Event) (e : Event) → P h → P (h ++ e ∷ [])) → (history later : List Event) → P history → P (history ++ later)
+by_push_from P step history [] p = subst P (sym (append-nil history)) p
+by_push_from P step history (x ∷ xs) p = subst P (append_assoc history (x ∷ []) xs) (by_push_from P step (history ++ x ∷ []) xs (step history x p))
+
+pub by_push : (P : List Event → Type 0) → P [] → ((h : List Event) (e : Event) → P h → P (h ++ e ∷ [])) → (history : List Event) → P history
+by_push P start step history = by_push_from P step [] history start
+
+-- an event that adds a document is one commit
+adds_one : (e : Event) (added : ℕ × List ℕ) → added_by e ≡ Some added → place (e ∷ []) ≡ 1
+adds_one (event.Add pass id text slice column bits) added is = refl
+adds_one (event.Take pass slice column) added is = cc
+adds_one (event.Find pass query) added is = cc
+adds_one (event.End pass) added is = cc
+adds_one (event.No pass asked) added is = cc
+
+-- a document that an event adds: the event is one commit, and the document's place is the one after it
+pub document_at-adds : (before : ℕ) (e : Event) (d : Document) → document_at before (added_by e) [] ≡ Some d → (place (e ∷ []) ≡ 1) × (d.place ≡ before + 1)
+document_at-adds before (event.Add pass id text slice column bits) d is = (refl, ap (λ o. option_map_or (λ (x : Document). x.place) o (before + 1)) (sym is))
+document_at-adds before (event.Take pass slice column) d is = cc
+document_at-adds before (event.Find pass query) d is = cc
+document_at-adds before (event.End pass) d is = cc
+document_at-adds before (event.No pass asked) d is = cc
+
+pairs_with : (R : Document → Document → Type 0) (ds : List Document) (o : Option Document) → AllPairs R ds → ((d : Document) → o ≡ Some d → All (λ x. R x d) ds) → AllPairs R (ds ++ option_to_list o)
+pairs_with R ds None pairs each = subst (AllPairs R) (sym (append-nil ds)) pairs
+pairs_with R ds (Some d) pairs each = all_pairs_push R ds d pairs (each d refl)
+
+-- what holds of each two live documents stays, where it holds of each and the one that the event adds
+pub live_pairs-push : (R : Document → Document → Type 0) (history : List Event) (e : Event) → AllPairs R (live history) →
+    ((d : Document) → document_at (place history) (added_by e) [] ≡ Some d → All (λ x. R x d) (live history)) → AllPairs R (live (history ++ e ∷ []))
+live_pairs-push R history e pairs each =
+    subst (AllPairs R) (sym (live-push history e))
+    (pairs_with R (filter (survives e) (live history)) (document_at (place history) (added_by e) [])
+    (AllPairs-filter R (survives e) (live history) pairs)
+    (λ d is. All-filter (survives e) (λ x. R x d) (live history) (each d is)))
+
+all_with : (P : Document → Type 0) (ds : List Document) (o : Option Document) → All P ds → ((d : Document) → o ≡ Some d → P d) → All P (ds ++ option_to_list o)
+all_with P ds None all each = subst (All P) (sym (append-nil ds)) all
+all_with P ds (Some d) all each = All-append P ds (d ∷ []) all (All-cons P d [] (each d refl) (All-nil P))
+
+-- what holds of each live document stays, where it holds of the one that the event adds
+pub live_all-push : (P : Document → Type 0) (history : List Event) (e : Event) → All P (live history) →
+    ((d : Document) → document_at (place history) (added_by e) [] ≡ Some d → P d) → All P (live (history ++ e ∷ []))
+live_all-push P history e all each =
+    subst (All P) (sym (live-push history e))
+    (all_with P (filter (survives e) (live history)) (document_at (place history) (added_by e) []) (All-filter (survives e) P (live history) all) each)
+
+-- the live documents stand by rising place, up to that of the history
+record InOrder (history : List Event) : Type 0 where
+  rising : AllPairs (λ (d e : Document). d.place < e.place) (live history)
+  upto : All (λ (d : Document). d.place ≤ place history) (live history)
+
+in_order-push : (history : List Event) (e : Event) → InOrder history → InOrder (history ++ e ∷ [])
+in_order-push history e h = record {
+  rising = live_pairs-push (λ (d e : Document). d.place < e.place) history e h.rising (λ d is.
+      All-weaker (λ (x : Document). x.place ≤ place history) (λ (x : Document). x.place < d.place) (λ x le. let k = document_at-adds (place history) e d is in omega arith) (live history) h.upto);
+  upto = live_all-push (λ (x : Document). x.place ≤ place (history ++ e ∷ [])) history e
+      (All-weaker (λ (x : Document). x.place ≤ place history) (λ (x : Document). x.place ≤ place (history ++ e ∷ [])) (λ x le. let k = place-append history (e ∷ []) in omega arith) (live history) h.upto)
+      (λ d is. let k = document_at-adds (place history) e d is in let l = place-append history (e ∷ []) in omega arith);
+}
+
+pub live_in_order : (history : List Event) → AllPairs (λ (d e : Document). d.place < e.place) (live history)
+live_in_order history = (by_push InOrder (record { rising = λ i j d lt in'. absurd (omega arith); upto = All-nil (λ (x : Document). x.place ≤ 0) }) in_order-push history).rising
+
+-- no document of the list has the number
+pub none_with_id : (id : ℕ) (ds : List Document) → list_any (λ d. d.id == id) ds ≡ false → All (λ (d : Document). d.id ≢ id) ds
+none_with_id id [] none = All-nil (λ (d : Document). d.id ≢ id)
+none_with_id id (d ∷ ds) none =
+    let parts = or_parts (d.id == id) (list_any (λ d. d.id == id) ds) none in
+    All-cons (λ (d : Document). d.id ≢ id) d ds (eqb-false d.id id parts.0) (none_with_id id ds parts.1)
+
+-- an add that is allowed has a number that is not live
+added_is_new : (limits : Limits) (history : List Event) (e : Event) → IsAllowed limits history e → (before : ℕ) (d : Document) → document_at before (added_by e) [] ≡ Some d → is_live d.id history ≡ false
+added_is_new limits history (event.Add pass id text slice column bits) allowed before d is =
+    ap (λ o. is_live (option_map_or (λ (x : Document). x.id) o 0) history) (sym is) ∙ allowed.rule.absent
+added_is_new limits history (event.Take pass slice column) allowed before d is = cc
+added_is_new limits history (event.Find pass query) allowed before d is = cc
+added_is_new limits history (event.End pass) allowed before d is = cc
+added_is_new limits history (event.No pass asked) allowed before d is = cc
+
+-- in a legal history each number is live at most once
+pub live_once : (limits : Limits) (history : List Event) → IsLegal limits history → AllPairs (λ (d e : Document). d.id ≢ e.id) (live history)
+live_once limits = holds_of_legal limits (λ h. AllPairs (λ (d e : Document). d.id ≢ e.id) (live h)) (λ i j d lt in'. absurd (omega arith))
+    (λ h e legal once allowed. live_pairs-push (λ (d e : Document). d.id ≢ e.id) h e once
+    (λ d is. none_with_id d.id (live h) (added_is_new limits h e allowed (place h) d is)))
+
+-- a test that always passes keeps the list
+filter_all : {A : Type 0} (p : A → Bool) (xs : List A) → ((x : A) → p x ≡ true) → filter p xs ≡ xs
+filter_all p [] all = refl
+filter_all p (x ∷ xs) all = ap (λ b. cond b (x ∷ filter p xs) (filter p xs)) (all x) ∙ ap (λ ys. x ∷ ys) (filter_all p xs all)
+
+-- an event that deletes nothing puts the document that it adds to the end
+pub live-adds : (history : List Event) (e : Event) → ((id : ℕ) → deletes id e ≡ false) → live (history ++ e ∷ []) ≡ live history ++ added_at (place history) e
+live-adds history e none =
+    live-push history e ∙ ap (λ ds. ds ++ added_at (place history) e) (filter_all (survives e) (live history) (λ d. ap not (none d.id)))
+
+-- an event that deletes and adds nothing leaves the live documents
+pub live-silent : (history : List Event) (e : Event) → ((id : ℕ) → deletes id e ≡ false) → added_by e ≡ None → live (history ++ e ∷ []) ≡ live history
+live-silent history e none adds =
+    live-adds history e none ∙ ap (λ o. live history ++ option_to_list (document_at (place history) o [])) adds ∙ append-nil (live history)
+
+pub commits-silent : (history : List Event) (e : Event) → commit_of e ≡ None → commits (history ++ e ∷ []) ≡ commits history
+commits-silent history e none = commits-append history (e ∷ []) ∙ ap (λ o. commits history ++ cons_option o []) none ∙ append-nil (commits history)
+
+not_equal : (a b : ℕ) → (a ≡ b → ⊥) → (a == b) ≡ false
+not_equal a b ne = ⊎_elim (λ is. absurd (ne is.1)) (λ other. other.0) (eqb_tells a b)
+
+-- the place of a document's add, for one more document whose number is new
+pub live_place-adds : (id : ℕ) (documents : List Document) (d : Document) → list_any (λ x. x.id == d.id) documents ≡ false →
+    option_map (λ (x : Document). x.place) (find (λ x. x.id == id) (documents ++ d ∷ [])) ≡ cond (d.id == id) (Some d.place) (option_map (λ (x : Document). x.place) (find (λ x. x.id == id) documents))
+live_place-adds id [] d new = one (d.id == id) where
+  one : (b : Bool) → option_map (λ (x : Document). x.place) (cond b (Some d) None) ≡ cond b (Some d.place) None
+  one true = refl
+  one false = refl
+live_place-adds id (x ∷ xs) d new =
+    let parts = or_parts (x.id == d.id) (list_any (λ y. y.id == d.id) xs) new in
+    first (x.id == id) refl parts.0 (live_place-adds id xs d parts.1) where
+      rest : Option ℕ
+      rest = option_map (λ (y : Document). y.place) (find (λ y. y.id == id) xs)
+
+      first : (b : Bool) → (x.id == id) ≡ b → (x.id == d.id) ≡ false →
+          option_map (λ (y : Document). y.place) (find (λ y. y.id == id) (xs ++ d ∷ [])) ≡ cond (d.id == id) (Some d.place) rest →
+          option_map (λ (y : Document). y.place) (cond b (Some x) (find (λ y. y.id == id) (xs ++ d ∷ []))) ≡ cond (d.id == id) (Some d.place) (option_map (λ (y : Document). y.place) (cond b (Some x) (find (λ y. y.id == id) xs)))
+      first true is apart more =
+          let other : (d.id == id) ≡ false = not_equal d.id id (λ same. eqb-false x.id d.id apart (eqb-true x.id id is ∙ sym same)) in
+          sym (ap (λ b. cond b (Some d.place) (Some x.place)) other)
+      first false is apart more = more
+
+-- a number is live exactly where its add has a place
+pub is_live-from_place : (id : ℕ) (documents : List Document) → list_any (λ d. d.id == id) documents ≡ is_some (option_map (λ (d : Document). d.place) (find (λ d. d.id == id) documents))
+is_live-from_place id [] = refl
+is_live-from_place id (d ∷ ds) = first (d.id == id) (is_live-from_place id ds) where
+  first : (b : Bool) → list_any (λ x. x.id == id) ds ≡ is_some (option_map (λ (x : Document). x.place) (find (λ x. x.id == id) ds)) →
+      (b || list_any (λ x. x.id == id) ds) ≡ is_some (option_map (λ (x : Document). x.place) (cond b (Some d) (find (λ x. x.id == id) ds)))
+  first true more = refl
+  first false more = more
+
+-- an answer, for one more event that deletes and adds nothing
+pub answer-silent : (history : List Event) (e : Event) (query : List ℕ) → ((id : ℕ) → deletes id e ≡ false) → added_by e ≡ None → answer (history ++ e ∷ []) query ≡ answer history query
+answer-silent history e query none adds = ap (λ ds. map (λ (d : Document). d.id) (filter (λ (d : Document). meets d.text query) ds)) (live-silent history e none adds)

@@ -1,0 +1,62 @@
+-- What a history says: its commits, its live documents and each pass's calls. A history is the list of its events, oldest first.
+use Rattle.std.specs.Prelude.{ℕ, ◌+◌, ◌==◌, Bool, List, [], ◌∷◌, ◌++◌, length, map, filter, Option, Some, None, option_to_list, if◌then◌else◌}
+use Rattle.std.specs.List.{filter_map, list_any, find, fold}
+use Rattle.std.specs.Option.{option_map}
+use Rattle.funnel_model.specs.declared.call.Call.{Call}
+use Rattle.funnel_model.specs.declared.commit.Commit.{Commit}
+use Rattle.funnel_model.specs.declared.event.Event.{Event}
+use Rattle.funnel_model.specs.Events.{pass_of, commit_of, added_by, deletes, call_of}
+use Rattle.funnel_model.specs.Words.{meets}
+
+-- the commits in order
+abbrev pub commits : List Event → List Commit
+commits history = filter_map commit_of history
+
+-- the place of a history is its number of commits
+abbrev pub place : List Event → ℕ
+place history = length (commits history)
+
+-- a document that is live: its number, its text, and the place right after its add
+pub record Document : Type 0 where
+  pub id : ℕ
+  pub text : List ℕ
+  pub place : ℕ
+
+-- the document that an event at this place adds, unless a later event deletes it
+abbrev pub document_at : ℕ → Option (ℕ × List ℕ) → List Event → Option Document
+document_at before None later = None
+document_at before (Some added) later =
+    if list_any (deletes added.0) later then None else Some (record { id = added.0; text = added.1; place = before + 1 })
+
+-- the live documents of the events that follow this many commits
+abbrev pub live_from : ℕ → List Event → List Document
+live_from before [] = []
+live_from before (e ∷ later) = option_to_list (document_at before (added_by e) later) ++ live_from (before + place (e ∷ [])) later
+
+-- the documents that were added and not deleted since, in the order of their adds
+abbrev pub live : List Event → List Document
+live history = live_from 0 history
+
+-- whether a document with this number is live
+abbrev pub is_live : ℕ → List Event → Bool
+is_live id history = list_any (λ d. d.id == id) (live history)
+
+-- the place of the add of the live document with this number
+abbrev pub live_place : ℕ → List Event → Option ℕ
+live_place id history = option_map (λ d. d.place) (find (λ d. d.id == id) (live history))
+
+-- the numbers of the live documents that have every word of the query, in the order of their adds
+abbrev pub answer : List Event → List ℕ → List ℕ
+answer history query = map (λ d. d.id) (filter (λ d. meets d.text query) (live history))
+
+-- the call that an event of this pass answers
+abbrev pub call_by : ℕ → Event → Option Call
+call_by pass e = if pass_of e == pass then call_of e else None
+
+-- the calls of a pass, in order
+abbrev pub own : ℕ → List Event → List Call
+own pass history = filter_map (call_by pass) history
+
+-- the last event of a pass, where there is one
+abbrev pub last_by : ℕ → List Event → Option Event
+last_by pass history = fold (λ last e. if pass_of e == pass then Some e else last) None history

@@ -1,0 +1,38 @@
+use crate::bit_list::BitList;
+use crate::call::Call;
+use crate::text::Text;
+
+/// One step of the model, made by a pass. The number of an event is its place in the history, from 1.
+#[derive(Debug, Drop)]
+pub enum Event {
+    /// The pass claims a column of a slice.
+    Take {
+        pass: u32,
+        slice: u32,
+        column: u32,
+    },
+    /// A commit: the document in the claimed column is live from here on.
+    Add {
+        pass: u32,
+        id: u64,
+        text: Text,
+        slice: u32,
+        column: u32,
+        bits: BitList,
+    },
+    /// A query is answered by the documents that are live here. The pass holds a token until its
+    /// `End`: while it is open, no slice is cleared that the find may read.
+    Find {
+        pass: u32,
+        query: Text,
+    },
+    /// The pass hands its token back.
+    End {
+        pass: u32,
+    },
+    /// A call that was refused before any other event of it.
+    No {
+        pass: u32,
+        call: Call,
+    },
+}

@@ -1,0 +1,18 @@
+use crate::ids::Ids;
+
+/// What a line is answered.
+#[derive(Debug, Drop)]
+pub enum Reply {
+    /// The document was added, at this place.
+    Added(u64),
+    /// A document with this number is live already; the place of its add.
+    Present(u64),
+    /// There is no column for another document.
+    Full,
+    /// The numbers of the documents that have every word of the query, in the order of their adds.
+    Found(Ids),
+    /// No memory was found for the call.
+    Memory,
+    /// The line is none of the protocol.
+    Line,
+}

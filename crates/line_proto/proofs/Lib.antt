@@ -1,0 +1,5 @@
+pub mod Numbers
+pub mod Lines
+pub mod Replies
+pub mod Words
+pub mod Readings

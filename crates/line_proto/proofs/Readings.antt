@@ -1,0 +1,198 @@
+-- Lines are read by the grammar: what a line is read as is of a form, and what is of a form is read so.
+use Rattle.std.proofs.Common.{◌≡◌, ℕ, ◌-◌, ◌⊎◌, Bool, true, false, cond, List, [], ◌∷◌, ◌++◌, length, take, codes, Option, Some, None, option_map, nat_eq, nat_lt, refl, sym, ap, subst, ◌∙◌, inl, inr, arith, length-append}
+use Rattle.std.specs.List.{ends_with}
+use Rattle.std.specs.Str.{IsUtf8, is_utf8, bytes_eq}
+use Rattle.std.proofs.lemmas.Bool.{ltb-false, false≢true}
+use Rattle.std.proofs.lemmas.Bool.Decides.{Decides-eqb}
+use Rattle.std.proofs.lemmas.Fmt.{IsAscii-from_digits}
+use Rattle.std.proofs.lemmas.List.{take_at}
+use Rattle.std.proofs.lemmas.Slice.Eq.{bytes_eq-Decides, ends_is}
+use Rattle.std.proofs.lemmas.Str.{IsUtf8-append, IsUtf8-from_ascii, IsUtf8-from_is_utf8, IsUtf8-nil}
+use Rattle.funnel_model.specs.declared.call.Call.{Call}
+use Rattle.funnel_model.specs.declared.call.Call.TheVariants.{Add, Find}
+use Rattle.line_proto.specs.Forms.{max_line_len, without_return, word_of, rest_of, number_of, add_of, call_of_text, form_of}
+use Rattle.line_proto.specs.Grammar.{WritesNumber, EndsWithText, IsForm, DropsReturn, HasForm, IsReadByForms}
+use Rattle.line_proto.proofs.Lines.{form_of-text}
+use Rattle.line_proto.proofs.Numbers.{number_of-writes, number_of-written}
+use Rattle.line_proto.proofs.Words.{splits, split-digits}
+
+-- the tests by which a line is read
+
+-- a line with a call passed both tests
+passes_both : (a b : Bool) (o : Option Call) (call : Call) → cond a None (cond b o None) ≡ Some call → (a ≡ false) × (b ≡ true) × (o ≡ Some call)
+passes_both true b o call h = absurd (cc)
+passes_both false true o call h = (refl, refl, h)
+passes_both false false o call h = absurd (cc)
+
+-- a call comes from the form of its word, or from a later form
+abbrev ComesFrom : List ℕ → List ℕ → Option Call → Option Call → Call → Type 0
+ComesFrom bytes word o later call = ((word_of bytes ≡ word) × (o ≡ Some call)) ⊎ (later ≡ Some call)
+
+-- the same by any test
+by_test : (b : Bool) (o later : Option Call) (call : Call) → cond b o later ≡ Some call → ((b ≡ true) × (o ≡ Some call)) ⊎ (later ≡ Some call)
+by_test true o later call h = inl (refl, h)
+by_test false o later call h = inr h
+
+-- the same by the first word
+by_word : (bytes word : List ℕ) (o later : Option Call) (call : Call) → cond (bytes_eq (word_of bytes) word) o later ≡ Some call → ComesFrom bytes word o later call
+by_word bytes word o later call h =
+    elim (by_test (bytes_eq (word_of bytes) word) o later call h) [
+      | inl found ↦ inl ((bytes_eq-Decides (word_of bytes) word).0 found.0, found.1)
+      | inr found ↦ inr found
+    ]
+
+-- the call of an option is one
+same_call : (c d : Call) → Some c ≡ Some d → c ≡ d
+same_call c d h = cc
+
+-- a call that is made of a number was made of some number
+mapped : (f : ℕ → Call) (o : Option ℕ) (call : Call) → option_map f o ≡ Some call → (n : ℕ) × (o ≡ Some n) × (f n ≡ call)
+mapped f None call h = absurd (cc)
+mapped f (Some n) call h = (n, refl, same_call (f n) call h)
+
+-- the carriage return
+
+-- what the test for a carriage return says of the line
+abbrev TellsReturn : List ℕ → Bool → Type 0
+TellsReturn line r = (r ≡ true → line ≡ take (length line - 1) line ++ (13 ∷ [])) × ((front : List ℕ) → line ≡ front ++ (13 ∷ []) → r ≡ true)
+
+-- the test tells whether a carriage return ends the line
+tells_return : (line : List ℕ) → TellsReturn line (ends_with nat_eq line (13 ∷ []))
+tells_return line = ends_is Decides-eqb line (13 ∷ []) (ends_with nat_eq line (13 ∷ [])) refl
+
+-- by that test, what is left is the line without the return
+drops-by : (line : List ℕ) (r : Bool) → TellsReturn line r → DropsReturn line (cond r (take (length line - 1) line) line)
+drops-by line true tells = inl (tells.0 refl)
+drops-by line false tells = inr (refl, λ front e. false≢true (tells.1 front e))
+
+-- what is left of a line is the line without the return
+drops : (line : List ℕ) → DropsReturn line (without_return line)
+drops line = drops-by line (ends_with nat_eq line (13 ∷ [])) (tells_return line)
+
+-- by that test, nothing else is
+dropped-by : (line bytes : List ℕ) (r : Bool) → TellsReturn line r → DropsReturn line bytes → cond r (take (length line - 1) line) line ≡ bytes
+dropped-by line bytes true tells (inl e) =
+    ap (λ (l : List ℕ). take (length l - 1) l) e ∙ take_at bytes (13 ∷ []) (length (bytes ++ (13 ∷ [])) - 1) (omega (arith, length-append bytes (13 ∷ [])))
+dropped-by line bytes true tells (inr e) = absurd (e.1 (take (length line - 1) line) (tells.0 refl))
+dropped-by line bytes false tells (inl e) = absurd (false≢true (tells.1 bytes e))
+dropped-by line bytes false tells (inr e) = e.0
+
+-- and nothing else is
+dropped : (line bytes : List ℕ) → DropsReturn line bytes → without_return line ≡ bytes
+dropped line bytes d = dropped-by line bytes (ends_with nat_eq line (13 ∷ [])) (tells_return line) d
+
+-- from a line's call to its form
+
+-- a text with the word `find` is a form of its query
+find-form : (bytes : List ℕ) → IsUtf8 bytes → word_of bytes ≡ codes "find" → IsForm bytes (Find (rest_of bytes))
+find-form bytes u word =
+    let split = splits bytes u in
+    (split.0, subst (λ (w : List ℕ). bytes ≡ w ++ split.0) word split.1, split.2)
+
+-- the number stands behind a space, since without one nothing does
+add-form-at : (bytes end : List ℕ) (id : ℕ) → bytes ≡ codes "add" ++ end → WritesNumber (word_of (rest_of bytes)) id → EndsWithText end (rest_of bytes) → IsForm bytes (Add id (rest_of (rest_of bytes)))
+add-form-at bytes end id whole w (inl e) =
+    absurd (omega (arith, w.numeral.0, ap (λ (rest : List ℕ). length (word_of rest)) e.1))
+add-form-at bytes end id whole w (inr e) =
+    let split = splits (rest_of bytes) e.1 in
+    (word_of (rest_of bytes), split.0, whole ∙ ap (λ (x : List ℕ). codes "add" ++ x) e.0 ∙ ap (λ (x : List ℕ). codes "add " ++ x) split.1, w, split.2)
+
+-- a text with the word `add`, and with a number, is a form of the add
+add-form : (bytes : List ℕ) (call : Call) → IsUtf8 bytes → word_of bytes ≡ codes "add" → add_of (rest_of bytes) ≡ Some call → IsForm bytes call
+unfolding add_of
+add-form bytes call u word h =
+    let split = splits bytes u in
+    let read = mapped (λ (id : ℕ). Add id (rest_of (rest_of bytes))) (number_of (word_of (rest_of bytes))) call h in
+    subst (IsForm bytes) read.2 (add-form-at bytes split.0 read.0 (subst (λ (w : List ℕ). bytes ≡ w ++ split.0) word split.1) (number_of-writes (word_of (rest_of bytes)) read.0 read.1) split.2)
+
+-- so is the call of any word after `add`
+later-form : (bytes : List ℕ) (call : Call) → IsUtf8 bytes → cond (bytes_eq (word_of bytes) (codes "find")) (Some (Find (rest_of bytes))) None ≡ Some call → IsForm bytes call
+later-form bytes call u h =
+    elim (by_word bytes (codes "find") (Some (Find (rest_of bytes))) None call h) [
+      | inl found ↦ subst (IsForm bytes) (same_call (Find (rest_of bytes)) call found.1) (find-form bytes u found.0)
+      | inr found ↦ absurd (cc)
+    ]
+
+-- the call of a text is one that it is a form of
+text-form : (bytes : List ℕ) (call : Call) → IsUtf8 bytes → call_of_text bytes ≡ Some call → IsForm bytes call
+unfolding call_of_text
+text-form bytes call u h =
+    elim (by_word bytes (codes "add") (add_of (rest_of bytes)) (cond (bytes_eq (word_of bytes) (codes "find")) (Some (Find (rest_of bytes))) None) call h) [
+      | inl found ↦ add-form bytes call u found.0 found.1
+      | inr found ↦ later-form bytes call u found
+    ]
+
+-- the call of a line is one that it has a form of
+has-form : (line : List ℕ) (call : Call) → form_of line ≡ Some call → HasForm line call
+unfolding form_of
+has-form line call h =
+    let read = passes_both (nat_lt max_line_len (length line)) (is_utf8 (without_return line)) (call_of_text (without_return line)) call h in
+    record {
+      short = ltb-false max_line_len (length line) read.0;
+      bytes = without_return line;
+      dropped = drops line;
+      form = text-form (without_return line) call (IsUtf8-from_is_utf8 (without_return line) read.1) read.2;
+    }
+
+-- from a form to the line's call
+
+-- a space, and the words of the forms, are UTF-8
+space-is-text : IsUtf8 (32 ∷ [])
+unfolding lib.Utf8.encode
+space-is-text = (32 ∷ [], (refl, refl))
+
+add-is-text : IsUtf8 (codes "add ")
+unfolding lib.Utf8.encode
+add-is-text = (codes "add ", (refl, refl))
+
+find-is-text : IsUtf8 (codes "find")
+unfolding lib.Utf8.encode
+find-is-text = (codes "find", (refl, refl))
+
+-- an end with a text is UTF-8
+end-is-text : (end text : List ℕ) → EndsWithText end text → IsUtf8 end
+end-is-text end text (inl e) = subst IsUtf8 (sym e.0) IsUtf8-nil
+end-is-text end text (inr e) = subst IsUtf8 (sym e.0) (IsUtf8-append (32 ∷ []) text space-is-text e.1)
+
+-- a form is UTF-8
+form-is-text : (bytes : List ℕ) (call : Call) → IsForm bytes call → IsUtf8 bytes
+form-is-text bytes (Add id text) f =
+    let digits = IsUtf8-from_ascii f.0 (IsAscii-from_digits f.0 f.3.numeral.1) in
+    subst IsUtf8 (sym f.2) (IsUtf8-append (codes "add ") (f.0 ++ f.1) add-is-text (IsUtf8-append f.0 f.1 digits (end-is-text f.1 text f.4)))
+form-is-text bytes (Find query) f =
+    subst IsUtf8 (sym f.1) (IsUtf8-append (codes "find") f.0 find-is-text (end-is-text f.0 query f.2))
+
+-- behind `add` and a space stands what tells the add
+call-of-add : (rest : List ℕ) → call_of_text (codes "add " ++ rest) ≡ add_of rest
+unfolding call_of_text
+call-of-add rest = refl
+
+-- digits and an end tell the number and the text
+add-of-digits : (digits end text : List ℕ) (id : ℕ) → WritesNumber digits id → EndsWithText end text → add_of (digits ++ end) ≡ Some (Add id text)
+unfolding add_of
+add-of-digits digits end text id w e =
+    let split = split-digits digits end text w.numeral.1 e in
+    ap (λ (t : List ℕ). option_map (λ (n : ℕ). Add n t) (number_of (word_of (digits ++ end)))) split.1 ∙ ap (λ (d : List ℕ). option_map (λ (n : ℕ). Add n text) (number_of d)) split.0 ∙ ap (option_map (λ (n : ℕ). Add n text)) (number_of-written digits id w)
+
+-- behind `find` stands the query
+call-of-find : (end query : List ℕ) → EndsWithText end query → call_of_text (codes "find" ++ end) ≡ Some (Find query)
+unfolding call_of_text
+call-of-find end query (inl e) =
+    ap (λ (x : List ℕ). call_of_text (codes "find" ++ x)) e.0 ∙ ap (λ (t : List ℕ). Some (Find t)) (sym e.1)
+call-of-find end query (inr e) = ap (λ (x : List ℕ). call_of_text (codes "find" ++ x)) e.0
+
+-- a form of a call is read as the call
+call-of-form : (bytes : List ℕ) (call : Call) → IsForm bytes call → call_of_text bytes ≡ Some call
+call-of-form bytes (Add id text) f =
+    ap call_of_text f.2 ∙ call-of-add (f.0 ++ f.1) ∙ add-of-digits f.0 f.1 text id f.3 f.4
+call-of-form bytes (Find query) f = ap call_of_text f.1 ∙ call-of-find f.0 query f.2
+
+-- a line with a form of a call is read as the call
+read-form : (line : List ℕ) (call : Call) → HasForm line call → form_of line ≡ Some call
+read-form line call h =
+    let same : without_return line ≡ h.bytes = dropped line h.bytes h.dropped in
+    form_of-text line h.short (subst IsUtf8 (sym same) (form-is-text h.bytes call h.form)) ∙ ap call_of_text same ∙ call-of-form h.bytes call h.form
+
+-- a line is read as the call that it has a form of, and as no other
+pub read-by-forms : (line : List ℕ) → IsReadByForms line
+read-by-forms line = λ call. (has-form line call, read-form line call)

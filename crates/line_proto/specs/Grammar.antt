@@ -1,0 +1,38 @@
+-- The protocol's lines as a grammar: what a line of each form is put together from.
+use Rattle.std.specs.Prelude.{◌≡◌, ◌≢◌, ◌⊎◌, ◌↔◌, ℕ, ◌^◌, ◌<◌, ◌≤◌, List, [], ◌∷◌, ◌++◌, length, codes, Some}
+use Rattle.std.specs.Str.{IsUtf8}
+use Rattle.std.specs.Str.Parse.{IsNumeral, digits_value}
+use Rattle.funnel_model.specs.declared.call.Call.{Call}
+use Rattle.funnel_model.specs.declared.call.Call.TheVariants.{Add, Find}
+use Rattle.line_proto.specs.Forms.{max_line_len, form_of}
+
+-- 1 to 20 digits, with leading zeros or without, write a number below 2 ^ 64
+pub record WritesNumber (digits : List ℕ) (number : ℕ) : Type 0 where
+  pub numeral : IsNumeral 10 digits
+  pub short : length digits ≤ 20
+  pub value : digits_value 10 digits ≡ number
+  pub fits : number < 2 ^ 64
+
+-- what ends a line that may have a text: nothing for the empty text, or a space and the text
+abbrev pub EndsWithText : List ℕ → List ℕ → Type 0
+EndsWithText end text = ((end ≡ []) × (text ≡ [])) ⊎ ((end ≡ 32 ∷ text) × IsUtf8 text)
+
+-- the bytes are a form of the call
+abbrev pub IsForm : List ℕ → Call → Type 0
+IsForm bytes (Add id text) = (digits : List ℕ) × (end : List ℕ) × (bytes ≡ codes "add " ++ (digits ++ end)) × WritesNumber digits id × EndsWithText end text
+IsForm bytes (Find query) = (end : List ℕ) × (bytes ≡ codes "find" ++ end) × EndsWithText end query
+
+-- the line is these bytes and a carriage return, or it is these bytes and doesn't end with one
+abbrev pub DropsReturn : List ℕ → List ℕ → Type 0
+DropsReturn line bytes = (line ≡ bytes ++ (13 ∷ [])) ⊎ ((line ≡ bytes) × ((front : List ℕ) → line ≢ front ++ (13 ∷ [])))
+
+-- the line has a form of the call
+pub record HasForm (line : List ℕ) (call : Call) : Type 0 where
+  pub short : length line ≤ max_line_len
+  pub bytes : List ℕ
+  pub dropped : DropsReturn line bytes
+  pub form : IsForm bytes call
+
+-- a line asks for the call of which it has a form, and for nothing where it has none
+abbrev pub IsReadByForms : List ℕ → Type 0
+IsReadByForms line = (call : Call) → (form_of line ≡ Some call) ↔ HasForm line call

@@ -1,0 +1,10 @@
+-- What a request asks of the engine.
+use Rattle.funnel_model.specs.declared.call.Call.{Call}
+use Rattle.funnel_model.specs.declared.call.Call.TheVariants as call
+use Rattle.line_proto.specs.declared.request.Request.{Request}
+use Rattle.line_proto.specs.declared.request.Request.TheVariants.{Add, Find}
+
+-- the call that a request stands for, with its text's bytes
+abbrev pub call_of : Request → Call
+call_of (Add id text) = call.Add id text.now
+call_of (Find query) = call.Find query.now

@@ -1,0 +1,34 @@
+-- The lines that replies are written as.
+use Rattle.std.specs.Prelude.{ℕ, Bool, true, false, List, ◌∷◌, ◌++◌, length, flat_map, codes, decimal}
+use Rattle.funnel_model.specs.declared.reply.Reply.{Reply}
+use Rattle.funnel_model.specs.declared.reply.Reply.TheVariants.{Added, Present, Full, Found, Memory, Line}
+
+-- each number after a space
+abbrev pub spaced : List ℕ → List ℕ
+spaced ids = flat_map (λ id. 32 ∷ decimal id) ids
+
+-- how many numbers there are, and then each of them
+abbrev pub counted : List ℕ → List ℕ
+counted ids = decimal (length ids) ++ spaced ids
+
+-- the words and numbers of a reply
+abbrev pub message_of : Reply → List ℕ
+message_of (Added place) = codes "added " ++ decimal place
+message_of (Present place) = codes "refused present " ++ decimal place
+message_of Full = codes "refused full"
+message_of (Found ids) = codes "found " ++ counted ids
+message_of Memory = codes "refused memory"
+message_of Line = codes "refused line"
+
+-- the reply's line, with the newline at its end
+abbrev pub text_of : Reply → List ℕ
+text_of reply = message_of reply ++ codes "\n"
+
+-- the lines of the replies, in their order
+abbrev pub texts : List Reply → List ℕ
+texts replies = flat_map text_of replies
+
+-- the reply's line may be of any length
+abbrev pub is_list : Reply → Bool
+is_list (Found ids) = true
+is_list _ = false

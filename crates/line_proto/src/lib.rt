@@ -1,0 +1,16 @@
+//! The line protocol: what a client's line asks of the engine, and the line that a reply is written as. A
+//! session reads lines, hands each that is not too long to `parse_line`, and writes what `reply_text` makes of the answer.
+#![tactic(auto)]
+
+mod laws;
+mod parse;
+mod reply;
+mod request;
+
+pub use laws::lines_are_read_by_the_grammar;
+pub use parse::{MAX_LINE_LEN, parse_line};
+pub use reply::reply_text;
+pub use request::Request;
+
+#[cfg(test)]
+mod tests;

@@ -1,0 +1,76 @@
+ghost use Rattle.std.specs.Prelude.{◌≡◌, MatchOption, Some, None};
+ghost use Rattle.line_proto.specs.Forms.{without_return, word_of, rest_of, number_of, add_of, call_of_text, form_of};
+ghost use Rattle.line_proto.specs.Requests.{call_of};
+
+use crate::request::Request;
+use std::str;
+
+/// The most bytes of a line, a carriage return at its end among them.
+pub const MAX_LINE_LEN: usize = 65_536;
+
+/// The most digits of a number.
+const MAX_DIGITS: usize = 20;
+
+/// The request of a line that is given without its newline, or `None` where the line has no form: it is longer
+/// than `MAX_LINE_LEN`, it isn't UTF-8, or it is of another shape. One carriage return at its end is dropped.
+#[tactic(auto, unfolding(crate::specs::Forms::form_of))]
+pub fn parse_line(line: &[u8]) -> Option<Request<'_>>
+    ensures { MatchOption result (form_of line.now ≡ None) (λ r. form_of line.now ≡ Some (call_of r)) }
+{
+    if line.len() > MAX_LINE_LEN {
+        return None;
+    }
+    let Ok(text) = str::from_utf8(without_return(line)) else {
+        return None;
+    };
+    parse_text(text)
+}
+
+/// The request of a line's text, by its first word.
+#[tactic(auto, unfolding(crate::specs::Forms::call_of_text))]
+fn parse_text(text: &str) -> Option<Request<'_>>
+    ensures { MatchOption result (call_of_text text.now ≡ None) (λ r. call_of_text text.now ≡ Some (call_of r)) }
+{
+    let (word, rest) = split_word(text);
+    match word {
+        "add" => parse_add(rest),
+        "find" => Some(Request::Find { query: rest }),
+        _ => None,
+    }
+}
+
+/// The request of what follows `add` and a space.
+#[tactic(auto, unfolding(crate::specs::Forms::add_of))]
+fn parse_add(rest: &str) -> Option<Request<'_>>
+    ensures { MatchOption result (add_of rest.now ≡ None) (λ r. add_of rest.now ≡ Some (call_of r)) }
+{
+    let (number, text) = split_word(rest);
+    let id = parse_number(number)?;
+    Some(Request::Add { id, text })
+}
+
+/// The number that 1 to 20 digits write, if it is below 2^64.
+fn parse_number(word: &str) -> Option<u64>
+    ensures { result ≡ number_of word.now }
+{
+    // `parse` would read a plus sign, too
+    if word.starts_with('+') || word.len() > MAX_DIGITS {
+        return None;
+    }
+    word.parse().ok()
+}
+
+/// The bytes before the first space, and those after it.
+fn split_word(text: &str) -> (&str, &str)
+    ensures word { result.0.now ≡ word_of text.now }
+    ensures rest { result.1.now ≡ rest_of text.now }
+{
+    text.split_once(' ').unwrap_or((text, ""))
+}
+
+/// The line without one carriage return at its end.
+fn without_return(line: &[u8]) -> &[u8]
+    ensures { result.now ≡ without_return line.now }
+{
+    line.strip_suffix(b"\r").unwrap_or(line)
+}

@@ -1,0 +1,88 @@
+ghost use Rattle.std.specs.Prelude.{◌≡◌, ◌+◌, ◌≤◌, ◌<◌, ◌++◌, false, length, decimal, OnOk, OnErr, IsOk, vec_len, vec_capacity};
+ghost use Rattle.line_proto.specs.Texts.{text_of, message_of, spaced, counted, is_list};
+
+use funnel_model::{Memory, Reply};
+use itoa::Buffer;
+use std::alloc::AllocError;
+
+/// Sets `out` to the reply's line, with its newline. It takes memory only where `out` has no room for the line;
+/// where it finds none, what stands in `out` is no reply.
+pub fn reply_text(reply: &Reply, out: &mut Vec<u8>) -> Result<(), Memory>
+    ensures ok { OnOk result (out.new.items ≡ text_of reply.now) }
+    ensures full { OnErr result (vec_capacity out.old < length (text_of reply.now)) }
+    // Each line but a list of documents has room in 64 bytes.
+    ensures room { is_list reply.now ≡ false → 64 ≤ vec_capacity out.old → IsOk result }
+    ensures capacity { vec_capacity out.old ≤ vec_capacity out.new }
+{
+    out.clear();
+    push_line(out, reply)?;
+    Ok(())
+}
+
+fn push_line(out: &mut Vec<u8>, reply: &Reply) -> Result<(), AllocError>
+    ensures ok { OnOk result (out.new.items ≡ out.old.items ++ text_of reply.now) }
+    ensures full { OnErr result (vec_capacity out.old < vec_len out.old + length (text_of reply.now)) }
+    ensures short { is_list reply.now ≡ false → length (text_of reply.now) ≤ 64 }
+    ensures capacity { vec_capacity out.old ≤ vec_capacity out.new }
+{
+    push_message(out, reply)?;
+    out.extend_from_slice(b"\n")
+}
+
+fn push_message(out: &mut Vec<u8>, reply: &Reply) -> Result<(), AllocError>
+    ensures ok { OnOk result (out.new.items ≡ out.old.items ++ message_of reply.now) }
+    ensures full { OnErr result (vec_capacity out.old < vec_len out.old + length (message_of reply.now)) }
+    ensures short { is_list reply.now ≡ false → length (message_of reply.now) < 64 }
+    ensures capacity { vec_capacity out.old ≤ vec_capacity out.new }
+{
+    match reply {
+        Reply::Added(place) => push_words_and_number(out, b"added ", *place),
+        Reply::Present(place) => push_words_and_number(out, b"refused present ", *place),
+        Reply::Full => out.extend_from_slice(b"refused full"),
+        Reply::Found(ids) => push_words_and_list(out, b"found ", ids.as_slice()),
+        Reply::Memory => out.extend_from_slice(b"refused memory"),
+        Reply::Line => out.extend_from_slice(b"refused line"),
+    }
+}
+
+fn push_words_and_number(out: &mut Vec<u8>, words: &[u8], number: u64) -> Result<(), AllocError>
+    ensures ok { OnOk result (out.new.items ≡ out.old.items ++ (words.now ++ decimal number)) }
+    ensures full { OnErr result (vec_capacity out.old < vec_len out.old + length (words.now ++ decimal number)) }
+    ensures digits { length (decimal number) ≤ 20 }
+    ensures capacity { vec_capacity out.old ≤ vec_capacity out.new }
+{
+    out.extend_from_slice(words)?;
+    push_number(out, number)
+}
+
+/// Appends the words, the number of ids, and each of them after a space.
+fn push_words_and_list(out: &mut Vec<u8>, words: &[u8], ids: &[u64]) -> Result<(), AllocError>
+    ensures ok { OnOk result (out.new.items ≡ out.old.items ++ (words.now ++ counted ids.now)) }
+    ensures full { OnErr result (vec_capacity out.old < vec_len out.old + length (words.now ++ counted ids.now)) }
+    ensures capacity { vec_capacity out.old ≤ vec_capacity out.new }
+{
+    push_words_and_number(out, words, ids.len() as u64)?;
+    push_spaced(out, ids)
+}
+
+/// Appends each number after a space.
+fn push_spaced(out: &mut Vec<u8>, ids: &[u64]) -> Result<(), AllocError>
+    ensures ok { OnOk result (out.new.items ≡ out.old.items ++ spaced ids.now) }
+    ensures full { OnErr result (vec_capacity out.old < vec_len out.old + length (spaced ids.now)) }
+    ensures capacity { vec_capacity out.old ≤ vec_capacity out.new }
+{
+    for id in ids {
+        push_words_and_number(out, b" ", *id)?;
+    }
+    Ok(())
+}
+
+fn push_number(out: &mut Vec<u8>, number: u64) -> Result<(), AllocError>
+    ensures ok { OnOk result (out.new.items ≡ out.old.items ++ decimal number) }
+    ensures full { OnErr result (vec_capacity out.old < vec_len out.old + length (decimal number)) }
+    ensures digits { length (decimal number) ≤ 20 }
+    ensures capacity { vec_capacity out.old ≤ vec_capacity out.new }
+{
+    let mut buffer = Buffer::new();
+    out.extend_from_slice(buffer.format(number).as_bytes())
+}

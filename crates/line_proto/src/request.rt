@@ -1,0 +1,8 @@
+/// What a line asks for. Its text borrows from the line.
+#[derive(Clone, Copy, Debug, PartialEq, Eq)]
+pub enum Request<'a> {
+    /// Add the document of this number.
+    Add { id: u64, text: &'a str },
+    /// Find the documents that have every word of the query.
+    Find { query: &'a str },
+}

@@ -1,0 +1,131 @@
+use crate::{MAX_LINE_LEN, Request, parse_line, reply_text};
+use funnel_model::{Ids, Reply};
+use std::test::Fail;
+
+const fn add(id: u64, text: &'static str) -> Option<Request<'static>> {
+    Some(Request::Add { id, text })
+}
+
+const fn find(query: &'static str) -> Option<Request<'static>> {
+    Some(Request::Find { query })
+}
+
+#[test]
+fn a_line_of_a_form_is_its_request(rt: HostRuntime) {
+    let rows: [(&[u8], Option<Request<'static>>); 20] = [
+        (b"add 7 The cat sat", add(7, "The cat sat")),
+        ("add 1 Straße".as_bytes(), add(1, "Straße")),
+        (
+            b"add 18446744073709551615 a",
+            add(18_446_744_073_709_551_615, "a"),
+        ),
+        (b"add 007 b", add(7, "b")),
+        (b"add 00000000000000000042 b", add(42, "b")),
+        (b"add 0", add(0, "")),
+        (b"add 1", add(1, "")),
+        (b"add 1 ", add(1, "")),
+        (b"add 1  a ", add(1, " a ")),
+        (b"add 1 a\tb", add(1, "a\tb")),
+        (b"find CAT", find("CAT")),
+        (b"find cat cat the", find("cat cat the")),
+        (b"find", find("")),
+        (b"find ", find("")),
+        (b"find add 1 a", find("add 1 a")),
+        // one carriage return is dropped, and no second one
+        (b"find\r", find("")),
+        (b"find cat\r", find("cat")),
+        (b"find cat\r\r", find("cat\r")),
+        (b"find \rcat", find("\rcat")),
+        (b"add 1\r", add(1, "")),
+    ];
+    for (line, request) in rows {
+        assert_eq!(rt; parse_line(line), request);
+    }
+}
+
+#[test]
+fn a_line_of_no_form_is_no_request(rt: HostRuntime) {
+    let rows: [&[u8]; 22] = [
+        b"",
+        b"\r",
+        b" ",
+        b"addx 1 a",
+        b"Add 1 a",
+        b" add 1 a",
+        b"add",
+        b"add ",
+        b"add\t1 a",
+        b"add  1 a",
+        b"add +1 a",
+        b"add -1 a",
+        b"add 1a",
+        b"add 0x1 a",
+        b"add 18446744073709551616 a",
+        b"add 99999999999999999999 a",
+        b"add 000000000000000000042 b",
+        "add ١ a".as_bytes(),
+        b"finder",
+        b"find\r\r",
+        b"find \xff",
+        b"add 1 \xed\xa0\x80",
+    ];
+    for line in rows {
+        assert_eq!(rt; parse_line(line), None);
+    }
+}
+
+#[test]
+fn a_line_is_at_most_65536_bytes_long(rt: HostRuntime) -> Result<(), Fail> {
+    let mut line = Vec::new(rt.alloc());
+    line.extend_from_slice(b"add 1 ")?;
+    line.resize(MAX_LINE_LEN, b'a')?;
+    assert!(rt; parse_line(&line).is_some());
+    line.push(b'\r')?;
+    assert!(rt; parse_line(&line).is_none());
+    line.pop();
+    line.push(b'a')?;
+    assert!(rt; parse_line(&line).is_none());
+    Ok(())
+}
+
+#[test]
+fn a_reply_is_one_line(rt: HostRuntime) -> Result<(), Fail> {
+    let alloc = rt.alloc();
+    let rows = [
+        (Reply::Added(1), "added 1\n"),
+        (Reply::Added(0), "added 0\n"),
+        (
+            Reply::Added(18_446_744_073_709_551_615),
+            "added 18446744073709551615\n",
+        ),
+        (Reply::Present(1), "refused present 1\n"),
+        (
+            Reply::Present(18_446_744_073_709_551_615),
+            "refused present 18446744073709551615\n",
+        ),
+        (Reply::Full, "refused full\n"),
+        (Reply::Found(Ids::new(Vec::new(alloc))), "found 0\n"),
+        (Reply::Found(Ids::new(vec![in alloc; 7]?)), "found 1 7\n"),
+        (
+            Reply::Found(Ids::new(vec![in alloc; 9, 3]?)),
+            "found 2 9 3\n",
+        ),
+        (
+            Reply::Found(Ids::new(vec![in alloc; 0, 10, 18_446_744_073_709_551_615]?)),
+            "found 3 0 10 18446744073709551615\n",
+        ),
+        // past the 64 bytes that `out` has room for
+        (
+            Reply::Found(Ids::new(vec![in alloc; 18_446_744_073_709_551_615; 4]?)),
+            "found 4 18446744073709551615 18446744073709551615 18446744073709551615 18446744073709551615\n",
+        ),
+        (Reply::Memory, "refused memory\n"),
+        (Reply::Line, "refused line\n"),
+    ];
+    let mut out = Vec::with_capacity(alloc, 64)?;
+    for (reply, text) in &rows {
+        assert_eq!(rt; reply_text(reply, &mut out), Ok(()));
+        assert_eq!(rt; out.as_slice(), text.as_bytes());
+    }
+    Ok(())
+}

@@ -1,0 +1,10 @@
+//! The hash that spreads terms over the rows of a signature: FNV-1a of 64 bits, and the row that a word's hash names.
+#![tactic(auto)]
+
+mod hash;
+mod row;
+#[cfg(test)]
+mod tests;
+
+pub use hash::fnv;
+pub use row::row_of;

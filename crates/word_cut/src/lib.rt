@@ -1,0 +1,11 @@
+//! The words of a text: it is cut by the word boundaries of Unicode (UAX 29), and each word is then folded, so that
+//! words that differ in case alone are one word. Documents and queries are both cut here.
+#![tactic(auto)]
+
+mod cut;
+mod fault;
+#[cfg(test)]
+mod tests;
+
+pub use cut::words;
+pub use fault::WordFault;
