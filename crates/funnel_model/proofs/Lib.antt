@@ -1,6 +1,12 @@
 pub mod AnswerLemmas
 pub mod ClaimLemmas
 pub mod Histories
+pub mod ListedLemmas
 pub mod LiveLemmas
+pub mod Ranges
+pub mod Searches
+pub mod SizesLemmas
 pub mod StepLemmas
+pub mod TreatmentLemmas
+pub mod WordClasses
 pub mod WordLemmas

@@ -1,7 +1,12 @@
+pub mod Configuration
 pub mod Events
 pub mod Example
 pub mod History
 pub mod Legal
+pub mod Listed
+pub mod Sizes
 pub mod Slices
 pub mod Steps
+pub mod Treatment
+pub mod TreatmentLaws
 pub mod Words

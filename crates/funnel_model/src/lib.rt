@@ -1,23 +1,28 @@
-//! What the engine's contracts speak of: words, events, histories of events, and what a query is answered in
-//! them. It has data and definitions, and no code of the engine.
+//! What the engine's contracts speak of: words, events, histories of events, what a query is answered in them,
+//! and configurations and what they give each word. It has data and definitions, and no code of the engine.
 #![tactic(auto)]
 
 mod bit_list;
 mod call;
 mod commit;
+mod config;
 mod event;
 mod ids;
 pub mod laws;
+mod listed;
 mod memory;
 mod reply;
 mod text;
+pub mod treatment_laws;
 mod word_set;
 
 pub use bit_list::{Bit, BitList};
 pub use call::Call;
 pub use commit::{Commit, Commits};
+pub use config::Config;
 pub use event::Event;
 pub use ids::Ids;
+pub use listed::Listed;
 pub use memory::Memory;
 pub use reply::Reply;
 pub use text::Text;

@@ -1,0 +1,10 @@
+pub mod EntryLemmas
+pub mod ValueLemmas
+pub mod ConfigLemmas
+pub mod WordTests
+pub mod ObjectLemmas
+pub mod FaultOrder
+pub mod Validity
+pub mod ConfigurationLemmas
+pub mod Taking
+pub mod ObjectOrder

@@ -1,0 +1,19 @@
+-- Want of memory comes after the bytes were taken.
+use Rattle.std.proofs.Common.{ℕ, ◌≤◌, ◌++◌, length, take, arith, length-append, length-take}
+use Rattle.std.proofs.lemmas.Result.{err_from_is_err_and}
+use Rattle.funnel_io.proofs.Told.{TakenFrom-append, AppendedTo-append}
+use Rattle.funnel_stats.proofs.reading.read_all.Goals as goal
+
+pub returns-in_err-extend_from_slice-in-Bytes-clause-taken : goal.returns-in_err-extend_from_slice-in-Bytes-clause-taken
+returns-in_err-extend_from_slice-in-Bytes-clause-taken g c =
+    let p = err_from_is_err_and c.from_residual.result c.from_residual.ensures.1 in
+    let before = c.loop-room.invariant in
+    let piece = take c.in-Bytes.n c.read.new.room in
+    let few : length (c.loop-room.bytes.items ++ piece) ≤ 16777217 = omega (arith, length-append {A = ℕ}, length-take {A = ℕ}) in
+    rw (p.1, p.2) (record {
+      bytes = c.loop-room.bytes.items ++ piece;
+      taken_from = TakenFrom-append _ c.loop-room.bytes.items _ piece _ before.taken_from c.in-Bytes.ensures.left;
+      appended = AppendedTo-append _ c.loop-room.bytes.items _ piece _ before.appended c.in-Bytes.ensures.taken;
+      few = few;
+      answers = tt;
+    })

@@ -1,0 +1,13 @@
+-- the bytes so far are those that were taken
+use Rattle.std.proofs.Common.{◌-◌, length}
+use Rattle.funnel_stats.proofs.Taking.{HasTaken}
+use Rattle.funnel_stats.proofs.reading.read_all.Given as goal
+
+abbrev pub invariant-loop-room : goal.invariant-loop-room
+invariant-loop-room g l =
+    HasTaken l.bytes.items (g.S.Source.left l.fn.source) (g.S.Source.left l.source) (g.S.Source.taken l.fn.source) (g.S.Source.taken l.source)
+    (g.S.Source.read_faults l.fn.source) (g.S.Source.read_faults l.source) (g.S.Borrower.borrowed l.fn.source) (g.S.Borrower.borrowed l.source)
+    (g.S.Source.beside_read l.fn.source) (g.S.Source.beside_read l.source)
+
+abbrev pub decreases-loop-room : goal.decreases-loop-room
+decreases-loop-room g l = 16777217 - length l.bytes.items

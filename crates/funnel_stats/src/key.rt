@@ -1,0 +1,119 @@
+ghost use Rattle.std.specs.Prelude.{◌≡◌, ◌≤◌, ◌&&◌, nat_le};
+ghost use Rattle.funnel_stats.specs.Keys.{name_of, limits_of, is_name};
+
+/// A key of a configuration. The order of the variants is that of the table of keys.
+#[derive(Clone, Copy, Debug, PartialEq, Eq, Drop)]
+pub enum Key {
+    /// The number of passes.
+    Passes,
+    /// The number of slices of the pool.
+    Slices,
+    /// The words that a row of the highest rank has in a slice.
+    Blocks,
+    /// The highest rank of a row.
+    MaxRank,
+    /// The commits that the journal holds.
+    Commits,
+    /// One bit in this many is set in a shared row.
+    OneIn,
+    /// The wanted ratio of signal to noise.
+    Snr,
+    /// The documents of the corpus that was counted.
+    Documents,
+    /// The unlisted words of a document.
+    Tail,
+    /// The greatest number of shared rows of one rank.
+    MaxRows,
+    /// The listed words with their counts.
+    Words,
+}
+
+/// The numbers that a key takes, and the one that stands where the key is left out. Of the listed words this is how many
+/// they are.
+#[derive(Clone, Copy, Debug, PartialEq, Eq, Drop)]
+pub struct Limits {
+    /// The least number.
+    pub least: u64,
+    /// The greatest number.
+    pub greatest: u64,
+    /// The number of a key that is left out.
+    pub default: u64,
+}
+
+impl Limits {
+    /// Whether the number is one of them.
+    pub fn contain(&self, n: u64) -> bool
+        ensures { result ≡ (nat_le self.now.least n && nat_le n self.now.greatest) }
+    {
+        self.least <= n && n <= self.greatest
+    }
+}
+
+/// All keys in the order of the table.
+pub const KEYS: [Key; 11] = [
+    Key::Passes,
+    Key::Slices,
+    Key::Blocks,
+    Key::MaxRank,
+    Key::Commits,
+    Key::OneIn,
+    Key::Snr,
+    Key::Documents,
+    Key::Tail,
+    Key::MaxRows,
+    Key::Words,
+];
+
+impl Key {
+    /// Its name in a configuration.
+    pub fn name(self) -> &'static str
+        ensures { result.now ≡ name_of self }
+    {
+        match self {
+            Key::Passes => "passes",
+            Key::Slices => "slices",
+            Key::Blocks => "blocks",
+            Key::MaxRank => "max_rank",
+            Key::Commits => "commits",
+            Key::OneIn => "one_in",
+            Key::Snr => "snr",
+            Key::Documents => "documents",
+            Key::Tail => "tail",
+            Key::MaxRows => "max_rows",
+            Key::Words => "words",
+        }
+    }
+
+    /// The numbers that it takes.
+    pub fn limits(self) -> Limits
+        ensures value { result ≡ limits_of self }
+        ensures low { result.least ≤ result.default }
+        ensures high { result.default ≤ result.greatest }
+    {
+        let (least, greatest, default) = match self {
+            Key::Passes => (1, 64, 2),
+            Key::Slices => (1, 1_024, 2),
+            Key::Blocks => (1, 64, 1),
+            Key::MaxRank => (0, 6, 0),
+            Key::Commits => (1, 16_777_216, 1_024),
+            Key::OneIn => (2, 20, 10),
+            Key::Snr => (1, 1_000, 10),
+            Key::Documents => (1, 4_294_967_296, 1_000),
+            Key::Tail => (0, 100_000, 10),
+            Key::MaxRows => (1, 1_048_576, 65_536),
+            Key::Words => (0, 65_536, 0),
+        };
+        Limits {
+            least,
+            greatest,
+            default,
+        }
+    }
+
+    /// Whether a key has this name.
+    pub fn is_name(name: &str) -> bool
+        ensures { result ≡ is_name name.now }
+    {
+        KEYS.iter().any(|key| key.name() == name)
+    }
+}

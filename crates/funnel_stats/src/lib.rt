@@ -1,0 +1,24 @@
+//! The configuration of an engine, read from a source: one JSON object, whose keys are whole numbers and the listed
+//! words with their counts. What is read is hostile: a fault says why it is no configuration. The layers above use
+//! that a configuration that was read is valid, with exactly the values of the object and the defaults of the keys that
+//! it leaves out, and that a fault is the first in the order of faults that applies.
+#![tactic(auto)]
+
+mod fault;
+mod kept;
+mod key;
+mod laws;
+mod listing;
+mod numbers;
+mod object;
+mod parsing;
+mod reading;
+
+pub use fault::ConfigFault;
+pub use kept::Kept;
+pub use key::{Key, Limits};
+pub use laws::entries_are_in_byte_order;
+pub use reading::read_config;
+
+#[cfg(test)]
+mod tests;

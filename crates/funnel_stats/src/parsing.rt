@@ -1,0 +1,59 @@
+ghost use Rattle.std.specs.Prelude.{◌≡◌, ◌≤◌, [], ◌∷◌, Ok, IfOk, MatchResult, length};
+ghost use Rattle.funnel_model.specs.Configuration.{IsValid, IsInRange};
+ghost use Rattle.serde_json.specs.View.{members_view};
+ghost use Rattle.funnel_stats.specs.Configurations.{configuration, config_of, fault_of, first_of, longest};
+ghost use Rattle.funnel_stats.specs.Faults.{too_many_columns, pool_too_large};
+ghost use Rattle.funnel_stats.specs.Steps.{Checks, Gives, IsFaultOfBytes};
+
+use crate::fault::ConfigFault;
+use crate::listing::list_words;
+use crate::numbers::read_numbers;
+use crate::object::{check_keys, read_object};
+use funnel_model::Config;
+use serde_json::{Map, Value};
+use std::alloc::Global;
+use treatment::sizes;
+
+/// The most columns of all slices.
+const MOST_COLUMNS: u64 = 4_194_304;
+
+/// The most words of all rows of the pool.
+const MOST_WORDS: u64 = 33_554_432;
+
+/// What the bytes are as a configuration.
+pub fn parse(alloc: Global, bytes: &[u8]) -> Result<Config, ConfigFault>
+    requires { length bytes.now ≤ longest }
+    ensures answer { MatchResult result (λ config. configuration bytes.now ≡ Ok config)
+        (λ fault. IsFaultOfBytes fault (configuration bytes.now)) }
+    ensures valid { IfOk result IsValid }
+{
+    let object = read_object(alloc, bytes)?;
+    config_from(alloc, &object)
+}
+
+/// The configuration that an object gives, or its first fault.
+fn config_from(alloc: Global, object: &Map<String, Value>) -> Result<Config, ConfigFault>
+    ensures answer { let members = members_view object.now.entries in Gives result (config_of members) (fault_of members) }
+    ensures valid { IfOk result IsValid }
+{
+    check_keys(alloc, object)?;
+    let mut config = read_numbers(alloc, object)?;
+    config.words = list_words(alloc, object, config.documents)?;
+    check_sizes(&config)?;
+    Ok(config)
+}
+
+/// Whether the columns and the pool are within their limits.
+fn check_sizes(config: &Config) -> Result<(), ConfigFault>
+    requires { IsInRange config.now }
+    ensures { Checks result (first_of (too_many_columns config.now ∷ pool_too_large config.now ∷ [])) }
+{
+    let sizes = sizes(config);
+    if sizes.columns > MOST_COLUMNS {
+        return Err(ConfigFault::TooManyColumns(sizes.columns));
+    }
+    if sizes.pool_words > MOST_WORDS {
+        return Err(ConfigFault::PoolTooLarge(sizes.pool_words));
+    }
+    Ok(())
+}

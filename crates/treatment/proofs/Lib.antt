@@ -1,0 +1,4 @@
+pub mod Stops
+pub mod Lookups
+pub mod Counting
+pub mod Passes
