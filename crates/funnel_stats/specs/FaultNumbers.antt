@@ -2,7 +2,7 @@ use Rattle.std.specs.Prelude.{ℕ}
 use Rattle.funnel_stats.specs.declared.fault.ConfigFault.{ConfigFault}
 use Rattle.funnel_stats.specs.declared.fault.ConfigFault.TheVariants.{ReadFault, TooLong, NotJson, UnknownKey, BadValue, NotWord, WordCount, TooManyColumns, PoolTooLarge, Memory}
 
--- the number of a fault: of two faults of the bytes that apply, the lesser one is answered
+-- the number of a fault, in the order in which `configuration` looks for them
 abbrev pub number_of_fault : ConfigFault → ℕ
 number_of_fault ReadFault = 1
 number_of_fault (TooLong limit) = 2
