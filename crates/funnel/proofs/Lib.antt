@@ -9,6 +9,6 @@ pub mod KeptLemmas
 mod LineLaws
 pub mod PendingLaws
 pub mod Ranges
+pub mod RunLemmas
 pub mod SearchLemmas
 pub mod ServingLemmas
-pub mod WorkLemmas

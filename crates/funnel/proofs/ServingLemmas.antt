@@ -1,5 +1,5 @@
 -- A session's progress, line by line, and its ends.
-use Rattle.std.proofs.Common.{◌≡◌, ◌≢◌, ℕ, suc, ◌+◌, ◌≤◌, ◌⊎◌, ⊎_elim, Bool, true, false, List, [], ◌∷◌, ◌++◌, length, take, drop, Option, sym, refl, ap, ◌∙◌, subst, append_assoc, arith, inl, inr}
+use Rattle.std.proofs.Common.{◌≡◌, ◌≢◌, ℕ, suc, ◌+◌, ◌≤◌, ◌<◌, ◌⊎◌, ⊎_elim, Bool, true, false, List, [], ◌∷◌, ◌++◌, length, take, drop, sym, refl, ap, ◌∙◌, subst, append_assoc, arith, inl, inr}
 use Rattle.std.proofs.lemmas.Bool.{true≢false}
 use Rattle.std.proofs.lemmas.List.{append-nil, length-append, length-drop, map-append, take-append-drop}
 use Rattle.std.proofs.lemmas.List.Concat.{flat_map-append}
@@ -7,10 +7,9 @@ use Rattle.std.specs.Option.{IfSome}
 use Rattle.funnel_io.proofs.CutLaws.{cut-append-line, cut-no_newline, cut_on, recursion_from_HasNoNewline}
 use Rattle.funnel_io.proofs.Told.{AppendedTo-append, AppendedTo-nothing, TakenFrom-append, TakenFrom-nothing}
 use Rattle.funnel_io.proofs.Counting.{Rose-after}
-use Rattle.funnel.specs.Turns.{HasCause}
+use Rattle.funnel_io.specs.Counts.{Rose}
 use Rattle.funnel_io.specs.Bytes.{AppendedPart, AppendedTo, TakenFrom}
 use Rattle.funnel_io.specs.Lines.{Cut, HasNoNewline, last_line, lines, rest_of, whole_lines}
-use Rattle.funnel_io.specs.declared.end.End.{End}
 use Rattle.funnel_io.specs.declared.end.End.TheVariants as end_of
 use Rattle.funnel_model.specs.declared.event.Event.{Event}
 use Rattle.funnel_model.specs.declared.reply.Reply.{Reply}
@@ -20,8 +19,8 @@ use Rattle.line_proto.specs.Texts.{text_of, texts}
 use Rattle.funnel.specs.Answering.{Replies}
 use Rattle.funnel.specs.Pending.{Pending}
 use Rattle.funnel.specs.Reading.{EndsLine, IsLast, IsPending}
-use Rattle.funnel.specs.Serving.{IsAtEnd, IsAtNewline, IsOver, Progress, Start}
-use Rattle.funnel.specs.Session.{Answers, AnswersAll, AnswersItem}
+use Rattle.funnel.specs.Serving.{IsAtEnd, IsAtNewline, IsOver, Progress, Streams}
+use Rattle.funnel.specs.Session.{Answers, AnswersAll, AnswersItem, AnswersSome}
 use Rattle.funnel.specs.Taking.{Takes}
 
 -- one more item and its reply
@@ -111,39 +110,60 @@ next_cut consumed rest bytes line rest' done old_ended ended (inr at) still ends
   by_cut (inl newline) = absurd (no_line_of_none line rest' (sym nothing ∙ newline))
   by_cut (inr last) = absurd (last.not_empty (sym last.whole ∙ nothing))
 
-module _ (limits : Limits) (start : Start) (old new : Pending) (h h' : List Event) (left left' taken taken' written written' : Option (List ℕ)) (may may' : ℕ) (p : Progress limits start old h left taken written may)
-    (bytes : List ℕ) (takes : Takes bytes left left' taken taken' may may') where
-  takes_all : TakenFrom start.left ((p.consumed ++ p.rest) ++ bytes) left'
-  takes_all = TakenFrom-append start.left (p.consumed ++ p.rest) left bytes left' p.takes takes.left
+module _ (limits : Limits) (limit : ℕ) (before now now' : Streams) (old new : Pending) (h h' : List Event) (may may' : ℕ) (p : Progress limits limit before now old h may)
+    (bytes : List ℕ) (takes : Takes bytes now.left now'.left now.taken now'.taken may may') where
+  takes_all : TakenFrom before.left ((p.consumed ++ p.rest) ++ bytes) now'.left
+  takes_all = TakenFrom-append before.left (p.consumed ++ p.rest) now.left bytes now'.left p.takes takes.left
 
-  adds_all : AppendedTo start.taken ((p.consumed ++ p.rest) ++ bytes) taken'
-  adds_all = AppendedTo-append start.taken (p.consumed ++ p.rest) taken bytes taken' p.adds takes.taken
+  adds_all : AppendedTo before.taken ((p.consumed ++ p.rest) ++ bytes) now'.taken
+  adds_all = AppendedTo-append before.taken (p.consumed ++ p.rest) now.taken bytes now'.taken p.adds takes.taken
 
-  count_all : may' + length ((p.consumed ++ p.rest) ++ bytes) ≡ start.limit
+  count_all : may' + length ((p.consumed ++ p.rest) ++ bytes) ≡ limit
   count_all = let l = length-append (p.consumed ++ p.rest) bytes in let c = p.count in let k = takes.count in omega arith
 
   module _ (line rest' : List ℕ) (ends : EndsLine (p.rest ++ bytes) line rest' new.ended) (kept : IsPending new rest') (still : old.ended ≡ true → bytes ≡ [])
-      (none : new.ended ≡ true → IfSome left' (λ bs. bs ≡ [])) (text : List ℕ) (r : Replies limits h (item_of line) h' text) where
+      (none : new.ended ≡ true → IfSome now'.left (λ bs. bs ≡ [])) (text : List ℕ) (r : Replies limits h (item_of line) h' text) where
     -- the line was answered and its reply written
-    pub progress_on : AppendedTo written text written' → Progress limits start new h' left' taken' written' may'
-    progress_on wrote =
+    pub progress_on : (new.ended ≡ true → 0 < may') → AppendedTo now.written text now'.written → now.reads ≤ now'.reads → now.writes ≤ now'.writes → Progress limits limit before now' new h' may'
+    progress_on more wrote reads writes =
         let n = next_cut p.consumed p.rest bytes line rest' p.done old.ended new.ended p.cut still ends in
         record {
           consumed = n.consumed';
           rest = rest';
           done = p.done ++ line ∷ [];
           replies = p.replies ++ r.reply ∷ [];
-          takes = subst (λ (bs : List ℕ). TakenFrom start.left bs left') n.joined takes_all;
-          adds = subst (λ (bs : List ℕ). AppendedTo start.taken bs taken') n.joined adds_all;
+          takes = subst (λ (bs : List ℕ). TakenFrom before.left bs now'.left) n.joined takes_all;
+          adds = subst (λ (bs : List ℕ). AppendedTo before.taken bs now'.taken) n.joined adds_all;
           count = ap (λ (bs : List ℕ). may' + length bs) (sym n.joined) ∙ count_all;
           kept = kept;
           cut = n.cut;
           answers = subst (λ (is : List Item). Answers limits 0 [] is (p.replies ++ r.reply ∷ []) h') (sym (items-append p.done (line ∷ [])))
               (Answers-push limits 0 [] h h' (items p.done) p.replies (item_of line) r.reply p.answers r.answers);
-          writes = subst (λ (bs : List ℕ). AppendedTo start.written bs written') (sym (texts-push p.replies r.reply))
-              (AppendedTo-append start.written (texts p.replies) written (text_of r.reply) written' p.writes (subst (λ (bs : List ℕ). AppendedTo written bs written') r.text_is wrote));
+          writes = subst (λ (bs : List ℕ). AppendedTo before.written bs now'.written) (sym (texts-push p.replies r.reply))
+              (AppendedTo-append before.written (texts p.replies) now.written (text_of r.reply) now'.written p.writes (subst (λ (bs : List ℕ). AppendedTo now.written bs now'.written) r.text_is wrote));
+          read_faults = (let f = p.read_faults in omega arith);
+          write_faults = (let f = p.write_faults in omega arith);
           none_left = none;
+          may_more = more;
         }
+
+    -- the lines so far and this one were answered, and a part of its reply was written
+    some_of : (all others : List (List ℕ)) → all ≡ (p.done ++ line ∷ []) ++ others → (part : AppendedPart now.written text now'.written) →
+        AnswersSome limits 0 [] h' (items all) (texts p.replies ++ take part.count text)
+    some_of all others is part = record {
+      first = items (p.done ++ line ∷ []);
+      others = items others;
+      of_these = ap items is ∙ items-append (p.done ++ line ∷ []) others;
+      replies = p.replies;
+      last = r.reply;
+      answers = subst (λ (is : List Item). Answers limits 0 [] is (p.replies ++ r.reply ∷ []) h') (sym (items-append p.done (line ∷ [])))
+          (Answers-push limits 0 [] h h' (items p.done) p.replies (item_of line) r.reply p.answers r.answers);
+      part = take part.count text;
+      missing = drop part.count text;
+      cut = sym r.text_is ∙ sym (take-append-drop part.count text);
+      proper = (let l = length-drop part.count text in let less = part.proper in omega arith);
+      text = refl;
+    }
 
     others_of : (n : NextCut p.consumed p.rest bytes line rest' p.done new.ended) → (others : List (List ℕ)) × (lines (n.consumed' ++ rest') true ≡ (p.done ++ line ∷ []) ++ others)
     others_of n =
@@ -152,43 +172,37 @@ module _ (limits : Limits) (start : Start) (old new : Pending) (h h' : List Even
         n.cut
 
     -- the line was answered and a part of its reply written
-    pub over_write : AppendedPart written text written' → IsOver limits start h' left' taken' written' end_of.WriteFault
-    over_write part =
+    pub over_write : AppendedPart now.written text now'.written → Rose now.writes now'.writes → IsOver limits limit before now' h' end_of.WriteFault
+    over_write part rose =
         let n = next_cut p.consumed p.rest bytes line rest' p.done old.ended new.ended p.cut still ends in
         let o = others_of n in
         record {
           taken = n.consumed' ++ rest';
-          text = texts p.replies ++ take part.count text;
-          takes = subst (λ (bs : List ℕ). TakenFrom start.left bs left') n.joined takes_all;
-          adds = subst (λ (bs : List ℕ). AppendedTo start.taken bs taken') n.joined adds_all;
-          writes = AppendedTo-append start.written (texts p.replies) written (take part.count text) written' p.writes part.appended;
-          session = record {
-            first = items (p.done ++ line ∷ []);
-            others = items o.0;
-            of_these = ap items o.1 ∙ items-append (p.done ++ line ∷ []) o.0;
-            replies = p.replies;
-            last = r.reply;
-            answers = subst (λ (is : List Item). Answers limits 0 [] is (p.replies ++ r.reply ∷ []) h') (sym (items-append p.done (line ∷ [])))
-                (Answers-push limits 0 [] h h' (items p.done) p.replies (item_of line) r.reply p.answers r.answers);
-            part = take part.count text;
-            missing = drop part.count text;
-            cut = sym r.text_is ∙ sym (take-append-drop part.count text);
-            proper = (let l = length-drop part.count text in let less = part.proper in omega arith);
-            text = refl;
-          };
+          written = texts p.replies ++ take part.count text;
+          takes = subst (λ (bs : List ℕ). TakenFrom before.left bs now'.left) n.joined takes_all;
+          adds = subst (λ (bs : List ℕ). AppendedTo before.taken bs now'.taken) n.joined adds_all;
+          writes = AppendedTo-append before.written (texts p.replies) now.written (take part.count text) now'.written p.writes part.appended;
+          session = some_of (lines (n.consumed' ++ rest') true) o.0 o.1 part;
+          caused = Rose-after before.writes now.writes now'.writes p.write_faults rose;
+          within = (let c = count_all in let l = ap (λ (bs : List ℕ). length bs) n.joined in omega arith);
+          below = λ either. ⊎_elim (λ is. cc) (λ is. cc) either;
           none_left = λ is. cc;
+          none_left_unended = λ is.
+              ⊎_elim (λ at. inl (some_of (lines (n.consumed' ++ rest') false) (lines rest' false) (lines_after n.consumed' rest' (p.done ++ line ∷ []) false at) part))
+              (λ at. inr (none at.at_end)) n.cut;
         }
 
   -- nothing came after the last line
-  pub over_done : p.rest ++ bytes ≡ [] → (end_of.Done ≡ end_of.Done → IfSome left' (λ bs. bs ≡ [])) → IsOver limits start h left' taken' written end_of.Done
-  over_done nothing none =
+  pub over_done : p.rest ++ bytes ≡ [] → now'.written ≡ now.written → 0 < may' → IfSome now'.left (λ bs. bs ≡ []) → IsOver limits limit before now' h end_of.Done
+  over_done nothing same more none =
       let all : (p.consumed ++ p.rest) ++ bytes ≡ p.consumed = append_assoc p.consumed p.rest bytes ∙ ap (λ bs. p.consumed ++ bs) nothing ∙ append-nil p.consumed in
+      let count : may' + length p.consumed ≡ limit = ap (λ (bs : List ℕ). may' + length bs) (sym all) ∙ count_all in
       record {
         taken = p.consumed;
-        text = texts p.replies;
-        takes = subst (λ (bs : List ℕ). TakenFrom start.left bs left') all takes_all;
-        adds = subst (λ (bs : List ℕ). AppendedTo start.taken bs taken') all adds_all;
-        writes = p.writes;
+        written = texts p.replies;
+        takes = subst (λ (bs : List ℕ). TakenFrom before.left bs now'.left) all takes_all;
+        adds = subst (λ (bs : List ℕ). AppendedTo before.taken bs now'.taken) all adds_all;
+        writes = same ∙ p.writes;
         session = record {
           replies = p.replies;
           answers = subst (λ (ls : List (List ℕ)). Answers limits 0 [] (items ls) p.replies h)
@@ -196,7 +210,11 @@ module _ (limits : Limits) (start : Start) (old new : Pending) (h h' : List Even
               p.answers;
           text = refl;
         };
-        none_left = none;
+        caused = record {};
+        within = omega arith;
+        below = λ is. omega arith;
+        none_left = λ is. none;
+        none_left_unended = λ is. cc;
       }
 
   -- no line ended
@@ -210,49 +228,54 @@ module _ (limits : Limits) (start : Start) (old new : Pending) (h h' : List Even
     at_newline at = sym (ap (λ bs. lines bs false) (append_assoc p.consumed p.rest bytes) ∙ lines_after p.consumed (p.rest ++ bytes) p.done false at
         ∙ ap (λ ls. p.done ++ (ls ++ [])) (no_whole (p.rest ++ bytes) clean).0 ∙ append-nil p.done)
 
-  pub over_read : (old.ended ≡ true → new.ended ≡ true) → HasNoNewline (p.rest ++ bytes) → new.ended ≡ false → IsOver limits start h left' taken' written end_of.ReadFault
-  over_read stays clean unended = record {
+  pub over_read : (old.ended ≡ true → new.ended ≡ true) → HasNoNewline (p.rest ++ bytes) → new.ended ≡ false → now'.written ≡ now.written → 0 < may' → Rose now.reads now'.reads →
+      IsOver limits limit before now' h end_of.ReadFault
+  over_read stays clean unended same more rose = record {
     taken = (p.consumed ++ p.rest) ++ bytes;
-    text = texts p.replies;
+    written = texts p.replies;
     takes = takes_all;
     adds = adds_all;
-    writes = p.writes;
+    writes = same ∙ p.writes;
     session = stopped stays clean unended;
+    caused = Rose-after before.reads now.reads now'.reads p.read_faults rose;
+    within = (let c = count_all in omega arith);
+    below = λ is. (let c = count_all in omega arith);
     none_left = λ is. cc;
+    none_left_unended = λ is. cc;
   }
 
-  pub over_limit : (old.ended ≡ true → new.ended ≡ true) → HasNoNewline (p.rest ++ bytes) → new.ended ≡ false → may' ≡ 0 → IsOver limits start h left' taken' written (end_of.ByteLimit start.limit)
-  over_limit stays clean unended none = record {
+  pub over_limit : (old.ended ≡ true → new.ended ≡ true) → HasNoNewline (p.rest ++ bytes) → new.ended ≡ false → now'.written ≡ now.written → may' ≡ 0 →
+      IsOver limits limit before now' h (end_of.ByteLimit limit)
+  over_limit stays clean unended same none = record {
     taken = (p.consumed ++ p.rest) ++ bytes;
-    text = texts p.replies;
+    written = texts p.replies;
     takes = takes_all;
     adds = adds_all;
-    writes = p.writes;
+    writes = same ∙ p.writes;
     session = record { full = (let c = count_all in omega arith); answered = stopped stays clean unended };
+    caused = refl;
+    within = (let c = count_all in omega arith);
+    below = λ either. ⊎_elim (λ is. cc) (λ is. cc) either;
     none_left = λ is. cc;
+    none_left_unended = λ is. cc;
   }
 
 -- nothing was done yet
-pub progress_of_none : (limits : Limits) (start : Start) → Progress limits start (record { held = []; long = false; ended = false; line = [] }) [] start.left start.taken start.written start.limit
-progress_of_none limits start = record {
+pub progress_of_none : (limits : Limits) (limit : ℕ) (before : Streams) → Progress limits limit before before (record { held = []; long = false; ended = false; line = [] }) [] limit
+progress_of_none limits limit before = record {
   consumed = [];
   rest = [];
   done = [];
   replies = [];
-  takes = TakenFrom-nothing start.left;
-  adds = AppendedTo-nothing start.taken;
+  takes = TakenFrom-nothing before.left;
+  adds = AppendedTo-nothing before.taken;
   count = omega arith;
   kept = record { dropped = []; joined = refl; clean = λ k d less. absurd (omega arith); count = refl };
   cut = inl (record { lines = refl; nothing_after = refl });
   answers = refl;
-  writes = AppendedTo-nothing start.written;
+  writes = AppendedTo-nothing before.written;
+  read_faults = omega arith;
+  write_faults = omega arith;
   none_left = λ is. absurd (true≢false (sym is));
+  may_more = λ is. absurd (true≢false (sym is));
 }
-
--- a cause within a later part of the session is one within the whole
-pub cause_before : (reads_first reads_before reads writes_first writes_before writes limit : ℕ) (end : End) → reads_first ≤ reads_before → writes_first ≤ writes_before → HasCause reads_before reads writes_before writes limit end → HasCause reads_first reads writes_first writes limit end
-cause_before reads_first reads_before reads writes_first writes_before writes limit end_of.Done r w has = has
-cause_before reads_first reads_before reads writes_first writes_before writes limit end_of.ReadFault r w has = Rose-after reads_first reads_before reads r has
-cause_before reads_first reads_before reads writes_first writes_before writes limit end_of.WriteFault r w has = Rose-after writes_first writes_before writes w has
-cause_before reads_first reads_before reads writes_first writes_before writes limit (end_of.ByteLimit n) r w has = has
-cause_before reads_first reads_before reads writes_first writes_before writes limit end_of.Memory r w has = absurd has

@@ -10,4 +10,3 @@ pub mod Running
 pub mod Serving
 pub mod Session
 pub mod Taking
-pub mod Turns

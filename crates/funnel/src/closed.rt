@@ -1,5 +1,6 @@
 ghost use Rattle.std.specs.Prelude.{◌≡◌};
 ghost use Rattle.funnel_model.specs.History.{commits as commits_of};
+ghost use Rattle.funnel.specs.Ended.{ending_of};
 
 use funnel_model::{Commits, Event};
 use std::marker::Model;
@@ -28,7 +29,7 @@ impl Model for Closed {
 impl Closed {
     pub(crate) fn new(commits: Commits, history: Vec<Event>) -> Self
         requires { commits ≡ commits_of history.items }
-        ensures { result.history ≡ history.items }
+        ensures { result ≡ ending_of history.items }
     {
         Closed {
             commits,

@@ -1,6 +1,6 @@
-ghost use Rattle.std.specs.Prelude.{◌≡◌, ◌↔◌, ◌^◌, codes, [], ◌∷◌, map, IfNone};
+ghost use Rattle.std.specs.Prelude.{◌≡◌, ◌↔◌, ◌^◌, map, IfNone};
 ghost use Rattle.funnel.specs.Kept.{limits_of};
-ghost use Rattle.funnel.specs.Running.{EndsCommand};
+ghost use Rattle.funnel.specs.Running.{IsRun, RanOrNot};
 
 use crate::ended::{Ended, Why};
 use crate::running::run_with;
@@ -22,8 +22,9 @@ pub fn funnel_main<C: Source, S: Source, K: Sink, G: Gate + Send>(
 ) -> Ended<G>
     ensures gates { result.gates ≡ gates }
     ensures config { config.new ≡ config.old }
-    ensures usage { result.why ≡ Why.Usage ↔ (map (λ word. word.now) words.now ≡ codes "run" ∷ [] → ⊥) }
-    ensures ran { EndsCommand (limits_of 1) (2 ^ 40)
+    ensures usage { result.why ≡ Why.Usage ↔ (IsRun (map (λ word. word.now) words.now) → ⊥) }
+    ensures nothing_run { (IsRun (map (λ word. word.now) words.now) → ⊥) → result.closed ≡ None }
+    ensures ran { IsRun (map (λ word. word.now) words.now) → RanOrNot (limits_of 1) (2 ^ 40)
         record { left = S.left input.old; taken = S.taken input.old; written = K.written output.old; reads = S.read_faults input.old; writes = K.write_faults output.old }
         record { left = S.left input.new; taken = S.taken input.new; written = K.written output.new; reads = S.read_faults input.new; writes = K.write_faults output.new }
         result.why result.closed }

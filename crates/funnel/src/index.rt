@@ -8,6 +8,7 @@ ghost use Rattle.funnel_model.specs.History.{answer, is_live, live_place, place}
 ghost use Rattle.funnel_model.specs.Legal.{IsFull, IsIdle, IsInSlice, IsLegal, IsRefused, MayEnd, MayTake};
 ghost use Rattle.funnel_model.specs.Events.{pass_of};
 ghost use Rattle.funnel_model.specs.Words.{words};
+ghost use Rattle.funnel.specs.Ended.{ending_of};
 ghost use Rattle.funnel.specs.Foot.{IsFoot};
 ghost use Rattle.funnel.specs.Kept.{IsDraft, IsNext, State, WithEvent, limits_of};
 
@@ -212,7 +213,7 @@ impl Index {
 
     /// What is left at the end. It takes no memory.
     pub fn close(self) -> Closed
-        ensures history { result.history ≡ self.history }
+        ensures closed { result ≡ ending_of self.history }
         ensures legal { IsLegal (limits_of self.slices) self.history }
         ensures alone { All (λ e. pass_of e ≡ 0) self.history }
     {

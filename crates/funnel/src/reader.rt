@@ -86,6 +86,7 @@ impl LineReader {
         ensures uncounted { IsDecided self.old left.old → left.new ≡ left.old }
         ensures at_end { self.new.ended ≡ true
             → (self.old.ended ≡ true) ⊎ IfSome (C.left conn.new) (λ bytes. bytes ≡ []) }
+        ensures may_more { self.new.ended ≡ true → (self.old.ended ≡ true) ⊎ (0 < left.new) }
         ensures stays_at_end { self.old.ended ≡ true → self.new.ended ≡ true }
         ensures failed { result ≡ Line.Failed → Rose (C.read_faults conn.old) (C.read_faults conn.new) }
         ensures failed_below_limit { result ≡ Line.Failed → 0 < left.new }

@@ -1,12 +1,12 @@
-ghost use Rattle.std.specs.Prelude.{◌≡◌, ◌≤◌, ◌<◌, ⊤, ℕ, List, [], Option, true, MatchOption, IfNone, IfSome, IfOk, vec_capacity};
+ghost use Rattle.std.specs.Prelude.{◌≡◌, ◌≤◌, ◌<◌, ◌+◌, ℕ, List, [], Option, true, MatchOption, IfNone, IfSome, IfOk, vec_capacity};
 ghost use Rattle.std.specs.List.{All};
 ghost use Rattle.funnel_model.specs.Events.{pass_of};
 ghost use Rattle.funnel_model.specs.Legal.{IsIdle, IsLegal};
 ghost use Rattle.funnel.specs.Answering.{IsAnswered};
+ghost use Rattle.funnel.specs.Ended.{ending_of};
 ghost use Rattle.funnel.specs.Kept.{limits_of};
-ghost use Rattle.funnel.specs.Serving.{IsFresh, IsOver, Progress, Start};
-ghost use Rattle.funnel.specs.Reading.{IsPending};
-ghost use Rattle.funnel.specs.Turns.{EndsReading, HasCause, work_left};
+ghost use Rattle.funnel.specs.Pending.{most_lines};
+ghost use Rattle.funnel.specs.Serving.{IsFresh, IsOver, Progress, Streams};
 
 use crate::answering::{TEXT_ROOM, answer, render};
 use crate::closed::Closed;
@@ -52,9 +52,10 @@ impl Server {
         ensures writes { K.write_faults output.old ≤ K.write_faults output.new }
         ensures source_borrowed { C.borrowed input.new ≡ C.borrowed input.old }
         ensures sink_borrowed { K.borrowed output.new ≡ K.borrowed output.old }
-        ensures cause { HasCause (C.read_faults input.old) (C.read_faults input.new) (K.write_faults output.old) (K.write_faults output.new) limit result }
-        ensures over { IsOver (limits_of self.old.index.slices) record { left = C.left input.old; taken = C.taken input.old; written = K.written output.old; limit = limit }
-            self.new.index.history (C.left input.new) (C.taken input.new) (K.written output.new) result }
+        ensures over { IsOver (limits_of self.old.index.slices) limit
+            record { left = C.left input.old; taken = C.taken input.old; written = K.written output.old; reads = C.read_faults input.old; writes = K.write_faults output.old }
+            record { left = C.left input.new; taken = C.taken input.new; written = K.written output.new; reads = C.read_faults input.new; writes = K.write_faults output.new }
+            self.new.index.history result }
     {
         let mut left = limit;
         loop {
@@ -66,7 +67,7 @@ impl Server {
 
     /// What is left at the end. It takes no memory.
     pub fn close(self) -> Closed
-        ensures history { result.history ≡ self.index.history }
+        ensures closed { result ≡ ending_of self.index.history }
         ensures legal { IsLegal (limits_of self.index.slices) self.index.history }
         ensures alone { All (λ e. pass_of e ≡ 0) self.index.history }
     {
@@ -90,15 +91,20 @@ impl Server {
         ensures writes { K.write_faults output.old ≤ K.write_faults output.new }
         ensures source_borrowed { C.borrowed input.new ≡ C.borrowed input.old }
         ensures sink_borrowed { K.borrowed output.new ≡ K.borrowed output.old }
-        ensures on { MatchOption result
-            (IsIdle 0 self.new.index.history × IsLegal (limits_of self.new.index.slices) self.new.index.history × (TEXT_ROOM ≤ vec_capacity self.new.text))
-            (HasCause (C.read_faults input.old) (C.read_faults input.new) (K.write_faults output.old) (K.write_faults output.new) limit) }
-        ensures progress { (start : Start) → start.limit ≡ limit →
-            Progress (limits_of self.old.index.slices) start self.old.reader self.old.index.history (C.left input.old) (C.taken input.old) (K.written output.old) left.old →
+        ensures on { IfNone result (IsIdle 0 self.new.index.history × IsLegal (limits_of self.new.index.slices) self.new.index.history × (TEXT_ROOM ≤ vec_capacity self.new.text)) }
+        ensures progress { (before : Streams) →
+            Progress (limits_of self.old.index.slices) limit before
+            record { left = C.left input.old; taken = C.taken input.old; written = K.written output.old; reads = C.read_faults input.old; writes = K.write_faults output.old }
+            self.old.reader self.old.index.history left.old →
             MatchOption result
-            (Progress (limits_of self.old.index.slices) start self.new.reader self.new.index.history (C.left input.new) (C.taken input.new) (K.written output.new) left.new)
-            (IsOver (limits_of self.old.index.slices) start self.new.index.history (C.left input.new) (C.taken input.new) (K.written output.new)) }
-        ensures smaller { (rest : List ℕ) → IsPending self.old.reader rest → MatchOption result (work_left self.new.reader left.new < work_left self.old.reader left.old) (λ _. ⊤) }
+            (Progress (limits_of self.old.index.slices) limit before
+            record { left = C.left input.new; taken = C.taken input.new; written = K.written output.new; reads = C.read_faults input.new; writes = K.write_faults output.new }
+            self.new.reader self.new.index.history left.new)
+            (IsOver (limits_of self.old.index.slices) limit before
+            record { left = C.left input.new; taken = C.taken input.new; written = K.written output.new; reads = C.read_faults input.new; writes = K.write_faults output.new }
+            self.new.index.history) }
+        ensures fewer { IfNone result (most_lines self.new.reader.held self.new.reader.long + left.new
+            < most_lines self.old.reader.held self.old.reader.long + left.old) }
     {
         if let Some(end) = self.answer_next(alloc, input, left, limit) {
             return Some(end);
@@ -128,10 +134,16 @@ impl Server {
             (C.left input.old) (C.left input.new) (C.taken input.old) (C.taken input.new) left.old left.new self.new.text.items) }
         ensures untouched { self.old.reader.ended ≡ true → left.new ≡ left.old }
         ensures none_left { self.new.reader.ended ≡ true → (self.old.reader.ended ≡ true → IfSome (C.left input.old) (λ bytes. bytes ≡ [])) → IfSome (C.left input.new) (λ bytes. bytes ≡ []) }
-        ensures cause { IfSome result (λ end. EndsReading (C.read_faults input.old) (C.read_faults input.new) limit end) }
-        ensures over { (start : Start) (written : Option (List ℕ)) → start.limit ≡ limit →
-            Progress (limits_of self.old.index.slices) start self.old.reader self.old.index.history (C.left input.old) (C.taken input.old) written left.old →
-            IfSome result (IsOver (limits_of self.old.index.slices) start self.new.index.history (C.left input.new) (C.taken input.new) written) }
+        ensures may_more { self.new.reader.ended ≡ true → (self.old.reader.ended ≡ true → 0 < left.old) → 0 < left.new }
+        ensures fewer { IfNone result (most_lines self.new.reader.held self.new.reader.long + left.new
+            < most_lines self.old.reader.held self.old.reader.long + left.old) }
+        ensures over { (before : Streams) (written : Option (List ℕ)) (writes : ℕ) →
+            Progress (limits_of self.old.index.slices) limit before
+            record { left = C.left input.old; taken = C.taken input.old; written = written; reads = C.read_faults input.old; writes = writes }
+            self.old.reader self.old.index.history left.old →
+            IfSome result (IsOver (limits_of self.old.index.slices) limit before
+            record { left = C.left input.new; taken = C.taken input.new; written = written; reads = C.read_faults input.new; writes = writes }
+            self.new.index.history) }
     {
         match self.reader.next_line(input, left) {
             Line::Whole => {

@@ -2,12 +2,10 @@ use Rattle.std.proofs.Common.{◌≡◌, ℕ, ◌<◌, List, [], sym, refl, ap, 
 use Rattle.std.proofs.lemmas.Bool.{lt-ltb}
 use Rattle.std.specs.Option.{IfSome}
 use Rattle.std.specs.Str.{is_utf8}
-use Rattle.funnel_io.specs.declared.end.End.TheVariants as end_of
 use Rattle.funnel_model.specs.declared.reply.Reply.TheVariants as reply
 use Rattle.line_proto.specs.Forms.{Malformed, call_of_text, form_of, item_from, item_of, without_return}
 use Rattle.funnel.specs.Answering.{Replies}
 use Rattle.funnel.specs.Kept.{limits_of}
-use Rattle.funnel.specs.Serving.{IsOver}
 use Rattle.funnel.proofs.ServingLemmas.{over_done, over_limit, over_read}
 use Rattle.funnel.proofs.serving.Server.answer_next.Goals as goal
 
@@ -40,27 +38,25 @@ returns-in-Long-clause-answered g c =
     }
 
 pub returns-in-Finished-clause-over : goal.returns-in-Finished-clause-over
-returns-in-Finished-clause-over g c start written lim p =
+returns-in-Finished-clause-over g c before written writes p =
     let a = c.in-Finished.ensures.advances in
     let f = a.gives p.rest p.kept in
-    over_done (limits_of c.args.self.now.index.slices) start c.args.self.now.reader c.next_line.new.self c.args.self.now.index.history c.args.self.now.index.history
-    (g.C.Source.left c.args.input.now) (g.C.Source.left c.next_line.new.conn) (g.C.Source.taken c.args.input.now) (g.C.Source.taken c.next_line.new.conn) written written
-    c.args.left.now c.next_line.new.left p a.bytes a.takes f.nothing
-    (λ is. ⊎_elim (λ old. subst (λ conn. IfSome (g.C.Source.left conn) (λ bs. bs ≡ [])) (sym (c.next_line.ensures.untouched (inr (inl old)))) (p.none_left old)) (λ none. none) (c.next_line.ensures.at_end f.at_end))
+    over_done (limits_of c.args.self.now.index.slices) c.args.limit before _ _ c.args.self.now.reader c.next_line.new.self c.args.self.now.index.history c.args.self.now.index.history
+    c.args.left.now c.next_line.new.left p a.bytes a.takes f.nothing refl
+    (⊎_elim (λ old. subst (λ n. 0 < n) (sym (c.next_line.ensures.uncounted (inr (inl old)))) (p.may_more old)) (λ more. more) (c.next_line.ensures.may_more f.at_end))
+    (⊎_elim (λ old. subst (λ conn. IfSome (g.C.Source.left conn) (λ bs. bs ≡ [])) (sym (c.next_line.ensures.untouched (inr (inl old)))) (p.none_left old)) (λ none. none) (c.next_line.ensures.at_end f.at_end))
 
 pub returns-in-Failed-clause-over : goal.returns-in-Failed-clause-over
-returns-in-Failed-clause-over g c start written lim p =
+returns-in-Failed-clause-over g c before written writes p =
     let a = c.in-Failed.ensures.advances in
     let f = a.gives p.rest p.kept in
-    over_read (limits_of c.args.self.now.index.slices) start c.args.self.now.reader c.next_line.new.self c.args.self.now.index.history c.args.self.now.index.history
-    (g.C.Source.left c.args.input.now) (g.C.Source.left c.next_line.new.conn) (g.C.Source.taken c.args.input.now) (g.C.Source.taken c.next_line.new.conn) written written
-    c.args.left.now c.next_line.new.left p a.bytes a.takes c.next_line.ensures.stays_at_end f.clean f.not_at_end
+    over_read (limits_of c.args.self.now.index.slices) c.args.limit before _ _ c.args.self.now.reader c.next_line.new.self c.args.self.now.index.history c.args.self.now.index.history
+    c.args.left.now c.next_line.new.left p a.bytes a.takes c.next_line.ensures.stays_at_end f.clean f.not_at_end refl
+    (c.in-Failed.ensures.failed_below_limit refl) (c.in-Failed.ensures.failed refl)
 
 pub returns-in-Limit-clause-over : goal.returns-in-Limit-clause-over
-returns-in-Limit-clause-over g c start written lim p =
+returns-in-Limit-clause-over g c before written writes p =
     let a = c.in-Limit.ensures.advances in
     let f = a.gives p.rest p.kept in
-    subst (λ n. IsOver (limits_of c.args.self.now.index.slices) start c.args.self.now.index.history (g.C.Source.left c.next_line.new.conn) (g.C.Source.taken c.next_line.new.conn) written (end_of.ByteLimit n)) lim
-    (over_limit (limits_of c.args.self.now.index.slices) start c.args.self.now.reader c.next_line.new.self c.args.self.now.index.history c.args.self.now.index.history
-    (g.C.Source.left c.args.input.now) (g.C.Source.left c.next_line.new.conn) (g.C.Source.taken c.args.input.now) (g.C.Source.taken c.next_line.new.conn) written written
-    c.args.left.now c.next_line.new.left p a.bytes a.takes c.next_line.ensures.stays_at_end f.clean f.not_at_end (c.in-Limit.ensures.limit refl))
+    over_limit (limits_of c.args.self.now.index.slices) c.args.limit before _ _ c.args.self.now.reader c.next_line.new.self c.args.self.now.index.history c.args.self.now.index.history
+    c.args.left.now c.next_line.new.left p a.bytes a.takes c.next_line.ensures.stays_at_end f.clean f.not_at_end refl (c.in-Limit.ensures.limit refl)

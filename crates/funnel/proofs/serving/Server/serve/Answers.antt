@@ -13,9 +13,5 @@ loop-end-init g c = record {
   writes = omega arith;
   source_borrowed = refl;
   sink_borrowed = refl;
-  progress = rw (c.requires.fresh.no_history, c.requires.fresh.nothing_pending) (progress_of_none _ _);
+  progress = rw (c.requires.fresh.no_history, c.requires.fresh.nothing_pending) (progress_of_none _ _ _);
 }
-
--- src/serving.rt:57:9
-pub loop-end-smaller : goal.loop-end-smaller
-loop-end-smaller g c = c.in_default.ensures.smaller _ c.loop-end.invariant.progress.kept

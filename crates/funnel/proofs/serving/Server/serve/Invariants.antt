@@ -1,8 +1,8 @@
-use Rattle.std.proofs.Common.{◌≡◌, ◌≤◌, vec_capacity}
+use Rattle.std.proofs.Common.{◌≡◌, ◌≤◌, ◌+◌, vec_capacity}
 use Rattle.funnel_model.specs.Legal.{IsIdle, IsLegal}
 use Rattle.funnel.specs.Kept.{limits_of}
 use Rattle.funnel.specs.Serving.{Progress}
-use Rattle.funnel.specs.Turns.{work_left}
+use Rattle.funnel.specs.Pending.{most_lines}
 use Rattle.funnel.proofs.serving.Server.serve.Given as goal
 
 abbrev pub invariant-loop-end : goal.invariant-loop-end
@@ -15,9 +15,11 @@ invariant-loop-end g l = record {
   writes : g.K.Sink.write_faults l.fn.output ≤ g.K.Sink.write_faults l.output;
   source_borrowed : g.C.Borrower.borrowed l.input ≡ g.C.Borrower.borrowed l.fn.input;
   sink_borrowed : g.K.Borrower.borrowed l.output ≡ g.K.Borrower.borrowed l.fn.output;
-  progress : Progress (limits_of l.fn.self.index.slices) (record { left = g.C.Source.left l.fn.input; taken = g.C.Source.taken l.fn.input; written = g.K.Sink.written l.fn.output; limit = l.fn.limit })
-      l.self.reader l.self.index.history (g.C.Source.left l.input) (g.C.Source.taken l.input) (g.K.Sink.written l.output) l.left;
+  progress : Progress (limits_of l.fn.self.index.slices) l.fn.limit
+      (record { left = g.C.Source.left l.fn.input; taken = g.C.Source.taken l.fn.input; written = g.K.Sink.written l.fn.output; reads = g.C.Source.read_faults l.fn.input; writes = g.K.Sink.write_faults l.fn.output })
+      (record { left = g.C.Source.left l.input; taken = g.C.Source.taken l.input; written = g.K.Sink.written l.output; reads = g.C.Source.read_faults l.input; writes = g.K.Sink.write_faults l.output })
+      l.self.reader l.self.index.history l.left;
 }
 
 abbrev pub decreases-loop-end : goal.decreases-loop-end
-decreases-loop-end g l = work_left l.self.reader l.left
+decreases-loop-end g l = most_lines l.self.reader.held l.self.reader.long + l.left

@@ -5,42 +5,41 @@ use Rattle.line_proto.specs.Forms.{Item}
 use Rattle.funnel.specs.Answering.{Replies}
 use Rattle.funnel.specs.Kept.{limits_of}
 use Rattle.funnel.proofs.ServingLemmas.{over_write, progress_on}
-use Rattle.funnel.proofs.WorkLemmas.{less_work}
 use Rattle.funnel.proofs.serving.Server.turn.Goals as goal
 
 none_taken : (bytes : List ℕ) (may may' : ℕ) → may' + length bytes ≡ may → may' ≡ may → bytes ≡ []
 none_taken bytes may may' count same = nil_from_length bytes (omega arith)
 
 pub returns-in-Ok-clause-progress : goal.returns-in-Ok-clause-progress
-returns-in-Ok-clause-progress g c start lim p =
+returns-in-Ok-clause-progress g c before p =
     let a = c.in_default.ensures.answered in
     let l = a.gives p.rest p.kept in
     let i = c.args.self.now.index in
     let after = c.answer_next.new.self in
-    progress_on (limits_of i.slices) start c.args.self.now.reader after.reader i.history after.index.history
-    (g.C.Source.left c.args.input.now) (g.C.Source.left c.answer_next.new.input) (g.C.Source.taken c.args.input.now) (g.C.Source.taken c.answer_next.new.input)
-    (g.K.Sink.written c.args.output.now) (g.K.Sink.written c.write_all.new.sink) c.args.left.now c.answer_next.new.left p a.bytes a.takes
+    progress_on (limits_of i.slices) c.args.limit before
+    (record { left = g.C.Source.left c.args.input.now; taken = g.C.Source.taken c.args.input.now; written = g.K.Sink.written c.args.output.now; reads = g.C.Source.read_faults c.args.input.now; writes = g.K.Sink.write_faults c.args.output.now })
+    (record { left = g.C.Source.left c.answer_next.new.input; taken = g.C.Source.taken c.answer_next.new.input; written = g.K.Sink.written c.write_all.new.sink; reads = g.C.Source.read_faults c.answer_next.new.input; writes = g.K.Sink.write_faults c.write_all.new.sink })
+    c.args.self.now.reader after.reader i.history after.index.history
+    c.args.left.now c.answer_next.new.left p a.bytes a.takes
     l.line l.rest l.ends l.kept (λ old. none_taken a.bytes c.args.left.now c.answer_next.new.left a.takes.count (c.answer_next.ensures.untouched old))
     (λ at_end. c.answer_next.ensures.none_left at_end p.none_left) after.text.items
     (subst (λ (item : Item). Replies (limits_of i.slices) i.history item after.index.history after.text.items) (sym l.item_is) a.replies)
+    (λ at_end. c.answer_next.ensures.may_more at_end p.may_more)
     (subst (λ (bs : List ℕ). AppendedTo (g.K.Sink.written c.args.output.now) bs (g.K.Sink.written c.write_all.new.sink)) c.as_slice.ensures.value c.in-Ok.ensures.ok)
-
-pub returns-in-Ok-clause-smaller : goal.returns-in-Ok-clause-smaller
-returns-in-Ok-clause-smaller g c rest pending =
-    let a = c.in_default.ensures.answered in
-    let l = a.gives rest pending in
-    less_work c.args.self.now.reader c.answer_next.new.self.reader rest a.bytes l.line l.rest c.args.left.now c.answer_next.new.left pending a.takes.count l.ends l.kept
+    c.answer_next.ensures.reads c.write_all.ensures.never_falls
 
 pub returns-in-Err-clause-progress : goal.returns-in-Err-clause-progress
-returns-in-Err-clause-progress g c start lim p =
+returns-in-Err-clause-progress g c before p =
     let a = c.in_default.ensures.answered in
     let l = a.gives p.rest p.kept in
     let i = c.args.self.now.index in
     let after = c.answer_next.new.self in
-    over_write (limits_of i.slices) start c.args.self.now.reader after.reader i.history after.index.history
-    (g.C.Source.left c.args.input.now) (g.C.Source.left c.answer_next.new.input) (g.C.Source.taken c.args.input.now) (g.C.Source.taken c.answer_next.new.input)
-    (g.K.Sink.written c.args.output.now) (g.K.Sink.written c.write_all.new.sink) c.args.left.now c.answer_next.new.left p a.bytes a.takes
+    over_write (limits_of i.slices) c.args.limit before
+    (record { left = g.C.Source.left c.args.input.now; taken = g.C.Source.taken c.args.input.now; written = g.K.Sink.written c.args.output.now; reads = g.C.Source.read_faults c.args.input.now; writes = g.K.Sink.write_faults c.args.output.now })
+    (record { left = g.C.Source.left c.answer_next.new.input; taken = g.C.Source.taken c.answer_next.new.input; written = g.K.Sink.written c.write_all.new.sink; reads = g.C.Source.read_faults c.answer_next.new.input; writes = g.K.Sink.write_faults c.write_all.new.sink })
+    c.args.self.now.reader after.reader i.history after.index.history
+    c.args.left.now c.answer_next.new.left p a.bytes a.takes
     l.line l.rest l.ends l.kept (λ old. none_taken a.bytes c.args.left.now c.answer_next.new.left a.takes.count (c.answer_next.ensures.untouched old))
     (λ at_end. c.answer_next.ensures.none_left at_end p.none_left) after.text.items
     (subst (λ (item : Item). Replies (limits_of i.slices) i.history item after.index.history after.text.items) (sym l.item_is) a.replies)
-    (subst (λ (bs : List ℕ). AppendedPart (g.K.Sink.written c.args.output.now) bs (g.K.Sink.written c.write_all.new.sink)) c.as_slice.ensures.value c.in-Err.ensures.part)
+    (subst (λ (bs : List ℕ). AppendedPart (g.K.Sink.written c.args.output.now) bs (g.K.Sink.written c.write_all.new.sink)) c.as_slice.ensures.value c.in-Err.ensures.part) c.in-Err.ensures.failed
