@@ -1,4 +1,4 @@
-ghost use Rattle.std.specs.Prelude.{◌≡◌, List, length};
+ghost use Rattle.std.specs.Prelude.{◌≡◌, ◌<◌, length, slice_set};
 
 use std::marker::Model;
 
@@ -41,6 +41,14 @@ impl BitList {
         ensures { result.now ≡ self.now }
     {
         self.bits.as_slice()
+    }
+
+    /// Puts a bit in the place of the one at `i`.
+    pub fn set(&mut self, i: usize, bit: Bit)
+        requires { i < length self.old }
+        ensures { self.new ≡ slice_set self.old i bit }
+    {
+        self.bits[i] = bit;
     }
 
     /// The bits that it was made of.

@@ -4,6 +4,7 @@
 
 mod bit_list;
 mod call;
+mod candidates;
 mod commit;
 mod config;
 mod event;
@@ -18,6 +19,7 @@ mod word_set;
 
 pub use bit_list::{Bit, BitList};
 pub use call::Call;
+pub use candidates::Candidates;
 pub use commit::{Commit, Commits};
 pub use config::Config;
 pub use event::Event;

@@ -9,7 +9,7 @@ mod pool_sizes;
 mod ranks;
 mod sizing;
 
-pub use classes::{class, class_of, row_count};
+pub use classes::{LAST_CLASS, class, class_of, row_count};
 pub use pool_sizes::Sizes;
 pub use ranks::rank_of;
 pub use sizing::sizes;

@@ -1,0 +1,43 @@
+-- A column that has all bits of a document is a hit of each query that the document meets.
+use Rattle.std.proofs.Common.{◌≡◌, ℕ, ◌<◌, true, List, [], ◌∷◌, Bool, ◌&&◌, Contains, ap, ◌∙◌, refl}
+use Rattle.std.specs.List.{All, list_all}
+use Rattle.std.proofs.lemmas.List.Elements.{All-contains_itself, All-head, All-tail, All-weaker}
+use Rattle.funnel_model.specs.Sizes.{columns_of_slice}
+use Rattle.funnel_model.specs.Words.{words}
+use Rattle.funnel_model.specs.declared.bit_list.Bit.{Bit}
+use Rattle.funnel_model.specs.declared.config.Config.{Config}
+use Rattle.rank_matcher.specs.Hits.{hits, is_hit}
+use Rattle.rank_matcher.specs.Laws.{DocumentsWithAllBitsAreHits, TextsWithAllBitsAreHits}
+use Rattle.rank_matcher.proofs.Ranges.{passing-contains}
+use Rattle.row_layout.proofs.Feet.{foot-of_part, foot-of_query}
+use Rattle.row_layout.specs.Foot.{IsOfFoot, bit_at}
+use Rattle.row_layout.specs.Orders.{HasRowsOf}
+use Rattle.row_layout.specs.declared.row.Row.{Row}
+use Rattle.row_read.specs.Bits.{is_set}
+
+-- what holds of all bits of the foot of some words holds of the bits of each plan with their rows
+pub plan-bits : (P : Bit → Type 0) (config : Config) (query : List (List ℕ)) (slice column : ℕ) → ((bit : Bit) → IsOfFoot config query slice column bit → P bit)
+    → (plan : List Row) → HasRowsOf config query plan → All (λ row. P (bit_at config slice column row)) plan
+plan-bits P config query slice column each plan exactly =
+    All-weaker (Contains plan) (λ row. P (bit_at config slice column row)) (λ row has. each (bit_at config slice column row) (row, (exactly row).0 has, refl)) plan (All-contains_itself plan)
+
+all_pass : {A : Type 0} (p : A → Bool) (xs : List A) → All (λ x. p x ≡ true) xs → list_all p xs ≡ true
+all_pass p [] all = refl
+all_pass p (x ∷ xs) all = ap (λ b. b && list_all p xs) (All-head (λ y. p y ≡ true) x xs all) ∙ all_pass p xs (All-tail (λ y. p y ≡ true) x xs all)
+
+-- a column whose bits are set in all rows of the plan is a hit
+pub hit-contains : (config : Config) (row_words : List ℕ) (plan : List Row) (slice column : ℕ) → column < columns_of_slice config
+    → All (λ row. is_set row_words (bit_at config slice column row) ≡ true) plan → Contains (hits config row_words plan slice) column
+unfolding hits
+hit-contains config row_words plan slice column low all =
+    passing-contains (is_hit config row_words plan slice) (columns_of_slice config) column low (all_pass (λ row. is_set row_words (bit_at config slice column row)) plan all)
+
+pub document-hits : DocumentsWithAllBitsAreHits
+document-hits config query document more row_words slice column low set plan exactly =
+    hit-contains config row_words plan slice column low
+    (plan-bits (λ bit. is_set row_words bit ≡ true) config query slice column (λ bit of_foot. set bit (foot-of_part config query document more slice column bit of_foot)) plan exactly)
+
+pub text-hits : TextsWithAllBitsAreHits
+text-hits config text query meets row_words slice column low set plan exactly =
+    hit-contains config row_words plan slice column low
+    (plan-bits (λ bit. is_set row_words bit ≡ true) config (words query) slice column (λ bit of_foot. set bit (foot-of_query config text query meets slice column bit of_foot)) plan exactly)

@@ -1,0 +1,9 @@
+pub mod Bits
+pub mod Intersections
+pub mod Blocks
+pub mod Columns
+pub mod SetBits
+pub mod Ranges
+pub mod Searches
+pub mod Coverings
+pub mod DocumentHits

@@ -1,0 +1,5 @@
+pub mod Hits
+pub mod Reads
+pub mod Appended
+pub mod Covering
+pub mod Laws

@@ -1,0 +1,49 @@
+use Rattle.std.proofs.Common.{◌≡◌, ◌<◌, List, get_or, ap, sym, subst, ◌∙◌, arith}
+use Rattle.std.specs.List.{All}
+use Rattle.funnel_model.specs.Legal.{IsInSlice}
+use Rattle.funnel_model.specs.declared.bit_list.Bit.{Bit}
+use Rattle.row_layout.specs.Foot.{IsFoot, limits_of}
+use Rattle.row_layout.specs.Rows.{IsRowOf}
+use Rattle.row_layout.specs.declared.row.Row.{Row}
+use Rattle.row_layout.proofs.Feet.{all_bits, bit-fits, bits-in_slice, bits-of_words, foot_of_rows, rank-small}
+use Rattle.row_layout.proofs.bits.Bits.place.Goals as goal
+
+laid_at : (c : goal.After-bit-arg-1) → IsRowOf c.args.layout.now c.index.result.now
+laid_at c =
+    let config = c.args.layout.now in
+    let row = c.index.result.now in
+    let at : row ≡ get_or c.args.self.now.rows c.loop-i.i row = c.index.ensures ∙ ap (λ (rows : List Row). get_or rows c.loop-i.i row) c.loop-i.invariant.rows in
+    subst (IsRowOf config) (sym at) (c.requires.rows.laid c.loop-i.i row (omega (arith, c.loop-i.invariant.end)))
+
+pub bit-requires-clause-rank : goal.bit-requires-clause-rank
+bit-requires-clause-rank c = rank-small c.args.layout.now c.slice_range-first.ensures.in_range c.index.result.now (laid_at c)
+
+pub bit-requires-clause-fits : goal.bit-requires-clause-fits
+bit-requires-clause-fits c =
+    bit-fits c.args.layout.now c.slice_range-first.ensures.small_pool c.slice_range-first.ensures.in_range c.args.slice c.args.column c.slice_range-first.result.0
+    c.requires.slice c.requires.column c.slice_range-first.ensures.first c.index.result.now (laid_at c)
+
+pub returns-clause-inside : goal.returns-clause-inside
+returns-clause-inside c =
+    let config = c.args.layout.now in
+    let rows = c.args.self.now.rows in
+    let moved = all_bits config c.args.slice c.args.column c.loop-i.i rows c.loop-i.self-inside.list
+    (omega (arith, c.loop-i.invariant.end)) (omega (arith, c.loop-i.invariant.end, c.loop-i.invariant.many)) c.loop-i.invariant.moved in
+    subst (All (λ (b : Bit). IsInSlice (limits_of config) c.args.slice b.word)) (sym moved) (bits-in_slice config c.args.slice c.args.column c.requires.column rows c.requires.rows.laid)
+
+pub returns-clause-foot : goal.returns-clause-foot
+returns-clause-foot c words exactly =
+    let config = c.args.layout.now in
+    let rows = c.args.self.now.rows in
+    let moved = all_bits config c.args.slice c.args.column c.loop-i.i rows c.loop-i.self-inside.list
+    (omega (arith, c.loop-i.invariant.end)) (omega (arith, c.loop-i.invariant.end, c.loop-i.invariant.many)) c.loop-i.invariant.moved in
+    subst (IsFoot config words c.args.slice c.args.column) (sym moved)
+    (foot_of_rows config c.slice_range-first.ensures.in_range c.args.slice c.args.column c.requires.column rows c.requires.rows words exactly)
+
+pub returns-clause-of_words : goal.returns-clause-of_words
+returns-clause-of_words c =
+    let config = c.args.layout.now in
+    let rows = c.args.self.now.rows in
+    let moved = all_bits config c.args.slice c.args.column c.loop-i.i rows c.loop-i.self-inside.list
+    (omega (arith, c.loop-i.invariant.end)) (omega (arith, c.loop-i.invariant.end, c.loop-i.invariant.many)) c.loop-i.invariant.moved in
+    subst (All (λ (b : Bit). b.bit < 64)) (sym moved) (bits-of_words config c.args.slice c.args.column rows c.requires.rows.laid)

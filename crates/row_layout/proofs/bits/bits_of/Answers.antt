@@ -1,0 +1,50 @@
+use Rattle.std.proofs.Common.{◌≡◌, ◌<◌, List, length, map, get_or, ap, sym, subst, ◌∙◌, arith}
+use Rattle.std.specs.List.{All}
+use Rattle.std.proofs.lemmas.List.{take_all}
+use Rattle.funnel_model.specs.Legal.{IsInSlice}
+use Rattle.funnel_model.specs.declared.bit_list.Bit.{Bit}
+use Rattle.row_layout.specs.Foot.{IsFoot, bit_at, limits_of}
+use Rattle.row_layout.specs.Rows.{IsRowOf}
+use Rattle.row_layout.specs.declared.row.Row.{Row}
+use Rattle.row_layout.proofs.Feet.{bit-fits, bits-in_slice, bits-of_words, columns-positive, foot_of_rows, rank-small}
+use Rattle.row_layout.proofs.bits.bits_of.Goals as goal
+use Rattle.row_layout.proofs.bits.bits_of.Goals.{After-new}
+
+laid_at : (c : goal.After-bit-arg-1) → (row : Row) → IsRowOf c.args.layout.now (get_or c.deref-row-items.result.now c.loop-row.row-index row)
+laid_at c row =
+    let config = c.args.layout.now in
+    let is : length c.deref-row-items.result.now ≡ length c.in_ok-rows.rows.items = ap length c.deref-row-items.ensures.value in
+    subst (λ (rows : List Row). IsRowOf config (get_or rows c.loop-row.row-index row)) (sym c.deref-row-items.ensures.value)
+    (c.in_ok-rows.ensures.can_place.laid c.loop-row.row-index row (omega (arith, is)))
+
+pub bit-requires-clause-rank : goal.bit-requires-clause-rank
+bit-requires-clause-rank c = rank-small c.args.layout.now c.slice_range-first.ensures.in_range _ (laid_at c _)
+
+pub bit-requires-clause-fits : goal.bit-requires-clause-fits
+bit-requires-clause-fits c =
+    bit-fits c.args.layout.now c.slice_range-first.ensures.small_pool c.slice_range-first.ensures.in_range 0 0 c.slice_range-first.result.0
+    (omega (arith, c.slice_range-first.ensures.in_range.slices.0)) (columns-positive c.args.layout.now c.slice_range-first.ensures.in_range) c.slice_range-first.ensures.first _ (laid_at c _)
+
+-- the list is the bits of the rows
+bits_are : (c : After-new) → c.new.result ≡ map (bit_at c.args.layout.now 0 0) c.in_ok-rows.rows.items
+bits_are c =
+    c.new.ensures ∙ c.loop-row.invariant
+    ∙ ap (map (bit_at c.args.layout.now 0 0)) (take_all c.loop-row.row-index c.deref-row-items.result.now (omega arith) ∙ c.deref-row-items.ensures.value)
+
+pub returns-clause-foot : goal.returns-clause-foot
+returns-clause-foot c =
+    let config = c.args.layout.now in
+    let range = c.slice_range-first.ensures.in_range in
+    subst (IsFoot config c.args.words.now 0 0) (sym (bits_are c))
+    (foot_of_rows config range 0 0 (columns-positive config range) c.in_ok-rows.rows.items c.in_ok-rows.ensures.can_place c.args.words.now c.in_ok-rows.ensures.rows)
+
+pub returns-clause-inside : goal.returns-clause-inside
+returns-clause-inside c =
+    let config = c.args.layout.now in
+    subst (All (λ (b : Bit). IsInSlice (limits_of config) 0 b.word)) (sym (bits_are c))
+    (bits-in_slice config 0 0 (columns-positive config c.slice_range-first.ensures.in_range) c.in_ok-rows.rows.items c.in_ok-rows.ensures.can_place.laid)
+
+pub returns-clause-of_words : goal.returns-clause-of_words
+returns-clause-of_words c =
+    let config = c.args.layout.now in
+    subst (All (λ (b : Bit). b.bit < 64)) (sym (bits_are c)) (bits-of_words config 0 0 c.in_ok-rows.rows.items c.in_ok-rows.ensures.can_place.laid)

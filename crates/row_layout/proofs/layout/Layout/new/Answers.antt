@@ -1,0 +1,19 @@
+use Rattle.std.proofs.Common.{◌≤◌, List, ℕ, get_or, ap, sym, subst, ◌∙◌}
+use Rattle.funnel_model.specs.Configuration.{IsInRange}
+use Rattle.funnel_model.specs.Sizes.{words_of_pool}
+use Rattle.funnel_model.specs.declared.config.Config.{Config}
+use Rattle.row_layout.proofs.Spans.{row_table-at}
+use Rattle.row_layout.proofs.layout.Layout.new.Goals as goal
+
+pub invariant_of-result : goal.invariant_of-result
+invariant_of-result c =
+    let config = c.in_ok-config.config in
+    let range : IsInRange config = subst IsInRange (sym c.in_ok-config.ensures) c.requires.in_range in
+    record {
+      in_range = range;
+      small_pool = subst (λ (k : Config). words_of_pool k ≤ 33554432) (sym c.in_ok-config.ensures) c.requires.small_pool;
+      rows_are = λ rank low. ap (λ (rows : List ℕ). get_or rows rank 0) c.sizes-sizes.ensures.rows ∙ row_table-at config range rank low;
+      bases_are = c.bases_of-bases.ensures;
+      slice_words_are = c.sizes-sizes.ensures.slice_words;
+      listed_are = c.in_ok-listed.ensures;
+    }

@@ -1,0 +1,50 @@
+-- The bits that a document sets: one for each of its words and each row of that word, at the document's column.
+use Rattle.std.specs.Prelude.{◌≡◌, ℕ, ◌+◌, ◌*◌, ◌/◌, ◌%◌, ◌^◌, ◌↔◌, List, Contains, All}
+use Rattle.std.specs.List.Sorted.{IsStrictlySortedBy}
+use Rattle.std.specs.Ordering.{nat_cmp, ordering_then}
+use Rattle.std.specs.declared.cmp.Ordering.{Ordering}
+use Rattle.funnel_model.specs.Legal.{Limits}
+use Rattle.funnel_model.specs.Sizes.{columns_of_slice, words_of_slice}
+use Rattle.funnel_model.specs.declared.bit_list.Bit.{Bit}
+use Rattle.funnel_model.specs.declared.config.Config.{Config}
+use Rattle.row_layout.specs.Orders.{IsRisingByStart}
+use Rattle.row_layout.specs.Rows.{IsRowOf, rows_of_words}
+use Rattle.row_layout.specs.declared.row.Row.{Row}
+
+-- the first word of a slice in the pool
+abbrev pub slice_start : Config → ℕ → ℕ
+slice_start config slice = slice * words_of_slice config
+
+-- the bit of a row at a column of a slice: at rank r a bit stands for 2^r columns
+abbrev pub bit_at : Config → ℕ → ℕ → Row → Bit
+bit_at config slice column row =
+    record { word = slice_start config slice + row.start + column / (64 * 2 ^ row.rank); bit = column % 64 }
+
+-- the bit is one that these words set at the column of the slice
+abbrev pub IsOfFoot : Config → List (List ℕ) → ℕ → ℕ → Bit → Type 0
+IsOfFoot config words slice column bit =
+    (row : Row) × Contains (rows_of_words config words) row × (bit ≡ bit_at config slice column row)
+
+-- by word, and then by bit
+abbrev pub bit_cmp : Bit → Bit → Ordering
+bit_cmp a b = ordering_then (nat_cmp a.word b.word) (nat_cmp a.bit b.bit)
+
+-- exactly the bits that these words set at the column of the slice, in rising order, each once
+pub record IsFoot (config : Config) (words : List (List ℕ)) (slice column : ℕ) (bits : List Bit) : Type 0 where
+  pub rising : IsStrictlySortedBy bit_cmp bits
+  pub exactly : (bit : Bit) → Contains bits bit ↔ IsOfFoot config words slice column bit
+
+-- the sizes that a history has under the configuration
+abbrev pub limits_of : Config → Limits
+limits_of config =
+    record { passes = config.passes; slices = config.slices; columns = columns_of_slice config; slice_words = words_of_slice config }
+
+-- What `Bits` is seen as: rows of which it has the bits, and those bits.
+pub record RowBits : Type 0 where
+  pub rows : List Row
+  pub bits : List Bit
+
+-- the rows are rows of the configuration in rising order, so that they can be moved to any column
+pub record CanPlace (config : Config) (rows : List Row) : Type 0 where
+  pub rising : IsRisingByStart rows
+  pub laid : All (IsRowOf config) rows

@@ -1,0 +1,5 @@
+pub mod Rows
+pub mod Orders
+pub mod Foot
+pub mod Layouts
+pub mod Laws

@@ -1,0 +1,28 @@
+-- Lists of rows, in the two orders in which they are kept.
+use Rattle.std.specs.Prelude.{ℕ, ◌↔◌, List, Contains}
+use Rattle.std.specs.List.Sorted.{IsStrictlySortedBy}
+use Rattle.std.specs.Ordering.{nat_cmp, ordering_then}
+use Rattle.std.specs.declared.cmp.Ordering.{Ordering}
+use Rattle.funnel_model.specs.declared.config.Config.{Config}
+use Rattle.row_layout.specs.Rows.{rows_of_words}
+use Rattle.row_layout.specs.declared.row.Row.{Row}
+
+-- by where rows start
+abbrev pub start_cmp : Row → Row → Ordering
+start_cmp a b = nat_cmp a.start b.start
+
+-- by falling rank, and within a rank by where rows start
+abbrev pub plan_cmp : Row → Row → Ordering
+plan_cmp a b = ordering_then (nat_cmp b.rank a.rank) (nat_cmp a.start b.start)
+
+-- rows in rising order of where they start, each once
+abbrev pub IsRisingByStart : List Row → Type 0
+IsRisingByStart = IsStrictlySortedBy start_cmp
+
+-- rows in the order of a plan, each once
+abbrev pub IsInPlanOrder : List Row → Type 0
+IsInPlanOrder = IsStrictlySortedBy plan_cmp
+
+-- the list has exactly the rows of these words
+abbrev pub HasRowsOf : Config → List (List ℕ) → List Row → Type 0
+HasRowsOf config words rows = (row : Row) → Contains rows row ↔ Contains (rows_of_words config words) row

@@ -1,0 +1,76 @@
+ghost use Rattle.std.specs.Prelude.{◌≡◌, ℕ, ◌<◌, List, IfOk, map, All};
+ghost use Rattle.funnel_model.specs.Legal.{IsInSlice};
+ghost use Rattle.funnel_model.specs.Sizes.{columns_of_slice};
+ghost use Rattle.row_layout.specs.Foot.{CanPlace, IsFoot, bit_at, limits_of};
+ghost use Rattle.row_layout.specs.Orders.{HasRowsOf};
+
+use crate::layout::Layout;
+use crate::row::Row;
+use crate::rows::distinct_rows;
+use funnel_model::{BitList, Memory, WordSet};
+use std::alloc::Global;
+use std::marker::Model;
+
+/// The bits of some words at one column, with the rows that they are of, so that they can be moved to any other column.
+#[derive(Debug, Drop)]
+pub struct Bits {
+    rows: Vec<Row>,
+    list: BitList,
+}
+
+impl Model for Bits {
+    ghost use Rattle.std.specs.Prelude.{◌≡◌, length};
+    ghost use Rattle.row_layout.specs.Foot.{RowBits};
+
+    ghost Value = { RowBits };
+
+    ghost view = { λ b. record { rows = b.rows.items; bits = b.list } };
+
+    ghost invariant = { λ b. length b.rows.items ≡ length b.list };
+}
+
+impl Bits {
+    /// The bits, in rising order of word and bit, each once.
+    pub fn list(&self) -> &BitList
+        ensures { result.now ≡ self.now.bits }
+    {
+        &self.list
+    }
+
+    /// Moves the bits to a column of a slice.
+    pub fn place(&mut self, layout: &Layout, slice: u32, column: u32)
+        requires rows { CanPlace layout.now self.old.rows }
+        requires slice { slice < layout.now.slices }
+        requires column { column < columns_of_slice layout.now }
+        ensures rows { self.new.rows ≡ self.old.rows }
+        ensures bits { self.new.bits ≡ map (bit_at layout.now slice column) self.old.rows }
+        ensures inside { All (λ b. IsInSlice (limits_of layout.now) slice b.word) self.new.bits }
+        ensures of_words { All (λ b. b.bit < 64) self.new.bits }
+        ensures foot { (words : List (List ℕ)) → HasRowsOf layout.now words self.old.rows → IsFoot layout.now words slice column self.new.bits }
+    {
+        let (first, _) = layout.slice_range(slice);
+        for i in 0..self.rows.len() {
+            self.list.set(i, self.rows[i].bit(first, column));
+        }
+    }
+}
+
+/// The bits of these words at column 0 of slice 0.
+pub fn bits_of(alloc: Global, layout: &Layout, words: &WordSet) -> Result<Bits, Memory>
+    ensures rows { IfOk result (λ bits. HasRowsOf layout.now words.now bits.rows) }
+    ensures can_place { IfOk result (λ bits. CanPlace layout.now bits.rows) }
+    ensures foot { IfOk result (λ bits. IsFoot layout.now words.now 0 0 bits.bits) }
+    ensures inside { IfOk result (λ bits. All (λ b. IsInSlice (limits_of layout.now) 0 b.word) bits.bits) }
+    ensures of_words { IfOk result (λ bits. All (λ b. b.bit < 64) bits.bits) }
+{
+    let rows = distinct_rows(alloc, layout, words)?;
+    let mut list = Vec::with_capacity(alloc, rows.len())?;
+    let (first, _) = layout.slice_range(0);
+    for row in &rows {
+        list.push(row.bit(first, 0))?;
+    }
+    Ok(Bits {
+        rows,
+        list: BitList::new(list),
+    })
+}

@@ -1,0 +1,192 @@
+ghost use Rattle.std.specs.Prelude.{◌≡◌, ◌+◌, ◌<◌, ◌≤◌, ◌++◌, All, IfOk, OnOk, length};
+ghost use Rattle.funnel_model.specs.Configuration.{IsInRange};
+ghost use Rattle.funnel_model.specs.Sizes.{columns_of_slice, private_words, words_of_pool, words_of_slice};
+ghost use Rattle.funnel_model.specs.Treatment.{row_count_of_class};
+ghost use Rattle.row_layout.specs.Foot.{slice_start};
+ghost use Rattle.row_layout.specs.Layouts.{word_rows};
+ghost use Rattle.row_layout.specs.Rows.{IsRowOf, IsSharedRow, hashed_row, private_row, row_count_of_word, row_of_word, rows_of_word, rows_of_words};
+
+use crate::listed_rows::{bases_of, copy_of, rows_of_listed, width_of};
+use crate::row::Row;
+use crate::word_rows::WordRows;
+use funnel_model::{Config, Memory, WordSet};
+use std::alloc::Global;
+use std::marker::Model;
+use term_hash::row_of;
+use treatment::{LAST_CLASS, rank_of, row_count, sizes};
+
+/// Where the rows of every word lie under a configuration. Contracts see the configuration.
+///
+/// It answers for a word by one binary search among the listed words, and keeps the rest in tables.
+#[derive(Debug, Drop)]
+pub struct Layout {
+    config: Config,
+    /// The shared rows of each rank.
+    rows: [u32; 7],
+    /// Where the rows of each rank begin in a slice.
+    bases: [u32; 7],
+    slice_words: u32,
+    /// The rows of each listed word.
+    listed: Vec<WordRows>,
+}
+
+impl Model for Layout {
+    ghost use Rattle.funnel_model.specs.declared.config.Config.{Config};
+    ghost use Rattle.row_layout.specs.Layouts.{IsLaidOut};
+
+    ghost Value = { Config };
+
+    ghost view = { λ layout. layout.config };
+
+    ghost invariant = { λ layout. IsLaidOut layout.config layout.rows layout.bases layout.slice_words layout.listed.items };
+}
+
+impl Layout {
+    /// Lays out the rows of a configuration, of which it keeps a copy.
+    pub fn new(alloc: Global, config: &Config) -> Result<Layout, Memory>
+        requires in_range { IsInRange config.now }
+        requires small_pool { words_of_pool config.now ≤ 33554432 }
+        ensures { IfOk result (λ layout. layout ≡ config.now) }
+    {
+        let config = copy_of(alloc, config)?;
+        let listed = rows_of_listed(alloc, &config)?;
+        let sizes = sizes(&config);
+        let bases = bases_of(&config, &sizes);
+        Ok(Layout {
+            config,
+            rows: sizes.rows,
+            bases,
+            slice_words: sizes.slice_words as u32,
+            listed,
+        })
+    }
+
+    /// The highest rank of a row.
+    pub fn max_rank(&self) -> u8
+        ensures value { result ≡ self.now.max_rank }
+        ensures in_range { IsInRange self.now }
+    {
+        self.config.max_rank
+    }
+
+    /// The words that a row of the highest rank has in a slice.
+    pub fn blocks(&self) -> u32
+        ensures value { result ≡ self.now.blocks }
+        ensures in_range { IsInRange self.now }
+    {
+        self.config.blocks
+    }
+
+    /// The columns of a slice.
+    pub fn columns(&self) -> u32
+        ensures value { result ≡ columns_of_slice self.now }
+        ensures in_range { IsInRange self.now }
+    {
+        64 * width_of(&self.config, 0)
+    }
+
+    /// The first word of a slice in the pool, and the number of its words.
+    pub fn slice_range(&self, slice: u32) -> (u32, u32)
+        requires { slice < self.now.slices }
+        ensures first { result.0 ≡ slice_start self.now slice }
+        ensures words { result.1 ≡ words_of_slice self.now }
+        ensures within { result.0 + result.1 ≤ words_of_pool self.now }
+        ensures small_pool { words_of_pool self.now ≤ 33554432 }
+        ensures in_range { IsInRange self.now }
+    {
+        (slice * self.slice_words, self.slice_words)
+    }
+
+    /// The number of rows of a folded word.
+    pub fn count_of(&self, word: &[u8]) -> u8
+        ensures value { result ≡ row_count_of_word self.now word.now }
+        ensures bound { result ≤ 26 }
+    {
+        match self.look_up(word) {
+            WordRows::Private(_) => 1,
+            WordRows::Shared(class) => row_count(class, self.config.one_in, self.config.snr),
+        }
+    }
+
+    /// Row `j` of a folded word.
+    pub fn row_at(&self, word: &[u8], j: u8) -> Row
+        requires { j < row_count_of_word self.now word.now }
+        ensures value { result ≡ row_of_word self.now word.now j }
+        ensures laid { IsRowOf self.now result }
+    {
+        match self.look_up(word) {
+            WordRows::Private(number) => self.private(number),
+            WordRows::Shared(class) => self.hashed(word, class, j),
+        }
+    }
+
+    /// The rows of some words, word by word.
+    pub fn rows_of(&self, alloc: Global, words: &WordSet) -> Result<Vec<Row>, Memory>
+        ensures rows { IfOk result (λ rows. rows.items ≡ rows_of_words self.now words.now) }
+        ensures laid { IfOk result (λ rows. All (IsRowOf self.now) rows.items) }
+        ensures in_range { IsInRange self.now }
+    {
+        let _ = &self.config;
+        let mut rows = Vec::new(alloc);
+        for word in words.as_slice() {
+            self.push_rows(word.as_bytes(), &mut rows)?;
+        }
+        Ok(rows)
+    }
+
+    /// Adds the rows of a folded word.
+    fn push_rows(&self, word: &[u8], rows: &mut Vec<Row>) -> Result<(), Memory>
+        requires { All (IsRowOf self.now) rows.old.items }
+        ensures rows { OnOk result (rows.new.items ≡ rows.old.items ++ rows_of_word self.now word.now) }
+        ensures laid { All (IsRowOf self.now) rows.new.items }
+    {
+        for j in 0..self.count_of(word) {
+            rows.push(self.row_at(word, j))?;
+        }
+        Ok(())
+    }
+
+    /// Which rows a folded word has.
+    fn look_up(&self, word: &[u8]) -> WordRows
+        ensures value { result ≡ word_rows self.now word.now }
+        ensures in_range { IsInRange self.now }
+    {
+        let entries = self.config.words.as_slice();
+        match entries.binary_search_by(|entry| entry.0.as_bytes().cmp(&word)) {
+            Ok(i) => self.listed[i],
+            Err(_) => WordRows::Shared(LAST_CLASS),
+        }
+    }
+
+    /// A private row.
+    fn private(&self, number: u32) -> Row
+        requires { number < length (private_words self.now) }
+        ensures { result ≡ private_row self.now number }
+    {
+        let width = width_of(&self.config, 0);
+        Row {
+            rank: 0,
+            start: number * width,
+            width,
+        }
+    }
+
+    /// Row `j` of a folded word of this class.
+    fn hashed(&self, word: &[u8], class: u8, j: u8) -> Row
+        requires shared { 3 ≤ class }
+        requires class { class ≤ 15 }
+        requires j { j < row_count_of_class self.now.one_in self.now.snr class }
+        ensures value { result ≡ hashed_row self.now word.now class j }
+        ensures laid { IsSharedRow self.now result }
+    {
+        let count = row_count(class, self.config.one_in, self.config.snr);
+        let rank = rank_of(class, count, self.config.max_rank, j);
+        let number = row_of(word, j, self.rows[rank as usize]);
+        let width = width_of(&self.config, rank);
+        Row {
+            rank,
+            start: self.bases[rank as usize] + number * width,
+            width,
+        }
+    }
+}

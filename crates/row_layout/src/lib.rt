@@ -1,0 +1,24 @@
+//! Where the rows of a word lie in a slice, and which bits a document sets in them.
+//!
+//! A slice has its private rows first, one for each very common listed word, and then the shared rows of each rank. A
+//! row of rank r has one bit for 2^r columns. The layers above take from here a word's rows, the bits of a document at
+//! any column, and the type of a query's plan; every answer is exact by the definitions on the configuration.
+#![tactic(auto)]
+
+mod bits;
+mod laws;
+mod layout;
+mod listed_rows;
+mod plan;
+mod row;
+mod rows;
+mod word_rows;
+
+pub use bits::{Bits, bits_of};
+pub use laws::foot_has_foot_of_part;
+pub use layout::Layout;
+pub use plan::Plan;
+pub use row::Row;
+
+#[cfg(test)]
+mod tests;

@@ -1,0 +1,26 @@
+ghost use Rattle.std.specs.Prelude.{◌≡◌, ◌+◌, ◌*◌, ◌/◌, ◌%◌, ◌^◌, ◌<◌, ◌≤◌};
+
+use funnel_model::Bit;
+
+/// A row of a slice: its bits stand in the `width` words from the slice's word `start` on, each for 2^`rank` columns.
+#[derive(Clone, Copy, Debug, PartialEq, Eq)]
+pub struct Row {
+    pub rank: u8,
+    /// Its first word within a slice.
+    pub start: u32,
+    pub width: u32,
+}
+
+impl Row {
+    /// The bit of the row at a column of the slice that begins at the pool's word `first`.
+    pub(crate) fn bit(self, first: u32, column: u32) -> Bit
+        requires rank { self.rank ≤ 6 }
+        requires fits { first + self.start + column / (64 * 2 ^ self.rank) < 2 ^ 32 }
+        ensures { result ≡ record { word = first + self.start + column / (64 * 2 ^ self.rank); bit = column % 64 } }
+    {
+        Bit {
+            word: first + self.start + column / (64 << self.rank),
+            bit: column % 64,
+        }
+    }
+}

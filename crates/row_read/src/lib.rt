@@ -1,0 +1,14 @@
+//! How a scan reads row words, whoever holds them.
+//!
+//! A scan is written once over `Rows`. Words that nobody changes are told, so that the scan is exact on them; words that
+//! other threads set while they are read have a least value, which every read has.
+#![tactic(auto)]
+
+mod image;
+mod rows;
+
+pub use image::Image;
+pub use rows::Rows;
+
+#[cfg(test)]
+mod tests;

@@ -1,0 +1,44 @@
+ghost use Rattle.std.specs.Prelude.{◌≡◌, ℕ, ◌+◌, ◌-◌, ◌^◌, ◌↔◌, true, min, List, IfSome, slice_index};
+ghost use Rattle.std.specs.declared.option.Option.{Option};
+ghost use Rattle.funnel_model.specs.declared.bit_list.Bit.{Bit};
+ghost use Rattle.row_read.specs.Bits.{has_bit};
+
+/// Row words that can be read one by one.
+pub trait Rows {
+    // What no read changes, beside what the other members say.
+    ghost Kept: { Type 0 };
+
+    // The words that may be read.
+    ghost reach: { Self → ℕ → Type 0 };
+
+    // The bits that every read of their word has.
+    ghost least: { Self → Bit → Type 0 };
+
+    // The bits that were set in a read of their word.
+    ghost seen: { Self → Bit → Type 0 };
+
+    // The words, where they are known and stay as they are.
+    ghost told: { Self → Option (List ℕ) };
+
+    ghost kept: { Self → Kept };
+
+    // How many words were read, up to the last value of the counter.
+    ghost reads: { Self → ℕ };
+
+    /// Reads a word.
+    fn read(&mut self, word: u32) -> u64
+        requires reach { reach self.old word }
+        ensures told { IfSome (told self.old) (λ words. result ≡ slice_index words word) }
+        ensures least { (bit : ℕ) → least self.old (record { word = word; bit = bit }) → has_bit result bit ≡ true }
+        ensures seen { (bit : ℕ) → has_bit result bit ≡ true → seen self.new (record { word = word; bit = bit }) }
+        ensures seen_stays { (bit : Bit) → seen self.old bit → seen self.new bit }
+        ensures reach_stays { (other : ℕ) → reach self.old other ↔ reach self.new other }
+        ensures least_stays { (bit : Bit) → least self.old bit ↔ least self.new bit }
+        ensures told_stays { told self.new ≡ told self.old }
+        ensures kept { kept self.new ≡ kept self.old }
+        ensures reads { reads self.new ≡ min (reads self.old + 1) (2 ^ 64 - 1) };
+
+    /// How many words were read. The count stays at its last value.
+    fn reads(&self) -> u64
+        ensures { result ≡ reads self.now };
+}
