@@ -1,5 +1,5 @@
 -- The bits of rows in rising order are the foot of the words that they are of.
-use Rattle.std.proofs.Common.{◌≡◌, ℕ, ◌+◌, ◌*◌, ◌<◌, List, [], ◌∷◌, map, get_or, sym, ap, ◌∙◌, subst, arith, Contains}
+use Rattle.std.proofs.Common.{◌≡◌, ℕ, refl, ◌+◌, ◌*◌, ◌<◌, List, [], ◌∷◌, map, get_or, sym, ap, ◌∙◌, subst, arith, Contains}
 use Rattle.std.proofs.lemmas.Cmp.{ranked}
 use Rattle.std.proofs.lemmas.List.{get_or-map, get_or_default, length-map}
 use Rattle.std.proofs.lemmas.List.Elements.{All-map, All-weaker}
@@ -13,8 +13,8 @@ use Rattle.funnel_model.specs.declared.bit_list.Bit.{Bit}
 use Rattle.funnel_model.specs.Legal.{IsInSlice}
 use Rattle.funnel_model.specs.Words.{words}
 use Rattle.funnel.specs.Foot.{IsFoot, bit_at, bit_cmp, rows_of_word, rows_of_words, slice_rows}
-use Rattle.funnel.specs.Kept.{IsDraft, limits_of}
-use Rattle.funnel.proofs.FindLemmas.{Contains-flat_map, Contains-from_flat_map}
+use Rattle.funnel.specs.Kept.{IsDraft}
+use Rattle.funnel.proofs.Lists.{Contains-flat_map, Contains-from_flat_map}
 
 -- a row below another has its bit below the other's
 less_by_row : (slice column x y : ℕ) → nat_cmp x y ≡ Less → bit_cmp (bit_at slice column x) (bit_at slice column y) ≡ Less
@@ -39,7 +39,7 @@ Contains-from_map f (z ∷ zs) y (k, in', is) =
     (get_or (z ∷ zs) k z, (k, omega (arith, length-map (z ∷ zs) f), get_or_default (z ∷ zs) k (get_or (z ∷ zs) k z) z (omega (arith, length-map (z ∷ zs) f))), sym is ∙ at)
 
 -- the rows of the same words are the same
-same_rows : (xs ys : List (List ℕ)) → ((word : List ℕ) → Contains xs word → Contains ys word) → (row : ℕ) → Contains (rows_of_words xs) row → Contains (rows_of_words ys) row
+pub same_rows : (xs ys : List (List ℕ)) → ((word : List ℕ) → Contains xs word → Contains ys word) → (row : ℕ) → Contains (rows_of_words xs) row → Contains (rows_of_words ys) row
 same_rows xs ys same row has =
     let r = Contains-from_flat_map rows_of_word xs row has in
     Contains-flat_map rows_of_word ys r.0 row (same r.0 r.1) r.2
@@ -59,7 +59,11 @@ foot_of_draft text set rows slice column draft = record {
 }
 
 -- the bits of rows below 1024 lie in the slice
-pub inside_slice : (slices slice column : ℕ) (rows : List ℕ) → All (λ row. row < slice_rows) rows → All (λ (b : Bit). IsInSlice (limits_of slices) slice b.word) (map (bit_at slice column) rows)
-inside_slice slices slice column rows within =
-    All-map (λ (b : Bit). IsInSlice (limits_of slices) slice b.word) (bit_at slice column) rows
-    (All-weaker (λ row. row < slice_rows) (λ row. IsInSlice (limits_of slices) slice (slice * slice_rows + row)) (λ row below. record { from = omega arith; to = omega arith }) rows within)
+pub inside_slice : (slice column : ℕ) (rows : List ℕ) → All (λ row. row < slice_rows) rows → All (λ (b : Bit). IsInSlice slice_rows slice b.word) (map (bit_at slice column) rows)
+inside_slice slice column rows within =
+    All-map (λ (b : Bit). IsInSlice slice_rows slice b.word) (bit_at slice column) rows
+    (All-weaker (λ row. row < slice_rows) (λ row. IsInSlice slice_rows slice (slice * slice_rows + row)) (λ row below. record { from = omega arith; to = omega arith }) rows within)
+
+-- they stand at the column
+pub at_column : (slice column : ℕ) (rows : List ℕ) → All (λ (b : Bit). b.bit ≡ column) (map (bit_at slice column) rows)
+at_column slice column rows = All-map (λ (b : Bit). b.bit ≡ column) (bit_at slice column) rows (λ k d in'. refl)

@@ -40,9 +40,9 @@ pub record IsFoot (words : List (List ℕ)) (slice column : ℕ) (bits : List Bi
 abbrev pub HasBit : ℕ → ℕ → Type 0
 HasBit word bit = binary_digit word bit ≡ 1
 
--- the bit is that of the column, and the word is one of these rows of the slice that begins at `base`
-pub record IsSetIn (rows : List ℕ) (base column word bit : ℕ) : Type 0 where
-  pub row : ℕ
-  pub listed : Contains rows row
-  pub at_word : word ≡ base + row
-  pub at_bit : bit ≡ column
+-- the bit of the word is one of the list
+pub record IsListed (bits : List Bit) (word bit : ℕ) : Type 0 where
+  pub listed : Bit
+  pub is_there : Contains bits listed
+  pub at_word : word ≡ listed.word
+  pub at_bit : bit ≡ listed.bit

@@ -1,9 +1,10 @@
 pub mod Answering
+pub mod Calls
 pub mod Ended
 pub mod Foot
 pub mod HeldBytes
+pub mod Hits
 pub mod Kept
-pub mod Matches
 pub mod Pending
 pub mod Reading
 pub mod Running

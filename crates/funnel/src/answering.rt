@@ -7,7 +7,7 @@ ghost use Rattle.funnel.specs.Answering.{IsRendered, Replies};
 ghost use Rattle.line_proto.specs.Forms.{item_of};
 ghost use Rattle.line_proto.specs.Texts.{text_of};
 
-use crate::calls::{add, find};
+use crate::calls::{add, delete, find, place};
 use crate::index::Index;
 use funnel_model::Reply;
 use line_proto::{Request, parse_line, reply_text};
@@ -40,7 +40,9 @@ fn reply_to(index: &mut Index, alloc: Global, line: &[u8]) -> Reply
     match parse_line(line) {
         None => Reply::Line,
         Some(Request::Add { id, text }) => add(index, alloc, id, text),
+        Some(Request::Delete { id }) => delete(index, id),
         Some(Request::Find { query }) => find(index, alloc, query),
+        Some(Request::Place) => place(index),
     }
 }
 

@@ -8,7 +8,7 @@ use funnel_io::{Gate, Sink, Source};
 use std::alloc::Global;
 
 /// How many slices `run` has.
-const RUN_SLICES: u32 = 1;
+const RUN_SLICES: u32 = 2;
 
 /// Runs the command that the words are. There is one: `run` answers the lines of `input` on `output`. `config` is not
 /// read, and `gates` come back as they came.
@@ -24,7 +24,7 @@ pub fn funnel_main<C: Source, S: Source, K: Sink, G: Gate + Send>(
     ensures config { config.new ≡ config.old }
     ensures usage { result.why ≡ Why.Usage ↔ (IsRun (map (λ word. word.now) words.now) → ⊥) }
     ensures nothing_run { (IsRun (map (λ word. word.now) words.now) → ⊥) → result.closed ≡ None }
-    ensures ran { IsRun (map (λ word. word.now) words.now) → RanOrNot (limits_of 1) (2 ^ 40)
+    ensures ran { IsRun (map (λ word. word.now) words.now) → RanOrNot (limits_of 2) (2 ^ 40)
         record { left = S.left input.old; taken = S.taken input.old; written = K.written output.old; reads = S.read_faults input.old; writes = K.write_faults output.old }
         record { left = S.left input.new; taken = S.taken input.new; written = K.written output.new; reads = S.read_faults input.new; writes = K.write_faults output.new }
         result.why result.closed }

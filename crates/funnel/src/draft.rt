@@ -3,7 +3,7 @@ ghost use Rattle.std.specs.List.{All};
 ghost use Rattle.funnel_model.specs.Legal.{IsInSlice};
 ghost use Rattle.funnel_model.specs.Words.{words};
 ghost use Rattle.funnel.specs.Foot.{IsFoot, bit_at, slice_rows};
-ghost use Rattle.funnel.specs.Kept.{IsDraft, limits_of};
+ghost use Rattle.funnel.specs.Kept.{IsDraft};
 
 use crate::rows::{SLICE_ROWS, rows_of};
 use funnel_model::{Bit, BitList, Memory, Text, WordSet};
@@ -41,7 +41,8 @@ impl Draft {
         requires draft { IsDraft self.now.text self.now.words self.now.rows.items }
         requires slice { slice < 1024 }
         ensures foot { IfOk result (IsFoot (words self.now.text) slice column) }
-        ensures inside { IfOk result (λ bits. (slices : ℕ) → All (λ b. IsInSlice (limits_of slices) slice b.word) bits) }
+        ensures inside { IfOk result (All (λ b. IsInSlice slice_rows slice b.word)) }
+        ensures column { IfOk result (All (λ b. b.bit ≡ column)) }
     {
         let bits = bits_of_rows(alloc, self.rows.as_slice(), slice, column)?;
         Ok(BitList::new(bits))

@@ -1,59 +1,70 @@
-ghost use Rattle.std.specs.Prelude.{◌≡◌, ◌↔◌, ◌<◌, ◌≤◌, ◌+◌, ◌*◌, ◌-◌, ◌/◌, ◌%◌, ℕ, false, List, [], ◌∷◌, ◌++◌, length, map, string_bytes, vec_len, vec_capacity, Contains, MatchOption, IfSome, IfOk, OnOk, OnErr, IsTrue};
-ghost use Rattle.std.specs.BTreeMap.{get};
+ghost use Rattle.std.specs.Prelude.{◌≡◌, ◌≤◌, ◌<◌, ◌+◌, ◌↔◌, ℕ, true, [], ◌∷◌, ◌++◌, length, IfOk, IsTrue, Contains};
 ghost use Rattle.std.specs.List.{All};
-ghost use Rattle.std.specs.Ordering.{nat_cmp};
 ghost use Rattle.funnel_model.specs.declared.call.Call.TheVariants as call;
 ghost use Rattle.funnel_model.specs.declared.event.Event.TheVariants as event;
-ghost use Rattle.funnel_model.specs.History.{answer, is_live, live_place, place};
-ghost use Rattle.funnel_model.specs.Legal.{IsFull, IsIdle, IsInSlice, IsLegal, IsRefused, MayEnd, MayTake};
 ghost use Rattle.funnel_model.specs.Events.{pass_of};
-ghost use Rattle.funnel_model.specs.Words.{words};
+ghost use Rattle.funnel_model.specs.History.{is_live, live_place, place};
+ghost use Rattle.funnel_model.specs.Legal.{IsIdle, IsJournalFull, IsLegal, IsRefused, MayDelete};
 ghost use Rattle.funnel.specs.Ended.{ending_of};
-ghost use Rattle.funnel.specs.Foot.{IsFoot};
-ghost use Rattle.funnel.specs.Kept.{IsDraft, IsNext, State, WithEvent, limits_of};
+ghost use Rattle.funnel.specs.Kept.{State, WithEvent, limits_of};
+
+mod filling;
+mod finding;
 
 use crate::closed::Closed;
-use crate::draft::Draft;
-use crate::matching::{SLICE_COLUMNS, find_all};
-use crate::rows::{SLICE_ROWS, set_column};
-use crate::stored::Stored;
-use funnel_model::{BitList, Call, Commit, Commits, Event, Ids, Memory, Text};
+use crate::rows::SLICE_ROWS;
+use document_store::{Column, LiveList, Records};
+pub use filling::Room;
+use funnel_model::{Call, Commit, Commits, Event, Memory};
 use std::alloc::Global;
-use std::collections::BTreeMap;
 use std::marker::Model;
 
 /// The one pass of a run.
 const PASS: u32 = 0;
 
-/// The history so far, and what answers calls by it: the live documents, the places of their adds, and the rows of
-/// bits. Contracts see the history and the spare room of the lists.
+/// How many columns a slice has.
+pub const SLICE_COLUMNS: u32 = 64;
+
+/// How many commits the journal holds.
+const JOURNAL_ROOM: usize = 1_024;
+
+/// With so many events no call is taken any more.
+const MOST_EVENTS: usize = 5_120;
+
+/// The room of the list of events: a call that begins below `MOST_EVENTS` has at most four.
+pub const EVENT_ROOM: usize = 5_124;
+
+/// How many columns of a slice are claimed, which are its first, and how many of them are deleted or dropped.
+#[derive(Clone, Copy, Debug, PartialEq, Eq)]
+pub struct Counts {
+    pub claimed: u32,
+    pub over: u32,
+}
+
+/// The history so far, and what answers calls by it: the journal of its commits, the records of its columns, the live
+/// numbers, how far each slice is filled, and the rows of bits. Contracts see the history and the rows. All its memory is
+/// taken when it is made.
 #[derive(Drop)]
 pub struct Index {
     slices: u32,
     events: Vec<Event>,
-    commits: Vec<Commit>,
-    documents: Vec<Stored>,
-    places: BTreeMap<u64, u64>,
+    journal: Vec<Commit>,
+    records: Records,
+    live: LiveList,
+    counts: Vec<Counts>,
     rows: Vec<u64>,
 }
 
 impl Model for Index {
-    ghost use Rattle.std.specs.Prelude.{◌-◌, vec_capacity, vec_len};
-    ghost use Rattle.std.specs.BTreeMap.{get};
-    ghost use Rattle.std.specs.Ordering.{nat_cmp};
+    ghost use Rattle.std.specs.Prelude.{◌≤◌, vec_capacity};
     ghost use Rattle.funnel.specs.Kept.{IsKept, State};
 
     ghost Value = { State };
 
-    ghost view = { λ i. record {
-      slices = i.slices;
-      history = i.events.items;
-      event_room = vec_capacity i.events - vec_len i.events;
-      commit_room = vec_capacity i.commits - vec_len i.commits;
-      document_room = vec_capacity i.documents - vec_len i.documents;
-    } };
+    ghost view = { λ i. record { slices = i.slices; history = i.events.items; rows = i.rows.items } };
 
-    ghost invariant = { λ i. IsKept i.slices i.events.items i.commits.items i.documents.items (get nat_cmp i.places) i.rows.items };
+    ghost invariant = { λ i. IsKept i.slices i.events.items i.journal.items i.records i.live i.counts.items i.rows.items
+        (vec_capacity i.events) (vec_capacity i.journal) };
 }
 
 impl Index {
@@ -64,28 +75,36 @@ impl Index {
         ensures slices { IfOk result (λ index. index.slices ≡ slices) }
         ensures empty { IfOk result (λ index. index.history ≡ []) }
     {
+        let none = Counts {
+            claimed: 0,
+            over: 0,
+        };
         Ok(Index {
             slices,
-            events: Vec::new(alloc),
-            commits: Vec::new(alloc),
-            documents: Vec::new(alloc),
-            places: BTreeMap::new(alloc),
+            events: Vec::with_capacity(alloc, EVENT_ROOM)?,
+            journal: Vec::with_capacity(alloc, JOURNAL_ROOM)?,
+            records: Records::new(alloc, slices, SLICE_COLUMNS)?,
+            live: LiveList::new(alloc, JOURNAL_ROOM)?,
+            counts: vec![in alloc; none; slices as usize]?,
             rows: vec![in alloc; 0; slices as usize * SLICE_ROWS]?,
         })
     }
 
-    /// Takes room for the events of one call and for one more document.
-    pub fn reserve(&mut self) -> Result<(), Memory>
-        ensures slices { self.new.slices ≡ self.old.slices }
-        ensures history { self.new.history ≡ self.old.history }
-        ensures events { OnOk result (2 ≤ self.new.event_room) }
-        ensures commits { OnOk result (1 ≤ self.new.commit_room) }
-        ensures documents { OnOk result (1 ≤ self.new.document_room) }
+    /// Whether the history has so many events that no call is taken any more.
+    pub fn is_spent(&self) -> bool
+        ensures spent { IsTrue result ↔ ((limits_of self.now.slices).events ≤ length self.now.history) }
+        ensures legal { IsLegal (limits_of self.now.slices) self.now.history }
     {
-        self.events.reserve(2)?;
-        self.commits.reserve(1)?;
-        self.documents.reserve(1)?;
-        Ok(())
+        self.events.len() >= MOST_EVENTS
+    }
+
+    /// Whether the journal holds as many commits as it can.
+    pub fn is_journal_full(&self) -> bool
+        ensures full { IsTrue result ↔ IsJournalFull (limits_of self.now.slices) self.now.history }
+        ensures within { place self.now.history ≤ (limits_of self.now.slices).commits }
+    {
+        let _ = &self.events;
+        self.journal.len() == JOURNAL_ROOM
     }
 
     /// The place of the add of the live document with this number.
@@ -93,30 +112,22 @@ impl Index {
         ensures { result ≡ live_place id self.now.history }
     {
         let _ = &self.events;
-        self.places.get(&id).copied()
-    }
-
-    /// The numbers of the live documents that have every word of the draft, in the order of their adds.
-    pub fn matching(&self, alloc: Global, draft: &Draft) -> Result<Ids, Memory>
-        requires { IsDraft draft.now.text draft.now.words draft.now.rows.items }
-        ensures { IfOk result (λ ids. ids ≡ answer self.now.history draft.now.text) }
-    {
-        let ids = find_all(
-            alloc,
-            self.rows.as_slice(),
-            self.documents.as_slice(),
-            draft.words.as_slice(),
-            draft.rows.as_slice(),
-        )?;
-        Ok(Ids::new(ids))
+        let Some((slice, column)) = self.live.get(id) else {
+            return None;
+        };
+        match self.records.state(slice, column) {
+            Column::Live(place) => Some(place),
+            _ => None,
+        }
     }
 
     /// Records that a call was refused.
     pub fn refuse(&mut self, asked: Call)
-        requires room { 1 ≤ self.old.event_room }
+        requires room { length self.old.history < EVENT_ROOM }
         requires idle { IsIdle 0 self.old.history }
         requires refused { IsRefused (limits_of self.old.slices) self.old.history asked }
-        ensures { self.new ≡ WithEvent self.old (event.No 0 asked) }
+        ensures legal { IsLegal (limits_of self.new.slices) self.new.history }
+        ensures event { self.new ≡ WithEvent self.old (event.No 0 asked) }
     {
         self.events.push_reserved(Event::No {
             pass: PASS,
@@ -124,91 +135,38 @@ impl Index {
         });
     }
 
-    /// Records that a find begins.
-    pub fn begin_find(&mut self, query: Text)
-        requires room { 1 ≤ self.old.event_room }
+    /// The number of commits so far.
+    pub fn read_place(&mut self) -> u64
+        requires room { length self.old.history < EVENT_ROOM }
         requires idle { IsIdle 0 self.old.history }
-        ensures { self.new ≡ WithEvent self.old (event.Find 0 query) }
+        ensures place { result ≡ place self.old.history }
+        ensures legal { IsLegal (limits_of self.new.slices) self.new.history }
+        ensures event { self.new ≡ WithEvent self.old (event.Read 0 call.Place) }
     {
-        self.events.push_reserved(Event::Find { pass: PASS, query });
-    }
-
-    /// Records that a find ends.
-    pub fn end_find(&mut self)
-        requires room { 1 ≤ self.old.event_room }
-        requires begun { MayEnd self.old.history 0 }
-        ensures { self.new ≡ WithEvent self.old (event.End 0) }
-    {
-        self.events.push_reserved(Event::End { pass: PASS });
-    }
-
-    /// The column that the next document takes, or `None` where no slice has one left.
-    pub fn next_column(&self) -> Option<Column>
-        requires idle { IsIdle 0 self.now.history }
-        ensures column { MatchOption result (IsFull (limits_of self.now.slices) self.now.history)
-            (λ c. MayTake (limits_of self.now.slices) self.now.history 0 c.slice c.column) }
-        ensures in_range { IfSome result (λ c. (c.slice < 1024) × (c.column < 64)) }
-        ensures next { IfSome result (λ c. IsNext self.now c.slice c.column) }
-    {
-        let number = self.documents.len();
-        if number == self.slices as usize * SLICE_COLUMNS {
-            return None;
-        }
-        Some(Column {
-            slice: (number / SLICE_COLUMNS) as u32,
-            column: (number % SLICE_COLUMNS) as u32,
-        })
-    }
-
-    /// Takes the column and adds the document. Where no memory is found for its number, nothing changes.
-    pub fn commit(
-        &mut self,
-        id: u64,
-        draft: Draft,
-        at: Column,
-        bits: BitList,
-    ) -> Result<u64, Memory>
-        requires events { 2 ≤ self.old.event_room }
-        requires commits { 1 ≤ self.old.commit_room }
-        requires documents { 1 ≤ self.old.document_room }
-        requires take { MayTake (limits_of self.old.slices) self.old.history 0 at.slice at.column }
-        requires absent { is_live id self.old.history ≡ false }
-        requires draft { IsDraft draft.text draft.words draft.rows.items }
-        requires next { IsNext self.old at.slice at.column }
-        requires foot { IsFoot (words draft.text) at.slice at.column bits }
-        requires inside { All (λ b. IsInSlice (limits_of self.old.slices) at.slice b.word) bits }
-        ensures slices { self.new.slices ≡ self.old.slices }
-        ensures ok { OnOk result (self.new.history ≡ (self.old.history ++ event.Take 0 at.slice at.column ∷ [])
-            ++ event.Add 0 id draft.text at.slice at.column bits ∷ []) }
-        ensures place { IfOk result (λ n. n ≡ place self.old.history + 1) }
-        ensures err { OnErr result (self.new.history ≡ self.old.history) }
-    {
-        let place = self.commits.len() as u64 + 1;
-        self.places.insert(id, place)?;
-        let Column { slice, column } = at;
-        let Draft { text, words, rows } = draft;
-        set_column(
-            &mut self.rows,
-            slice as usize * SLICE_ROWS,
-            rows.as_slice(),
-            column,
-        );
-        self.documents.push_reserved(Stored { id, words });
-        self.commits.push_reserved(Commit { add: true, id });
-        self.events.push_reserved(Event::Take {
+        self.events.push_reserved(Event::Read {
             pass: PASS,
-            slice,
-            column,
+            call: Call::Place,
         });
-        self.events.push_reserved(Event::Add {
-            pass: PASS,
-            id,
-            text,
-            slice,
-            column,
-            bits,
-        });
-        Ok(place)
+        self.journal.len() as u64
+    }
+
+    /// Deletes the live document with this number, and gives the place of the delete.
+    pub fn delete(&mut self, id: u64) -> u64
+        requires room { length self.old.history < EVENT_ROOM }
+        requires may { MayDelete (limits_of self.old.slices) self.old.history 0 id }
+        ensures place { result ≡ place self.old.history + 1 }
+        ensures legal { IsLegal (limits_of self.new.slices) self.new.history }
+        ensures event { self.new ≡ WithEvent self.old (event.Del 0 id) }
+    {
+        let place = self.journal.len() as u64 + 1;
+        let Some((slice, column)) = self.live.remove(id) else {
+            unreachable!()
+        };
+        self.records.delete(slice, column, place);
+        self.counts[slice as usize].over += 1;
+        self.journal.push_reserved(Commit { add: false, id });
+        self.events.push_reserved(Event::Del { pass: PASS, id });
+        place
     }
 
     /// What is left at the end. It takes no memory.
@@ -217,13 +175,6 @@ impl Index {
         ensures legal { IsLegal (limits_of self.slices) self.history }
         ensures alone { All (λ e. pass_of e ≡ 0) self.history }
     {
-        Closed::new(Commits::new(self.commits), self.events)
+        Closed::new(Commits::new(self.journal), self.events)
     }
-}
-
-/// A column of a slice.
-#[derive(Clone, Copy, Debug, PartialEq, Eq)]
-pub struct Column {
-    pub slice: u32,
-    pub column: u32,
 }

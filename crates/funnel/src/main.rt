@@ -10,12 +10,10 @@ mod ended;
 mod held;
 mod index;
 mod laws;
-mod matching;
 mod reader;
 mod rows;
 mod running;
 mod serving;
-mod stored;
 
 use command::funnel_main;
 use ended::Why;

@@ -1,9 +1,11 @@
-ghost use Rattle.std.specs.Prelude.{◌≡◌, ◌↔◌, ◌⊎◌, ◌<◌, ◌≤◌, ◌+◌, ◌*◌, ◌^◌, ℕ, List, length, map, string_bytes, slice_index, Contains, IfOk};
+ghost use Rattle.std.specs.Prelude.{◌≡◌, ◌≢◌, ◌↔◌, ◌⊎◌, ◌<◌, ◌≤◌, ◌+◌, ◌*◌, ◌^◌, ℕ, List, length, map, string_bytes, slice_index, Contains, IfOk};
 ghost use Rattle.std.specs.List.{All};
 ghost use Rattle.std.specs.List.Sorted.{IsStrictlySortedBy};
 ghost use Rattle.std.specs.Ordering.{nat_cmp};
-ghost use Rattle.funnel.specs.Foot.{HasBit, IsSetIn, rows_of_words, slice_rows};
+ghost use Rattle.funnel_model.specs.declared.bit_list.Bit.{Bit};
+ghost use Rattle.funnel.specs.Foot.{HasBit, IsListed, rows_of_words, slice_rows};
 
+use funnel_model::Bit;
 use std::alloc::{AllocError, Global};
 use term_hash::row_of;
 
@@ -35,18 +37,29 @@ fn rows_by_word(alloc: Global, words: &[String]) -> Result<Vec<u32>, AllocError>
     Ok(rows)
 }
 
-/// Sets the bit of the column in each of these rows of the slice that begins at `base`.
-pub fn set_column(words: &mut [u64], base: usize, rows: &[u32], column: u32)
-    requires rows { All (λ row. base + row < length words.old) rows.now }
-    requires column { column < 64 }
+/// Sets these bits.
+pub fn set_bits(words: &mut [u64], bits: &[Bit])
+    requires words { All (λ b. b.word < length words.old) bits.now }
+    requires bits { All (λ b. b.bit < 64) bits.now }
     ensures length { length words.new ≡ length words.old }
     ensures kept { (word bit : ℕ) → HasBit (slice_index words.old word) bit → HasBit (slice_index words.new word) bit }
-    ensures only { (word bit : ℕ) → HasBit (slice_index words.new word) bit → HasBit (slice_index words.old word) bit ⊎ IsSetIn rows.now base column word bit }
-    ensures set { (row : ℕ) → Contains rows.now row → HasBit (slice_index words.new (base + row)) column }
+    ensures only { (word bit : ℕ) → HasBit (slice_index words.new word) bit → HasBit (slice_index words.old word) bit ⊎ IsListed bits.now word bit }
+    ensures set { All (λ b. HasBit (slice_index words.new b.word) b.bit) bits.now }
+    ensures others { (word : ℕ) → ((b : Bit) → Contains bits.now b → b.word ≢ word) → slice_index words.new word ≡ slice_index words.old word }
 {
-    for row in rows {
-        words[base + *row as usize] |= 1 << column;
+    for bit in bits {
+        words[bit.word as usize] |= 1 << bit.bit;
     }
+}
+
+/// Sets the words of the slice that begins at `base` to 0.
+pub fn clear_rows(words: &mut [u64], base: usize)
+    requires { base + slice_rows ≤ length words.old }
+    ensures length { length words.new ≡ length words.old }
+    ensures zero { (row : ℕ) → row < slice_rows → slice_index words.new (base + row) ≡ 0 }
+    ensures others { (word : ℕ) → (word < base) ⊎ (base + slice_rows ≤ word) → slice_index words.new word ≡ slice_index words.old word }
+{
+    words[base..base + SLICE_ROWS].fill(0);
 }
 
 /// The columns whose bit is set in each of these rows of the slice that begins at `base`, as bits of a word.

@@ -1,3 +1,5 @@
+ghost use Rattle.std.specs.Prelude.{◌+◌, ◌<◌, ◌≤◌, ◌^◌};
+
 use crate::command::funnel_main;
 use crate::ended::{Ended, Why};
 use crate::running::{run_up_to, run_with};
@@ -24,83 +26,191 @@ fn run(alloc: Global, input: &mut MemSource, output: &mut MemSink) -> Ended<MemG
     funnel_main(alloc, &["run"], &mut config, input, output, Vec::new(alloc))
 }
 
+// What a run of so many slices writes for these lines.
+fn replies(alloc: Global, slices: u32, lines: &str) -> Result<String, Fail>
+    requires some { 1 ≤ slices }
+    requires few { slices ≤ 1024 }
+{
+    let mut source = source_of(alloc, &[lines.as_bytes()], &[])?;
+    let mut sink = MemSink::new(alloc, 200_000, Vec::new(alloc))?;
+    run_with(alloc, slices, &mut source, &mut sink);
+    Ok(String::from_utf8(sink.bytes().to_vec(alloc)?)?)
+}
+
 #[test]
 fn lines_are_answered(rt: HostRuntime) -> Result<(), Fail> {
-    let rows: [(&str, &str); 9] = [
-        ("", ""),
-        ("add 7 The cat sat\nfind CAT\n", "added 1\nfound 1 7\n"),
-        ("add 1 Straße\nfind STRASSE\n", "added 1\nfound 1 1\n"),
+    let rows: [(&[u8], &str); 13] = [
+        (b"", ""),
+        (b"add 7 The cat sat\nfind CAT\n", "added 1\nfound 1 7\n"),
         (
-            "add 7 The cat sat\nfind cat cat the\n",
+            "add 1 Straße\nfind STRASSE\n".as_bytes(),
+            "added 1\nfound 1 1\n",
+        ),
+        (
+            b"add 7 The cat sat\nfind cat cat the\n",
             "added 1\nfound 1 7\n",
         ),
         (
-            "add 9 x\nadd 3 y\nfind\n",
+            b"add 9 x\nadd 3 y\nfind\n",
             "added 1\nadded 2\nfound 2 9 3\n",
         ),
         (
-            "add 9 x\nadd 3 x\nfind x\n",
+            b"add 9 x\nadd 3 x\nfind x\n",
             "added 1\nadded 2\nfound 2 9 3\n",
         ),
         (
-            "add 18446744073709551615 a\nadd 18446744073709551616 a\nadd 007 b\nfind b\n",
+            b"add 9 x\nadd 3 x\ndel 9\nadd 9 x\nfind x\n",
+            "added 1\nadded 2\ndeleted 3\nadded 4\nfound 2 3 9\n",
+        ),
+        (
+            b"add 7 a\nadd 7 b\nfind b\nplace\n",
+            "added 1\nrefused present 1\nfound 0\nplace 1\n",
+        ),
+        (b"del 5\nplace\n", "refused absent\nplace 0\n"),
+        (
+            b"add 18446744073709551615 a\nadd 18446744073709551616 a\nadd 007 b\nfind b\n",
             "added 1\nrefused line\nadded 2\nfound 1 7\n",
         ),
         (
-            "add 7 a\nadd 7 b\nfind b\nfind a\n",
-            "added 1\nrefused present 1\nfound 0\nfound 1 7\n",
+            b"addx 1 a\n\nfind \xff\nplace\r\nfind",
+            "refused line\nrefused line\nrefused line\nplace 0\nfound 0\n",
         ),
         (
-            "addx 1 a\n\ndel 7\nfind dog\r\nfind",
-            "refused line\nrefused line\nrefused line\nfound 0\nfound 0\n",
+            b"add 1 a\ndel 1\nfind a\ndel 1\nadd 1 b\nfind b\nplace\n",
+            "added 1\ndeleted 2\nfound 0\nrefused absent\nadded 3\nfound 1 1\nplace 3\n",
+        ),
+        (
+            b"place \ndel\ndel 1 \n",
+            "refused line\nrefused line\nrefused line\n",
         ),
     ];
     for (input, output) in rows {
-        let mut source = source_of(rt.alloc(), &[input.as_bytes()], &[])?;
+        let mut source = source_of(rt.alloc(), &[input], &[])?;
         let mut sink = sink_of(rt.alloc(), &[])?;
         let ended = run(rt.alloc(), &mut source, &mut sink);
-        assert_eq!(rt; ended.why, Why::Done, "{input}");
-        assert_eq!(rt; sink.bytes(), output.as_bytes(), "{input}");
+        assert_eq!(rt; ended.why, Why::Done, "{output}");
+        assert_eq!(rt; sink.bytes(), output.as_bytes(), "{output}");
     }
     Ok(())
 }
 
+// Lines and the replies that they should have.
+#[derive(Drop)]
+struct Script {
+    lines: String,
+    replies: String,
+}
+
+impl Script {
+    fn new(alloc: Global) -> Self {
+        Script {
+            lines: String::new(alloc),
+            replies: String::new(alloc),
+        }
+    }
+
+    fn line(&mut self, line: &str, reply: &str) -> Result<(), AllocError> {
+        self.lines.push_str(line)?;
+        self.lines.push('\n')?;
+        self.replies.push_str(reply)?;
+        self.replies.push('\n')
+    }
+
+    // Adds the documents 1 to `last` with the text `x`, where so many commits came before.
+    fn adds(&mut self, alloc: Global, last: u64, before: u64) -> Result<(), AllocError>
+        requires { before + last < 2 ^ 64 }
+    {
+        for id in 1..=last {
+            let line = format!(in alloc; "add {id} x")?;
+            let reply = format!(in alloc; "added {}", before + id)?;
+            self.line(&line, &reply)?;
+        }
+        Ok(())
+    }
+
+    // Deletes the documents 1 to `last`, where so many commits came before.
+    fn deletes(&mut self, alloc: Global, last: u64, before: u64) -> Result<(), AllocError>
+        requires { before + last < 2 ^ 64 }
+    {
+        for id in 1..=last {
+            let line = format!(in alloc; "del {id}")?;
+            let reply = format!(in alloc; "deleted {}", before + id)?;
+            self.line(&line, &reply)?;
+        }
+        Ok(())
+    }
+}
+
+// The reply to a find that finds the documents 1 to `last`.
+fn found_to(alloc: Global, last: u64) -> Result<String, AllocError> {
+    let mut reply = format!(in alloc; "found {last}")?;
+    for id in 1..=last {
+        reply.push_str(&format!(in alloc; " {id}")?)?;
+    }
+    Ok(reply)
+}
+
 #[test]
-fn a_line_that_is_not_utf_8_is_refused(rt: HostRuntime) -> Result<(), Fail> {
-    let mut source = source_of(rt.alloc(), &[b"find \xff\nfind\n"], &[])?;
-    let mut sink = sink_of(rt.alloc(), &[])?;
-    let ended = run(rt.alloc(), &mut source, &mut sink);
-    assert_eq!(rt; ended.status(), 0);
-    assert_eq!(rt; sink.bytes(), b"refused line\nfound 0\n".as_slice());
+fn a_find_goes_on_in_the_second_slice(rt: HostRuntime) -> Result<(), Fail> {
+    let mut script = Script::new(rt.alloc());
+    script.adds(rt.alloc(), 65, 0)?;
+    script.line("find x", &found_to(rt.alloc(), 65)?)?;
+    assert_eq!(rt; replies(rt.alloc(), 2, &script.lines)?, script.replies);
     Ok(())
 }
 
 #[test]
 fn a_slice_has_64_columns(rt: HostRuntime) -> Result<(), Fail> {
-    let alloc = rt.alloc();
-    let mut lines = String::new(alloc);
-    let mut replies = String::new(alloc);
-    let mut found = String::new(alloc);
-    for id in 1u64..=64 {
-        lines.push_str(&format!(in alloc; "add {id} x\n")?)?;
-        replies.push_str(&format!(in alloc; "added {id}\n")?)?;
-        found.push_str(&format!(in alloc; " {id}")?)?;
-    }
-    lines.push_str("add 65 x\nfind X\n")?;
-    replies.push_str(&format!(in alloc; "refused full\nfound 64{found}\n")?)?;
-    let mut source = source_of(alloc, &[lines.as_bytes()], &[])?;
-    let mut sink = sink_of(alloc, &[])?;
-    let ended = run(alloc, &mut source, &mut sink);
-    assert_eq!(rt; ended.why, Why::Done);
-    assert_eq!(rt; sink.bytes(), replies.as_bytes());
+    let mut script = Script::new(rt.alloc());
+    script.adds(rt.alloc(), 64, 0)?;
+    script.line("add 65 x", "refused full")?;
+    script.line("find X", &found_to(rt.alloc(), 64)?)?;
+    assert_eq!(rt; replies(rt.alloc(), 1, &script.lines)?, script.replies);
+    Ok(())
+}
 
-    // with a second slice there is a column for the document, and a find goes on in it
-    let mut source = source_of(alloc, &[lines.as_bytes()], &[])?;
-    let mut sink = sink_of(alloc, &[])?;
-    let (why, closed) = run_with(alloc, 2, &mut source, &mut sink);
-    assert_eq!(rt; why, Why::Done);
-    assert!(rt; sink.bytes().ends_with(b" 63 64 65\n"));
-    assert!(rt; closed.is_some_and(|closed| closed.commits.len() == 65 && closed.events == 132));
+#[test]
+fn a_slice_whose_documents_are_gone_is_used_again(rt: HostRuntime) -> Result<(), Fail> {
+    let mut script = Script::new(rt.alloc());
+    script.adds(rt.alloc(), 64, 0)?;
+    script.deletes(rt.alloc(), 63, 64)?;
+    script.line("add 500 y", "refused full")?;
+    script.line("del 64", "deleted 128")?;
+    script.line("add 500 y", "added 129")?;
+    script.line("find x", "found 0")?;
+    script.line("find y", "found 1 500")?;
+    assert_eq!(rt; replies(rt.alloc(), 1, &script.lines)?, script.replies);
+    Ok(())
+}
+
+#[test]
+fn the_journal_has_1024_commits(rt: HostRuntime) -> Result<(), Fail> {
+    let mut script = Script::new(rt.alloc());
+    for round in 0u64..8 {
+        script.adds(rt.alloc(), 64, round * 128)?;
+        script.deletes(rt.alloc(), 64, round * 128 + 64)?;
+    }
+    script.line("add 1 x", "refused journal full")?;
+    script.line("del 1", "refused absent")?;
+    script.line("find x", "found 0")?;
+    script.line("place", "place 1024")?;
+    assert_eq!(rt; replies(rt.alloc(), 1, &script.lines)?, script.replies);
+    Ok(())
+}
+
+#[test]
+fn an_engine_is_spent_after_5120_events(rt: HostRuntime) -> Result<(), Fail> {
+    let mut script = Script::new(rt.alloc());
+    script.adds(rt.alloc(), 1, 0)?;
+    for _ in 0u64..5117 {
+        script.line("place", "place 1")?;
+    }
+    script.line("del 2", "refused absent")?;
+    script.line("add 1 x", "refused spent")?;
+    script.line("del 1", "refused spent")?;
+    script.line("find x", "refused spent")?;
+    script.line("place", "refused spent")?;
+    assert_eq!(rt; replies(rt.alloc(), 2, &script.lines)?, script.replies);
     Ok(())
 }
 
@@ -132,6 +242,16 @@ fn a_failed_write_ends_the_run(rt: HostRuntime) -> Result<(), Fail> {
         ended.closed.is_some_and(|closed| closed.events == 4
             && closed.commits.as_slice() == committed.as_slice())
     );
+    Ok(())
+}
+
+#[test]
+fn places_stop_at_a_failed_write(rt: HostRuntime) -> Result<(), Fail> {
+    let mut source = source_of(rt.alloc(), &[b"place\nplace\nplace\n"], &[])?;
+    let mut sink = sink_of(rt.alloc(), &[2])?;
+    let ended = run(rt.alloc(), &mut source, &mut sink);
+    assert_eq!(rt; ended.status(), 4);
+    assert_eq!(rt; sink.bytes(), b"place 0\n".as_slice());
     Ok(())
 }
 

@@ -1,8 +1,11 @@
--- What an answer has.
-use Rattle.std.proofs.Common.{◌≡◌, ◌≢◌, ℕ, zero, suc, Bool, true, false, cond, List, [], ◌∷◌, map, filter, get_or, sym, refl, ap, ◌∙◌, subst, arith, Contains}
+-- What a list has, and what an answer has.
+use Rattle.std.proofs.Common.{◌≡◌, ◌≢◌, ℕ, zero, suc, ⊎_elim, Bool, true, false, cond, List, [], ◌∷◌, map, filter, get_or, sym, refl, ap, ◌∙◌, subst, arith, Contains}
 use Rattle.std.proofs.lemmas.List.{get_or-map, length-map}
+use Rattle.std.proofs.lemmas.List.Elements.{All-contains, All-contains_itself, All-filter, filter_passes}
+use Rattle.std.proofs.lemmas.List.Folds.{list_any_at}
 use Rattle.std.proofs.lemmas.List.Kept.{AllPairs-filter}
-use Rattle.std.specs.List.{AllPairs}
+use Rattle.std.proofs.lemmas.Bool.{or_cases}
+use Rattle.std.specs.List.{AllPairs, list_any}
 use Rattle.funnel_model.specs.declared.event.Event.{Event}
 use Rattle.funnel_model.specs.History.{Document, answer, live}
 use Rattle.funnel_model.specs.Legal.{Limits, IsLegal}
@@ -11,6 +14,23 @@ use Rattle.funnel_model.proofs.LiveLemmas.{live_once}
 
 pub Contains-cons : {A : Type 0} (y : A) (xs : List A) (x : A) → Contains xs x → Contains (y ∷ xs) x
 Contains-cons y xs x c = (suc c.0, omega (arith, c.1), c.2)
+
+-- the first element of a list is contained in it
+pub contains_first : {A : Type 0} (x : A) (xs : List A) → Contains (x ∷ xs) x
+contains_first x xs = (0, omega arith, refl)
+
+-- some element passes where one that is contained does
+pub any_contained : {A : Type 0} (test : A → Bool) (xs : List A) (x : A) → Contains xs x → test x ≡ true → list_any test xs ≡ true
+any_contained test xs x contained passes = list_any_at test xs contained.0 x contained.1 (ap test contained.2 ∙ passes)
+
+-- and only there
+pub contained_any : {A : Type 0} (test : A → Bool) (xs : List A) → list_any test xs ≡ true → (x : A) × Contains xs x × (test x ≡ true)
+contained_any test [] some = cc
+contained_any test (x ∷ xs) some =
+    ⊎_elim
+    (λ here. (x, contains_first x xs, here))
+    (λ later. let found = contained_any test xs later in (found.0, Contains-cons x xs found.0 found.1, found.2))
+    (or_cases (test x) (list_any test xs) some)
 
 contains_if : {A : Type 0} (y : A) (xs : List A) (x : A) (b : Bool) → Contains xs x → Contains (cond b (y ∷ xs) xs) x
 contains_if y xs x true c = Contains-cons y xs x c
@@ -23,6 +43,13 @@ Contains-filter p (y ∷ ys) x (zero, in', is) passes =
     subst (λ b. Contains (cond b (y ∷ filter p ys) (filter p ys)) x) (sym (ap p is ∙ passes)) (zero, omega arith, is)
 Contains-filter p (y ∷ ys) x (suc k, in', is) passes =
     contains_if y (filter p ys) x (p y) (Contains-filter p ys x (k, omega arith, is) passes)
+
+-- what a filter keeps was in the list, and passes
+pub Contains-filtered : {A : Type 0} (p : A → Bool) (xs : List A) (x : A) → Contains (filter p xs) x → Contains xs x × (p x ≡ true)
+Contains-filtered p xs x contained = (
+  All-contains (Contains xs) (filter p xs) x (All-filter p (Contains xs) xs (All-contains_itself xs)) contained,
+  All-contains (λ y. p y ≡ true) (filter p xs) x (filter_passes p xs) contained,
+)
 
 pub Contains-map : {A B : Type 0} (f : A → B) (xs : List A) (x : A) → Contains xs x → Contains (map f xs) (f x)
 Contains-map f xs x c = (c.0, omega (arith, length-map xs f, c.1), get_or-map f xs c.0 x (f x) c.1 ∙ ap f c.2)

@@ -11,12 +11,13 @@ use Rattle.std.specs.Option.{option_map, option_map_or, is_some}
 use Rattle.funnel_model.specs.declared.event.Event.{Event}
 use Rattle.funnel_model.specs.declared.event.Event.TheVariants as event
 use Rattle.funnel_model.specs.Events.{commit_of, added_by, deletes}
-use Rattle.std.proofs.lemmas.Bool.{or_parts, eqb-false, eqb-true}
+use Rattle.std.proofs.Math.Bool.{or-false}
+use Rattle.std.proofs.lemmas.Bool.{or_parts, eqb-false, eqb-true, eq-eqb}
 use Rattle.std.proofs.lemmas.Bool.Decides.{eqb_tells}
 use Rattle.std.specs.Prelude.{◌==◌}
 use Rattle.funnel_model.proofs.Histories.{holds_of_legal}
 use Rattle.funnel_model.specs.Legal.{Limits, IsAllowed, IsLegal}
-use Rattle.funnel_model.specs.History.{Document, commits, place, document_at, live_from, live, is_live, answer}
+use Rattle.funnel_model.specs.History.{Document, commits, place, document_at, live_from, live, is_live, live_place, answer}
 use Rattle.funnel_model.specs.Words.{meets}
 
 -- commits and places, for one more event
@@ -42,7 +43,7 @@ kept_unless p x false false is = sym (ap (λ b. cond b (x ∷ []) []) is)
 
 -- whether a later event deletes a document, for one more event
 survives_or : (id : ℕ) (e : Event) → not (deletes id e) ≡ not (list_any (deletes id) (e ∷ []))
-survives_or id e = refl
+survives_or id e = ap not (sym (or-false (deletes id e)))
 
 document_at-push : (before : ℕ) (added : Option (ℕ × List ℕ)) (later : List Event) (e : Event) →
     option_to_list (document_at before added (later ++ e ∷ [])) ≡ filter (survives e) (option_to_list (document_at before added later))
@@ -80,18 +81,12 @@ by_push P start step history = by_push_from P step [] history start
 -- an event that adds a document is one commit
 adds_one : (e : Event) (added : ℕ × List ℕ) → added_by e ≡ Some added → place (e ∷ []) ≡ 1
 adds_one (event.Add pass id text slice column bits) added is = refl
-adds_one (event.Take pass slice column) added is = cc
-adds_one (event.Find pass query) added is = cc
-adds_one (event.End pass) added is = cc
-adds_one (event.No pass asked) added is = cc
+adds_one e added is = cc
 
 -- a document that an event adds: the event is one commit, and the document's place is the one after it
 pub document_at-adds : (before : ℕ) (e : Event) (d : Document) → document_at before (added_by e) [] ≡ Some d → (place (e ∷ []) ≡ 1) × (d.place ≡ before + 1)
 document_at-adds before (event.Add pass id text slice column bits) d is = (refl, ap (λ o. option_map_or (λ (x : Document). x.place) o (before + 1)) (sym is))
-document_at-adds before (event.Take pass slice column) d is = cc
-document_at-adds before (event.Find pass query) d is = cc
-document_at-adds before (event.End pass) d is = cc
-document_at-adds before (event.No pass asked) d is = cc
+document_at-adds before e d is = cc
 
 pairs_with : (R : Document → Document → Type 0) (ds : List Document) (o : Option Document) → AllPairs R ds → ((d : Document) → o ≡ Some d → All (λ x. R x d) ds) → AllPairs R (ds ++ option_to_list o)
 pairs_with R ds None pairs each = subst (AllPairs R) (sym (append-nil ds)) pairs
@@ -145,10 +140,7 @@ none_with_id id (d ∷ ds) none =
 added_is_new : (limits : Limits) (history : List Event) (e : Event) → IsAllowed limits history e → (before : ℕ) (d : Document) → document_at before (added_by e) [] ≡ Some d → is_live d.id history ≡ false
 added_is_new limits history (event.Add pass id text slice column bits) allowed before d is =
     ap (λ o. is_live (option_map_or (λ (x : Document). x.id) o 0) history) (sym is) ∙ allowed.rule.absent
-added_is_new limits history (event.Take pass slice column) allowed before d is = cc
-added_is_new limits history (event.Find pass query) allowed before d is = cc
-added_is_new limits history (event.End pass) allowed before d is = cc
-added_is_new limits history (event.No pass asked) allowed before d is = cc
+added_is_new limits history e allowed before d is = cc
 
 -- in a legal history each number is live at most once
 pub live_once : (limits : Limits) (history : List Event) → IsLegal limits history → AllPairs (λ (d e : Document). d.id ≢ e.id) (live history)
@@ -210,3 +202,77 @@ is_live-from_place id (d ∷ ds) = first (d.id == id) (is_live-from_place id ds)
 -- an answer, for one more event that deletes and adds nothing
 pub answer-silent : (history : List Event) (e : Event) (query : List ℕ) → ((id : ℕ) → deletes id e ≡ false) → added_by e ≡ None → answer (history ++ e ∷ []) query ≡ answer history query
 answer-silent history e query none adds = ap (λ ds. map (λ (d : Document). d.id) (filter (λ (d : Document). meets d.text query) ds)) (live-silent history e none adds)
+
+-- two tests that agree keep the same elements
+filter_same : {A : Type 0} (p q : A → Bool) (xs : List A) → ((x : A) → p x ≡ q x) → filter p xs ≡ filter q xs
+filter_same p q [] same = refl
+filter_same p q (x ∷ xs) same =
+    ap (λ b. cond b (x ∷ filter p xs) (filter p xs)) (same x) ∙ ap (λ ys. cond (q x) (x ∷ ys) ys) (filter_same p q xs same)
+
+-- two numbers in either order
+equal_either : (a b : ℕ) → (a == b) ≡ (b == a)
+equal_either a b = ⊎_elim (λ is. is.0 ∙ sym (eq-eqb b a (sym is.1))) (λ other. other.0 ∙ sym (not_equal b a (λ same. other.1 (sym same)))) (eqb_tells a b)
+
+-- a delete takes away the document with its number
+pub live-deletes : (history : List Event) (pass id : ℕ) → live (history ++ event.Del pass id ∷ []) ≡ filter (λ d. not (d.id == id)) (live history)
+live-deletes history pass id =
+    live-push history (event.Del pass id) ∙ append-nil (filter (survives (event.Del pass id)) (live history))
+    ∙ filter_same (survives (event.Del pass id)) (λ d. not (d.id == id)) (live history) (λ d. ap not (equal_either id d.id))
+
+-- the document with a number, where those with another number are left
+find-without : (id other : ℕ) (documents : List Document) →
+    find (λ d. d.id == other) (filter (λ d. not (d.id == id)) documents) ≡ cond (id == other) None (find (λ d. d.id == other) documents)
+find-without id other [] = one (id == other) where
+  one : (b : Bool) → find (λ (d : Document). d.id == other) [] ≡ cond b None (find (λ (d : Document). d.id == other) [])
+  one true = refl
+  one false = refl
+find-without id other (d ∷ ds) = first (d.id == id) (d.id == other) refl refl (find-without id other ds) where
+  first : (gone here : Bool) → (d.id == id) ≡ gone → (d.id == other) ≡ here →
+      find (λ x. x.id == other) (filter (λ x. not (x.id == id)) ds) ≡ cond (id == other) None (find (λ x. x.id == other) ds) →
+      find (λ x. x.id == other) (cond (not gone) (d ∷ filter (λ x. not (x.id == id)) ds) (filter (λ x. not (x.id == id)) ds))
+      ≡ cond (id == other) None (cond here (Some d) (find (λ x. x.id == other) ds))
+  first true true gone here more =
+      let same : (id == other) ≡ true = eq-eqb id other (sym (eqb-true d.id id gone) ∙ eqb-true d.id other here) in
+      more ∙ ap (λ b. cond b None (find (λ x. x.id == other) ds)) same ∙ sym (ap (λ b. cond b None (Some d)) same)
+  first true false gone here more = more
+  first false true gone here more =
+      let apart : (id == other) ≡ false = not_equal id other (λ same. eqb-false d.id id gone (eqb-true d.id other here ∙ sym same)) in
+      ap (λ b. cond b (Some d) (find (λ x. x.id == other) (filter (λ x. not (x.id == id)) ds))) here ∙ sym (ap (λ b. cond b None (Some d)) apart)
+  first false false gone here more =
+      ap (λ b. cond b (Some d) (find (λ x. x.id == other) (filter (λ x. not (x.id == id)) ds))) here ∙ more
+
+-- the place of a document's add, and whether a number is live, after a delete
+pub live_place-deletes : (history : List Event) (pass id other : ℕ) →
+    live_place other (history ++ event.Del pass id ∷ []) ≡ cond (id == other) None (live_place other history)
+live_place-deletes history pass id other =
+    ap (λ ds. option_map (λ (d : Document). d.place) (find (λ d. d.id == other) ds)) (live-deletes history pass id)
+    ∙ ap (option_map (λ (d : Document). d.place)) (find-without id other (live history))
+    ∙ one (id == other) where
+      one : (b : Bool) → option_map (λ (d : Document). d.place) (cond b None (find (λ d. d.id == other) (live history))) ≡ cond b None (live_place other history)
+      one true = refl
+      one false = refl
+
+pub is_live-deletes : (history : List Event) (pass id other : ℕ) →
+    is_live other (history ++ event.Del pass id ∷ []) ≡ cond (id == other) false (is_live other history)
+is_live-deletes history pass id other =
+    is_live-from_place other (live (history ++ event.Del pass id ∷ [])) ∙ ap is_some (live_place-deletes history pass id other)
+    ∙ one (id == other) where
+      one : (b : Bool) → is_some (cond b None (live_place other history)) ≡ cond b false (is_live other history)
+      one true = refl
+      one false = sym (is_live-from_place other (live history))
+
+-- a number that was deleted is not live
+pub is_live-deleted : (history : List Event) (pass id : ℕ) → is_live id (history ++ event.Del pass id ∷ []) ≡ false
+is_live-deleted history pass id = is_live-deletes history pass id id ∙ ap (λ b. cond b false (is_live id history)) (eq-eqb id id refl)
+
+pub live_place-deleted : (history : List Event) (pass id : ℕ) → live_place id (history ++ event.Del pass id ∷ []) ≡ None
+live_place-deleted history pass id = live_place-deletes history pass id id ∙ ap (λ b. cond b None (live_place id history)) (eq-eqb id id refl)
+
+-- a delete of another number leaves a number as it was
+pub is_live-other : (history : List Event) (pass id other : ℕ) → id ≢ other → is_live other (history ++ event.Del pass id ∷ []) ≡ is_live other history
+is_live-other history pass id other apart =
+    is_live-deletes history pass id other ∙ ap (λ b. cond b false (is_live other history)) (not_equal id other apart)
+
+pub live_place-other : (history : List Event) (pass id other : ℕ) → id ≢ other → live_place other (history ++ event.Del pass id ∷ []) ≡ live_place other history
+live_place-other history pass id other apart =
+    live_place-deletes history pass id other ∙ ap (λ b. cond b None (live_place other history)) (not_equal id other apart)

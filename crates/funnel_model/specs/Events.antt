@@ -1,5 +1,5 @@
 -- What the definitions read of an event. Where the last line has a `_`, all other kinds of event are silent.
-use Rattle.std.specs.Prelude.{ℕ, Bool, true, false, ◌==◌, Option, Some, None, List, if◌then◌else◌}
+use Rattle.std.specs.Prelude.{ℕ, Bool, true, false, not, ◌&&◌, ◌==◌, Option, Some, None, List, if◌then◌else◌}
 use Rattle.funnel_model.specs.declared.call.Call.{Call}
 use Rattle.funnel_model.specs.declared.call.Call.TheVariants as call
 use Rattle.funnel_model.specs.declared.commit.Commit.{Commit}
@@ -10,13 +10,19 @@ use Rattle.funnel_model.specs.declared.event.Event.TheVariants as event
 abbrev pub pass_of : Event → ℕ
 pass_of (event.Take pass slice column) = pass
 pass_of (event.Add pass id text slice column bits) = pass
+pass_of (event.Drop pass id text slice column) = pass
+pass_of (event.Del pass id) = pass
 pass_of (event.Find pass query) = pass
 pass_of (event.End pass) = pass
+pass_of (event.Clear pass slice) = pass
+pass_of (event.Opened pass slice alone) = pass
 pass_of (event.No pass asked) = pass
+pass_of (event.Read pass asked) = pass
 
 -- the commit that the event is, if it is one
 abbrev pub commit_of : Event → Option Commit
 commit_of (event.Add pass id text slice column bits) = Some (record { add = true; id = id })
+commit_of (event.Del pass id) = Some (record { add = false; id = id })
 commit_of _ = None
 
 -- the number and the text of the document that the event adds
@@ -24,15 +30,19 @@ abbrev pub added_by : Event → Option (ℕ × List ℕ)
 added_by (event.Add pass id text slice column bits) = Some (id, text)
 added_by _ = None
 
--- whether the event deletes the document with this number; no kind of event does so yet
+-- whether the event deletes the document with this number
 abbrev pub deletes : ℕ → Event → Bool
+deletes id (event.Del pass deleted) = deleted == id
 deletes id _ = false
 
 -- the client's call that the event answers, a refused one included; the other events of a call answer none
 abbrev pub call_of : Event → Option Call
 call_of (event.Add pass id text slice column bits) = Some (call.Add id text)
+call_of (event.Drop pass id text slice column) = Some (call.Add id text)
+call_of (event.Del pass id) = Some (call.Delete id)
 call_of (event.Find pass query) = Some (call.Find query)
 call_of (event.No pass asked) = Some asked
+call_of (event.Read pass asked) = Some asked
 call_of _ = None
 
 -- the column of the slice that the event claims
@@ -40,12 +50,46 @@ abbrev pub taken_in : ℕ → Event → Option ℕ
 taken_in slice (event.Take pass taken column) = if taken == slice then Some column else None
 taken_in slice _ = None
 
--- whether the event makes all columns of the slice unclaimed; no kind of event does so yet
+-- whether the event is this pass's claim of the column
+abbrev pub takes : ℕ → ℕ → ℕ → Event → Bool
+takes pass slice column (event.Take taker taken at) = taker == pass && (taken == slice && at == column)
+takes pass slice column _ = false
+
+-- the number and the text of the document that the event adds on the column
+abbrev pub added_on : ℕ → ℕ → Event → Option (ℕ × List ℕ)
+added_on slice column (event.Add pass id text added at bits) = if added == slice && at == column then Some (id, text) else None
+added_on slice column _ = None
+
+-- whether the event drops the document of the column
+abbrev pub drops_on : ℕ → ℕ → Event → Bool
+drops_on slice column (event.Drop pass id text dropped at) = dropped == slice && at == column
+drops_on slice column _ = false
+
+-- whether the event begins to clear the slice
+abbrev pub clears : ℕ → Event → Bool
+clears slice (event.Clear pass cleared) = cleared == slice
+clears slice _ = false
+
+-- whether the event makes all columns of the slice unclaimed
 abbrev pub opens : ℕ → Event → Bool
+opens slice (event.Opened pass opened alone) = opened == slice
 opens slice _ = false
+
+-- whether the event begins or ends a find of the pass
+abbrev pub finds_or_ends : ℕ → Event → Bool
+finds_or_ends pass (event.Find finder query) = finder == pass
+finds_or_ends pass (event.End ender) = ender == pass
+finds_or_ends pass _ = false
 
 -- whether the event's pass is in the middle of a call after it
 abbrev pub leaves_open : Event → Bool
 leaves_open (event.Take pass slice column) = true
 leaves_open (event.Find pass query) = true
+leaves_open (event.Clear pass slice) = true
+leaves_open (event.Opened pass slice alone) = not alone
 leaves_open _ = false
+
+-- the event that has to come next, where there is one: a slice that was opened for an add is taken at once
+abbrev pub next_after : Event → Option Event
+next_after (event.Opened pass slice alone) = if alone then None else Some (event.Take pass slice 0)
+next_after _ = None

@@ -1,5 +1,6 @@
--- A small engine, and a history of it that has an add, a find and each refusal.
-use Rattle.std.specs.Prelude.{List, [], ◌∷◌, ◌++◌}
+-- Small engines and histories of them. Together the histories have each kind of event, and the refusals Present, Full,
+-- JournalFull and Absent.
+use Rattle.std.specs.Prelude.{false, List, [], ◌∷◌, ◌++◌}
 use Rattle.std.specs.List.{cons_option}
 use Rattle.funnel_model.specs.declared.call.Call.TheVariants as call
 use Rattle.funnel_model.specs.declared.event.Event.{Event}
@@ -11,7 +12,7 @@ use Rattle.funnel_model.specs.Steps.{reply_to}
 
 -- one pass, and one slice of two columns
 abbrev pub small : Limits
-small = record { passes = 1; slices = 1; columns = 2; slice_words = 4 }
+small = record { passes = 1; slices = 1; columns = 2; slice_words = 4; commits = 8; events = 64 }
 
 -- documents 9 and 7 are added; 9 is refused, since it is there; a query without words finds both; 5 is refused, since no column is left
 abbrev pub episode : List Event
@@ -20,13 +21,39 @@ episode =
     ∷ event.Find 0 [] ∷ event.End 0 ∷ event.No 0 (call.Add 5 []) ∷ []
 
 -- the replies to the later events, where the history was these before
-abbrev pub replies_after : List Event → List Event → List Reply
-replies_after history [] = []
-replies_after history (e ∷ later) = cons_option (reply_to history e) (replies_after (history ++ e ∷ []) later)
+abbrev pub replies_after : Limits → List Event → List Event → List Reply
+replies_after limits history [] = []
+replies_after limits history (e ∷ later) = cons_option (reply_to limits history e) (replies_after limits (history ++ e ∷ []) later)
 
 -- the replies to the calls of a history, in order
-abbrev pub replies_of : List Event → List Reply
-replies_of history = replies_after [] history
+abbrev pub replies_of : Limits → List Event → List Reply
+replies_of limits history = replies_after limits [] history
 
 abbrev pub episode_replies : List Reply
 episode_replies = reply.Added 1 ∷ reply.Present 1 ∷ reply.Added 2 ∷ reply.Found (9 ∷ 7 ∷ []) ∷ reply.Full ∷ []
+
+-- two passes, one slice of two columns, and a journal of five commits
+abbrev pub shared : Limits
+shared = record { passes = 2; slices = 1; columns = 2; slice_words = 4; commits = 5; events = 64 }
+
+-- documents 9 and 7 fill the slice; pass 1 begins a find, and both are deleted under its token, so that the slice retires and
+-- is guarded, and 5 is refused; the find ends, and the slice is cleared, opened and used again for 5; then the journal is full
+abbrev pub reuse : List Event
+reuse =
+    event.Take 0 0 0 ∷ event.Add 0 9 [] 0 0 [] ∷ event.Take 0 0 1 ∷ event.Add 0 7 [] 0 1 []
+    ∷ event.Find 1 [] ∷ event.Del 0 9 ∷ event.Del 0 7 ∷ event.No 0 (call.Add 5 []) ∷ event.End 1
+    ∷ event.Clear 0 0 ∷ event.Opened 0 0 false ∷ event.Take 0 0 0 ∷ event.Add 0 5 [] 0 0 []
+    ∷ event.Find 0 [] ∷ event.End 0 ∷ event.Read 0 call.Place
+    ∷ event.No 0 (call.Delete 9) ∷ event.No 0 (call.Delete 5) ∷ event.No 0 (call.Add 5 []) ∷ event.No 0 (call.Add 6 []) ∷ []
+
+abbrev pub reuse_replies : List Reply
+reuse_replies =
+    reply.Added 1 ∷ reply.Added 2 ∷ reply.Found (9 ∷ 7 ∷ []) ∷ reply.Deleted 3 ∷ reply.Deleted 4 ∷ reply.Full ∷ reply.Added 5
+    ∷ reply.Found (5 ∷ []) ∷ reply.Place 5 ∷ reply.Absent ∷ reply.JournalFull ∷ reply.Present 5 ∷ reply.JournalFull ∷ []
+
+-- both passes take a column for the same number; pass 0 adds its document, and pass 1 drops its own
+abbrev pub same_number : List Event
+same_number = event.Take 0 0 0 ∷ event.Take 1 0 1 ∷ event.Add 0 4 [] 0 0 [] ∷ event.Drop 1 4 [] 0 1 ∷ []
+
+abbrev pub same_number_replies : List Reply
+same_number_replies = reply.Added 1 ∷ reply.Present 1 ∷ []

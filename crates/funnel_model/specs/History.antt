@@ -22,7 +22,7 @@ pub record Document : Type 0 where
   pub text : List ℕ
   pub place : ℕ
 
--- the document that an event at this place adds, unless a later event deletes it
+-- the document that an event adds after this many commits, unless a later event deletes it
 abbrev pub document_at : ℕ → Option (ℕ × List ℕ) → List Event → Option Document
 document_at before None later = None
 document_at before (Some added) later =

@@ -1,3 +1,4 @@
+pub mod Blocks
 pub mod Configuration
 pub mod Events
 pub mod Example
@@ -5,8 +6,10 @@ pub mod History
 pub mod Legal
 pub mod Listed
 pub mod Sizes
+pub mod SliceSets
 pub mod Slices
 pub mod Steps
+pub mod Tokens
 pub mod Treatment
 pub mod TreatmentLaws
 pub mod Words

@@ -1,5 +1,5 @@
 -- The words of a text, and when a text meets a query.
-use Rattle.std.specs.Prelude.{ℕ, Bool, List, map, chars, encode_utf8_all}
+use Rattle.std.specs.Prelude.{ℕ, ◌↔◌, Bool, List, map, chars, encode_utf8_all, Contains}
 use Rattle.std.specs.List.{list_all, list_any}
 use Rattle.std.specs.Cmp.Lexicographic.{slice_cmp}
 use Rattle.std.specs.List.Sorted.{IsStrictlySortedBy}
@@ -27,3 +27,7 @@ meets text query = list_all (has_word text) (words query)
 -- words in byte order, each once
 abbrev pub IsRising : List (List ℕ) → Type 0
 IsRising = IsStrictlySortedBy (slice_cmp nat_cmp)
+
+-- the words are those of the text, in any order and any number of times
+abbrev pub AreWordsOf : List (List ℕ) → List ℕ → Type 0
+AreWordsOf set text = (word : List ℕ) → Contains set word ↔ Contains (words text) word

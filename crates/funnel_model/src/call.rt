@@ -3,6 +3,12 @@ use crate::text::Text;
 /// What a client asks of the engine.
 #[derive(Debug, Drop)]
 pub enum Call {
+    /// Add the document of this number.
     Add { id: u64, text: Text },
+    /// Delete the live document of this number.
+    Delete { id: u64 },
+    /// Find the documents that have every word of the query.
     Find { query: Text },
+    /// Tell how many commits there were.
+    Place,
 }

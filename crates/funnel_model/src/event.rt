@@ -20,6 +20,19 @@ pub enum Event {
         column: u32,
         bits: BitList,
     },
+    /// The document isn't added to the claimed column: its number is live by now, or the journal is full.
+    Drop {
+        pass: u32,
+        id: u64,
+        text: Text,
+        slice: u32,
+        column: u32,
+    },
+    /// A commit: the live document with this number is live no more.
+    Del {
+        pass: u32,
+        id: u64,
+    },
     /// A query is answered by the documents that are live here. The pass holds a token until its
     /// `End`: while it is open, no slice is cleared that the find may read.
     Find {
@@ -30,8 +43,25 @@ pub enum Event {
     End {
         pass: u32,
     },
+    /// The pass begins to clear a slice of which each column is deleted or dropped.
+    Clear {
+        pass: u32,
+        slice: u32,
+    },
+    /// The slice that the pass cleared is empty, and its columns are free again. `alone` is false where an add
+    /// cleared it, whose `Take` follows at once.
+    Opened {
+        pass: u32,
+        slice: u32,
+        alone: bool,
+    },
     /// A call that was refused before any other event of it.
     No {
+        pass: u32,
+        call: Call,
+    },
+    /// A call that reads what the history is here, and changes nothing.
+    Read {
         pass: u32,
         call: Call,
     },

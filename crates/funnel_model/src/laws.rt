@@ -1,11 +1,17 @@
 //! Laws that hold of the definitions alone. Each is the contract of a function that does nothing.
-ghost use Rattle.std.specs.Prelude.{◌≡◌, ◌≢◌, ℕ, ◌+◌, ◌<◌, ◌↔◌, true, List, ◌∷◌, ◌++◌, length, Contains};
+ghost use Rattle.std.specs.Prelude.{◌≡◌, ◌≢◌, ℕ, ◌+◌, ◌<◌, ◌≤◌, ◌↔◌, true, false, List, [], ◌∷◌, ◌++◌, length, None, Contains};
 ghost use Rattle.std.specs.List.{AllPairs};
+ghost use Rattle.funnel_model.specs.Blocks.{IsBlock};
+ghost use Rattle.funnel_model.specs.declared.block.Block.{Block};
 ghost use Rattle.funnel_model.specs.declared.event.Event.{Event};
-ghost use Rattle.funnel_model.specs.Example.{episode, episode_replies, replies_of, small};
-ghost use Rattle.funnel_model.specs.History.{Document, answer, live};
-ghost use Rattle.funnel_model.specs.Legal.{IsAllowed, IsLegal, Limits};
+ghost use Rattle.funnel_model.specs.declared.event.Event.TheVariants as event;
+ghost use Rattle.funnel_model.specs.Events.{opens};
+ghost use Rattle.funnel_model.specs.Example.{episode, episode_replies, replies_of, reuse, reuse_replies, same_number, same_number_replies, shared, small};
+ghost use Rattle.funnel_model.specs.History.{Document, answer, is_live, live};
+ghost use Rattle.funnel_model.specs.Legal.{IsAllowed, IsFull, IsLegal, Limits};
+ghost use Rattle.funnel_model.specs.Slices.{ColumnState, Live, Pending, AllOver, HasUnclaimed, IsInState, IsRetired, IsRetiredAt};
 ghost use Rattle.funnel_model.specs.Steps.{reply_at, reply_to};
+ghost use Rattle.funnel_model.specs.Tokens.{MayRead};
 ghost use Rattle.funnel_model.specs.Words.{meets};
 
 /// A history is legal exactly where each of its events is allowed after those before it.
@@ -37,14 +43,91 @@ pub fn answers()
         AllPairs (λ i j. i ≢ j) (answer history query) }
 {}
 
-/// The reply that the event with a number gives is its reply after the events before it.
+/// The reply that the event with a number gives is its reply after the events before it. No event has number 0.
 pub fn replies_by_number()
-    ensures { (before : List Event) (e : Event) (later : List Event) →
-        reply_at (before ++ e ∷ later) (length before + 1) ≡ reply_to before e }
+    ensures reply { (limits : Limits) (before : List Event) (e : Event) (later : List Event) →
+        reply_at limits (before ++ e ∷ later) (length before + 1) ≡ reply_to limits before e }
+    ensures none { (limits : Limits) (history : List Event) → reply_at limits history 0 ≡ None }
 {}
 
-/// There are legal histories with an add, a find and each refusal, and these are their replies.
+/// In a legal history each column is in one state, and in no other.
+pub fn columns_have_one_state()
+    ensures some { (limits : Limits) (history : List Event) (slice column : ℕ) → IsLegal limits history →
+        (state : ColumnState) × IsInState history slice column state }
+    ensures one { (limits : Limits) (history : List Event) (slice column : ℕ) (state other : ColumnState) → IsLegal limits history →
+        IsInState history slice column state → IsInState history slice column other → state ≡ other }
+{}
+
+/// In a legal history the live documents are those of the live columns, and a number is live on one column.
+pub fn live_documents_have_columns()
+    ensures number { (history : List Event) (id : ℕ) → is_live id history ≡ true ↔
+        ((d : Document) × Contains (live history) d × (d.id ≡ id)) }
+    ensures column { (limits : Limits) (history : List Event) (d : Document) → IsLegal limits history → Contains (live history) d →
+        (slice : ℕ) × (column : ℕ) × (slice < limits.slices) × (column < limits.columns) × IsInState history slice column (Live d) }
+    ensures document { (limits : Limits) (history : List Event) (slice column : ℕ) (d : Document) → IsLegal limits history →
+        IsInState history slice column (Live d) → Contains (live history) d }
+    ensures once { (limits : Limits) (history : List Event) (slice column other at : ℕ) (d e : Document) → IsLegal limits history →
+        IsInState history slice column (Live d) → IsInState history other at (Live e) → d.id ≡ e.id →
+        (slice ≡ other) × (column ≡ at) }
+{}
+
+/// In a legal history a slice that is retired has no document and gets none.
+pub fn retired_slices_are_empty()
+    ensures not_pending { (limits : Limits) (history : List Event) (slice column pass : ℕ) → IsLegal limits history →
+        IsRetired limits.columns slice history → column < limits.columns → IsInState history slice column (Pending pass) → ⊥ }
+    ensures not_live { (limits : Limits) (history : List Event) (slice column : ℕ) (d : Document) → IsLegal limits history →
+        IsRetired limits.columns slice history → column < limits.columns → IsInState history slice column (Live d) → ⊥ }
+{}
+
+/// A slice that is retired has retired at one event, the first after which all its columns are deleted or dropped. The number
+/// of that event stays until the slice is opened, and from that event on all columns are over.
+pub fn slices_retire_at_one_event()
+    ensures some { (limits : Limits) (history : List Event) (slice : ℕ) → IsLegal limits history → 0 < limits.columns →
+        IsRetired limits.columns slice history → (number : ℕ) × IsRetiredAt limits.columns slice history number }
+    ensures one { (columns slice number other : ℕ) (history : List Event) → IsRetiredAt columns slice history number →
+        IsRetiredAt columns slice history other → number ≡ other }
+    ensures since { (columns slice number : ℕ) (front later : List Event) → IsRetiredAt columns slice (front ++ later) number →
+        number ≤ length front → AllOver columns slice front }
+    ensures stays { (columns slice number : ℕ) (history : List Event) (e : Event) → IsRetiredAt columns slice history number →
+        opens slice e ≡ false → IsRetiredAt columns slice (history ++ e ∷ []) number }
+{}
+
+/// In a legal history that is full no slice has an unclaimed column.
+pub fn full_engines_have_no_room()
+    ensures { (limits : Limits) (history : List Event) (slice : ℕ) → IsLegal limits history → IsFull limits history →
+        slice < limits.slices → HasUnclaimed limits.columns slice history → ⊥ }
+{}
+
+/// In a legal history that is full something keeps documents out of each slice: its lowest column that is live or pending, the
+/// lowest pass that guards it, or a pass that clears it.
+pub fn full_engines_have_blocks()
+    ensures { (limits : Limits) (history : List Event) (slice : ℕ) → IsLegal limits history → IsFull limits history →
+        slice < limits.slices → (block : Block) × IsBlock limits.columns history slice block }
+{}
+
+/// In a legal history no slice is cleared that an open token may read.
+pub fn no_slice_is_cleared_under_a_reader()
+    ensures { (limits : Limits) (before later : List Event) (pass slice reader : ℕ) →
+        IsLegal limits (before ++ event.Clear pass slice ∷ later) → MayRead limits.columns before reader slice → ⊥ }
+{}
+
+/// There is a legal history with two adds, a find, a refused add of a number that is live and a refused add where no column is
+/// left, and these are its replies.
 pub fn example()
     ensures legal { IsLegal small episode }
-    ensures replies { replies_of episode ≡ episode_replies }
+    ensures replies { replies_of small episode ≡ episode_replies }
+{}
+
+/// There is a legal history that fills a slice, retires it under an open token, clears it, opens it and uses it again. It has
+/// deletes, a call that only reads, and refused adds and deletes, and these are its replies.
+pub fn reuse_example()
+    ensures legal { IsLegal shared reuse }
+    ensures replies { replies_of shared reuse ≡ reuse_replies }
+{}
+
+/// There is a legal history in which two passes add the same number at once, and the later one is dropped. These are its
+/// replies.
+pub fn drop_example()
+    ensures legal { IsLegal shared same_number }
+    ensures replies { replies_of shared same_number ≡ same_number_replies }
 {}

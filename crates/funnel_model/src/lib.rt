@@ -3,8 +3,10 @@
 #![tactic(auto)]
 
 mod bit_list;
+mod block;
 mod call;
 mod candidates;
+mod claim;
 mod commit;
 mod config;
 mod event;
@@ -13,13 +15,16 @@ pub mod laws;
 mod listed;
 mod memory;
 mod reply;
+mod slice_set;
 mod text;
 pub mod treatment_laws;
 mod word_set;
 
 pub use bit_list::{Bit, BitList};
+pub use block::Block;
 pub use call::Call;
 pub use candidates::Candidates;
+pub use claim::{Claim, ClearJob, Token};
 pub use commit::{Commit, Commits};
 pub use config::Config;
 pub use event::Event;
@@ -27,6 +32,7 @@ pub use ids::Ids;
 pub use listed::Listed;
 pub use memory::Memory;
 pub use reply::Reply;
+pub use slice_set::{MOST_SLICES, SliceSet};
 pub use text::Text;
 pub use word_set::WordSet;
 

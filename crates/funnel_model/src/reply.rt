@@ -9,8 +9,18 @@ pub enum Reply {
     Present(u64),
     /// There is no column for another document.
     Full,
+    /// The journal holds as many commits as it can.
+    JournalFull,
+    /// The document was deleted, at this place.
+    Deleted(u64),
+    /// No document with this number is live.
+    Absent,
     /// The numbers of the documents that have every word of the query, in the order of their adds.
     Found(Ids),
+    /// The number of commits so far.
+    Place(u64),
+    /// The history has so many events that no call is taken any more.
+    Spent,
     /// No memory was found for the call.
     Memory,
     /// The line is none of the protocol.

@@ -23,3 +23,15 @@ fn lists_lend_and_give_back_what_they_hold(rt: HostRuntime) -> Result<(), Fail> 
     assert_eq!(rt; Memory.to_string(alloc)?.as_str(), "out of memory");
     Ok(())
 }
+
+#[test]
+fn a_set_has_the_slices_that_were_added(rt: HostRuntime) -> Result<(), Fail> {
+    let mut slices = SliceSet::new();
+    assert!(rt; !slices.has(0));
+    slices.add(63);
+    slices.add(64);
+    slices.add(MOST_SLICES - 1);
+    assert!(rt; slices.has(63) && slices.has(64) && slices.has(MOST_SLICES - 1));
+    assert!(rt; !slices.has(0) && !slices.has(62) && !slices.has(65) && !slices.has(127));
+    Ok(())
+}

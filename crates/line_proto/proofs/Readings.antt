@@ -9,8 +9,8 @@ use Rattle.std.proofs.lemmas.List.{take_at}
 use Rattle.std.proofs.lemmas.Slice.Eq.{bytes_eq-Decides, ends_is}
 use Rattle.std.proofs.lemmas.Str.{IsUtf8-append, IsUtf8-from_ascii, IsUtf8-from_is_utf8, IsUtf8-nil}
 use Rattle.funnel_model.specs.declared.call.Call.{Call}
-use Rattle.funnel_model.specs.declared.call.Call.TheVariants.{Add, Find}
-use Rattle.line_proto.specs.Forms.{max_line_len, without_return, word_of, rest_of, number_of, add_of, call_of_text, form_of}
+use Rattle.funnel_model.specs.declared.call.Call.TheVariants.{Add, Delete, Find, Place}
+use Rattle.line_proto.specs.Forms.{max_line_len, without_return, word_of, rest_of, number_of, add_of, delete_of, call_of_text, form_of}
 use Rattle.line_proto.specs.Grammar.{WritesNumber, EndsWithText, IsForm, DropsReturn, HasForm, IsReadByForms}
 use Rattle.line_proto.proofs.Lines.{form_of-text}
 use Rattle.line_proto.proofs.Numbers.{number_of-writes, number_of-written}
@@ -105,21 +105,62 @@ add-form bytes call u word h =
     let read = mapped (λ (id : ℕ). Add id (rest_of (rest_of bytes))) (number_of (word_of (rest_of bytes))) call h in
     subst (IsForm bytes) read.2 (add-form-at bytes split.0 read.0 (subst (λ (w : List ℕ). bytes ≡ w ++ split.0) word split.1) (number_of-writes (word_of (rest_of bytes)) read.0 read.1) split.2)
 
--- so is the call of any word after `add`
-later-form : (bytes : List ℕ) (call : Call) → IsUtf8 bytes → cond (bytes_eq (word_of bytes) (codes "find")) (Some (Find (rest_of bytes))) None ≡ Some call → IsForm bytes call
-later-form bytes call u h =
-    elim (by_word bytes (codes "find") (Some (Find (rest_of bytes))) None call h) [
-      | inl found ↦ subst (IsForm bytes) (same_call (Find (rest_of bytes)) call found.1) (find-form bytes u found.0)
+-- the number stands behind a space here, too
+delete-form-at : (bytes end : List ℕ) (id : ℕ) → bytes ≡ codes "del" ++ end → WritesNumber (rest_of bytes) id → EndsWithText end (rest_of bytes) → IsForm bytes (Delete id)
+delete-form-at bytes end id whole w (inl e) = absurd (omega (arith, w.numeral.0, ap length e.1))
+delete-form-at bytes end id whole w (inr e) = (rest_of bytes, whole ∙ ap (λ (x : List ℕ). codes "del" ++ x) e.0, w)
+
+-- a text with the word `del`, and with a number and nothing else, is a form of the delete
+delete-form : (bytes : List ℕ) (call : Call) → IsUtf8 bytes → word_of bytes ≡ codes "del" → delete_of (rest_of bytes) ≡ Some call → IsForm bytes call
+unfolding delete_of
+delete-form bytes call u word h =
+    let split = splits bytes u in
+    let read = mapped Delete (number_of (rest_of bytes)) call h in
+    subst (IsForm bytes) read.2 (delete-form-at bytes split.0 read.0 (subst (λ (w : List ℕ). bytes ≡ w ++ split.0) word split.1) (number_of-writes (rest_of bytes) read.0 read.1) split.2)
+
+-- the call of a text whose word is not `add`, `del` or `find`
+abbrev place_or_none : List ℕ → Option Call
+place_or_none bytes = cond (bytes_eq bytes (codes "place")) (Some Place) None
+
+-- the call of a text whose word is not `add` or `del`
+abbrev find_or_later : List ℕ → Option Call
+find_or_later bytes = cond (bytes_eq (word_of bytes) (codes "find")) (Some (Find (rest_of bytes))) (place_or_none bytes)
+
+-- the call of a text whose word is not `add`
+abbrev delete_or_later : List ℕ → Option Call
+delete_or_later bytes = cond (bytes_eq (word_of bytes) (codes "del")) (delete_of (rest_of bytes)) (find_or_later bytes)
+
+-- a text that is `place` is its form
+place-form : (bytes : List ℕ) (call : Call) → place_or_none bytes ≡ Some call → IsForm bytes call
+place-form bytes call h =
+    elim (by_test (bytes_eq bytes (codes "place")) (Some Place) None call h) [
+      | inl found ↦ subst (IsForm bytes) (same_call Place call found.1) ((bytes_eq-Decides bytes (codes "place")).0 found.0)
       | inr found ↦ absurd (cc)
+    ]
+
+-- a text whose word is not `add` or `del` is a form of its call
+find-form-or-later : (bytes : List ℕ) (call : Call) → IsUtf8 bytes → find_or_later bytes ≡ Some call → IsForm bytes call
+find-form-or-later bytes call u h =
+    elim (by_word bytes (codes "find") (Some (Find (rest_of bytes))) (place_or_none bytes) call h) [
+      | inl found ↦ subst (IsForm bytes) (same_call (Find (rest_of bytes)) call found.1) (find-form bytes u found.0)
+      | inr found ↦ place-form bytes call found
+    ]
+
+-- so is a text whose word is not `add`
+delete-form-or-later : (bytes : List ℕ) (call : Call) → IsUtf8 bytes → delete_or_later bytes ≡ Some call → IsForm bytes call
+delete-form-or-later bytes call u h =
+    elim (by_word bytes (codes "del") (delete_of (rest_of bytes)) (find_or_later bytes) call h) [
+      | inl found ↦ delete-form bytes call u found.0 found.1
+      | inr found ↦ find-form-or-later bytes call u found
     ]
 
 -- the call of a text is one that it is a form of
 text-form : (bytes : List ℕ) (call : Call) → IsUtf8 bytes → call_of_text bytes ≡ Some call → IsForm bytes call
 unfolding call_of_text
 text-form bytes call u h =
-    elim (by_word bytes (codes "add") (add_of (rest_of bytes)) (cond (bytes_eq (word_of bytes) (codes "find")) (Some (Find (rest_of bytes))) None) call h) [
+    elim (by_word bytes (codes "add") (add_of (rest_of bytes)) (delete_or_later bytes) call h) [
       | inl found ↦ add-form bytes call u found.0 found.1
-      | inr found ↦ later-form bytes call u found
+      | inr found ↦ delete-form-or-later bytes call u found
     ]
 
 -- the call of a line is one that it has a form of
@@ -145,6 +186,14 @@ add-is-text : IsUtf8 (codes "add ")
 unfolding lib.Utf8.encode
 add-is-text = (codes "add ", (refl, refl))
 
+delete-is-text : IsUtf8 (codes "del ")
+unfolding lib.Utf8.encode
+delete-is-text = (codes "del ", (refl, refl))
+
+place-is-text : IsUtf8 (codes "place")
+unfolding lib.Utf8.encode
+place-is-text = (codes "place", (refl, refl))
+
 find-is-text : IsUtf8 (codes "find")
 unfolding lib.Utf8.encode
 find-is-text = (codes "find", (refl, refl))
@@ -159,8 +208,11 @@ form-is-text : (bytes : List ℕ) (call : Call) → IsForm bytes call → IsUtf8
 form-is-text bytes (Add id text) f =
     let digits = IsUtf8-from_ascii f.0 (IsAscii-from_digits f.0 f.3.numeral.1) in
     subst IsUtf8 (sym f.2) (IsUtf8-append (codes "add ") (f.0 ++ f.1) add-is-text (IsUtf8-append f.0 f.1 digits (end-is-text f.1 text f.4)))
+form-is-text bytes (Delete id) f =
+    subst IsUtf8 (sym f.1) (IsUtf8-append (codes "del ") f.0 delete-is-text (IsUtf8-from_ascii f.0 (IsAscii-from_digits f.0 f.2.numeral.1)))
 form-is-text bytes (Find query) f =
     subst IsUtf8 (sym f.1) (IsUtf8-append (codes "find") f.0 find-is-text (end-is-text f.0 query f.2))
+form-is-text bytes Place f = subst IsUtf8 (sym f) place-is-text
 
 -- behind `add` and a space stands what tells the add
 call-of-add : (rest : List ℕ) → call_of_text (codes "add " ++ rest) ≡ add_of rest
@@ -174,6 +226,21 @@ add-of-digits digits end text id w e =
     let split = split-digits digits end text w.numeral.1 e in
     ap (λ (t : List ℕ). option_map (λ (n : ℕ). Add n t) (number_of (word_of (digits ++ end)))) split.1 ∙ ap (λ (d : List ℕ). option_map (λ (n : ℕ). Add n text) (number_of d)) split.0 ∙ ap (option_map (λ (n : ℕ). Add n text)) (number_of-written digits id w)
 
+-- behind `del` and a space stands the number
+call-of-delete : (rest : List ℕ) → call_of_text (codes "del " ++ rest) ≡ delete_of rest
+unfolding call_of_text
+call-of-delete rest = refl
+
+-- digits tell the number of a delete
+delete-of-digits : (digits : List ℕ) (id : ℕ) → WritesNumber digits id → delete_of digits ≡ Some (Delete id)
+unfolding delete_of
+delete-of-digits digits id w = ap (option_map Delete) (number_of-written digits id w)
+
+-- `place` stands alone
+call-of-place : call_of_text (codes "place") ≡ Some Place
+unfolding call_of_text
+call-of-place = refl
+
 -- behind `find` stands the query
 call-of-find : (end query : List ℕ) → EndsWithText end query → call_of_text (codes "find" ++ end) ≡ Some (Find query)
 unfolding call_of_text
@@ -185,7 +252,9 @@ call-of-find end query (inr e) = ap (λ (x : List ℕ). call_of_text (codes "fin
 call-of-form : (bytes : List ℕ) (call : Call) → IsForm bytes call → call_of_text bytes ≡ Some call
 call-of-form bytes (Add id text) f =
     ap call_of_text f.2 ∙ call-of-add (f.0 ++ f.1) ∙ add-of-digits f.0 f.1 text id f.3 f.4
+call-of-form bytes (Delete id) f = ap call_of_text f.1 ∙ call-of-delete f.0 ∙ delete-of-digits f.0 id f.2
 call-of-form bytes (Find query) f = ap call_of_text f.1 ∙ call-of-find f.0 query f.2
+call-of-form bytes Place f = ap call_of_text f ∙ call-of-place
 
 -- a line with a form of a call is read as the call
 read-form : (line : List ℕ) (call : Call) → HasForm line call → form_of line ≡ Some call

@@ -4,7 +4,7 @@ use Rattle.std.specs.List.{before_first, after_first, ends_with}
 use Rattle.std.specs.Str.{all_ascii_digits, is_utf8}
 use Rattle.std.specs.Str.Parse.{digits_value}
 use Rattle.funnel_model.specs.declared.call.Call.{Call}
-use Rattle.funnel_model.specs.declared.call.Call.TheVariants.{Add, Find}
+use Rattle.funnel_model.specs.declared.call.Call.TheVariants.{Add, Delete, Find, Place}
 
 -- the most bytes of a line, a carriage return at its end among them
 abbrev pub max_line_len : ℕ
@@ -38,11 +38,17 @@ number_of word = if is_number word then Some (digits_value 10 word) else None
 unfoldable pub add_of : List ℕ → Option Call
 add_of bytes = option_map (λ id. Add id (rest_of bytes)) (number_of (word_of bytes))
 
--- the call of a text, by its first word
+-- a number and nothing else
+unfoldable pub delete_of : List ℕ → Option Call
+delete_of bytes = option_map Delete (number_of bytes)
+
+-- the call of a text, by its first word; `place` stands alone
 unfoldable pub call_of_text : List ℕ → Option Call
 call_of_text text =
     if bytes_eq (word_of text) (codes "add") then add_of (rest_of text)
-    else (if bytes_eq (word_of text) (codes "find") then Some (Find (rest_of text)) else None)
+    else (if bytes_eq (word_of text) (codes "del") then delete_of (rest_of text)
+    else (if bytes_eq (word_of text) (codes "find") then Some (Find (rest_of text))
+    else (if bytes_eq text (codes "place") then Some Place else None)))
 
 -- the call of a line, or none where the line has no form: it is too long, or no text, or of another shape
 unfoldable pub form_of : List ℕ → Option Call

@@ -3,7 +3,7 @@ use Rattle.std.specs.Prelude.{◌≡◌, ◌≢◌, ◌⊎◌, ◌↔◌, ℕ, �
 use Rattle.std.specs.Str.{IsUtf8}
 use Rattle.std.specs.Str.Parse.{IsNumeral, digits_value}
 use Rattle.funnel_model.specs.declared.call.Call.{Call}
-use Rattle.funnel_model.specs.declared.call.Call.TheVariants.{Add, Find}
+use Rattle.funnel_model.specs.declared.call.Call.TheVariants.{Add, Delete, Find, Place}
 use Rattle.line_proto.specs.Forms.{max_line_len, form_of}
 
 -- 1 to 20 digits, with leading zeros or without, write a number below 2 ^ 64
@@ -20,7 +20,9 @@ EndsWithText end text = ((end ≡ []) × (text ≡ [])) ⊎ ((end ≡ 32 ∷ tex
 -- the bytes are a form of the call
 abbrev pub IsForm : List ℕ → Call → Type 0
 IsForm bytes (Add id text) = (digits : List ℕ) × (end : List ℕ) × (bytes ≡ codes "add " ++ (digits ++ end)) × WritesNumber digits id × EndsWithText end text
+IsForm bytes (Delete id) = (digits : List ℕ) × (bytes ≡ codes "del " ++ digits) × WritesNumber digits id
 IsForm bytes (Find query) = (end : List ℕ) × (bytes ≡ codes "find" ++ end) × EndsWithText end query
+IsForm bytes Place = bytes ≡ codes "place"
 
 -- the line is these bytes and a carriage return, or it is these bytes and doesn't end with one
 abbrev pub DropsReturn : List ℕ → List ℕ → Type 0

@@ -2,9 +2,11 @@
 use Rattle.funnel_model.specs.declared.call.Call.{Call}
 use Rattle.funnel_model.specs.declared.call.Call.TheVariants as call
 use Rattle.line_proto.specs.declared.request.Request.{Request}
-use Rattle.line_proto.specs.declared.request.Request.TheVariants.{Add, Find}
+use Rattle.line_proto.specs.declared.request.Request.TheVariants.{Add, Delete, Find, Place}
 
 -- the call that a request stands for, with its text's bytes
 abbrev pub call_of : Request → Call
 call_of (Add id text) = call.Add id text.now
+call_of (Delete id) = call.Delete id
 call_of (Find query) = call.Find query.now
+call_of Place = call.Place

@@ -1,7 +1,7 @@
 -- The lines that replies are written as.
 use Rattle.std.specs.Prelude.{ℕ, Bool, true, false, List, ◌∷◌, ◌++◌, length, flat_map, codes, decimal}
 use Rattle.funnel_model.specs.declared.reply.Reply.{Reply}
-use Rattle.funnel_model.specs.declared.reply.Reply.TheVariants.{Added, Present, Full, Found, Memory, Line}
+use Rattle.funnel_model.specs.declared.reply.Reply.TheVariants.{Added, Present, Full, JournalFull, Deleted, Absent, Found, Place, Spent, Memory, Line}
 
 -- each number after a space
 abbrev pub spaced : List ℕ → List ℕ
@@ -16,7 +16,12 @@ abbrev pub message_of : Reply → List ℕ
 message_of (Added place) = codes "added " ++ decimal place
 message_of (Present place) = codes "refused present " ++ decimal place
 message_of Full = codes "refused full"
+message_of JournalFull = codes "refused journal full"
+message_of (Deleted place) = codes "deleted " ++ decimal place
+message_of Absent = codes "refused absent"
 message_of (Found ids) = codes "found " ++ counted ids
+message_of (Place place) = codes "place " ++ decimal place
+message_of Spent = codes "refused spent"
 message_of Memory = codes "refused memory"
 message_of Line = codes "refused line"
 

@@ -1,5 +1,5 @@
 ghost use Rattle.std.specs.Prelude.{◌≡◌, MatchOption, Some, None};
-ghost use Rattle.line_proto.specs.Forms.{without_return, word_of, rest_of, number_of, add_of, call_of_text, form_of};
+ghost use Rattle.line_proto.specs.Forms.{without_return, word_of, rest_of, number_of, add_of, delete_of, call_of_text, form_of};
 ghost use Rattle.line_proto.specs.Requests.{call_of};
 
 use crate::request::Request;
@@ -26,7 +26,7 @@ pub fn parse_line(line: &[u8]) -> Option<Request<'_>>
     parse_text(text)
 }
 
-/// The request of a line's text, by its first word.
+/// The request of a line's text, by its first word; `place` stands alone.
 #[tactic(auto, unfolding(crate::specs::Forms::call_of_text))]
 fn parse_text(text: &str) -> Option<Request<'_>>
     ensures { MatchOption result (call_of_text text.now ≡ None) (λ r. call_of_text text.now ≡ Some (call_of r)) }
@@ -34,7 +34,9 @@ fn parse_text(text: &str) -> Option<Request<'_>>
     let (word, rest) = split_word(text);
     match word {
         "add" => parse_add(rest),
+        "del" => parse_delete(rest),
         "find" => Some(Request::Find { query: rest }),
+        _ if text == "place" => Some(Request::Place),
         _ => None,
     }
 }
@@ -47,6 +49,15 @@ fn parse_add(rest: &str) -> Option<Request<'_>>
     let (number, text) = split_word(rest);
     let id = parse_number(number)?;
     Some(Request::Add { id, text })
+}
+
+/// The request of what follows `del` and a space.
+#[tactic(auto, unfolding(crate::specs::Forms::delete_of))]
+fn parse_delete(rest: &str) -> Option<Request<'_>>
+    ensures { MatchOption result (delete_of rest.now ≡ None) (λ r. delete_of rest.now ≡ Some (call_of r)) }
+{
+    let id = parse_number(rest)?;
+    Some(Request::Delete { id })
 }
 
 /// The number that 1 to 20 digits write, if it is below 2^64.

@@ -39,7 +39,12 @@ fn push_message(out: &mut Vec<u8>, reply: &Reply) -> Result<(), AllocError>
         Reply::Added(place) => push_words_and_number(out, b"added ", *place),
         Reply::Present(place) => push_words_and_number(out, b"refused present ", *place),
         Reply::Full => out.extend_from_slice(b"refused full"),
+        Reply::JournalFull => out.extend_from_slice(b"refused journal full"),
+        Reply::Deleted(place) => push_words_and_number(out, b"deleted ", *place),
+        Reply::Absent => out.extend_from_slice(b"refused absent"),
         Reply::Found(ids) => push_words_and_list(out, b"found ", ids.as_slice()),
+        Reply::Place(place) => push_words_and_number(out, b"place ", *place),
+        Reply::Spent => out.extend_from_slice(b"refused spent"),
         Reply::Memory => out.extend_from_slice(b"refused memory"),
         Reply::Line => out.extend_from_slice(b"refused line"),
     }

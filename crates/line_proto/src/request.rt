@@ -3,6 +3,10 @@
 pub enum Request<'a> {
     /// Add the document of this number.
     Add { id: u64, text: &'a str },
+    /// Delete the document of this number.
+    Delete { id: u64 },
     /// Find the documents that have every word of the query.
     Find { query: &'a str },
+    /// Tell how many commits there were.
+    Place,
 }

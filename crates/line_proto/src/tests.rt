@@ -6,13 +6,17 @@ const fn add(id: u64, text: &'static str) -> Option<Request<'static>> {
     Some(Request::Add { id, text })
 }
 
+const fn del(id: u64) -> Option<Request<'static>> {
+    Some(Request::Delete { id })
+}
+
 const fn find(query: &'static str) -> Option<Request<'static>> {
     Some(Request::Find { query })
 }
 
 #[test]
 fn a_line_of_a_form_is_its_request(rt: HostRuntime) {
-    let rows: [(&[u8], Option<Request<'static>>); 20] = [
+    let rows: [(&[u8], Option<Request<'static>>); 28] = [
         (b"add 7 The cat sat", add(7, "The cat sat")),
         ("add 1 Straße".as_bytes(), add(1, "Straße")),
         (
@@ -26,11 +30,19 @@ fn a_line_of_a_form_is_its_request(rt: HostRuntime) {
         (b"add 1 ", add(1, "")),
         (b"add 1  a ", add(1, " a ")),
         (b"add 1 a\tb", add(1, "a\tb")),
+        (b"del 5", del(5)),
+        (b"del 0", del(0)),
+        (b"del 005", del(5)),
+        (b"del 18446744073709551615", del(18_446_744_073_709_551_615)),
+        (b"del 5\r", del(5)),
         (b"find CAT", find("CAT")),
         (b"find cat cat the", find("cat cat the")),
         (b"find", find("")),
         (b"find ", find("")),
         (b"find add 1 a", find("add 1 a")),
+        (b"find place", find("place")),
+        (b"place", Some(Request::Place)),
+        (b"place\r", Some(Request::Place)),
         // one carriage return is dropped, and no second one
         (b"find\r", find("")),
         (b"find cat\r", find("cat")),
@@ -45,7 +57,7 @@ fn a_line_of_a_form_is_its_request(rt: HostRuntime) {
 
 #[test]
 fn a_line_of_no_form_is_no_request(rt: HostRuntime) {
-    let rows: [&[u8]; 22] = [
+    let rows: [&[u8]; 38] = [
         b"",
         b"\r",
         b" ",
@@ -64,7 +76,23 @@ fn a_line_of_no_form_is_no_request(rt: HostRuntime) {
         b"add 99999999999999999999 a",
         b"add 000000000000000000042 b",
         "add ١ a".as_bytes(),
+        b"del",
+        b"del ",
+        b"del  5",
+        b"del 5 ",
+        b"del 5 6",
+        b"del x",
+        b"del -5",
+        b"del +5",
+        b"del 18446744073709551616",
+        b"delete 5",
         b"finder",
+        b"place ",
+        b"place 1",
+        b"places",
+        b"Place",
+        b" place",
+        b"place\r\r",
         b"find\r\r",
         b"find \xff",
         b"add 1 \xed\xa0\x80",
@@ -104,6 +132,13 @@ fn a_reply_is_one_line(rt: HostRuntime) -> Result<(), Fail> {
             "refused present 18446744073709551615\n",
         ),
         (Reply::Full, "refused full\n"),
+        (Reply::JournalFull, "refused journal full\n"),
+        (Reply::Deleted(1), "deleted 1\n"),
+        (
+            Reply::Deleted(18_446_744_073_709_551_615),
+            "deleted 18446744073709551615\n",
+        ),
+        (Reply::Absent, "refused absent\n"),
         (Reply::Found(Ids::new(Vec::new(alloc))), "found 0\n"),
         (Reply::Found(Ids::new(vec![in alloc; 7]?)), "found 1 7\n"),
         (
@@ -119,6 +154,12 @@ fn a_reply_is_one_line(rt: HostRuntime) -> Result<(), Fail> {
             Reply::Found(Ids::new(vec![in alloc; 18_446_744_073_709_551_615; 4]?)),
             "found 4 18446744073709551615 18446744073709551615 18446744073709551615 18446744073709551615\n",
         ),
+        (Reply::Place(0), "place 0\n"),
+        (
+            Reply::Place(18_446_744_073_709_551_615),
+            "place 18446744073709551615\n",
+        ),
+        (Reply::Spent, "refused spent\n"),
         (Reply::Memory, "refused memory\n"),
         (Reply::Line, "refused line\n"),
     ];

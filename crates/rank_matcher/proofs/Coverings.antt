@@ -1,23 +1,23 @@
 -- The words that cover the columns of a slice lie in the slice.
 use Rattle.std.proofs.Common.{◌≡◌, ℕ, ◌+◌, ◌-◌, ◌*◌, ◌/◌, ◌^◌, ◌<◌, ◌≤◌, ap, sym, subst, arith}
 use Rattle.funnel_model.specs.Legal.{IsInSlice}
-use Rattle.funnel_model.specs.Sizes.{columns_of_slice, width_of_rank, words_of_pool}
+use Rattle.funnel_model.specs.Sizes.{columns_of_slice, width_of_rank, words_of_pool, words_of_slice}
 use Rattle.funnel_model.specs.declared.config.Config.{Config}
 use Rattle.rank_matcher.specs.Covering.{covering}
 use Rattle.rank_matcher.proofs.Columns.{bit-covering}
-use Rattle.row_layout.specs.Foot.{limits_of, slice_start}
+use Rattle.row_layout.specs.Foot.{slice_start}
 use Rattle.row_layout.specs.Rows.{IsRowOf}
 use Rattle.row_layout.specs.declared.row.Row.{Row}
 use Rattle.row_layout.proofs.Feet.{bit-in_slice}
 use Rattle.row_layout.proofs.Spans.{slice-within}
 
 pub covering-in_slice : (config : Config) (slice first word : ℕ) → first ≡ slice_start config slice → 64 * word < columns_of_slice config → (row : Row) → IsRowOf config row
-    → IsInSlice (limits_of config) slice (covering first word row)
+    → IsInSlice (words_of_slice config) slice (covering first word row)
 covering-in_slice config slice first word is inside row laid =
     let z : 64 * word + 0 < columns_of_slice config = omega (arith, inside) in
     let same = ap (λ bit. bit.word) (bit-covering config slice word 0 (omega arith) row) in
-    subst (λ f. IsInSlice (limits_of config) slice (covering f word row)) (sym is)
-    (subst (IsInSlice (limits_of config) slice) same (bit-in_slice config slice (64 * word + 0) z row laid))
+    subst (λ f. IsInSlice (words_of_slice config) slice (covering f word row)) (sym is)
+    (subst (IsInSlice (words_of_slice config) slice) same (bit-in_slice config slice (64 * word + 0) z row laid))
 
 pub covering-fits : (config : Config) → words_of_pool config ≤ 33554432 → (slice first word : ℕ) → slice < config.slices → first ≡ slice_start config slice → 64 * word < columns_of_slice config → (row : Row) → IsRowOf config row
     → covering first word row < 2 ^ 32

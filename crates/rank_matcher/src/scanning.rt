@@ -2,12 +2,12 @@ ghost use Rattle.std.specs.Prelude.{◌≡◌, ℕ, ◌+◌, ◌<◌, ◌≤◌,
 ghost use Rattle.std.specs.List.Sorted.{IsStrictlySortedBy};
 ghost use Rattle.std.specs.Ordering.{nat_cmp};
 ghost use Rattle.funnel_model.specs.Legal.{IsInSlice};
-ghost use Rattle.funnel_model.specs.Sizes.{columns_of_slice};
+ghost use Rattle.funnel_model.specs.Sizes.{columns_of_slice, words_of_slice};
 ghost use Rattle.funnel_model.specs.declared.bit_list.Bit.{Bit};
 ghost use Rattle.rank_matcher.specs.Appended.{IsPrefix, appended, candidates_of};
 ghost use Rattle.rank_matcher.specs.Hits.{hits};
 ghost use Rattle.rank_matcher.specs.Reads.{counted, reads_of_scan};
-ghost use Rattle.row_layout.specs.Foot.{bit_at, limits_of};
+ghost use Rattle.row_layout.specs.Foot.{bit_at};
 ghost use Rattle.row_layout.specs.Rows.{IsRowOf};
 
 use crate::words::{common_bits, push_columns};
@@ -26,7 +26,7 @@ pub fn scan<R: Rows>(
 ) -> Result<(), Memory>
     requires slice { slice < layout.now.slices }
     requires laid { All (IsRowOf layout.now) plan.now }
-    requires reach { (word : ℕ) → IsInSlice (limits_of layout.now) slice word → R.reach rows.old word }
+    requires reach { (word : ℕ) → IsInSlice (words_of_slice layout.now) slice word → R.reach rows.old word }
     ensures appends { out.new ≡ out.old ++ candidates_of slice (appended out.old out.new) }
     ensures hits { OnOk result (IfSome (R.told rows.old) (λ words. appended out.old out.new ≡ hits layout.now words plan.now slice)) }
     ensures part_of_hits { IfSome (R.told rows.old) (λ words. IsPrefix (appended out.old out.new) (hits layout.now words plan.now slice)) }

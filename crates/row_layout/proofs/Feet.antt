@@ -15,11 +15,11 @@ use Rattle.funnel_model.proofs.AnswerLemmas.{Contains-map}
 use Rattle.funnel_model.proofs.WordLemmas.{Contains-has}
 use Rattle.funnel_model.specs.Configuration.{IsInRange}
 use Rattle.funnel_model.specs.Legal.{IsInSlice}
-use Rattle.funnel_model.specs.Sizes.{columns_of_slice, words_of_pool}
+use Rattle.funnel_model.specs.Sizes.{columns_of_slice, words_of_pool, words_of_slice}
 use Rattle.funnel_model.specs.Words.{words}
 use Rattle.funnel_model.specs.declared.bit_list.Bit.{Bit}
 use Rattle.funnel_model.specs.declared.config.Config.{Config}
-use Rattle.row_layout.specs.Foot.{CanPlace, IsFoot, bit_at, bit_cmp, limits_of, slice_start}
+use Rattle.row_layout.specs.Foot.{CanPlace, IsFoot, bit_at, bit_cmp, slice_start}
 use Rattle.row_layout.specs.Laws.{FootHasFootOfPart, FootHasFootOfQuery}
 use Rattle.row_layout.specs.Orders.{HasRowsOf, IsRisingByStart, start_cmp}
 use Rattle.row_layout.specs.Rows.{IsRowOf, rows_of_word, rows_of_words}
@@ -83,16 +83,16 @@ foot_of_rows config range slice column in_slice rows can set exactly = record {
 }
 
 -- the bit of a row lies in the slice
-pub bit-in_slice : (config : Config) → (slice column : ℕ) → column < columns_of_slice config → (row : Row) → IsRowOf config row → IsInSlice (limits_of config) slice (bit_at config slice column row).word
+pub bit-in_slice : (config : Config) → (slice column : ℕ) → column < columns_of_slice config → (row : Row) → IsRowOf config row → IsInSlice (words_of_slice config) slice (bit_at config slice column row).word
 bit-in_slice config slice column in_slice row laid =
     let span = row-span config row laid in
     let offset = offset-below config row.rank column span.rank in_slice in
     record { from = omega arith; to = omega (arith, span.width, span.within) }
 
-pub bits-in_slice : (config : Config) → (slice column : ℕ) → column < columns_of_slice config → (rows : List Row) → All (IsRowOf config) rows → All (λ (b : Bit). IsInSlice (limits_of config) slice b.word) (map (bit_at config slice column) rows)
+pub bits-in_slice : (config : Config) → (slice column : ℕ) → column < columns_of_slice config → (rows : List Row) → All (IsRowOf config) rows → All (λ (b : Bit). IsInSlice (words_of_slice config) slice b.word) (map (bit_at config slice column) rows)
 bits-in_slice config slice column in_slice rows laid =
-    All-map (λ (b : Bit). IsInSlice (limits_of config) slice b.word) (bit_at config slice column) rows
-    (All-weaker (IsRowOf config) (λ row. IsInSlice (limits_of config) slice (bit_at config slice column row).word) (bit-in_slice config slice column in_slice) rows laid)
+    All-map (λ (b : Bit). IsInSlice (words_of_slice config) slice b.word) (bit_at config slice column) rows
+    (All-weaker (IsRowOf config) (λ row. IsInSlice (words_of_slice config) slice (bit_at config slice column row).word) (bit-in_slice config slice column in_slice) rows laid)
 
 pub bits-of_words : (config : Config) → (slice column : ℕ) → (rows : List Row) → All (IsRowOf config) rows → All (λ (b : Bit). b.bit < 64) (map (bit_at config slice column) rows)
 bits-of_words config slice column rows laid =

@@ -3,8 +3,7 @@ use Rattle.std.specs.Prelude.{◌≡◌, ℕ, ◌+◌, ◌*◌, ◌/◌, ◌%◌
 use Rattle.std.specs.List.Sorted.{IsStrictlySortedBy}
 use Rattle.std.specs.Ordering.{nat_cmp, ordering_then}
 use Rattle.std.specs.declared.cmp.Ordering.{Ordering}
-use Rattle.funnel_model.specs.Legal.{Limits}
-use Rattle.funnel_model.specs.Sizes.{columns_of_slice, words_of_slice}
+use Rattle.funnel_model.specs.Sizes.{words_of_slice}
 use Rattle.funnel_model.specs.declared.bit_list.Bit.{Bit}
 use Rattle.funnel_model.specs.declared.config.Config.{Config}
 use Rattle.row_layout.specs.Orders.{IsRisingByStart}
@@ -33,11 +32,6 @@ bit_cmp a b = ordering_then (nat_cmp a.word b.word) (nat_cmp a.bit b.bit)
 pub record IsFoot (config : Config) (words : List (List ℕ)) (slice column : ℕ) (bits : List Bit) : Type 0 where
   pub rising : IsStrictlySortedBy bit_cmp bits
   pub exactly : (bit : Bit) → Contains bits bit ↔ IsOfFoot config words slice column bit
-
--- the sizes that a history has under the configuration
-abbrev pub limits_of : Config → Limits
-limits_of config =
-    record { passes = config.passes; slices = config.slices; columns = columns_of_slice config; slice_words = words_of_slice config }
 
 -- What `Bits` is seen as: rows of which it has the bits, and those bits.
 pub record RowBits : Type 0 where

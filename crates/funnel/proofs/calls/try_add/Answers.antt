@@ -1,63 +1,88 @@
-use Rattle.std.proofs.Common.{◌≡◌, ℕ, ◌+◌, List, [], ◌∷◌, ◌++◌, sym, ap, ◌∙◌, subst, inl}
-use Rattle.std.proofs.lemmas.Option.{MatchOption-at_none}
+use Rattle.std.proofs.Common.{◌≡◌, ℕ, ◌+◌, ◌<◌, List, [], ◌∷◌, ◌++◌, length, sym, ap, ◌∙◌, subst, arith}
 use Rattle.funnel_model.specs.declared.call.Call.TheVariants as call
 use Rattle.funnel_model.specs.declared.event.Event.{Event}
 use Rattle.funnel_model.specs.declared.event.Event.TheVariants as event
-use Rattle.funnel_model.specs.declared.reply.Reply.TheVariants as reply
-use Rattle.funnel_model.specs.History.{live_place, place}
-use Rattle.funnel_model.specs.Legal.{IsFull, MayTake}
-use Rattle.funnel_model.specs.Steps.{Step}
-use Rattle.funnel.specs.Kept.{State, limits_of}
-use Rattle.funnel.proofs.CallLemmas.{absent_by_place, added_step, full_step, live_by_place, present_step}
+use Rattle.funnel_model.specs.History.{Document, is_live, live, place}
+use Rattle.funnel.specs.Kept.{limits_of}
+use Rattle.std.proofs.lemmas.List.Elements.{All-weaker}
+use Rattle.std.specs.List.{list_any}
+use Rattle.std.specs.Prelude.{◌==◌}
+use Rattle.funnel_model.specs.declared.bit_list.Bit.{Bit}
+use Rattle.document_store.specs.Documents.{Parts}
+use Rattle.funnel_model.specs.Legal.{IsLegal}
+use Rattle.funnel_model.specs.Words.{AreWordsOf}
+use Rattle.funnel.specs.Kept.{clearing_of, column_of, slice_of}
+use Rattle.funnel.proofs.CallLemmas.{call_added, call_refused, claimed_column, claimed_still, early, live_taken, one_more, place_taken}
 use Rattle.funnel.proofs.calls.try_add.Goals as goal
 
-pub refuse-requires-clause-refused : goal.refuse-requires-clause-refused
-refuse-requires-clause-refused c = inl (live_by_place c.args.id c.reserve.new.self.history c.in-Some.place (sym c.in-Some.ensures))
+pub bits_at-requires-clause-slice : goal.bits_at-requires-clause-slice
+bits_at-requires-clause-slice c = let below = c.in-Ok.ensures.slice in omega (arith, c.slice.ensures)
+
+pub write_column-requires-clause-claimed : goal.write_column-requires-clause-claimed
+write_column-requires-clause-claimed c =
+    claimed_column c.args.index.now c.claim_in-claim.new.index c.in-Ok.room c.claim_in-claim.result c.claim_in-claim.ensures.slice c.claim_in-claim.ensures.column c.claim_in-claim.ensures.slices
+    c.claim_in-claim.ensures.history c.in-Ok.ensures.room c.in-Ok.ensures.column
+
+pub write_column-requires-clause-column : goal.write_column-requires-clause-column
+write_column-requires-clause-column c =
+    All-weaker (λ (b : Bit). b.bit ≡ c.column.result) (λ (b : Bit). b.bit < 64) (λ b is. let below = c.in-Ok.ensures.column in omega (arith, c.column.ensures)) c.in_ok-bits-in-Ok.bits c.in_ok-bits-in-Ok.ensures.column
+
+pub commit-requires-clause-claimed : goal.commit-requires-clause-claimed
+commit-requires-clause-claimed c =
+    claimed_still c.claim_in-claim.new.index c.write_column.new.self c.claim_in-claim.result c.write_column.ensures.slices c.write_column.ensures.history
+    (claimed_column c.args.index.now c.claim_in-claim.new.index c.in-Ok.room c.claim_in-claim.result c.claim_in-claim.ensures.slice c.claim_in-claim.ensures.column c.claim_in-claim.ensures.slices
+    c.claim_in-claim.ensures.history c.in-Ok.ensures.room c.in-Ok.ensures.column)
 
 pub commit-requires-clause-absent : goal.commit-requires-clause-absent
-commit-requires-clause-absent c = absent_by_place c.args.id c.reserve.new.self.history (sym c.place_of.ensures ∙ c.in_default.is)
-
-pub commit-requires-clause-inside : goal.commit-requires-clause-inside
-commit-requires-clause-inside c = c.in_ok-bits.ensures.inside c.reserve.new.self.slices
-
-pub returns-in-Some-clause-ok : goal.returns-in-Some-clause-ok
-returns-in-Some-clause-ok c =
+commit-requires-clause-absent c =
     let i = c.args.index.now in
-    let same : c.reserve.new.self.history ≡ i.history = c.reserve.ensures.history in
-    let after : c.refuse.new.self.history ≡ i.history ++ event.No 0 (call.Add c.args.id c.args.text.now) ∷ [] =
-    ap (λ (s : State). s.history) c.refuse.ensures
-    ∙ ap (λ (h : List Event). h ++ event.No 0 (call.Add c.args.id c.in_ok-draft.draft.text) ∷ []) same
-    ∙ ap (λ (t : List ℕ). i.history ++ event.No 0 (call.Add c.args.id t) ∷ []) c.in_ok-draft.ensures.text in
-    subst (λ (h : List Event). Step (limits_of i.slices) 0 i.history h (call.Add c.args.id c.args.text.now) (reply.Present c.in-Some.place)) (sym after)
-    (present_step i.slices i.history c.requires.idle c.requires.legal c.args.id c.args.text.now c.in-Some.place (ap (live_place c.args.id) (sym same) ∙ sym c.in-Some.ensures))
+    let at = c.in-Ok.room in
+    let same = ap live (c.write_column.ensures.history ∙ c.claim_in-claim.ensures.history) ∙ live_taken i.history at (slice_of at) (column_of at) in
+    ap (λ (d : Parts). is_live d.id c.write_column.new.self.history) c.new-doc.ensures
+    ∙ ap (λ (ds : List Document). list_any (λ (d : Document). d.id == c.args.id) ds) same ∙ c.in-Ok.ensures.absent
 
-pub returns-in_default-next_column-clause-ok : goal.returns-in_default-next_column-clause-ok
-returns-in_default-next_column-clause-ok c =
+pub commit-requires-clause-journal : goal.commit-requires-clause-journal
+commit-requires-clause-journal c =
     let i = c.args.index.now in
-    let same : c.reserve.new.self.history ≡ i.history = c.reserve.ensures.history in
-    let after : c.refuse-in_default-next_column.new.self.history ≡ i.history ++ event.No 0 (call.Add c.args.id c.args.text.now) ∷ [] =
-    ap (λ (s : State). s.history) c.refuse-in_default-next_column.ensures
-    ∙ ap (λ (h : List Event). h ++ event.No 0 (call.Add c.args.id c.in_ok-draft.draft.text) ∷ []) same
-    ∙ ap (λ (t : List ℕ). i.history ++ event.No 0 (call.Add c.args.id t) ∷ []) c.in_ok-draft.ensures.text in
-    let full : IsFull (limits_of i.slices) i.history =
-    subst (λ n. IsFull (limits_of n) i.history) c.reserve.ensures.slices
-    (subst (IsFull (limits_of c.reserve.new.self.slices)) same (MatchOption-at_none _ _ c.in_default-next_column.is c.next_column.ensures.column)) in
-    subst (λ (h : List Event). Step (limits_of i.slices) 0 i.history h (call.Add c.args.id c.args.text.now) reply.Full) (sym after)
-    (full_step i.slices i.history c.requires.idle c.requires.legal c.args.id c.args.text.now (ap (live_place c.args.id) (sym same) ∙ sym c.place_of.ensures ∙ c.in_default.is) full)
+    let at = c.in-Ok.room in
+    let same : place c.write_column.new.self.history ≡ place i.history = ap place (c.write_column.ensures.history ∙ c.claim_in-claim.ensures.history) ∙ place_taken i.history at (slice_of at) (column_of at) in
+    let room = c.in-Ok.ensures.journal in
+    omega arith
 
-pub returns-clause-ok : goal.returns-clause-ok
-returns-clause-ok c =
+pub commit-requires-clause-words : goal.commit-requires-clause-words
+commit-requires-clause-words c = subst (λ (d : Parts). AreWordsOf d.words d.text) (sym c.new-doc.ensures) c.in_ok-draft.ensures.draft.of_text
+
+pub refuse-requires-clause-refused : goal.refuse-requires-clause-refused
+refuse-requires-clause-refused c = (c.in-Err.ensures c.args.text.now).refused
+
+pub returns-in_ok-bits-in-Ok-clause-ok : goal.returns-in_ok-bits-in-Ok-clause-ok
+returns-in_ok-bits-in-Ok-clause-ok c =
     let i = c.args.index.now in
-    let at = c.in-Some-next_column.at in
-    let same : c.reserve.new.self.history ≡ i.history = c.reserve.ensures.history in
-    let after : c.commit.new.self.history ≡ (i.history ++ event.Take 0 at.slice at.column ∷ []) ++ event.Add 0 c.args.id c.args.text.now at.slice at.column c.in_ok-bits.bits ∷ [] =
-    c.in_ok-place.ensures.ok
-    ∙ ap (λ (h : List Event). (h ++ event.Take 0 at.slice at.column ∷ []) ++ event.Add 0 c.args.id c.in_ok-draft.draft.text at.slice at.column c.in_ok-bits.bits ∷ []) same
-    ∙ ap (λ (t : List ℕ). (i.history ++ event.Take 0 at.slice at.column ∷ []) ++ event.Add 0 c.args.id t at.slice at.column c.in_ok-bits.bits ∷ []) c.in_ok-draft.ensures.text in
-    let may : MayTake (limits_of i.slices) i.history 0 at.slice at.column =
-    subst (λ n. MayTake (limits_of n) i.history 0 at.slice at.column) c.reserve.ensures.slices
-    (subst (λ (h : List Event). MayTake (limits_of c.reserve.new.self.slices) h 0 at.slice at.column) same c.in-Some-next_column.ensures.column) in
-    subst (λ (h : List Event). Step (limits_of i.slices) 0 i.history h (call.Add c.args.id c.args.text.now) (reply.Added c.in_ok-place.place)) (sym after)
-    (added_step i.slices i.history c.requires.idle c.requires.legal c.args.id c.args.text.now at.slice at.column c.in_ok-bits.bits c.in_ok-place.place may
-    (ap (live_place c.args.id) (sym same) ∙ sym c.place_of.ensures ∙ c.in_default.is) (c.in_ok-bits.ensures.inside i.slices)
-    (c.in_ok-place.ensures.place ∙ ap (λ (h : List Event). place h + 1) same))
+    let at = c.in-Ok.room in
+    let written = c.write_column.new.self in
+    let after = c.commit.new.self in
+    let text : c.new-event_text.result ≡ c.args.text.now = c.new-event_text.ensures ∙ c.in_ok-from_str.ensures.ok in
+    let slice = c.claim_in-claim.ensures.slice in
+    let column = c.claim_in-claim.ensures.column in
+    let claim = c.claim_in-claim.result in
+    let more = one_more written after (event.Add 0 c.new-doc.result.id c.new-event_text.result claim.slice claim.column c.in_ok-bits-in-Ok.bits) c.commit.ensures.event c.commit.ensures.legal in
+    let slices : after.slices ≡ i.slices = more.slices ∙ c.write_column.ensures.slices ∙ c.claim_in-claim.ensures.slices in
+    let before : written.history ≡ (i.history ++ clearing_of at) ++ event.Take 0 (slice_of at) (column_of at) ∷ [] = c.write_column.ensures.history ∙ c.claim_in-claim.ensures.history in
+    let whole = more.history
+    ∙ ap (λ (h : List Event). h ++ event.Add 0 c.new-doc.result.id c.new-event_text.result claim.slice claim.column c.in_ok-bits-in-Ok.bits ∷ []) before
+    ∙ ap (λ (d : Parts). ((i.history ++ clearing_of at) ++ event.Take 0 (slice_of at) (column_of at) ∷ []) ++ event.Add 0 d.id c.new-event_text.result claim.slice claim.column c.in_ok-bits-in-Ok.bits ∷ []) c.new-doc.ensures
+    ∙ ap (λ (t : List ℕ). ((i.history ++ clearing_of at) ++ event.Take 0 (slice_of at) (column_of at) ∷ []) ++ event.Add 0 c.args.id t claim.slice claim.column c.in_ok-bits-in-Ok.bits ∷ []) text
+    ∙ ap (λ n. ((i.history ++ clearing_of at) ++ event.Take 0 (slice_of at) (column_of at) ∷ []) ++ event.Add 0 c.args.id c.args.text.now n claim.column c.in_ok-bits-in-Ok.bits ∷ []) slice
+    ∙ ap (λ n. ((i.history ++ clearing_of at) ++ event.Take 0 (slice_of at) (column_of at) ∷ []) ++ event.Add 0 c.args.id c.args.text.now (slice_of at) n c.in_ok-bits-in-Ok.bits ∷ []) column in
+    let at_place : c.commit.result ≡ place i.history + 1 = let same = ap place before ∙ place_taken i.history at (slice_of at) (column_of at) in omega (arith, c.commit.ensures.place) in
+    call_added i after c.requires.idle (early c.is_spent.result (length i.history) c.is_spent.ensures.spent c.if-is_spent.false) slices at c.args.id c.args.text.now c.in_ok-bits-in-Ok.bits c.commit.result at_place whole
+    (subst (λ n. IsLegal (limits_of n) after.history) slices c.commit.ensures.legal)
+
+pub returns-in-Err-clause-ok : goal.returns-in-Err-clause-ok
+returns-in-Err-clause-ok c =
+    let i = c.args.index.now in
+    let after = c.refuse.new.self in
+    let text : c.new-event_text.result ≡ c.args.text.now = c.new-event_text.ensures ∙ c.in_ok-from_str.ensures.ok in
+    let more = one_more i after (event.No 0 (call.Add c.args.id c.new-event_text.result)) c.refuse.ensures.event c.refuse.ensures.legal in
+    call_refused i after c.requires.idle (early c.is_spent.result (length i.history) c.is_spent.ensures.spent c.if-is_spent.false) more.slices (call.Add c.args.id c.args.text.now) c.in-Err.refusal
+    (c.in-Err.ensures c.args.text.now) (more.history ∙ ap (λ (t : List ℕ). i.history ++ event.No 0 (call.Add c.args.id t) ∷ []) text) more.legal

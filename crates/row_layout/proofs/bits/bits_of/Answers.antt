@@ -2,8 +2,9 @@ use Rattle.std.proofs.Common.{◌≡◌, ◌<◌, List, length, map, get_or, ap,
 use Rattle.std.specs.List.{All}
 use Rattle.std.proofs.lemmas.List.{take_all}
 use Rattle.funnel_model.specs.Legal.{IsInSlice}
+use Rattle.funnel_model.specs.Sizes.{words_of_slice}
 use Rattle.funnel_model.specs.declared.bit_list.Bit.{Bit}
-use Rattle.row_layout.specs.Foot.{IsFoot, bit_at, limits_of}
+use Rattle.row_layout.specs.Foot.{IsFoot, bit_at}
 use Rattle.row_layout.specs.Rows.{IsRowOf}
 use Rattle.row_layout.specs.declared.row.Row.{Row}
 use Rattle.row_layout.proofs.Feet.{bit-fits, bits-in_slice, bits-of_words, columns-positive, foot_of_rows, rank-small}
@@ -41,7 +42,7 @@ returns-clause-foot c =
 pub returns-clause-inside : goal.returns-clause-inside
 returns-clause-inside c =
     let config = c.args.layout.now in
-    subst (All (λ (b : Bit). IsInSlice (limits_of config) 0 b.word)) (sym (bits_are c))
+    subst (All (λ (b : Bit). IsInSlice (words_of_slice config) 0 b.word)) (sym (bits_are c))
     (bits-in_slice config 0 0 (columns-positive config c.slice_range-first.ensures.in_range) c.in_ok-rows.rows.items c.in_ok-rows.ensures.can_place.laid)
 
 pub returns-clause-of_words : goal.returns-clause-of_words

@@ -1,6 +1,6 @@
 use Rattle.std.proofs.Common.{ℕ, List, ◌↔◌, Contains, sym, ◌∙◌, subst}
+use Rattle.funnel_model.specs.Words.{AreWordsOf}
 use Rattle.funnel.specs.Foot.{rows_of_words}
-use Rattle.funnel.specs.Kept.{AreWordsOf}
 use Rattle.funnel.proofs.draft.Draft.new.Goals as goal
 
 pub returns-clause-draft : goal.returns-clause-draft

@@ -1,18 +1,22 @@
-use Rattle.std.proofs.Common.{ℕ, List, sym, ap, subst, refl, arith}
-use Rattle.std.specs.BTreeMap.{get}
-use Rattle.std.specs.Ordering.{nat_cmp}
-use Rattle.funnel_model.specs.declared.event.Event.{Event}
+use Rattle.std.proofs.Common.{sym, refl, subst, vec_capacity}
 use Rattle.funnel_model.specs.declared.event.Event.TheVariants as event
 use Rattle.funnel_model.specs.Legal.{IsIdle, IsRefused}
-use Rattle.funnel.specs.Kept.{IsKept, State, limits_of}
-use Rattle.funnel.proofs.KeptLemmas.{kept-silent, silent_no}
+use Rattle.funnel.specs.Kept.{State, limits_of}
+use Rattle.funnel.proofs.IndexFacts.{kept-idle}
+use Rattle.funnel.proofs.KeptEvents.{kept-as, silent_no}
 use Rattle.funnel.proofs.index.Index.refuse.Goals as goal
 
 pub invariant_of-self : goal.invariant_of-self
 invariant_of-self c =
     let i = c.self.inside in
-    let history = ap (λ (s : State). s.history) c.self.view_is in
-    let slices = ap (λ (s : State). s.slices) c.self.view_is in
-    subst (λ (h : List Event). IsKept i.slices h i.commits.items i.documents.items (get nat_cmp i.places) i.rows.items) (sym c.push_reserved.ensures.items)
-    (kept-silent i.slices i.events.items i.commits.items i.documents.items (get nat_cmp i.places) i.rows.items c.self.invariant (event.No 0 c.args.asked)
-    (record { pass = omega arith; rule = record { idle = subst (IsIdle 0) (sym history) c.requires.idle; refused = subst (λ (n : ℕ). IsRefused (limits_of n) i.events.items c.args.asked) (sym slices) (subst (λ (h : List Event). IsRefused (limits_of c.args.self.now.slices) h c.args.asked) (sym history) c.requires.refused) } }) refl (silent_no 0 c.args.asked))
+    kept-as i.slices _ c.push_reserved.new.self.items _ _ _ _ _ _ _ _ _ _ _ _ _ _ c.push_reserved.ensures.items refl refl refl refl refl c.push_reserved.ensures.capacity refl
+    (kept-idle i.slices i.events.items i.journal.items i.records i.live i.counts.items i.rows.items (vec_capacity i.events) (vec_capacity i.journal) c.self.invariant (event.No 0 c.args.asked) refl
+    (subst (λ (s : State). IsIdle 0 s.history) (sym c.self.view_is) c.requires.idle)
+    (record {
+      idle = subst (λ (s : State). IsIdle 0 s.history) (sym c.self.view_is) c.requires.idle;
+      refused = subst (λ (s : State). IsRefused (limits_of s.slices) s.history c.args.asked) (sym c.self.view_is) c.requires.refused;
+    })
+    (silent_no 0 c.args.asked))
+
+pub returns-clause-legal : goal.returns-clause-legal
+returns-clause-legal c = (invariant_of-self c).legal

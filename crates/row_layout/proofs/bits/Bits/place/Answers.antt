@@ -1,8 +1,9 @@
 use Rattle.std.proofs.Common.{◌≡◌, ◌<◌, List, get_or, ap, sym, subst, ◌∙◌, arith}
 use Rattle.std.specs.List.{All}
 use Rattle.funnel_model.specs.Legal.{IsInSlice}
+use Rattle.funnel_model.specs.Sizes.{words_of_slice}
 use Rattle.funnel_model.specs.declared.bit_list.Bit.{Bit}
-use Rattle.row_layout.specs.Foot.{IsFoot, limits_of}
+use Rattle.row_layout.specs.Foot.{IsFoot}
 use Rattle.row_layout.specs.Rows.{IsRowOf}
 use Rattle.row_layout.specs.declared.row.Row.{Row}
 use Rattle.row_layout.proofs.Feet.{all_bits, bit-fits, bits-in_slice, bits-of_words, foot_of_rows, rank-small}
@@ -29,7 +30,7 @@ returns-clause-inside c =
     let rows = c.args.self.now.rows in
     let moved = all_bits config c.args.slice c.args.column c.loop-i.i rows c.loop-i.self-inside.list
     (omega (arith, c.loop-i.invariant.end)) (omega (arith, c.loop-i.invariant.end, c.loop-i.invariant.many)) c.loop-i.invariant.moved in
-    subst (All (λ (b : Bit). IsInSlice (limits_of config) c.args.slice b.word)) (sym moved) (bits-in_slice config c.args.slice c.args.column c.requires.column rows c.requires.rows.laid)
+    subst (All (λ (b : Bit). IsInSlice (words_of_slice config) c.args.slice b.word)) (sym moved) (bits-in_slice config c.args.slice c.args.column c.requires.column rows c.requires.rows.laid)
 
 pub returns-clause-foot : goal.returns-clause-foot
 returns-clause-foot c words exactly =

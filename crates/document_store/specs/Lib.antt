@@ -1,0 +1,4 @@
+pub mod Documents
+pub mod Entries
+pub mod Finding
+pub mod Slots

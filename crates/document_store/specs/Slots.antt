@@ -1,0 +1,60 @@
+-- What is kept of each column of each slice.
+use Rattle.std.specs.Prelude.{ℕ, ◌+◌, ◌*◌, ◌<◌, ◌≡◌, ⊤, List, ◌++◌, length, take, drop, replicate, slice_set, slice_index_or, Option, None, Some}
+use Rattle.std.specs.List.{All}
+use Rattle.document_store.specs.Documents.{Parts}
+use Rattle.document_store.specs.declared.column.Column.{Column}
+use Rattle.document_store.specs.declared.column.Column.TheVariants as column
+use Rattle.document_store.specs.declared.records.Slot.{Slot}
+
+-- so many slices of so many columns; the slots stand slice after slice, in the order of the columns
+pub record Table : Type 0 where
+  pub slices : ℕ
+  pub columns : ℕ
+  pub slots : List Slot
+
+-- the column is one of the table
+pub record IsColumn (table : Table) (slice at : ℕ) : Type 0 where
+  pub slice_in_range : slice < table.slices
+  pub column_in_range : at < table.columns
+
+-- a column that no pass has claimed
+abbrev pub free_slot : Slot
+free_slot = record { column = column.Free; doc = None }
+
+-- what is kept of a column
+abbrev pub slot_at : Table → ℕ → ℕ → Slot
+slot_at table slice at = slice_index_or table.slots (slice * table.columns + at) free_slot
+
+-- the slots of a slice
+abbrev pub slots_of : Table → ℕ → List Slot
+slots_of table slice = take table.columns (drop (slice * table.columns) table.slots)
+
+-- the table with another slot for one column
+abbrev pub with_slot : Table → ℕ → ℕ → Slot → Table
+with_slot table slice at slot = record table { slots = slice_set table.slots (slice * table.columns + at) slot }
+
+-- the table with all columns of a slice free
+abbrev pub with_free_slice : Table → ℕ → Table
+with_free_slice table slice =
+    record table { slots = take (slice * table.columns) table.slots ++ (replicate table.columns free_slot ++ drop ((slice + 1) * table.columns) table.slots) }
+
+-- the columns of which a document is kept: its document is live, or was deleted
+abbrev pub KeepsDoc : Column → Type 0
+KeepsDoc (column.Live added) = ⊤
+KeepsDoc (column.Deleted added deleted) = ⊤
+KeepsDoc _ = ⊥
+
+-- a document is there exactly where the column keeps one
+abbrev pub FitsColumn : Column → Option Parts → Type 0
+FitsColumn (column.Live added) doc = (d : Parts) × (doc ≡ Some d)
+FitsColumn (column.Deleted added deleted) doc = (d : Parts) × (doc ≡ Some d)
+FitsColumn _ doc = doc ≡ None
+
+-- the column's document fits what became of it
+abbrev pub HasDocRightly : Slot → Type 0
+HasDocRightly slot = FitsColumn slot.column slot.doc
+
+-- each column has its slot, and each slot's document fits
+pub record IsTable (table : Table) : Type 0 where
+  pub every_column : length table.slots ≡ table.slices * table.columns
+  pub docs : All HasDocRightly table.slots

@@ -1,0 +1,70 @@
+ghost use Rattle.std.specs.Prelude.{◌≡◌, ◌↔◌, IsTrue, string_bytes};
+ghost use Rattle.std.specs.List.{list_any};
+ghost use Rattle.std.specs.Str.{bytes_eq};
+ghost use Rattle.funnel_model.specs.Words.{AreWordsOf};
+ghost use Rattle.document_store.specs.Documents.{HasEvery};
+
+use funnel_model::{Text, WordSet};
+use std::marker::Model;
+
+/// A document: its number, its text, and the set of the text's words. Contracts see these three.
+#[derive(Debug, Drop)]
+pub struct Doc {
+    id: u64,
+    text: Text,
+    words: WordSet,
+}
+
+impl Model for Doc {
+    ghost use Rattle.document_store.specs.Documents.{Parts};
+    ghost use Rattle.funnel_model.specs.Words.{AreWordsOf};
+
+    ghost Value = { Parts };
+
+    ghost view = { λ d. record { id = d.id; text = d.text; words = d.words } };
+
+    ghost invariant = { λ d. AreWordsOf d.words d.text };
+}
+
+impl Doc {
+    /// A document whose set of words is that of its text.
+    pub fn new(id: u64, text: Text, words: WordSet) -> Doc
+        requires { AreWordsOf words text }
+        ensures { result ≡ record { id = id; text = text; words = words } }
+    {
+        Doc { id, text, words }
+    }
+
+    pub fn id(&self) -> u64
+        ensures { result ≡ self.now.id }
+    {
+        self.id
+    }
+
+    pub fn text(&self) -> &str
+        ensures { result.now ≡ self.now.text }
+    {
+        self.text.as_str()
+    }
+
+    pub fn words(&self) -> &WordSet
+        ensures words { result.now ≡ self.now.words }
+        ensures of_text { AreWordsOf self.now.words self.now.text }
+    {
+        &self.words
+    }
+}
+
+/// Whether the document has every word.
+pub fn verify(doc: &Doc, words: &WordSet) -> bool
+    ensures { IsTrue result ↔ HasEvery doc.now.words words.now }
+{
+    words.as_slice().iter().all(|word| has_word(doc, word))
+}
+
+/// Whether the document has this word.
+fn has_word(doc: &Doc, word: &String) -> bool
+    ensures { result ≡ list_any (bytes_eq (string_bytes word.now)) doc.now.words }
+{
+    doc.words.as_slice().binary_search(word).is_ok()
+}

@@ -1,0 +1,21 @@
+//! What an engine keeps of documents beside their bits: the document in each column and what became of it, and the
+//! column of each live number. A find resolves its candidates here: those that were live at its place and have
+//! every word are the answer, in the order in which they were added.
+#![tactic(auto)]
+
+mod column;
+mod doc;
+mod found;
+mod live_list;
+mod records;
+mod resolving;
+
+pub use column::Column;
+pub use doc::{Doc, verify};
+pub use found::Found;
+pub use live_list::LiveList;
+pub use records::{Records, Slot};
+pub use resolving::resolve;
+
+#[cfg(test)]
+mod tests;

@@ -1,0 +1,88 @@
+-- Where the next document can go, by the counts of the slices.
+use Rattle.std.proofs.Common.{◌≡◌, ℕ, zero, suc, ◌+◌, ◌<◌, ◌≤◌, ⊎_elim, Bool, true, false, cond, not, nat_lt, List, [], ◌∷◌, length, get_or, None, Some, sym, refl, ◌∙◌, arith, inl}
+use Rattle.std.proofs.lemmas.Bool.Decides.{leb_tells}
+use Rattle.std.specs.List.{position, position_or_len, range_with_len}
+use Rattle.document_store.specs.Entries.{Entries}
+use Rattle.document_store.specs.Slots.{Table}
+use Rattle.funnel_model.specs.declared.commit.Commit.{Commit}
+use Rattle.funnel_model.specs.declared.event.Event.{Event}
+use Rattle.funnel_model.specs.Legal.{HasRoom, IsFull, IsIdle, MayClear, MayTake}
+use Rattle.funnel_model.specs.Slices.{HasUnclaimed, IsRetired, claimed, is_clearing}
+use Rattle.funnel_model.proofs.ClaimLemmas.{filled_by, unclaimed_next}
+use Rattle.funnel_model.proofs.LastEvents.{nothing_clears, nothing_guards}
+use Rattle.funnel.specs.declared.index.Counts.{Counts}
+use Rattle.funnel.specs.Kept.{IsKept, limits_of, no_counts}
+use Rattle.funnel.proofs.InUse.{count_by_over, over_by_count, over_below_claimed, used_by_count}
+use Rattle.funnel.proofs.KeptEvents.{claimed_count}
+
+-- where no item passes, each fails
+none_passes : {X : Type 0} (p : X → Bool) (xs : List X) (d : X) → length xs ≤ position_or_len p xs → (k : ℕ) → k < length xs → p (get_or xs k d) ≡ false
+none_passes p [] d long k in' = absurd (omega arith)
+none_passes p (x ∷ xs) d long k in' = first (p x) refl long k in' (λ more j below. none_passes p xs d more j below) where
+  first : (b : Bool) → p x ≡ b → suc (length xs) ≤ cond (not b) (1 + position_or_len p xs) 0 → (k : ℕ) → k < suc (length xs) →
+      (length xs ≤ position_or_len p xs → (j : ℕ) → j < length xs → p (get_or xs j d) ≡ false) → p (get_or (x ∷ xs) k d) ≡ false
+  first true is more k in' rest = absurd (omega arith)
+  first false is more zero in' rest = is
+  first false is more (suc k) in' rest = rest (omega arith) k (omega arith)
+
+pub position-none : {X : Type 0} (p : X → Bool) (xs : List X) (d : X) → position p xs ≡ None → (k : ℕ) → k < length xs → p (get_or xs k d) ≡ false
+position-none p xs d is k in' =
+    ⊎_elim
+    (λ below. absurd (some_none (position_or_len p xs) (sym (chosen (nat_lt (position_or_len p xs) (length xs)) (Some (position_or_len p xs)) None below.0) ∙ is)))
+    (λ above. none_passes p xs d (omega (arith, above.1)) k in')
+    (leb_tells (suc (position_or_len p xs)) (length xs)) where
+      some_none : (n : ℕ) → Some n ≡ None → ⊥
+      some_none n is = cc
+
+      chosen : {X : Type 0} (b : Bool) (x y : X) → b ≡ true → cond b x y ≡ x
+      chosen true x y is = refl
+      chosen false x y is = cc
+
+module _ (slices : ℕ) (history : List Event) (journal : List Commit) (table : Table) (live : Entries) (counts : List Counts) (rows : List ℕ) (er jr : ℕ) (is : IsKept slices history journal table live counts rows er jr) (idle : IsIdle 0 history) where
+  not_clearing : (slice : ℕ) → is_clearing slice history ≡ false
+  not_clearing slice = nothing_clears (limits_of slices) 0 slice history is.legal is.alone idle
+
+  -- a slice with fewer claimed columns than it has takes a document, and one with no fewer doesn't
+  has_room : (s : ℕ) → s < slices → (get_or counts s no_counts).claimed < 64 → HasRoom 64 history s
+  has_room s in' below = record {
+    in_use = (used_by_count slices history journal table live counts rows er jr is s in' (not_clearing s)).0
+        (over_below_claimed slices history journal table live counts rows er jr is s in' below);
+    unclaimed = unclaimed_next 64 s (get_or counts s no_counts).claimed history (is.counted.each s in').claims below;
+  }
+
+  none_left : (n : ℕ) (slice : ℕ) → claimed slice history ≡ range_with_len 0 n → 64 ≤ n → HasUnclaimed 64 slice history → ⊥
+  none_left n slice claims full unclaimed = both (filled_by 64 slice n history claims full unclaimed.0 unclaimed.1) unclaimed.2 where
+    both : {b : Bool} → b ≡ true → b ≡ false → ⊥
+    both up down = cc
+
+  pub may_take : (s : ℕ) → s < slices → (get_or counts s no_counts).claimed < 64 → ((lower : ℕ) → lower < s → 64 ≤ (get_or counts lower no_counts).claimed) →
+      MayTake (limits_of slices) history 0 s (get_or counts s no_counts).claimed
+  may_take s in' below full = record {
+    idle = idle;
+    in_range = in';
+    room = has_room s in' below;
+    lowest = λ lower less room. none_left (get_or counts lower no_counts).claimed lower (is.counted.each lower (omega arith)).claims (full lower less) room.unclaimed;
+    next = sym (claimed_count slices history journal table live counts rows er jr is s in');
+  }
+
+  -- a slice of which all columns are over can be cleared, and no other can
+  retired : (s : ℕ) → s < slices → (get_or counts s no_counts).over ≡ 64 → IsRetired 64 s history
+  retired s in' all = record { over = over_by_count slices history journal table live counts rows er jr is s in' all; not_clearing = not_clearing s }
+
+  pub may_clear : (s : ℕ) → s < slices → (get_or counts s no_counts).over ≡ 64 → ((lower : ℕ) → lower < s → (get_or counts lower no_counts).over ≡ 64 → ⊥) →
+      MayClear (limits_of slices) history 0 s
+  may_clear s in' all lower_not = record {
+    idle = idle;
+    in_range = in';
+    can_clear = record { retired = retired s in' all; unguarded = nothing_guards (limits_of slices) 0 64 s history is.legal is.alone idle };
+    lowest = λ lower less can. lower_not lower less (count_by_over slices history journal table live counts rows er jr is lower (omega arith) can.retired.over);
+  }
+
+  -- where every slice is filled and none is retired the engine is full
+  pub full_by : ((slice : ℕ) → slice < slices → 64 ≤ (get_or counts slice no_counts).claimed) → ((slice : ℕ) → slice < slices → (get_or counts slice no_counts).over ≡ 64 → ⊥) →
+      IsFull (limits_of slices) history
+  full_by full none_retired slice in' =
+      inl (
+        filled_by 64 slice (get_or counts slice no_counts).claimed history (is.counted.each slice in').claims (full slice in'),
+        λ retired. none_retired slice in' (count_by_over slices history journal table live counts rows er jr is slice in' retired.over),
+      )
