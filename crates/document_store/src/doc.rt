@@ -35,18 +35,21 @@ impl Doc {
         Doc { id, text, words }
     }
 
+    /// The document's number.
     pub fn id(&self) -> u64
         ensures { result ≡ self.now.id }
     {
         self.id
     }
 
+    /// The document's text, as it was given.
     pub fn text(&self) -> &str
         ensures { result.now ≡ self.now.text }
     {
         self.text.as_str()
     }
 
+    /// The set of the text's words.
     pub fn words(&self) -> &WordSet
         ensures words { result.now ≡ self.now.words }
         ensures of_text { AreWordsOf self.now.words self.now.text }

@@ -57,7 +57,7 @@ impl Found {
         Ids::new(ids)
     }
 
-    /// One more.
+    /// Appends a pair; there is room for it.
     pub(crate) fn push(&mut self, place: u64, id: u64)
         requires { 1 ≤ self.old.room }
         ensures found { self.new.found ≡ self.old.found ++ (place, id) ∷ [] }

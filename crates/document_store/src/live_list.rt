@@ -50,9 +50,11 @@ impl LiveList {
         ensures room { self.new.room + 1 ≡ self.old.room }
         ensures count { length self.new.entries ≡ length self.old.entries + 1 }
     {
-        if let Err(index) = place_of(&self.entries, id) {
-            let _ = self.entries.insert(index, Entry { id, slice, column });
-        }
+        let Err(index) = place_of(&self.entries, id) else {
+            unreachable!()
+        };
+        // No error: there is room for it.
+        let _ = self.entries.insert(index, Entry { id, slice, column });
     }
 
     /// The slice and the column of a number.

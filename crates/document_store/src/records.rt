@@ -46,10 +46,7 @@ impl Records {
         let count = slices as usize * columns as usize;
         let mut slots = Vec::with_capacity(alloc, count)?;
         for _ in 0..count {
-            slots.push_reserved(Slot {
-                column: Column::Free,
-                doc: None,
-            });
+            slots.push_reserved(free_slot());
         }
         Ok(Records {
             slices,
@@ -130,9 +127,10 @@ impl Records {
             self.new ≡ with_slot self.old slice column (record { column = Deleted added place; doc = (slot_at self.old slice column).doc }) }
     {
         let index = self.index(slice, column);
-        if let Column::Live(added) = self.slots[index].column {
-            self.slots[index].column = Column::Deleted(added, place);
-        }
+        let Column::Live(added) = self.slots[index].column else {
+            unreachable!()
+        };
+        self.slots[index].column = Column::Deleted(added, place);
     }
 
     /// Makes every column of the slice free, and drops their documents.
@@ -160,9 +158,16 @@ fn free_all(slots: &mut [Slot])
     ensures { slots.new ≡ replicate (length slots.old) free_slot }
 {
     for slot in slots.iter_mut() {
-        *slot = Slot {
-            column: Column::Free,
-            doc: None,
-        };
+        *slot = free_slot();
+    }
+}
+
+/// What is kept of a free column.
+fn free_slot() -> Slot
+    ensures { result ≡ free_slot }
+{
+    Slot {
+        column: Column::Free,
+        doc: None,
     }
 }

@@ -34,28 +34,28 @@ same_reply : (x y : Reply) → Some x ≡ Some y → x ≡ y
 same_reply x y is = cc
 
 -- each refusal leaves itself alone
-module _ (limits : Limits) (before after : List Event) where
+module _ (before : State) (after : List Event) where
   leaves_for_add : (id : ℕ) (text : List ℕ) (o : Option ℕ) (full : Bool) (given : Reply) → Some (option_map_or reply.Present o (cond full reply.JournalFull reply.Full)) ≡ Some given →
-      LeavesRefusal before after (call.Add id text) → Leaves before after (call.Add id text) given
+      LeavesRefusal before.history after (call.Add id text) → Leaves before after (call.Add id text) given
   leaves_for_add id text (Some n) full given is leaves = subst (Leaves before after (call.Add id text)) (same_reply (reply.Present n) given is) leaves
   leaves_for_add id text None true given is leaves = subst (Leaves before after (call.Add id text)) (same_reply reply.JournalFull given is) leaves
   leaves_for_add id text None false given is leaves = subst (Leaves before after (call.Add id text)) (same_reply reply.Full given is) leaves
 
   leaves_for_delete : (id : ℕ) (some : Bool) (given : Reply) → Some (cond some reply.JournalFull reply.Absent) ≡ Some given →
-      LeavesRefusal before after (call.Delete id) → Leaves before after (call.Delete id) given
+      LeavesRefusal before.history after (call.Delete id) → Leaves before after (call.Delete id) given
   leaves_for_delete id true given is leaves = subst (Leaves before after (call.Delete id)) (same_reply reply.JournalFull given is) leaves
   leaves_for_delete id false given is leaves = subst (Leaves before after (call.Delete id)) (same_reply reply.Absent given is) leaves
 
-  leaves_of_refusal : (asked : Call) (given : Reply) → refusal limits before asked ≡ Some given → LeavesRefusal before after asked → Leaves before after asked given
-  leaves_of_refusal (call.Add id text) given is leaves = leaves_for_add id text (live_place id before) (place before == limits.commits) given is leaves
-  leaves_of_refusal (call.Delete id) given is leaves = leaves_for_delete id (is_live id before) given is leaves
+  leaves_of_refusal : (asked : Call) (given : Reply) → refusal (limits_of before.slices) before.history asked ≡ Some given → LeavesRefusal before.history after asked → Leaves before after asked given
+  leaves_of_refusal (call.Add id text) given is leaves = leaves_for_add id text (live_place id before.history) (place before.history == 1024) given is leaves
+  leaves_of_refusal (call.Delete id) given is leaves = leaves_for_delete id (is_live id before.history) given is leaves
   leaves_of_refusal (call.Find query) given is leaves = cc
   leaves_of_refusal call.Place given is leaves = cc
 
 module _ (before after : State) (idle : IsIdle 0 before.history) (early : length before.history < 5120) (slices : after.slices ≡ before.slices) where
   -- a call of an engine that isn't spent, from its step and what it leaves
-  pub call_of_step : (asked : Call) (given : Reply) → Step (limits_of before.slices) 0 before.history after.history asked given → Leaves before.history after.history asked given → IsCall before after asked given
-  call_of_step asked given step leaves = record { slices = slices; step = step; leaves = leaves; spent = λ many. absurd (omega arith) }
+  pub call_of_step : (asked : Call) (given : Reply) → Step (limits_of before.slices) 0 before.history after.history asked given → Leaves before after.history asked given → IsCall before after asked given
+  call_of_step asked given step leaves = record { slices = slices; answered = record { step = step; spent = λ many. absurd (omega arith) }; leaves = leaves }
 
   -- a call that was refused
   pub call_refused : (asked : Call) (given : Reply) → IsRefusal before asked given → after.history ≡ before.history ++ event.No 0 asked ∷ [] → IsLegal (limits_of before.slices) after.history →
@@ -64,7 +64,7 @@ module _ (before after : State) (idle : IsIdle 0 before.history) (early : length
       call_of_step asked given
       (subst (λ (h : List Event). Step (limits_of before.slices) 0 before.history h asked given) (sym is)
       (step_refused (limits_of before.slices) 0 before.history asked given idle refused.reply (subst (IsLegal (limits_of before.slices)) is legal)))
-      (leaves_of_refusal (limits_of before.slices) before.history after.history asked given refused.reply
+      (leaves_of_refusal before after.history asked given refused.reply
       (record { event = is; documents = ap live is ∙ live-silent before.history (event.No 0 asked) (λ id. refl) refl }))
 
   -- a document that was deleted
@@ -93,15 +93,16 @@ module _ (before after : State) (idle : IsIdle 0 before.history) (early : length
   clearing_place (room.Retired slice) = refl
 
   -- a document that was added
-  pub call_added : (at : Room) (id : ℕ) (text : List ℕ) (bits : List Bit) (n : ℕ) → n ≡ place before.history + 1 →
+  pub call_added : (at : Room) (id : ℕ) (text : List ℕ) (bits : List Bit) (n : ℕ) → IsRoom before at → n ≡ place before.history + 1 →
       after.history ≡ ((before.history ++ clearing_of at) ++ event.Take 0 (slice_of at) (column_of at) ∷ []) ++ event.Add 0 id text (slice_of at) (column_of at) bits ∷ [] →
       IsLegal (limits_of before.slices) after.history → IsCall before after (call.Add id text) (reply.Added n)
-  call_added at id text bits n place_is is legal =
+  call_added at id text bits n may place_is is legal =
       call_of_step (call.Add id text) (reply.Added n)
       (subst (λ (h : List Event). Step (limits_of before.slices) 0 before.history h (call.Add id text) (reply.Added n)) (sym is)
       (step_added_from (limits_of before.slices) 0 before.history (before.history ++ clearing_of at) id text (slice_of at) (column_of at) bits n idle
       (clearing_of at, refl) (adds_none 0 before.history (clearing_of at) (clearing_own at))
-      (let h = clearing_place at in omega (arith, place-append before.history (clearing_of at))) place_is (subst (IsLegal (limits_of before.slices)) is legal))) tt
+      (let h = clearing_place at in omega (arith, place-append before.history (clearing_of at))) place_is (subst (IsLegal (limits_of before.slices)) is legal)))
+      (record { at = at; may = may; id = id; text = text; bits = bits; call = refl; events = is })
 
   -- a find that was answered, and one that found no memory
   pub call_found : (query ids : List ℕ) → ids ≡ answer before.history query → after.history ≡ (before.history ++ event.Find 0 query ∷ []) ++ event.End 0 ∷ [] →
@@ -124,26 +125,23 @@ module _ (before after : State) (idle : IsIdle 0 before.history) (early : length
 pub call_spent : (state : State) (asked : Call) → IsIdle 0 state.history → IsLegal (limits_of state.slices) state.history → 5120 ≤ length state.history → IsCall state state asked reply.Spent
 call_spent state asked idle legal many = record {
   slices = refl;
-  step = step_spent (limits_of state.slices) 0 state.history asked many legal idle;
+  answered = record { step = step_spent (limits_of state.slices) 0 state.history asked many legal idle; spent = λ _. inl refl };
   leaves = refl;
-  spent = λ _. inl refl;
 }
 
 -- a want of memory before the first event leaves everything
 pub add_without_memory : (state : State) (id : ℕ) (text : List ℕ) → IsIdle 0 state.history → IsLegal (limits_of state.slices) state.history → IsCall state state (call.Add id text) reply.Memory
 add_without_memory state id text idle legal = record {
   slices = refl;
-  step = step_without_memory (limits_of state.slices) 0 state.history (call.Add id text) idle legal refl;
+  answered = record { step = step_without_memory (limits_of state.slices) 0 state.history (call.Add id text) idle legal refl; spent = λ _. inr refl };
   leaves = refl;
-  spent = λ _. inr refl;
 }
 
 pub find_without_memory : (state : State) (query : List ℕ) → IsIdle 0 state.history → IsLegal (limits_of state.slices) state.history → IsCall state state (call.Find query) reply.Memory
 find_without_memory state query idle legal = record {
   slices = refl;
-  step = step_without_memory (limits_of state.slices) 0 state.history (call.Find query) idle legal (inl refl);
+  answered = record { step = step_without_memory (limits_of state.slices) 0 state.history (call.Find query) idle legal (inl refl); spent = λ _. inr refl };
   leaves = refl;
-  spent = λ _. inr refl;
 }
 
 -- an engine that isn't spent has room for the events of a call
@@ -176,7 +174,7 @@ one_more before after e is legal = record {
 -- a room is in the engine
 room_in_range : (state : State) (at : Room) → IsRoom state at → slice_of at < state.slices
 room_in_range state (room.Unclaimed slice column) may = may.in_range
-room_in_range state (room.Retired slice) may = may.in_range
+room_in_range state (room.Retired slice) may = may.clear.in_range
 
 -- the column that was claimed of a room
 pub claimed_column : (before after : State) (at : Room) (claim : Claim) → claim.slice ≡ slice_of at → claim.column ≡ column_of at → after.slices ≡ before.slices →

@@ -11,7 +11,7 @@ use Rattle.funnel_model.specs.Slices.{HasUnclaimed, IsRetired, claimed, is_clear
 use Rattle.funnel_model.proofs.ClaimLemmas.{filled_by, unclaimed_next}
 use Rattle.funnel_model.proofs.LastEvents.{nothing_clears, nothing_guards}
 use Rattle.funnel.specs.declared.index.Counts.{Counts}
-use Rattle.funnel.specs.Kept.{IsKept, limits_of, no_counts}
+use Rattle.funnel.specs.Kept.{IsKept, MayReuse, limits_of, no_counts}
 use Rattle.funnel.proofs.InUse.{count_by_over, over_by_count, over_below_claimed, used_by_count}
 use Rattle.funnel.proofs.KeptEvents.{claimed_count}
 
@@ -76,6 +76,14 @@ module _ (slices : ℕ) (history : List Event) (journal : List Commit) (table : 
     in_range = in';
     can_clear = record { retired = retired s in' all; unguarded = nothing_guards (limits_of slices) 0 64 s history is.legal is.alone idle };
     lowest = λ lower less can. lower_not lower less (count_by_over slices history journal table live counts rows er jr is lower (omega arith) can.retired.over);
+  }
+
+  -- where moreover every slice is filled, it can be cleared for an add
+  pub may_reuse : ((other : ℕ) → other < slices → 64 ≤ (get_or counts other no_counts).claimed) → (s : ℕ) → MayClear (limits_of slices) history 0 s →
+      MayReuse (record { slices = slices; history = history; rows = rows }) s
+  may_reuse full s may = record {
+    none_left = λ other in'. none_left (get_or counts other no_counts).claimed other (is.counted.each other in').claims (full other in');
+    clear = may;
   }
 
   -- where every slice is filled and none is retired the engine is full

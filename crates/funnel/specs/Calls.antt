@@ -1,14 +1,17 @@
 -- What a call does, by its answer.
-use Rattle.std.specs.Prelude.{◌≡◌, ◌⊎◌, ◌<◌, ◌≤◌, ℕ, false, List, [], ◌∷◌, ◌++◌, length, Some}
+use Rattle.std.specs.Prelude.{◌≡◌, ◌<◌, ℕ, false, List, [], ◌∷◌, ◌++◌, Some}
+use Rattle.funnel_model.specs.declared.bit_list.Bit.{Bit}
 use Rattle.funnel_model.specs.declared.call.Call.{Call}
+use Rattle.funnel_model.specs.declared.call.Call.TheVariants as call
 use Rattle.funnel_model.specs.declared.event.Event.{Event}
 use Rattle.funnel_model.specs.declared.event.Event.TheVariants as event
 use Rattle.funnel_model.specs.declared.reply.Reply.{Reply}
 use Rattle.funnel_model.specs.declared.reply.Reply.TheVariants as reply
 use Rattle.funnel_model.specs.History.{is_live, live, place}
 use Rattle.funnel_model.specs.Legal.{IsRefused}
-use Rattle.funnel_model.specs.Steps.{Step, refusal}
-use Rattle.funnel.specs.Kept.{State, IsRoom, column_of, limits_of, slice_columns, slice_of}
+use Rattle.funnel_model.specs.Steps.{refusal}
+use Rattle.funnel.specs.Kept.{State, IsRoom, clearing_of, column_of, limits_of, slice_columns, slice_of}
+use Rattle.funnel.specs.Session.{AnswersCall}
 use Rattle.funnel.specs.declared.index.filling.Room.{Room}
 
 -- the call may be refused so
@@ -29,19 +32,29 @@ pub record LeavesRefusal (before after : List Event) (asked : Call) : Type 0 whe
   pub event : after ≡ before ++ event.No 0 asked ∷ []
   pub documents : live after ≡ live before
 
+-- an add that was made leaves the events by which its room was made, its claim of the column, and the document there
+pub record LeavesAdded (before : State) (after : List Event) (asked : Call) : Type 0 where
+  pub at : Room
+  pub may : IsRoom before at
+  pub id : ℕ
+  pub text : List ℕ
+  pub bits : List Bit
+  pub call : asked ≡ call.Add id text
+  pub events : after ≡ ((before.history ++ clearing_of at) ++ event.Take 0 (slice_of at) (column_of at) ∷ []) ++ event.Add 0 id text (slice_of at) (column_of at) bits ∷ []
+
 -- what a call leaves, by its answer: a spent engine takes no call, and want of memory changes no document
-abbrev pub Leaves : List Event → List Event → Call → Reply → Type 0
-Leaves before after asked reply.Spent = after ≡ before
-Leaves before after asked reply.Memory = live after ≡ live before
-Leaves before after asked (reply.Present n) = LeavesRefusal before after asked
-Leaves before after asked reply.Full = LeavesRefusal before after asked
-Leaves before after asked reply.JournalFull = LeavesRefusal before after asked
-Leaves before after asked reply.Absent = LeavesRefusal before after asked
+abbrev pub Leaves : State → List Event → Call → Reply → Type 0
+Leaves before after asked (reply.Added n) = LeavesAdded before after asked
+Leaves before after asked reply.Spent = after ≡ before.history
+Leaves before after asked reply.Memory = live after ≡ live before.history
+Leaves before after asked (reply.Present n) = LeavesRefusal before.history after asked
+Leaves before after asked reply.Full = LeavesRefusal before.history after asked
+Leaves before after asked reply.JournalFull = LeavesRefusal before.history after asked
+Leaves before after asked reply.Absent = LeavesRefusal before.history after asked
 Leaves before after asked _ = Unit {0}
 
--- a call led from one state to another, and was answered so; with as many events as there may be it is spent, or finds no memory
+-- a call led from one state to another, and was answered so
 pub record IsCall (before after : State) (asked : Call) (given : Reply) : Type 0 where
   pub slices : after.slices ≡ before.slices
-  pub step : Step (limits_of before.slices) 0 before.history after.history asked given
-  pub leaves : Leaves before.history after.history asked given
-  pub spent : (limits_of before.slices).events ≤ length before.history → (given ≡ reply.Spent) ⊎ (given ≡ reply.Memory)
+  pub answered : AnswersCall (limits_of before.slices) 0 before.history after.history asked given
+  pub leaves : Leaves before after.history asked given

@@ -20,7 +20,7 @@ use Rattle.funnel_model.specs.declared.event.Event.TheVariants as event
 use Rattle.funnel_model.specs.Events.{pass_of}
 use Rattle.funnel_model.specs.History.{Document, commits, last_by, place}
 use Rattle.funnel_model.specs.Legal.{Limits, IsLegal, MayClear, MayTake}
-use Rattle.funnel_model.specs.Slices.{ColumnState, Unclaimed, Pending, Dropped, Live, Deleted, IsInState, IsInUse, claimed}
+use Rattle.funnel_model.specs.Slices.{ColumnState, Unclaimed, Pending, Dropped, Live, Deleted, HasUnclaimed, IsInState, IsInUse, claimed}
 use Rattle.funnel_model.specs.Words.{AreWordsOf, words}
 use Rattle.funnel.specs.declared.index.Counts.{Counts}
 use Rattle.funnel.specs.declared.index.filling.Room.{Room}
@@ -155,10 +155,15 @@ pub record IsKept (slices : ℕ) (history : List Event) (journal : List Commit) 
   pub events_fit : 5124 ≤ events_room
   pub journal_fits : 1024 ≤ journal_room
 
+-- a slice may be cleared for an add: no slice has an unclaimed column, and this is the lowest that can be cleared
+pub record MayReuse (state : State) (slice : ℕ) : Type 0 where
+  pub none_left : (other : ℕ) → other < state.slices → HasUnclaimed slice_columns other state.history → ⊥
+  pub clear : MayClear (limits_of state.slices) state.history 0 slice
+
 -- where the next document can go
 abbrev pub IsRoom : State → Room → Type 0
 IsRoom state (room.Unclaimed slice column) = MayTake (limits_of state.slices) state.history 0 slice column
-IsRoom state (room.Retired slice) = MayClear (limits_of state.slices) state.history 0 slice
+IsRoom state (room.Retired slice) = MayReuse state slice
 
 -- the slice and the column of a room
 abbrev pub slice_of : Room → ℕ

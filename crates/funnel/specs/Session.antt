@@ -1,5 +1,5 @@
 -- What a session writes for what it reads.
-use Rattle.std.specs.Prelude.{◌≡◌, ℕ, ◌<◌, true, false, List, [], ◌∷◌, ◌++◌, length, Option, Some, None}
+use Rattle.std.specs.Prelude.{◌≡◌, ◌⊎◌, ℕ, ◌<◌, ◌≤◌, true, false, List, [], ◌∷◌, ◌++◌, length, Option, Some, None}
 use Rattle.std.specs.List.{filter_map}
 use Rattle.funnel_io.specs.Lines.{lines}
 use Rattle.funnel_io.specs.declared.end.End.{End}
@@ -13,9 +13,14 @@ use Rattle.funnel_model.specs.Steps.{Step}
 use Rattle.line_proto.specs.Forms.{Item, Asks, Malformed, items}
 use Rattle.line_proto.specs.Texts.{text_of, texts}
 
--- a call is answered by a step of the pass, and a line of no form by its refusal and no step
+-- a call of the pass is answered by a step; where there were as many events as there may be, it is spent, or finds no memory
+pub record AnswersCall (limits : Limits) (pass : ℕ) (before after : List Event) (asked : Call) (given : Reply) : Type 0 where
+  pub step : Step limits pass before after asked given
+  pub spent : limits.events ≤ length before → (given ≡ reply.Spent) ⊎ (given ≡ reply.Memory)
+
+-- a call is answered by such a step, and a line of no form by its refusal and no step
 abbrev pub AnswersItem : Limits → ℕ → List Event → Item → Reply → List Event → Type 0
-AnswersItem limits pass before (Asks asked) given after = Step limits pass before after asked given
+AnswersItem limits pass before (Asks asked) given after = AnswersCall limits pass before after asked given
 AnswersItem limits pass before Malformed given after = (given ≡ reply.Line) × (before ≡ after)
 
 -- the items are answered by these replies in order, from front to front

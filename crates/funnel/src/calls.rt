@@ -2,7 +2,7 @@ ghost use Rattle.std.specs.Prelude.{◌≡◌, ◌≤◌, ◌<◌, ◌+◌, ◌�
 ghost use Rattle.std.specs.List.{All};
 ghost use Rattle.funnel_model.specs.declared.call.Call.TheVariants as call;
 ghost use Rattle.funnel_model.specs.declared.event.Event.TheVariants as event;
-ghost use Rattle.funnel_model.specs.Legal.{IsFull, IsIdle, IsLegal};
+ghost use Rattle.funnel_model.specs.Legal.{IsIdle, IsLegal, MayDelete};
 ghost use Rattle.funnel_model.specs.Words.{AreWordsOf};
 ghost use Rattle.funnel_model.specs.declared.reply.Reply.TheVariants as reply;
 ghost use Rattle.funnel_model.specs.History.{answer};
@@ -110,15 +110,28 @@ pub fn delete(index: &mut Index, id: u64) -> Reply
     if index.is_spent() {
         return Reply::Spent;
     }
+    match may_delete(index, id) {
+        Ok(()) => Reply::Deleted(index.delete(id)),
+        Err(refusal) => {
+            index.refuse(Call::Delete { id });
+            refusal
+        }
+    }
+}
+
+/// Whether the document with this number can be deleted, or the refusal of its delete: an absent number goes before a
+/// full journal.
+fn may_delete(index: &Index, id: u64) -> Result<(), Reply>
+    requires { IsIdle 0 index.now.history }
+    ensures { MatchResult result (λ _. MayDelete (limits_of index.now.slices) index.now.history 0 id) (λ refusal. IsRefusal index.now (call.Delete id) refusal) }
+{
     let Some(_) = index.place_of(id) else {
-        index.refuse(Call::Delete { id });
-        return Reply::Absent;
+        return Err(Reply::Absent);
     };
     if index.is_journal_full() {
-        index.refuse(Call::Delete { id });
-        return Reply::JournalFull;
+        return Err(Reply::JournalFull);
     }
-    Reply::Deleted(index.delete(id))
+    Ok(())
 }
 
 /// Tells how many commits there were. It takes no memory.

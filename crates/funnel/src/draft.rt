@@ -57,10 +57,10 @@ fn bits_of_rows(alloc: Global, rows: &[u32], slice: u32, column: u32) -> Result<
 {
     let mut bits = Vec::with_capacity(alloc, rows.len())?;
     for row in rows {
-        bits.push(Bit {
+        bits.push_reserved(Bit {
             word: slice * SLICE_ROWS as u32 + *row,
             bit: column,
-        })?;
+        });
     }
     Ok(bits)
 }

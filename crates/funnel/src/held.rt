@@ -182,6 +182,6 @@ fn read_behind<C: Source>(conn: &mut C, buffer: &mut [u8], end: usize, left: u64
     ensures failed { MatchGot result (λ _. ⊤) ⊤ (Rose (C.read_faults conn.old) (C.read_faults conn.new)) }
 {
     let most = left.min((buffer.len() - end) as u64) as usize;
-    prove!(most as u64 == left || most >= LEAST_ROOM);
+    prove!(most as u64 == left || most >= 64);
     conn.read(&mut buffer[end..end + most])
 }

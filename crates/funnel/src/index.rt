@@ -32,7 +32,7 @@ const JOURNAL_ROOM: usize = 1_024;
 const MOST_EVENTS: usize = 5_120;
 
 /// The room of the list of events: a call that begins below `MOST_EVENTS` has at most four.
-pub const EVENT_ROOM: usize = 5_124;
+pub const EVENT_ROOM: usize = MOST_EVENTS + 4;
 
 /// How many columns of a slice are claimed, which are its first, and how many of them are deleted or dropped.
 #[derive(Clone, Copy, Debug, PartialEq, Eq)]
@@ -40,6 +40,12 @@ pub struct Counts {
     pub claimed: u32,
     pub over: u32,
 }
+
+/// The counts of a slice of which no column is claimed.
+const NO_COUNTS: Counts = Counts {
+    claimed: 0,
+    over: 0,
+};
 
 /// The history so far, and what answers calls by it: the journal of its commits, the records of its columns, the live
 /// numbers, how far each slice is filled, and the rows of bits. Contracts see the history and the rows. All its memory is
@@ -75,17 +81,13 @@ impl Index {
         ensures slices { IfOk result (λ index. index.slices ≡ slices) }
         ensures empty { IfOk result (λ index. index.history ≡ []) }
     {
-        let none = Counts {
-            claimed: 0,
-            over: 0,
-        };
         Ok(Index {
             slices,
             events: Vec::with_capacity(alloc, EVENT_ROOM)?,
             journal: Vec::with_capacity(alloc, JOURNAL_ROOM)?,
             records: Records::new(alloc, slices, SLICE_COLUMNS)?,
             live: LiveList::new(alloc, JOURNAL_ROOM)?,
-            counts: vec![in alloc; none; slices as usize]?,
+            counts: vec![in alloc; NO_COUNTS; slices as usize]?,
             rows: vec![in alloc; 0; slices as usize * SLICE_ROWS]?,
         })
     }

@@ -62,7 +62,8 @@ pub fn clear_rows(words: &mut [u64], base: usize)
     words[base..base + SLICE_ROWS].fill(0);
 }
 
-/// The columns whose bit is set in each of these rows of the slice that begins at `base`, as bits of a word.
+/// The columns whose bit is set in each of these rows of the slice that begins at `base`, as bits of a word. It reads no
+/// further row once no column is left.
 pub fn columns_in_all(words: &[u64], base: usize, rows: &[u32]) -> u64
     requires { All (λ row. base + row < length words.now) rows.now }
     ensures every { (column : ℕ) → column < 64 → ((row : ℕ) → Contains rows.now row → HasBit (slice_index words.now (base + row)) column) → HasBit result column }
@@ -71,6 +72,9 @@ pub fn columns_in_all(words: &[u64], base: usize, rows: &[u32]) -> u64
     let mut columns = u64::MAX;
     for row in rows {
         columns &= words[base + *row as usize];
+        if columns == 0 {
+            return 0;
+        }
     }
     columns
 }

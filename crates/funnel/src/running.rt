@@ -11,8 +11,8 @@ use std::alloc::Global;
 /// A session takes at most so many bytes.
 pub const MOST_BYTES: u64 = 1 << 40;
 
-/// Answers the lines of an input over a new index of so many slices, and gives back what is left of it. It has no index
-/// where memory was wanting for one; then nothing was read or written.
+/// Answers the lines of an input over a new index of so many slices, and gives back what is left of it. There is nothing
+/// of it where memory was wanting before the session began; then nothing was read or written.
 pub fn run_with<S: Source, K: Sink>(
     alloc: Global,
     slices: u32,

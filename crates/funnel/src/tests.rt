@@ -6,6 +6,7 @@ use crate::running::{run_up_to, run_with};
 use funnel_io::{MemGate, MemSink, MemSource};
 use funnel_model::Commit;
 use std::alloc::{AllocError, Global};
+use std::process::Abort;
 use std::test::Fail;
 
 fn source_of(alloc: Global, pieces: &[&[u8]], fails: &[u64]) -> Result<MemSource, AllocError> {
@@ -24,17 +25,6 @@ fn sink_of(alloc: Global, fails: &[u64]) -> Result<MemSink, Fail> {
 fn run(alloc: Global, input: &mut MemSource, output: &mut MemSink) -> Ended<MemGate> {
     let mut config = MemSource::new(Vec::new(alloc), Vec::new(alloc));
     funnel_main(alloc, &["run"], &mut config, input, output, Vec::new(alloc))
-}
-
-// What a run of so many slices writes for these lines.
-fn replies(alloc: Global, slices: u32, lines: &str) -> Result<String, Fail>
-    requires some { 1 ≤ slices }
-    requires few { slices ≤ 1024 }
-{
-    let mut source = source_of(alloc, &[lines.as_bytes()], &[])?;
-    let mut sink = MemSink::new(alloc, 200_000, Vec::new(alloc))?;
-    run_with(alloc, slices, &mut source, &mut sink);
-    Ok(String::from_utf8(sink.bytes().to_vec(alloc)?)?)
 }
 
 #[test]
@@ -116,6 +106,23 @@ impl Script {
         self.replies.push('\n')
     }
 
+    // Runs the lines over so many slices, and compares the replies and the number of events that the run leaves.
+    fn check(&self, rt: &impl Abort, alloc: Global, slices: u32, events: u64) -> Result<(), Fail>
+        requires some { 1 ≤ slices }
+        requires few { slices ≤ 1024 }
+    {
+        let mut source = source_of(alloc, &[self.lines.as_bytes()], &[])?;
+        let mut sink = MemSink::new(alloc, 200_000, Vec::new(alloc))?;
+        let (why, closed) = run_with(alloc, slices, &mut source, &mut sink);
+        assert_eq!(rt; why, Why::Done);
+        assert_eq!(rt;
+            String::from_utf8(sink.bytes().to_vec(alloc)?)?,
+            self.replies
+        );
+        assert!(rt; closed.is_some_and(|closed| closed.events == events));
+        Ok(())
+    }
+
     // Adds the documents 1 to `last` with the text `x`, where so many commits came before.
     fn adds(&mut self, alloc: Global, last: u64, before: u64) -> Result<(), AllocError>
         requires { before + last < 2 ^ 64 }
@@ -155,32 +162,40 @@ fn a_find_goes_on_in_the_second_slice(rt: HostRuntime) -> Result<(), Fail> {
     let mut script = Script::new(rt.alloc());
     script.adds(rt.alloc(), 65, 0)?;
     script.line("find x", &found_to(rt.alloc(), 65)?)?;
-    assert_eq!(rt; replies(rt.alloc(), 2, &script.lines)?, script.replies);
-    Ok(())
+    script.check(&rt, rt.alloc(), 2, 132)
 }
 
 #[test]
-fn a_slice_has_64_columns(rt: HostRuntime) -> Result<(), Fail> {
+fn one_live_document_keeps_its_slice(rt: HostRuntime) -> Result<(), Fail> {
     let mut script = Script::new(rt.alloc());
     script.adds(rt.alloc(), 64, 0)?;
     script.line("add 65 x", "refused full")?;
-    script.line("find X", &found_to(rt.alloc(), 64)?)?;
-    assert_eq!(rt; replies(rt.alloc(), 1, &script.lines)?, script.replies);
-    Ok(())
+    script.deletes(rt.alloc(), 63, 64)?;
+    script.line("add 65 x", "refused full")?;
+    script.line("find X", "found 1 64")?;
+    script.check(&rt, rt.alloc(), 1, 195)
 }
 
 #[test]
 fn a_slice_whose_documents_are_gone_is_used_again(rt: HostRuntime) -> Result<(), Fail> {
     let mut script = Script::new(rt.alloc());
     script.adds(rt.alloc(), 64, 0)?;
-    script.deletes(rt.alloc(), 63, 64)?;
-    script.line("add 500 y", "refused full")?;
-    script.line("del 64", "deleted 128")?;
+    script.deletes(rt.alloc(), 64, 64)?;
     script.line("add 500 y", "added 129")?;
     script.line("find x", "found 0")?;
     script.line("find y", "found 1 500")?;
-    assert_eq!(rt; replies(rt.alloc(), 1, &script.lines)?, script.replies);
-    Ok(())
+    script.check(&rt, rt.alloc(), 1, 200)
+}
+
+#[test]
+fn an_unclaimed_column_goes_before_a_retired_slice(rt: HostRuntime) -> Result<(), Fail> {
+    let mut script = Script::new(rt.alloc());
+    script.adds(rt.alloc(), 64, 0)?;
+    script.deletes(rt.alloc(), 64, 64)?;
+    script.line("add 500 y", "added 129")?;
+    script.line("find", "found 1 500")?;
+    // the add has two events, and not the two of a cleared slice beside them
+    script.check(&rt, rt.alloc(), 2, 196)
 }
 
 #[test]
@@ -194,8 +209,26 @@ fn the_journal_has_1024_commits(rt: HostRuntime) -> Result<(), Fail> {
     script.line("del 1", "refused absent")?;
     script.line("find x", "found 0")?;
     script.line("place", "place 1024")?;
-    assert_eq!(rt; replies(rt.alloc(), 1, &script.lines)?, script.replies);
-    Ok(())
+    script.check(&rt, rt.alloc(), 1, 1_555)
+}
+
+#[test]
+fn a_full_journal_keeps_the_live_documents(rt: HostRuntime) -> Result<(), Fail> {
+    let alloc = rt.alloc();
+    let mut script = Script::new(alloc);
+    for round in 0u64..511 {
+        script.line("add 1 x", &format!(in alloc; "added {}", 2 * round + 1)?)?;
+        script.line("del 1", &format!(in alloc; "deleted {}", 2 * round + 2)?)?;
+    }
+    script.line("add 1 x", "added 1023")?;
+    script.line("add 2 x", "added 1024")?;
+    script.line("add 1 x", "refused present 1023")?;
+    script.line("add 3 x", "refused journal full")?;
+    script.line("del 1", "refused journal full")?;
+    script.line("del 3", "refused absent")?;
+    script.line("find x", "found 2 1 2")?;
+    // seven of the adds had a slice cleared
+    script.check(&rt, rt.alloc(), 2, 1_557)
 }
 
 #[test]
@@ -210,8 +243,7 @@ fn an_engine_is_spent_after_5120_events(rt: HostRuntime) -> Result<(), Fail> {
     script.line("del 1", "refused spent")?;
     script.line("find x", "refused spent")?;
     script.line("place", "refused spent")?;
-    assert_eq!(rt; replies(rt.alloc(), 2, &script.lines)?, script.replies);
-    Ok(())
+    script.check(&rt, rt.alloc(), 2, 5_120)
 }
 
 #[test]

@@ -219,6 +219,12 @@ fn standard_output_takes_bytes(rt: HostRuntime) {
     assert_eq!(rt; StdoutSink::new(rt.stdout()).write(b"out\n"), Put::Bytes(4));
 }
 
+#[test]
+fn want_of_memory_is_told_in_words(rt: HostRuntime) -> Result<(), Fail> {
+    assert_eq!(rt; Memory.to_string(rt.alloc())?.as_str(), "memory ran out");
+    Ok(())
+}
+
 // A line ends at a newline; a rest is a line only where the bytes ended.
 fn cut_at_newlines()
     ensures ended { lines (97 ∷ 98 ∷ 10 ∷ 10 ∷ 99 ∷ []) true ≡ (97 ∷ 98 ∷ []) ∷ [] ∷ (99 ∷ []) ∷ [] }

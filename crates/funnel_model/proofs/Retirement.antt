@@ -80,6 +80,27 @@ over_since columns slice number front later at reached =
     (all_over-append columns slice (at.earlier ++ at.event ∷ []) split.0
     (between_stays slice at.event split.0 later (ap (λ l. list_any (opens slice) (at.event ∷ l)) (sym split.2) ∙ at.stays)) at.over)
 
+-- where a list is split twice, a front that is not longer is a front of the other
+shorter_front : {A : Type 0} (front rest earlier later : List A) → front ++ rest ≡ earlier ++ later → length front ≤ length earlier →
+    (between : List A) × (earlier ≡ front ++ between) × (rest ≡ between ++ later)
+shorter_front [] rest earlier later is short = (earlier, refl, is)
+shorter_front (y ∷ ys) rest [] later is short = absurd (omega arith)
+shorter_front (y ∷ ys) rest (z ∷ zs) later is short =
+    let same : y ≡ z = cc in
+    let more = shorter_front ys rest zs later (cc) (omega arith) in
+    let whole = more.1 in
+    (more.0, cc, more.2)
+
+-- before that event it is not all over, from the last opening of the slice on
+pub not_over_before : (columns slice number : ℕ) (front later : List Event) → IsRetiredAt columns slice (front ++ later) number → length front < number →
+    list_any (opens slice) later ≡ false → AllOver columns slice front → ⊥
+not_over_before columns slice number front later at less stays over =
+    let count = at.count in
+    let split = shorter_front front later at.earlier (at.event ∷ at.later) at.whole (omega arith) in
+    let parts = or_parts (list_any (opens slice) split.0) (list_any (opens slice) (at.event ∷ at.later))
+    (sym (list_any-append (opens slice) split.0 (at.event ∷ at.later)) ∙ ap (list_any (opens slice)) (sym split.2) ∙ stays) in
+    at.not_before (subst (AllOver columns slice) (sym split.1) (all_over-append columns slice front split.0 parts.0 over))
+
 -- a slice doesn't retire at two events
 not_earlier : (columns slice number other : ℕ) (history : List Event) → IsRetiredAt columns slice history number → IsRetiredAt columns slice history other →
     number < other → ⊥

@@ -1,6 +1,6 @@
 //! Laws that hold of the definitions alone. Each is the contract of a function that does nothing.
 ghost use Rattle.std.specs.Prelude.{◌≡◌, ◌≢◌, ℕ, ◌+◌, ◌<◌, ◌≤◌, ◌↔◌, true, false, List, [], ◌∷◌, ◌++◌, length, None, Contains};
-ghost use Rattle.std.specs.List.{AllPairs};
+ghost use Rattle.std.specs.List.{AllPairs, list_any};
 ghost use Rattle.funnel_model.specs.Blocks.{IsBlock};
 ghost use Rattle.funnel_model.specs.declared.block.Block.{Block};
 ghost use Rattle.funnel_model.specs.declared.event.Event.{Event};
@@ -79,8 +79,9 @@ pub fn retired_slices_are_empty()
         IsRetired limits.columns slice history → column < limits.columns → IsInState history slice column (Live d) → ⊥ }
 {}
 
-/// A slice that is retired has retired at one event, the first after which all its columns are deleted or dropped. The number
-/// of that event stays until the slice is opened, and from that event on all columns are over.
+/// A slice that is retired has retired at one event: of those since its last opening, the first after which all its columns
+/// are deleted or dropped. The number of that event stays until the slice is opened, and from that event on all columns are
+/// over.
 pub fn slices_retire_at_one_event()
     ensures some { (limits : Limits) (history : List Event) (slice : ℕ) → IsLegal limits history → 0 < limits.columns →
         IsRetired limits.columns slice history → (number : ℕ) × IsRetiredAt limits.columns slice history number }
@@ -88,6 +89,8 @@ pub fn slices_retire_at_one_event()
         IsRetiredAt columns slice history other → number ≡ other }
     ensures since { (columns slice number : ℕ) (front later : List Event) → IsRetiredAt columns slice (front ++ later) number →
         number ≤ length front → AllOver columns slice front }
+    ensures first { (columns slice number : ℕ) (front later : List Event) → IsRetiredAt columns slice (front ++ later) number →
+        length front < number → list_any (opens slice) later ≡ false → AllOver columns slice front → ⊥ }
     ensures stays { (columns slice number : ℕ) (history : List Event) (e : Event) → IsRetiredAt columns slice history number →
         opens slice e ≡ false → IsRetiredAt columns slice (history ++ e ∷ []) number }
 {}

@@ -30,7 +30,7 @@ impl SliceSet {
 
     /// Adds a slice.
     pub fn add(&mut self, slice: u32)
-        requires { slice < MOST_SLICES }
+        requires { slice < 1024 }
         ensures { (other : ℕ) → Contains self.new other ↔ ((other ≡ slice) ⊎ Contains self.old other) }
     {
         self.words[slice as usize / 64] |= 1 << slice % 64;
@@ -38,7 +38,7 @@ impl SliceSet {
 
     /// Whether the slice is in the set.
     pub fn has(&self, slice: u32) -> bool
-        requires { slice < MOST_SLICES }
+        requires { slice < 1024 }
         ensures { IsTrue result ↔ Contains self.now slice }
     {
         self.words[slice as usize / 64] >> slice % 64 & 1 == 1

@@ -35,3 +35,17 @@ fn a_set_has_the_slices_that_were_added(rt: HostRuntime) -> Result<(), Fail> {
     assert!(rt; !slices.has(0) && !slices.has(62) && !slices.has(65) && !slices.has(127));
     Ok(())
 }
+
+#[test]
+fn candidates_stand_in_the_order_of_their_pushes(rt: HostRuntime) -> Result<(), Fail> {
+    let mut candidates = Candidates::new(Vec::new(rt.alloc()));
+    candidates.push(1, 9)?;
+    candidates.push(0, 3)?;
+    assert_eq!(rt; candidates.len(), 2);
+    assert_eq!(rt; candidates.as_slice(), [(1, 9), (0, 3)].as_slice());
+    assert_eq!(rt;
+        candidates.into_inner().as_slice(),
+        [(1, 9), (0, 3)].as_slice()
+    );
+    Ok(())
+}

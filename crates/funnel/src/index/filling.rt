@@ -1,14 +1,14 @@
-ghost use Rattle.std.specs.Prelude.{◌≡◌, ◌≤◌, ◌<◌, ◌+◌, ◌==◌, nat_lt, false, Some, length, position, IfNone, IfSome};
+ghost use Rattle.std.specs.Prelude.{◌≡◌, ◌≤◌, ◌<◌, ◌+◌, ◌==◌, ◌⊎◌, ℕ, nat_lt, false, Some, length, position, slice_index, IfNone, IfSome};
 ghost use Rattle.std.specs.List.{All};
 ghost use Rattle.funnel_model.specs.declared.event.Event.TheVariants as event;
 ghost use Rattle.funnel_model.specs.History.{is_live, last_by, place};
 ghost use Rattle.funnel_model.specs.Legal.{IsFull, IsIdle, IsInSlice, IsLegal, MayClear, MayFollow};
 ghost use Rattle.funnel_model.specs.Slices.{claimed};
 ghost use Rattle.funnel_model.specs.Words.{AreWordsOf, words};
-ghost use Rattle.funnel.specs.Foot.{HasBit, IsFoot, slice_rows};
+ghost use Rattle.funnel.specs.Foot.{HasBit, IsFoot, IsListed, slice_rows};
 ghost use Rattle.funnel.specs.Kept.{AllSet, HasColumn, IsRoom, IsZero, State, WithEvent, column_of, limits_of, slice_of};
 
-use crate::index::{Counts, EVENT_ROOM, Index, PASS, SLICE_COLUMNS};
+use crate::index::{Counts, EVENT_ROOM, Index, NO_COUNTS, PASS, SLICE_COLUMNS};
 use crate::rows::{SLICE_ROWS, clear_rows, set_bits};
 use document_store::Doc;
 use funnel_model::{BitList, Claim, ClearJob, Commit, Event, Text};
@@ -43,7 +43,8 @@ impl Room {
 }
 
 impl Index {
-    /// Where the next document can go, or `None` where the engine is full.
+    /// Where the next document can go, or `None` where the engine is full. No slice is cleared while another has a column
+    /// that no pass has claimed.
     pub fn room(&self) -> Option<Room>
         requires idle { IsIdle 0 self.now.history }
         ensures full { IfNone result (IsFull (limits_of self.now.slices) self.now.history) }
@@ -107,6 +108,7 @@ impl Index {
         ensures slices { self.new.slices ≡ self.old.slices }
         ensures history { self.new.history ≡ self.old.history }
         ensures zero { IsZero job.now.slice self.new.rows }
+        ensures others { (word : ℕ) → (IsInSlice slice_rows job.now.slice word → ⊥) → slice_index self.new.rows word ≡ slice_index self.old.rows word }
     {
         clear_rows(&mut self.rows, job.slice as usize * SLICE_ROWS);
     }
@@ -122,9 +124,7 @@ impl Index {
     {
         let ClearJob { slice } = job;
         self.records.free(slice);
-        let counts = &mut self.counts[slice as usize];
-        counts.claimed = 0;
-        counts.over = 0;
+        self.counts[slice as usize] = NO_COUNTS;
         self.events.push_reserved(Event::Opened {
             pass: PASS,
             slice,
@@ -140,6 +140,8 @@ impl Index {
         ensures slices { self.new.slices ≡ self.old.slices }
         ensures history { self.new.history ≡ self.old.history }
         ensures set { AllSet bits.now self.new.rows }
+        ensures kept { (word bit : ℕ) → HasBit (slice_index self.old.rows word) bit → HasBit (slice_index self.new.rows word) bit }
+        ensures only { (word bit : ℕ) → HasBit (slice_index self.new.rows word) bit → HasBit (slice_index self.old.rows word) bit ⊎ IsListed bits.now word bit }
     {
         set_bits(&mut self.rows, bits.as_slice());
     }

@@ -13,5 +13,6 @@ one_more n y xs within =
 
 pub loop-slot-preserved : goal.loop-slot-preserved
 loop-slot-preserved c =
-    ap (λ slots. set slots c.loop-slot.slot-index free_slot) c.loop-slot.invariant
+    ap (set c.loop-slot.slots c.loop-slot.slot-index) c.free_slot.ensures
+    ∙ ap (λ slots. set slots c.loop-slot.slot-index free_slot) c.loop-slot.invariant
     ∙ one_more c.loop-slot.slot-index free_slot c.args.slots.now (omega arith)

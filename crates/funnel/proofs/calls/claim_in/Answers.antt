@@ -8,3 +8,6 @@ take-requires-clause-some_left c =
     let next = may.next in
     let below : c.in-Unclaimed.column < 64 = subst (λ r. column_of r < 64) c.in-Unclaimed.is c.requires.column in
     omega arith
+
+pub start_clear-job-requires-clause-may : goal.start_clear-job-requires-clause-may
+start_clear-job-requires-clause-may c = (subst (IsRoom c.args.index.now) c.in-Retired.is c.requires.may).clear

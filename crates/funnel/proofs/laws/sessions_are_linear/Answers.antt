@@ -10,7 +10,7 @@ use Rattle.funnel.proofs.laws.sessions_are_linear.Goals as goal
 linear : (limits : Limits) (pass : ℕ) (before after : List Event) (items : List Item) (replies : List Reply) → Answers limits pass before items replies after →
     Linear limits pass before after (calls_of items) (replies_to_calls items replies)
 linear limits pass before after [] [] run = run
-linear limits pass before after (Asks asked ∷ items) (given ∷ replies) run = (run.0, run.1, linear limits pass run.0 after items replies run.2)
+linear limits pass before after (Asks asked ∷ items) (given ∷ replies) run = (run.0, run.1.step, linear limits pass run.0 after items replies run.2)
 linear limits pass before after (Malformed ∷ items) (given ∷ replies) run =
     subst (λ h. Linear limits pass h after (calls_of items) (replies_to_calls items replies)) (sym run.1.1) (linear limits pass run.0 after items replies run.2)
 linear limits pass before after [] (given ∷ replies) run = absurd run

@@ -1,4 +1,4 @@
-use Rattle.std.proofs.Common.{ℕ, ◌+◌, ◌∙◌, ⊎_elim, get_or, sym, subst, arith}
+use Rattle.std.proofs.Common.{ℕ, ◌+◌, ◌<◌, ◌∙◌, ⊎_elim, length, get_or, sym, subst, arith}
 use Rattle.std.proofs.lemmas.Bool.{cases_eq}
 use Rattle.std.proofs.lemmas.List.{get_or_default}
 use Rattle.std.proofs.lemmas.List.Elements.{Contains-get_or}
@@ -30,3 +30,13 @@ pub returns-clause-only : goal.returns-clause-only
 returns-clause-only c column row in' has =
     subst (λ r. HasBit (get_or c.args.words.now (c.args.base + r) 0) column) (get_or_default c.args.rows.now in'.0 0 row in'.1 ∙ in'.2)
     (c.loop-row.invariant.only column in'.0 (omega (arith, in'.1)) has)
+
+-- where no column is left in the rows so far none is in all rows
+pub returns-then-columns-eq0-clause-every : goal.returns-then-columns-eq0-clause-every
+returns-then-columns-eq0-clause-every c column below each =
+    let row_at = λ (k : ℕ). get_or c.args.words.now (c.args.base + get_or c.args.rows.now k 0) 0 in
+    let each_row : (k : ℕ) → k < length c.args.rows.now → HasBit (row_at k) column = λ k in'. each (get_or c.args.rows.now k 0) (Contains-get_or c.args.rows.now k 0 in') in
+    subst (λ w. HasBit w column) c.if-columns-eq0.true
+    (has_both c.loop-row.columns (row_at c.loop-row.row-index) column
+    (c.loop-row.invariant.every column below (λ k in'. each_row k (omega arith)))
+    (each_row c.loop-row.row-index (omega arith)))

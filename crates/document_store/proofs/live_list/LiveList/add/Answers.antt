@@ -21,8 +21,8 @@ invariant_of-self c =
     subst RiseByNumber (sym (put c))
     (rise-insert c.self.inside.entries.items c.in-Err.index e c.self.invariant (place-same _ _ c.args.id _ _ c.deref.ensures.value c.in-Err.is c.place_of.ensures))
 
-pub returns-in-Err-clause-columns : goal.returns-in-Err-clause-columns
-returns-in-Err-clause-columns c other =
+pub returns-clause-columns : goal.returns-clause-columns
+returns-clause-columns c other =
     let live : Entries = record { entries = c.self.inside.entries.items; room = c.args.self.now.room } in
     let left : Entries = record { entries = c.insert.new.self.items; room = c.args.self.now.room } in
     let none : column_of live c.args.id ≡ None = ap (λ (l : Entries). column_of l c.args.id) c.self.view_is ∙ c.requires.absent in
@@ -30,19 +30,10 @@ returns-in-Err-clause-columns c other =
     ∙ ap (λ (l : Entries). cond (eqb other c.args.id) (Some (c.args.slice, c.args.column)) (column_of l other)) c.self.view_is
 
 -- the number isn't there
-excluded : (c : goal.In_default) → ⊥
-excluded c =
+pub unreachable-requires : goal.unreachable-requires
+unreachable-requires c =
     let live : Entries = record { entries = c.self.inside.entries.items; room = c.args.self.now.room } in
     let none : column_of live c.args.id ≡ None = ap (λ (l : Entries). column_of l c.args.id) c.self.view_is ∙ c.requires.absent in
     let e : Entry = record { id = c.args.id; slice = c.args.slice; column = c.args.column } in
     let there = present live c.args.id c.in_default.field-0 e c.self.invariant (place-same _ _ c.args.id _ _ c.deref.ensures.value c.in_default.is c.place_of.ensures) in
     cc
-
-pub returns-in_default-clause-columns : goal.returns-in_default-clause-columns
-returns-in_default-clause-columns c = absurd (excluded c)
-
-pub returns-in_default-clause-room : goal.returns-in_default-clause-room
-returns-in_default-clause-room c = absurd (excluded c)
-
-pub returns-in_default-clause-count : goal.returns-in_default-clause-count
-returns-in_default-clause-count c = absurd (excluded c)

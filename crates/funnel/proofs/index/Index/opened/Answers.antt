@@ -9,8 +9,8 @@ use Rattle.funnel.proofs.index.Index.opened.Goals as goal
 pub free-requires : goal.free-requires
 free-requires c = let h = ap (λ (s : State). s.slices) c.self.view_is in let k = c.self.invariant.recorded.slices_are in omega arith
 
-pub index_mut-counts-requires : goal.index_mut-counts-requires
-index_mut-counts-requires c =
+pub index_mut-requires : goal.index_mut-requires
+index_mut-requires c =
     let h = ap (λ (s : State). s.slices) c.self.view_is in
     let k : length c.self.inside.counts.items ≡ c.self.inside.slices = c.self.invariant.counted.size in
     let long : vec_len c.self.inside.counts ≡ length c.self.inside.counts.items = search rules in

@@ -4,11 +4,11 @@ use Rattle.std.proofs.lemmas.Bool.Decides.{leb_tells}
 use Rattle.std.proofs.lemmas.List.Quantifiers.{position-Some}
 use Rattle.std.specs.List.{position}
 use Rattle.std.specs.Prelude.{◌==◌}
-use Rattle.funnel_model.specs.Legal.{IsFull, IsIdle, MayClear, MayTake}
+use Rattle.funnel_model.specs.Legal.{IsFull, IsIdle, MayTake}
 use Rattle.funnel.specs.declared.index.Counts.{Counts}
-use Rattle.funnel.specs.Kept.{State, limits_of, no_counts}
+use Rattle.funnel.specs.Kept.{MayReuse, State, limits_of, no_counts}
 use Rattle.funnel.proofs.IndexFacts.{counts_read}
-use Rattle.funnel.proofs.RoomFacts.{full_by, may_clear, may_take, position-none}
+use Rattle.funnel.proofs.RoomFacts.{full_by, may_clear, may_reuse, may_take, position-none}
 use Rattle.funnel.proofs.index.Index.room.Goals as goal
 
 both : (b : Bool) → b ≡ true → b ≡ false → ⊥
@@ -56,9 +56,12 @@ returns-in-Some-lowest_over-clause-room c =
     let found = position-Some (λ (x : Counts). x.over == 64) i.counts.items s no_counts at in
     let size = c.self.invariant.counted.size in
     let in' : s < i.slices = omega (arith, found.0) in
-    subst (λ (x : State). MayClear (limits_of x.slices) x.history 0 s) c.self.view_is
+    let filled : position (λ (x : Counts). nat_lt x.claimed 64) i.counts.items ≡ None = ap (position (λ (x : Counts). nat_lt x.claimed 64)) (sym c.as_slice.ensures.value) ∙ sym c.lowest_unfilled.ensures ∙ c.in_default.is in
+    subst (λ (x : State). MayReuse x s) c.self.view_is
+    (may_reuse i.slices i.events.items i.journal.items i.records i.live i.counts.items i.rows.items (vec_capacity i.events) (vec_capacity i.journal) c.self.invariant idle
+    (λ slice below. above_tells (get_or i.counts.items slice no_counts).claimed (position-none (λ (x : Counts). nat_lt x.claimed 64) i.counts.items no_counts filled slice (omega arith))) s
     (may_clear i.slices i.events.items i.journal.items i.records i.live i.counts.items i.rows.items (vec_capacity i.events) (vec_capacity i.journal) c.self.invariant idle s in'
-    (eqb-true (get_or i.counts.items s no_counts).over 64 found.1) (λ lower less. eqb-false (get_or i.counts.items lower no_counts).over 64 (found.2 lower less)))
+    (eqb-true (get_or i.counts.items s no_counts).over 64 found.1) (λ lower less. eqb-false (get_or i.counts.items lower no_counts).over 64 (found.2 lower less))))
 
 pub returns-in-None-clause-full : goal.returns-in-None-clause-full
 returns-in-None-clause-full c =
