@@ -125,7 +125,7 @@ module _ (before after : State) (idle : IsIdle 0 before.history) (early : length
 pub call_spent : (state : State) (asked : Call) → IsIdle 0 state.history → IsLegal (limits_of state.slices) state.history → 5120 ≤ length state.history → IsCall state state asked reply.Spent
 call_spent state asked idle legal many = record {
   slices = refl;
-  answered = record { step = step_spent (limits_of state.slices) 0 state.history asked many legal idle; spent = λ _. inl refl };
+  answered = record { step = step_spent (limits_of state.slices) 0 state.history asked many legal idle; spent = λ _. record { reply = inl refl; call = refl } };
   leaves = refl;
 }
 
@@ -133,14 +133,14 @@ call_spent state asked idle legal many = record {
 pub add_without_memory : (state : State) (id : ℕ) (text : List ℕ) → IsIdle 0 state.history → IsLegal (limits_of state.slices) state.history → IsCall state state (call.Add id text) reply.Memory
 add_without_memory state id text idle legal = record {
   slices = refl;
-  answered = record { step = step_without_memory (limits_of state.slices) 0 state.history (call.Add id text) idle legal refl; spent = λ _. inr refl };
+  answered = record { step = step_without_memory (limits_of state.slices) 0 state.history (call.Add id text) idle legal refl; spent = λ _. record { reply = inr refl; call = refl } };
   leaves = refl;
 }
 
 pub find_without_memory : (state : State) (query : List ℕ) → IsIdle 0 state.history → IsLegal (limits_of state.slices) state.history → IsCall state state (call.Find query) reply.Memory
 find_without_memory state query idle legal = record {
   slices = refl;
-  answered = record { step = step_without_memory (limits_of state.slices) 0 state.history (call.Find query) idle legal (inl refl); spent = λ _. inr refl };
+  answered = record { step = step_without_memory (limits_of state.slices) 0 state.history (call.Find query) idle legal (inl refl); spent = λ _. record { reply = inr refl; call = refl } };
   leaves = refl;
 }
 

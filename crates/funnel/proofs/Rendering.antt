@@ -95,5 +95,5 @@ pub rendered : (limits : Limits) (before after : List Event) (item : Item) (give
     Replies limits before item after text
 rendered limits before after item given text answers (inl is) = record { reply = given; answers = answers; text_is = is }
 rendered limits before after (Asks asked) given text answers (inr wanting) =
-    record { reply = reply.Memory; answers = record { step = without_memory limits before after asked given wanting.0 answers.step; spent = λ _. inr refl }; text_is = wanting.1 }
+    record { reply = reply.Memory; answers = record { step = without_memory limits before after asked given wanting.0 answers.step; spent = λ many. record { reply = inr refl; call = (answers.spent many).call } }; text_is = wanting.1 }
 rendered limits before after Malformed given text answers (inr wanting) = absurd (not_long given reply.Line answers.0 refl wanting.0)

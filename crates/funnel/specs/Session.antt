@@ -9,14 +9,19 @@ use Rattle.funnel_model.specs.declared.event.Event.{Event}
 use Rattle.funnel_model.specs.declared.reply.Reply.{Reply}
 use Rattle.funnel_model.specs.declared.reply.Reply.TheVariants as reply
 use Rattle.funnel_model.specs.Legal.{Limits}
-use Rattle.funnel_model.specs.Steps.{Step}
+use Rattle.funnel_model.specs.Steps.{AddsNone, Step}
 use Rattle.line_proto.specs.Forms.{Item, Asks, Malformed, items}
 use Rattle.line_proto.specs.Texts.{text_of, texts}
 
--- a call of the pass is answered by a step; where there were as many events as there may be, it is spent, or finds no memory
+-- a call wasn't taken: it was refused as spent or found no memory, and is not in the history
+pub record IsNotTaken (pass : ℕ) (before after : List Event) (given : Reply) : Type 0 where
+  pub reply : (given ≡ reply.Spent) ⊎ (given ≡ reply.Memory)
+  pub call : AddsNone pass before after
+
+-- a call of the pass is answered by a step; where there were as many events as there may be, it isn't taken
 pub record AnswersCall (limits : Limits) (pass : ℕ) (before after : List Event) (asked : Call) (given : Reply) : Type 0 where
   pub step : Step limits pass before after asked given
-  pub spent : limits.events ≤ length before → (given ≡ reply.Spent) ⊎ (given ≡ reply.Memory)
+  pub spent : limits.events ≤ length before → IsNotTaken pass before after given
 
 -- a call is answered by such a step, and a line of no form by its refusal and no step
 abbrev pub AnswersItem : Limits → ℕ → List Event → Item → Reply → List Event → Type 0

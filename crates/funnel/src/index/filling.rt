@@ -136,7 +136,7 @@ impl Index {
     pub fn write_column(&mut self, claim: &Claim, bits: &BitList)
         requires claimed { HasColumn self.old claim.now }
         requires inside { All (λ b. IsInSlice slice_rows claim.now.slice b.word) bits.now }
-        requires column { All (λ b. b.bit < 64) bits.now }
+        requires column { All (λ b. b.bit ≡ claim.now.column) bits.now }
         ensures slices { self.new.slices ≡ self.old.slices }
         ensures history { self.new.history ≡ self.old.history }
         ensures set { AllSet bits.now self.new.rows }

@@ -25,7 +25,7 @@ write_column-requires-clause-claimed c =
 
 pub write_column-requires-clause-column : goal.write_column-requires-clause-column
 write_column-requires-clause-column c =
-    All-weaker (λ (b : Bit). b.bit ≡ c.column.result) (λ (b : Bit). b.bit < 64) (λ b is. let below = c.in-Ok.ensures.column in omega (arith, c.column.ensures)) c.in_ok-bits-in-Ok.bits c.in_ok-bits-in-Ok.ensures.column
+    All-weaker (λ (b : Bit). b.bit ≡ c.column.result) (λ (b : Bit). b.bit ≡ c.claim_in-claim.result.column) (λ b is. is ∙ c.column.ensures ∙ sym c.claim_in-claim.ensures.column) c.in_ok-bits-in-Ok.bits c.in_ok-bits-in-Ok.ensures.column
 
 pub commit-requires-clause-claimed : goal.commit-requires-clause-claimed
 commit-requires-clause-claimed c =

@@ -1,5 +1,5 @@
 use Rattle.std.proofs.Common.{◌≡◌, ◌≢◌, ℕ, ◌+◌, ◌*◌, ◌<◌, ◌≤◌, List, Some, length, get_or, sym, refl, ap, ◌∙◌, subst, arith, rules, vec_capacity}
-use Rattle.std.proofs.lemmas.List.Elements.{All-contains}
+use Rattle.std.proofs.lemmas.List.Elements.{All-contains, All-weaker}
 use Rattle.std.specs.List.{All}
 use Rattle.funnel_model.specs.declared.bit_list.Bit.{Bit}
 use Rattle.funnel_model.specs.declared.event.Event.TheVariants as event
@@ -15,6 +15,11 @@ use Rattle.funnel.proofs.index.Index.write_column.Goals as goal
 -- a word of another slice is no word of this one
 elsewhere : (slice s row word : ℕ) → slice ≢ s → row < 1024 → s * 1024 ≤ word → word < (s + 1) * 1024 → word ≢ slice * 1024 + row
 elsewhere slice s row word ne within low high same = ne (omega arith)
+
+pub set_bits-requires-clause-bits : goal.set_bits-requires-clause-bits
+set_bits-requires-clause-bits c =
+    let column : All (λ (b : Bit). b.bit ≡ c.args.claim.now.column) c.as_slice.result.now = subst (All (λ (b : Bit). b.bit ≡ c.args.claim.now.column)) (sym c.as_slice.ensures) c.requires.column in
+    All-weaker (λ (b : Bit). b.bit ≡ c.args.claim.now.column) (λ (b : Bit). b.bit < 64) (λ b is. let below = c.requires.claimed.column_in_range in omega arith) c.as_slice.result.now column
 
 pub invariant_of-self : goal.invariant_of-self
 invariant_of-self c =
