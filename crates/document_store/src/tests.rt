@@ -5,30 +5,30 @@ ghost use Rattle.funnel_model.specs.Words.{words};
 ghost use Rattle.document_store.specs.Slots.{IsColumn};
 
 use super::*;
-use funnel_model::{Candidates, Text, WordSet};
-use std::alloc::{AllocError, Global};
+use funnel_model::{Candidates, Memory, Text, WordSet};
+use std::alloc::Global;
 use std::test::Fail;
 
 /// The set of one word.
-fn only(alloc: Global, word: &str) -> Result<WordSet, AllocError>
+fn only(alloc: Global, word: &str) -> Result<WordSet, Memory>
     ensures { IfOk result (λ set. set ≡ word.now ∷ []) }
 {
-    Ok(WordSet::new(vec![in alloc; String::from_str(alloc, word)?]?))
+    WordSet::from_sorted(alloc, &[word.as_bytes()])
 }
 
 /// A document whose text is one word.
-fn document(alloc: Global, id: u64, text: &str) -> Result<Doc, AllocError>
+fn document(alloc: Global, id: u64, text: &str) -> Result<Doc, Memory>
     requires { words text.now ≡ text.now ∷ [] }
 {
     let set = only(alloc, text)?;
     Ok(Doc::new(id, Text::new(String::from_str(alloc, text)?), set))
 }
 
-fn cat(alloc: Global, id: u64) -> Result<Doc, AllocError> {
+fn cat(alloc: Global, id: u64) -> Result<Doc, Memory> {
     document(alloc, id, "cat")
 }
 
-fn dog(alloc: Global, id: u64) -> Result<Doc, AllocError> {
+fn dog(alloc: Global, id: u64) -> Result<Doc, Memory> {
     document(alloc, id, "dog")
 }
 

@@ -5,13 +5,13 @@ use Rattle.std.proofs.lemmas.Bool.Decides.{leb_tells}
 use Rattle.std.proofs.lemmas.List.Elements.{All-nil}
 use Rattle.funnel_io.specs.Lines.{HasNoNewline}
 use Rattle.funnel.specs.Pending.{Pending}
-use Rattle.funnel.specs.Reading.{IsPending, EndsLine, Gives, Stops, Advances, Continues}
+use Rattle.funnel.specs.Reading.{IsPendingInput, EndsLine, Gives, Stops, Advances, Continues}
 use Rattle.funnel.specs.declared.reader.Line.{Line}
 use Rattle.funnel.specs.declared.reader.Line.TheVariants as answer
 use Rattle.funnel.proofs.PendingLaws.{clean-append}
 
 -- nothing of these bytes was dropped
-pub all_held : (new : Pending) (rest : List ℕ) → new.held ≡ rest → new.long ≡ false → IsPending new rest
+pub all_held : (new : Pending) (rest : List ℕ) → new.held ≡ rest → new.long ≡ false → IsPendingInput new rest
 all_held new rest held short = record {
   dropped = [];
   joined = sym held;
@@ -24,7 +24,7 @@ pub gives_ended : (long : Bool) (line dropped bytes rest : List ℕ) (new : Pend
     → given ≡ (if long || nat_lt 65536 (length line) then answer.Long else answer.Whole)
     → MatchBool long (65536 < length dropped) (dropped ≡ [])
     → EndsLine bytes (dropped ++ line) rest new.ended
-    → new.line ≡ line → IsPending new rest
+    → new.line ≡ line → IsPendingInput new rest
     → Gives given bytes new
 gives_ended true line dropped bytes rest new given is count ends same pending =
     rw is (record {
@@ -73,7 +73,7 @@ ends_at_end bytes dropped held long ended joined count dropped_clean clean some 
 }
 
 -- no line ended, where no newline is held and the source is not at its end
-pub stops : (now : Pending) → HasNoNewline now.held → now.ended ≡ false → (rest : List ℕ) → IsPending now rest → Stops rest now
+pub stops : (now : Pending) → HasNoNewline now.held → now.ended ≡ false → (rest : List ℕ) → IsPendingInput now rest → Stops rest now
 stops now clean not_at_end rest pending = record {
   clean = subst HasNoNewline (sym pending.joined) (clean-append pending.dropped now.held pending.clean clean);
   not_at_end = not_at_end;
@@ -83,7 +83,7 @@ stops now clean not_at_end rest pending = record {
 -- an answer of the bytes at hand, after those that were taken
 pub advances_after : (first now new : Pending) (line : Line) (left_old left_new taken_old taken_new : Option (List ℕ)) (may_old may_new : ℕ)
     → Continues first now left_old left_new taken_old taken_new may_old may_new
-    → ((rest : List ℕ) → IsPending now rest → Gives line rest new)
+    → ((rest : List ℕ) → IsPendingInput now rest → Gives line rest new)
     → Advances first new line left_old left_new taken_old taken_new may_old may_new
 advances_after first now new line left_old left_new taken_old taken_new may_old may_new continues gives = record {
   bytes = continues.bytes;

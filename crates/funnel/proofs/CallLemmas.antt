@@ -1,6 +1,6 @@
 -- The step that each outcome of a call makes, and what it leaves.
 use Rattle.std.proofs.Common.{◌≡◌, ℕ, ◌+◌, ◌<◌, ◌≤◌, Bool, true, false, cond, List, [], ◌∷◌, ◌++◌, length, Option, Some, None, IsTrue, ◌↔◌, ⊎_elim, sym, refl, ap, ◌∙◌, subst, append_assoc, arith, inl, inr}
-use Rattle.std.proofs.lemmas.Bool.{cases_lt}
+use Rattle.std.proofs.lemmas.Bool.{cases_lt, eqb-false}
 use Rattle.std.proofs.lemmas.List.{append-nil}
 use Rattle.std.specs.Option.{is_some, option_map_or}
 use Rattle.std.specs.Prelude.{◌==◌}
@@ -13,15 +13,15 @@ use Rattle.funnel_model.specs.declared.reply.Reply.{Reply}
 use Rattle.funnel_model.specs.declared.reply.Reply.TheVariants as reply
 use Rattle.funnel_model.specs.declared.claim.Claim.{Claim}
 use Rattle.funnel_model.specs.History.{answer, is_live, last_by, live, live_place, own, place}
-use Rattle.funnel_model.specs.Legal.{IsIdle, IsLegal, Limits}
-use Rattle.funnel_model.specs.Steps.{Step, refusal}
+use Rattle.funnel_model.specs.Legal.{IsIdle, IsLegal, is_journal_full}
+use Rattle.funnel_model.specs.Steps.{IsReplyToRecycle, IsReplyToRefused, Step}
 use Rattle.funnel_model.proofs.LiveLemmas.{is_live-from_place, live-silent, place-append}
 use Rattle.funnel_model.proofs.Spans.{last_by-push}
 use Rattle.funnel_model.proofs.StepLemmas.{adds_none, step_added_from, step_deleted, step_found, step_found_no_memory, step_read, step_refused, step_spent, step_without_memory}
 use Rattle.funnel.specs.declared.index.filling.Room.{Room}
 use Rattle.funnel.specs.declared.index.filling.Room.TheVariants as room
 use Rattle.funnel.specs.Calls.{IsCall, IsRefusal, Leaves, LeavesRefusal}
-use Rattle.funnel.specs.Kept.{HasColumn, IsRoom, State, WithEvent, clearing_of, column_of, limits_of, slice_of}
+use Rattle.funnel.specs.Kept.{HasColumn, IsRoom, State, WithEvent, clearing_of, column_of_room, limits_of, slice_of}
 
 -- a number is live where its add has a place, and is not where it has none
 pub live_by_place : (id : ℕ) (history : List Event) (n : ℕ) → live_place id history ≡ Some n → is_live id history ≡ true
@@ -30,27 +30,30 @@ live_by_place id history n is = is_live-from_place id (live history) ∙ ap is_s
 pub absent_by_place : (id : ℕ) (history : List Event) → live_place id history ≡ None → is_live id history ≡ false
 absent_by_place id history is = is_live-from_place id (live history) ∙ ap is_some is
 
-same_reply : (x y : Reply) → Some x ≡ Some y → x ≡ y
-same_reply x y is = cc
-
 -- each refusal leaves itself alone
 module _ (before : State) (after : List Event) where
-  leaves_for_add : (id : ℕ) (text : List ℕ) (o : Option ℕ) (full : Bool) (given : Reply) → Some (option_map_or reply.Present o (cond full reply.JournalFull reply.Full)) ≡ Some given →
+  leaves_for_add : (id : ℕ) (text : List ℕ) (o : Option ℕ) (full : Bool) (given : Reply) → given ≡ option_map_or reply.Present o (cond full reply.JournalFull reply.Full) →
       LeavesRefusal before.history after (call.Add id text) → Leaves before after (call.Add id text) given
-  leaves_for_add id text (Some n) full given is leaves = subst (Leaves before after (call.Add id text)) (same_reply (reply.Present n) given is) leaves
-  leaves_for_add id text None true given is leaves = subst (Leaves before after (call.Add id text)) (same_reply reply.JournalFull given is) leaves
-  leaves_for_add id text None false given is leaves = subst (Leaves before after (call.Add id text)) (same_reply reply.Full given is) leaves
+  leaves_for_add id text (Some n) full given is leaves = subst (Leaves before after (call.Add id text)) (sym is) leaves
+  leaves_for_add id text None true given is leaves = subst (Leaves before after (call.Add id text)) (sym is) leaves
+  leaves_for_add id text None false given is leaves = subst (Leaves before after (call.Add id text)) (sym is) leaves
 
-  leaves_for_delete : (id : ℕ) (some : Bool) (given : Reply) → Some (cond some reply.JournalFull reply.Absent) ≡ Some given →
+  leaves_for_delete : (id : ℕ) (some : Bool) (given : Reply) → given ≡ cond some reply.JournalFull reply.Absent →
       LeavesRefusal before.history after (call.Delete id) → Leaves before after (call.Delete id) given
-  leaves_for_delete id true given is leaves = subst (Leaves before after (call.Delete id)) (same_reply reply.JournalFull given is) leaves
-  leaves_for_delete id false given is leaves = subst (Leaves before after (call.Delete id)) (same_reply reply.Absent given is) leaves
+  leaves_for_delete id true given is leaves = subst (Leaves before after (call.Delete id)) (sym is) leaves
+  leaves_for_delete id false given is leaves = subst (Leaves before after (call.Delete id)) (sym is) leaves
 
-  leaves_of_refusal : (asked : Call) (given : Reply) → refusal (limits_of before.slices) before.history asked ≡ Some given → LeavesRefusal before.history after asked → Leaves before after asked given
-  leaves_of_refusal (call.Add id text) given is leaves = leaves_for_add id text (live_place id before.history) (place before.history == 1024) given is leaves
+  leaves_for_recycle : (given : Reply) → IsReplyToRecycle (limits_of before.slices) before.history given →
+      LeavesRefusal before.history after call.Recycle → Leaves before after call.Recycle given
+  leaves_for_recycle reply.NothingRetired is leaves = leaves
+  leaves_for_recycle (reply.Guarded slice pass) is leaves = leaves
+  leaves_for_recycle given is leaves = absurd is
+
+  leaves_of_refusal : (asked : Call) (given : Reply) → IsReplyToRefused (limits_of before.slices) before.history asked given → LeavesRefusal before.history after asked → Leaves before after asked given
+  leaves_of_refusal (call.Add id text) given is leaves = leaves_for_add id text (live_place id before.history) (is_journal_full (limits_of before.slices) before.history) given is leaves
   leaves_of_refusal (call.Delete id) given is leaves = leaves_for_delete id (is_live id before.history) given is leaves
-  leaves_of_refusal (call.Find query) given is leaves = cc
-  leaves_of_refusal call.Place given is leaves = cc
+  leaves_of_refusal call.Recycle given is leaves = leaves_for_recycle given is leaves
+  leaves_of_refusal asked given is leaves = absurd is
 
 module _ (before after : State) (idle : IsIdle 0 before.history) (early : length before.history < 5120) (slices : after.slices ≡ before.slices) where
   -- a call of an engine that isn't spent, from its step and what it leaves
@@ -94,12 +97,12 @@ module _ (before after : State) (idle : IsIdle 0 before.history) (early : length
 
   -- a document that was added
   pub call_added : (at : Room) (id : ℕ) (text : List ℕ) (bits : List Bit) (n : ℕ) → IsRoom before at → n ≡ place before.history + 1 →
-      after.history ≡ ((before.history ++ clearing_of at) ++ event.Take 0 (slice_of at) (column_of at) ∷ []) ++ event.Add 0 id text (slice_of at) (column_of at) bits ∷ [] →
+      after.history ≡ ((before.history ++ clearing_of at) ++ event.Take 0 (slice_of at) (column_of_room at) ∷ []) ++ event.Add 0 id text (slice_of at) (column_of_room at) bits ∷ [] →
       IsLegal (limits_of before.slices) after.history → IsCall before after (call.Add id text) (reply.Added n)
   call_added at id text bits n may place_is is legal =
       call_of_step (call.Add id text) (reply.Added n)
       (subst (λ (h : List Event). Step (limits_of before.slices) 0 before.history h (call.Add id text) (reply.Added n)) (sym is)
-      (step_added_from (limits_of before.slices) 0 before.history (before.history ++ clearing_of at) id text (slice_of at) (column_of at) bits n idle
+      (step_added_from (limits_of before.slices) 0 before.history (before.history ++ clearing_of at) id text (slice_of at) (column_of_room at) bits n idle
       (clearing_of at, refl) (adds_none 0 before.history (clearing_of at) (clearing_own at))
       (let h = clearing_place at in omega (arith, place-append before.history (clearing_of at))) place_is (subst (IsLegal (limits_of before.slices)) is legal)))
       (record { at = at; may = may; id = id; text = text; bits = bits; call = refl; events = is })
@@ -152,11 +155,9 @@ early b n tells is = ⊎_elim (λ less. less) (λ many. absurd (both b ((tells).
   both false up down = cc
 
 -- a journal that isn't full has room for a commit
-pub not_full : (b : Bool) (n : ℕ) → IsTrue b ↔ (n ≡ 1024) → b ≡ false → n ≤ 1024 → n < 1024
-not_full b n tells is within = ⊎_elim (λ less. less) (λ many. absurd (both b (tells.1 (let h : n ≡ 1024 = omega arith in h)) is)) (cases_lt n 1024) where
-  both : (b : Bool) → IsTrue b → b ≡ false → ⊥
-  both true up down = cc
-  both false up down = cc
+pub not_full : (b : Bool) (n : ℕ) → b ≡ (n == 1024) → b ≡ false → n ≤ 1024 → n < 1024
+not_full b n tells is within =
+    let other = eqb-false n 1024 (sym tells ∙ is) in omega arith
 
 -- what one more event leaves of the sizes, the history and legality
 pub record OneMore (before after : State) (e : Event) : Type 0 where
@@ -177,11 +178,11 @@ room_in_range state (room.Unclaimed slice column) may = may.in_range
 room_in_range state (room.Retired slice) may = may.clear.in_range
 
 -- the column that was claimed of a room
-pub claimed_column : (before after : State) (at : Room) (claim : Claim) → claim.slice ≡ slice_of at → claim.column ≡ column_of at → after.slices ≡ before.slices →
-    after.history ≡ (before.history ++ clearing_of at) ++ event.Take 0 (slice_of at) (column_of at) ∷ [] → IsRoom before at → column_of at < 64 → HasColumn after claim
+pub claimed_column : (before after : State) (at : Room) (claim : Claim) → claim.slice ≡ slice_of at → claim.column ≡ column_of_room at → after.slices ≡ before.slices →
+    after.history ≡ (before.history ++ clearing_of at) ++ event.Take 0 (slice_of at) (column_of_room at) ∷ [] → IsRoom before at → column_of_room at < 64 → HasColumn after claim
 claimed_column before after at claim slice column slices history may below = record {
-  taken = ap (last_by 0) history ∙ last_by-push 0 (before.history ++ clearing_of at) (event.Take 0 (slice_of at) (column_of at))
-      ∙ ap (λ n. Some (event.Take 0 n (column_of at))) (sym slice) ∙ ap (λ n. Some (event.Take 0 claim.slice n)) (sym column);
+  taken = ap (last_by 0) history ∙ last_by-push 0 (before.history ++ clearing_of at) (event.Take 0 (slice_of at) (column_of_room at))
+      ∙ ap (λ n. Some (event.Take 0 n (column_of_room at))) (sym slice) ∙ ap (λ n. Some (event.Take 0 claim.slice n)) (sym column);
   slice_in_range = let h = room_in_range before at may in omega arith;
   column_in_range = omega arith;
 }

@@ -29,7 +29,7 @@ use Rattle.funnel_model.proofs.Columns.{clearing_is_over, not_retired_by, one_st
 use Rattle.funnel_model.proofs.LiveColumns.{live_column_is_live, live_has_column, live_on_one_column}
 use Rattle.funnel_model.proofs.LiveLemmas.{live_in_order, place-append}
 use Rattle.funnel.specs.Hits.{IsHit, IsScanned, column_cmp}
-use Rattle.funnel.specs.Kept.{AreCovered, AreRecorded, IsLiveIn, document_at, limits_of, state_in, state_of}
+use Rattle.funnel.specs.Kept.{AreCovered, AreRecorded, IsLiveIn, document_added_at, limits_of, state_in, state_of}
 use Rattle.funnel.proofs.FootLemmas.{same_rows}
 use Rattle.funnel.proofs.Slots.{live_by_state, state-live}
 use Rattle.funnel.proofs.Sorting.{distinct_given, first_or_rest, pair_below, pairs_in_order, pairs_rise, rising-map, rising_from_pairs, same_members}
@@ -76,7 +76,7 @@ live_at_end history slice column added doc became.Free kept was at is state = ab
 live_at_end history slice column added doc (became.Pending pass) kept was at is state = absurd was
 live_at_end history slice column added doc (became.Live a) kept was at is state = ap became.Live at
 live_at_end history slice column added doc (became.Deleted a deleted) kept was at is state =
-    let within = deleted_within history slice column (document_at a doc) deleted (subst (IsInState history slice column) (ap (state_in (became.Deleted a deleted)) is) state) in
+    let within = deleted_within history slice column (document_added_at a doc) deleted (subst (IsInState history slice column) (ap (state_in (became.Deleted a deleted)) is) state) in
     absurd (omega (arith, was.1))
 live_at_end history slice column added doc became.Dropped kept was at is state = absurd was
 
@@ -91,7 +91,7 @@ live_rises history =
 module _ (slices : ℕ) (history : List Event) (table : Table) (row_words : List ℕ) (recorded : AreRecorded slices history table) (covered : AreCovered slices history table row_words) (legal : IsLegal (limits_of slices) history) where
   -- a document found is live on its column
   found_live : (candidates : List (ℕ × ℕ)) (set : List (List ℕ)) (found : ℕ × ℕ) → ((slice column : ℕ) → Contains candidates (slice, column) → IsColumn table slice column) →
-      (is : IsFound table candidates set (place history) found) → IsLiveOn history is.slice is.at (document_at found.0 is.doc)
+      (is : IsFound table candidates set (place history) found) → IsLiveOn history is.slice is.at (document_added_at found.0 is.doc)
   found_live candidates set found in_range is =
       let slot = slot_at table is.slice is.at in
       let rec = recorded.each is.slice is.at (in_range is.slice is.at is.candidate) in
@@ -118,7 +118,7 @@ module _ (slices : ℕ) (history : List Event) (table : Table) (row_words : List
       let live_x = found_live (x ∷ []) set y (alone x has_x) is_x in
       let live_z = found_live (z ∷ []) set w (alone z has_z) is_z in
       false_from_ne_true (y.1 == w.1) (λ same.
-      let one = live_on_one_column (limits_of slices) history is_x.slice is_x.at is_z.slice is_z.at (document_at y.0 is_x.doc) (document_at w.0 is_z.doc) legal live_x live_z
+      let one = live_on_one_column (limits_of slices) history is_x.slice is_x.at is_z.slice is_z.at (document_added_at y.0 is_x.doc) (document_added_at w.0 is_z.doc) legal live_x live_z
       (is_x.number ∙ eqb-true y.1 w.1 same ∙ sym is_z.number) in
       let at_x = this x is_x.slice is_x.at is_x.candidate in
       let at_z = this z is_z.slice is_z.at is_z.candidate in
@@ -200,7 +200,7 @@ module _ (slices : ℕ) (history : List Event) (table : Table) (row_words : List
   unfolding met
   found_met candidates set query in_range of_query found is =
       let rec = recorded.each is.slice is.at (in_range is.slice is.at is.candidate) in
-      let d = document_at found.0 is.doc in
+      let d = document_added_at found.0 is.doc in
       let in_live = live_column_is_live history is.slice is.at d (found_live candidates set found in_range is) in
       let meets_it = (meets_by_words is.doc.text query is.doc.words set (rec.words_of_text is.doc is.kept) of_query).0 is.every_word in
       subst (λ (id : ℕ). Contains {X = ℕ × ℕ} (map (λ (x : Document). (x.place, x.id)) (filter (λ x. meets x.text query) (live history))) (found.0, id)) is.number

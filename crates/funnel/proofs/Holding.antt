@@ -4,9 +4,8 @@ use Rattle.std.specs.Prelude.{slice_range}
 use Rattle.std.proofs.lemmas.List.{take_at, take-take}
 use Rattle.std.proofs.lemmas.List.Elements.{All-append}
 use Rattle.memchr.specs.Find.{IsFirstByte, is_byte}
-use Rattle.funnel_io.specs.Bytes.{TakenFrom, AppendedTo}
+use Rattle.funnel.specs.Told.{TakenFrom, AppendedTo}
 use Rattle.funnel_io.specs.Lines.{HasNoNewline}
-use Rattle.funnel_io.proofs.Told.{TakenFrom-nothing, AppendedTo-nothing}
 use Rattle.funnel.specs.HeldBytes.{IsInPlace}
 use Rattle.funnel.specs.Taking.{Takes, Reads}
 use Rattle.funnel.proofs.Ranges.{range_front, range_join, range_cut, range_first, get_or-range, length-range, none_found, none_before, found_byte}
@@ -121,16 +120,16 @@ reads_behind len old lent new start end n left_old left_new taken_old taken_new 
 
 -- nothing was taken
 pub takes_nothing : (left_old left_new taken_old taken_new : Option (List ℕ)) (may : ℕ)
-    → left_new ≡ left_old → taken_new ≡ taken_old → Takes [] left_old left_new taken_old taken_new may may
+    → TakenFrom left_old [] left_new → AppendedTo taken_old [] taken_new → Takes [] left_old left_new taken_old taken_new may may
 takes_nothing left_old left_new taken_old taken_new may left taken = record {
-  left = subst (TakenFrom left_old []) (sym left) (TakenFrom-nothing left_old);
-  taken = subst (AppendedTo taken_old []) (sym taken) (AppendedTo-nothing taken_old);
+  left = left;
+  taken = taken;
   count = omega arith;
 }
 
 -- nothing was read
 pub reads_nothing : (len : ℕ) (old lent new : List ℕ) (start end : ℕ) (left_old left_new taken_old taken_new : Option (List ℕ)) (may : ℕ)
-    → IsLent len old lent new end → left_new ≡ left_old → taken_new ≡ taken_old
+    → IsLent len old lent new end → TakenFrom left_old [] left_new → AppendedTo taken_old [] taken_new
     → Reads (slice_range old start end) (slice_range (take len (new ++ drop (length new) old)) start end)
     left_old left_new taken_old taken_new may may
 reads_nothing len old lent new start end left_old left_new taken_old taken_new may loan left taken =

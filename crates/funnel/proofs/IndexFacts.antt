@@ -24,7 +24,7 @@ use Rattle.funnel_model.proofs.LastEvents.{alone_awaits, idle_awaits_nothing}
 use Rattle.funnel_model.proofs.LiveColumns.{live_column_is_live, live_has_column, live_number}
 use Rattle.funnel_model.proofs.LiveLemmas.{is_live-from_place, live_once}
 use Rattle.funnel.specs.declared.index.Counts.{Counts}
-use Rattle.funnel.specs.Kept.{IsKept, IsLiveIn, document_at, limits_of, no_counts}
+use Rattle.funnel.specs.Kept.{IsKept, IsLiveIn, document_added_at, limits_of, no_counts}
 use Rattle.funnel.proofs.KeptEvents.{IsSilent, claimed_count, is_column, kept-silent, next_is_free, state_is}
 use Rattle.funnel.proofs.Slots.{live_by_state, state-live}
 
@@ -103,7 +103,7 @@ module _ (slices : ℕ) (history : List Event) (journal : List Commit) (table : 
   pub entry_place : (id slice column : ℕ) → entry_of live_list id ≡ Some (slice, column) → EntryPlace id slice column
   entry_place id slice column found =
       let r = is.listed.listed id slice column found in
-      let d = document_at r.live.added r.doc in
+      let d = document_added_at r.live.added r.doc in
       let holds : IsInState history slice column (Live d) =
       subst (IsInState history slice column) (state-live (slot_at table slice column) r.doc r.live) (is.recorded.each slice column r.in_table).state in
       record {

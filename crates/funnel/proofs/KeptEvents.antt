@@ -30,7 +30,7 @@ use Rattle.funnel_model.proofs.Histories.{legal-push}
 use Rattle.funnel_model.proofs.LiveLemmas.{commits-append, commits-silent, place-append}
 use Rattle.funnel.specs.declared.index.Counts.{Counts}
 use Rattle.funnel.specs.Foot.{HasBit, IsFoot, slice_rows}
-use Rattle.funnel.specs.Kept.{AllSet, HasBits, HasFoot, IsKept, IsLiveIn, IsRecorded, IsZero, document_at, is_over, is_over_in, limits_of, no_counts, state_of}
+use Rattle.funnel.specs.Kept.{AllSet, HasBits, HasFoot, IsKept, IsLiveIn, IsRecorded, IsZero, document_added_at, is_over, is_over_in, limits_of, no_counts, state_of}
 use Rattle.funnel_model.proofs.Claims.{claimed-opened, claimed-take, unclaimed_by_count}
 use Rattle.funnel_model.proofs.Columns.{clearing_is_over, last_is_pending, one_state}
 use Rattle.funnel_model.proofs.LastEvents.{last_is_clearing}
@@ -377,9 +377,9 @@ module _ (slices : ℕ) (history : List Event) (journal : List Commit) (table : 
         journal_within = omega arith;
         recorded = recorded-one slices history e is.legal allowed table s c y is.recorded here
             (recorded-push slices history e is.legal allowed s c (slot_at table s c) y (is.recorded.each s c here) (doc, refl)
-            (sym (chosen (s == s && c == c) (Live (document_at (place history + 1) doc)) (state_of (slot_at table s c)) (same_column s c)))
+            (sym (chosen (s == s && c == c) (Live (document_added_at (place history + 1) doc)) (state_of (slot_at table s c)) (same_column s c)))
             (λ d same. subst (λ (p : Parts). AreWordsOf p.words p.text) (some_same doc d same) of_text))
-            (λ slice column at not. passed (s == slice && c == column) (Live (document_at (place history + 1) doc)) (state_of (slot_at table slice column)) not);
+            (λ slice column at not. passed (s == slice && c == column) (Live (document_added_at (place history + 1) doc)) (state_of (slot_at table slice column)) not);
         listed = record {
           listed = λ id slice column found.
               ⊎_elim
@@ -490,7 +490,7 @@ module _ (slices : ℕ) (history : List Event) (journal : List Commit) (table : 
         recorded = recorded-one slices history e is.legal allowed table s c y is.recorded here
             (recorded-push slices history e is.legal allowed s c x y (is.recorded.each s c here) (doc, refl)
             (sym (ap (after_delete doc.id (place history)) (state-live x doc l)
-            ∙ chosen (doc.id == doc.id) (Deleted (document_at l.added doc) (place history + 1)) (Live (document_at l.added doc)) (same_number doc.id)))
+            ∙ chosen (doc.id == doc.id) (Deleted (document_added_at l.added doc) (place history + 1)) (Live (document_added_at l.added doc)) (same_number doc.id)))
             (λ d same. (is.recorded.each s c here).words_of_text d (l.doc_is ∙ same)))
             (λ slice column at apart. not_deleted doc.id (place history) (state_of (slot_at table slice column)) (λ d live_there.
             let other = live_by_state (slot_at table slice column) d (is.recorded.each slice column at).fits live_there in

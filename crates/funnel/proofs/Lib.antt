@@ -23,3 +23,5 @@ pub mod RoomFacts
 pub mod FoundIsAnswer
 pub mod CallLemmas
 pub mod Rendering
+pub mod Told
+pub mod Counting

@@ -4,14 +4,14 @@ use Rattle.std.specs.Prelude.{All}
 use Rattle.std.proofs.lemmas.List.{nil_from_length, length_push}
 use Rattle.std.proofs.lemmas.List.Concat.{flat_map-append}
 use Rattle.std.proofs.lemmas.List.Elements.{All-push, All-nil}
-use Rattle.funnel_io.specs.Bytes.{TakenFrom}
+use Rattle.funnel.specs.Told.{TakenFrom}
 use Rattle.funnel_io.specs.Lines.{Cut, HasNoNewline, with_newlines, last_line, lines, cut}
 use Rattle.funnel_io.proofs.CutLaws.{only_cut}
-use Rattle.funnel_io.proofs.Told.{TakenFrom-nothing, TakenFrom-append}
+use Rattle.funnel.proofs.Told.{TakenFrom-nothing, TakenFrom-append}
 use Rattle.funnel.specs.Pending.{Pending}
 use Rattle.funnel.specs.Taking.{Takes}
 use Rattle.funnel.proofs.AnswerLaws.{all_held}
-use Rattle.funnel.specs.Reading.{IsPending, EndsLine}
+use Rattle.funnel.specs.Reading.{IsPendingInput, EndsLine}
 
 -- newlines ended the lines given, and `rest` comes after the last
 pub record IsJoined (bytes : List ℕ) (given : List (List ℕ)) (rest : List ℕ) : Type 0 where
@@ -103,7 +103,7 @@ pub record HasCounted (now : Pending) (count : ℕ) (left_old left_now : Option 
   pub given : List (List ℕ)
   pub rest : List ℕ
   pub taken : TakenFrom left_old bytes left_now
-  pub pending : IsPending now rest
+  pub pending : IsPendingInput now rest
   pub so_far : HasGiven bytes given rest now.ended
   pub number : length given ≡ count
 
@@ -130,7 +130,7 @@ pub counted_more : (old new : Pending) (count : ℕ) (left_first left_old left_n
     → (so_far : HasCounted old count left_first left_old) (bytes line behind : List ℕ)
     → Takes bytes left_old left_new taken_old taken_new may_old may_new
     → (old.ended ≡ true → may_new ≡ may_old)
-    → EndsLine (so_far.rest ++ bytes) line behind new.ended → IsPending new behind
+    → EndsLine (so_far.rest ++ bytes) line behind new.ended → IsPendingInput new behind
     → HasCounted new (count + 1) left_first left_new
 counted_more old new count left_first left_old left_new taken_old taken_new may_old may_new so_far bytes line behind takes stays ends pending = record {
   bytes = so_far.bytes ++ bytes;

@@ -3,9 +3,9 @@ use Rattle.std.proofs.Common.{◌≡◌, ◌≢◌, ℕ, ◌<◌, Bool, true, fa
 use Rattle.std.specs.Prelude.{MatchBool}
 use Rattle.std.proofs.lemmas.List.Elements.{All-append, All-contains}
 use Rattle.funnel_io.specs.Lines.{HasNoNewline}
-use Rattle.funnel_io.proofs.Told.{TakenFrom-append, AppendedTo-append}
+use Rattle.funnel.proofs.Told.{TakenFrom-append, TakenFrom-nothing, AppendedTo-append, AppendedTo-nothing}
 use Rattle.funnel.specs.Pending.{Pending, IsEndOf, KeepsAll}
-use Rattle.funnel.specs.Reading.{IsPending, IsDecided, Continues}
+use Rattle.funnel.specs.Reading.{IsPendingInput, IsDecided, Continues}
 use Rattle.funnel.specs.Taking.{Reads}
 use Rattle.funnel.proofs.Holding.{takes_nothing}
 
@@ -52,8 +52,8 @@ continues_read old new held left_old left_new taken_old taken_new may_old may_ne
 pub continues_start : (now : Pending) (left taken : Option (List ℕ)) (may : ℕ) → Continues now now left left taken taken may may
 continues_start now left taken may = record {
   bytes = [];
-  takes = takes_nothing left left taken taken may refl refl;
-  keeps = λ rest pending. subst (IsPending now) (sym (append-nil rest)) pending;
+  takes = takes_nothing left left taken taken may (TakenFrom-nothing left) (AppendedTo-nothing taken);
+  keeps = λ rest pending. subst (IsPendingInput now) (sym (append-nil rest)) pending;
 }
 
 -- one step after another
@@ -69,7 +69,7 @@ continues_twice first between now left₀ left₁ left₂ taken₀ taken₁ take
     count = omega (arith, one.takes.count, two.takes.count, length-append one.bytes two.bytes);
   };
   keeps = λ rest pending.
-      subst (IsPending now) (append_assoc rest one.bytes two.bytes)
+      subst (IsPendingInput now) (append_assoc rest one.bytes two.bytes)
       (two.keeps (rest ++ one.bytes) (one.keeps rest pending));
 }
 

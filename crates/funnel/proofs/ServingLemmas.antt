@@ -1,26 +1,26 @@
 -- A session's progress, line by line, and its ends.
-use Rattle.std.proofs.Common.{◌≡◌, ◌≢◌, ℕ, suc, ◌+◌, ◌≤◌, ◌<◌, ◌⊎◌, ⊎_elim, Bool, true, false, List, [], ◌∷◌, ◌++◌, length, take, drop, sym, refl, ap, ◌∙◌, subst, append_assoc, arith, inl, inr}
+use Rattle.std.proofs.Common.{◌≡◌, ◌≢◌, ℕ, suc, ◌+◌, ◌≤◌, ◌<◌, ◌⊎◌, ⊎_elim, Bool, true, false, Option, List, [], ◌∷◌, ◌++◌, length, take, drop, sym, refl, ap, ◌∙◌, subst, append_assoc, arith, inl, inr}
 use Rattle.std.proofs.lemmas.Bool.{true≢false}
 use Rattle.std.proofs.lemmas.List.{append-nil, length-append, length-drop, map-append, take-append-drop}
 use Rattle.std.proofs.lemmas.List.Concat.{flat_map-append}
 use Rattle.std.specs.Option.{IfSome}
 use Rattle.funnel_io.proofs.CutLaws.{cut-append-line, cut-no_newline, cut_on, recursion_from_HasNoNewline}
-use Rattle.funnel_io.proofs.Told.{AppendedTo-append, AppendedTo-nothing, TakenFrom-append, TakenFrom-nothing}
-use Rattle.funnel_io.proofs.Counting.{Rose-after}
+use Rattle.funnel.proofs.Told.{AppendedTo-append, AppendedTo-nothing, TakenFrom-append, TakenFrom-nothing}
+use Rattle.funnel.proofs.Counting.{Rose-after}
 use Rattle.funnel_io.specs.Counts.{Rose}
-use Rattle.funnel_io.specs.Bytes.{AppendedPart, AppendedTo, TakenFrom}
+use Rattle.funnel.specs.Told.{AppendedPart, AppendedTo, TakenFrom}
 use Rattle.funnel_io.specs.Lines.{Cut, HasNoNewline, last_line, lines, rest_of, whole_lines}
 use Rattle.funnel_io.specs.declared.end.End.TheVariants as end_of
 use Rattle.funnel_model.specs.declared.event.Event.{Event}
 use Rattle.funnel_model.specs.declared.reply.Reply.{Reply}
 use Rattle.funnel_model.specs.Legal.{Limits}
-use Rattle.line_proto.specs.Forms.{Item, item_of, items}
+use Rattle.line_proto.specs.Forms.{Item}
 use Rattle.line_proto.specs.Texts.{text_of, texts}
 use Rattle.funnel.specs.Answering.{Replies}
 use Rattle.funnel.specs.Pending.{Pending}
-use Rattle.funnel.specs.Reading.{EndsLine, IsLast, IsPending}
-use Rattle.funnel.specs.Serving.{IsAtEnd, IsAtNewline, IsOver, Progress, Streams}
-use Rattle.funnel.specs.Session.{Answers, AnswersAll, AnswersItem, AnswersSome}
+use Rattle.funnel.specs.Reading.{EndsLine, IsLast, IsPendingInput}
+use Rattle.funnel.specs.Serving.{IsAtEnd, IsAtNewline, IsSessionOver, Progress, Streams}
+use Rattle.funnel.specs.Session.{Answers, AnswersAll, AnswersItem, AnswersSome, items, program_item}
 use Rattle.funnel.specs.Taking.{Takes}
 
 -- one more item and its reply
@@ -34,7 +34,7 @@ Answers-push limits pass before middle after [] (y ∷ ys) item given run answer
 Answers-push limits pass before middle after (x ∷ xs) [] item given run answers = absurd run
 
 pub items-append : (xs ys : List (List ℕ)) → items (xs ++ ys) ≡ items xs ++ items ys
-items-append xs ys = map-append item_of xs ys
+items-append xs ys = map-append program_item xs ys
 
 texts-push : (replies : List Reply) (given : Reply) → texts (replies ++ given ∷ []) ≡ texts replies ++ text_of given
 texts-push replies given = flat_map-append text_of replies (given ∷ []) ∙ ap (λ bs. texts replies ++ bs) (append-nil (text_of given))
@@ -121,8 +121,8 @@ module _ (limits : Limits) (limit : ℕ) (before now now' : Streams) (old new : 
   count_all : may' + length ((p.consumed ++ p.rest) ++ bytes) ≡ limit
   count_all = let l = length-append (p.consumed ++ p.rest) bytes in let c = p.count in let k = takes.count in omega arith
 
-  module _ (line rest' : List ℕ) (ends : EndsLine (p.rest ++ bytes) line rest' new.ended) (kept : IsPending new rest') (still : old.ended ≡ true → bytes ≡ [])
-      (none : new.ended ≡ true → IfSome now'.left (λ bs. bs ≡ [])) (text : List ℕ) (r : Replies limits h (item_of line) h' text) where
+  module _ (line rest' : List ℕ) (ends : EndsLine (p.rest ++ bytes) line rest' new.ended) (kept : IsPendingInput new rest') (still : old.ended ≡ true → bytes ≡ [])
+      (none : new.ended ≡ true → IfSome now'.left (λ bs. bs ≡ [])) (text : List ℕ) (r : Replies limits h (program_item line) h' text) where
     -- the line was answered and its reply written
     pub progress_on : (new.ended ≡ true → 0 < may') → AppendedTo now.written text now'.written → now.reads ≤ now'.reads → now.writes ≤ now'.writes → Progress limits limit before now' new h' may'
     progress_on more wrote reads writes =
@@ -138,7 +138,7 @@ module _ (limits : Limits) (limit : ℕ) (before now now' : Streams) (old new : 
           kept = kept;
           cut = n.cut;
           answers = subst (λ (is : List Item). Answers limits 0 [] is (p.replies ++ r.reply ∷ []) h') (sym (items-append p.done (line ∷ [])))
-              (Answers-push limits 0 [] h h' (items p.done) p.replies (item_of line) r.reply p.answers r.answers);
+              (Answers-push limits 0 [] h h' (items p.done) p.replies (program_item line) r.reply p.answers r.answers);
           writes = subst (λ (bs : List ℕ). AppendedTo before.written bs now'.written) (sym (texts-push p.replies r.reply))
               (AppendedTo-append before.written (texts p.replies) now.written (text_of r.reply) now'.written p.writes (subst (λ (bs : List ℕ). AppendedTo now.written bs now'.written) r.text_is wrote));
           read_faults = (let f = p.read_faults in omega arith);
@@ -157,7 +157,7 @@ module _ (limits : Limits) (limit : ℕ) (before now now' : Streams) (old new : 
       replies = p.replies;
       last = r.reply;
       answers = subst (λ (is : List Item). Answers limits 0 [] is (p.replies ++ r.reply ∷ []) h') (sym (items-append p.done (line ∷ [])))
-          (Answers-push limits 0 [] h h' (items p.done) p.replies (item_of line) r.reply p.answers r.answers);
+          (Answers-push limits 0 [] h h' (items p.done) p.replies (program_item line) r.reply p.answers r.answers);
       part = take part.count text;
       missing = drop part.count text;
       cut = sym r.text_is ∙ sym (take-append-drop part.count text);
@@ -172,7 +172,7 @@ module _ (limits : Limits) (limit : ℕ) (before now now' : Streams) (old new : 
         n.cut
 
     -- the line was answered and a part of its reply written
-    pub over_write : AppendedPart now.written text now'.written → Rose now.writes now'.writes → IsOver limits limit before now' h' end_of.WriteFault
+    pub over_write : AppendedPart now.written text now'.written → Rose now.writes now'.writes → IsSessionOver limits limit before now' h' end_of.WriteFault
     over_write part rose =
         let n = next_cut p.consumed p.rest bytes line rest' p.done old.ended new.ended p.cut still ends in
         let o = others_of n in
@@ -193,7 +193,7 @@ module _ (limits : Limits) (limit : ℕ) (before now now' : Streams) (old new : 
         }
 
   -- nothing came after the last line
-  pub over_done : p.rest ++ bytes ≡ [] → now'.written ≡ now.written → 0 < may' → IfSome now'.left (λ bs. bs ≡ []) → IsOver limits limit before now' h end_of.Done
+  pub over_done : p.rest ++ bytes ≡ [] → now'.written ≡ now.written → 0 < may' → IfSome now'.left (λ bs. bs ≡ []) → IsSessionOver limits limit before now' h end_of.Done
   over_done nothing same more none =
       let all : (p.consumed ++ p.rest) ++ bytes ≡ p.consumed = append_assoc p.consumed p.rest bytes ∙ ap (λ bs. p.consumed ++ bs) nothing ∙ append-nil p.consumed in
       let count : may' + length p.consumed ≡ limit = ap (λ (bs : List ℕ). may' + length bs) (sym all) ∙ count_all in
@@ -202,7 +202,7 @@ module _ (limits : Limits) (limit : ℕ) (before now now' : Streams) (old new : 
         written = texts p.replies;
         takes = subst (λ (bs : List ℕ). TakenFrom before.left bs now'.left) all takes_all;
         adds = subst (λ (bs : List ℕ). AppendedTo before.taken bs now'.taken) all adds_all;
-        writes = same ∙ p.writes;
+        writes = subst (λ (bs : Option (List ℕ)). AppendedTo before.written (texts p.replies) bs) (sym same) p.writes;
         session = record {
           replies = p.replies;
           answers = subst (λ (ls : List (List ℕ)). Answers limits 0 [] (items ls) p.replies h)
@@ -229,13 +229,13 @@ module _ (limits : Limits) (limit : ℕ) (before now now' : Streams) (old new : 
         ∙ ap (λ ls. p.done ++ (ls ++ [])) (no_whole (p.rest ++ bytes) clean).0 ∙ append-nil p.done)
 
   pub over_read : (old.ended ≡ true → new.ended ≡ true) → HasNoNewline (p.rest ++ bytes) → new.ended ≡ false → now'.written ≡ now.written → 0 < may' → Rose now.reads now'.reads →
-      IsOver limits limit before now' h end_of.ReadFault
+      IsSessionOver limits limit before now' h end_of.ReadFault
   over_read stays clean unended same more rose = record {
     taken = (p.consumed ++ p.rest) ++ bytes;
     written = texts p.replies;
     takes = takes_all;
     adds = adds_all;
-    writes = same ∙ p.writes;
+    writes = subst (λ (bs : Option (List ℕ)). AppendedTo before.written (texts p.replies) bs) (sym same) p.writes;
     session = stopped stays clean unended;
     caused = Rose-after before.reads now.reads now'.reads p.read_faults rose;
     within = (let c = count_all in omega arith);
@@ -245,13 +245,13 @@ module _ (limits : Limits) (limit : ℕ) (before now now' : Streams) (old new : 
   }
 
   pub over_limit : (old.ended ≡ true → new.ended ≡ true) → HasNoNewline (p.rest ++ bytes) → new.ended ≡ false → now'.written ≡ now.written → may' ≡ 0 →
-      IsOver limits limit before now' h (end_of.ByteLimit limit)
+      IsSessionOver limits limit before now' h (end_of.ByteLimit limit)
   over_limit stays clean unended same none = record {
     taken = (p.consumed ++ p.rest) ++ bytes;
     written = texts p.replies;
     takes = takes_all;
     adds = adds_all;
-    writes = same ∙ p.writes;
+    writes = subst (λ (bs : Option (List ℕ)). AppendedTo before.written (texts p.replies) bs) (sym same) p.writes;
     session = record { full = (let c = count_all in omega arith); answered = stopped stays clean unended };
     caused = refl;
     within = (let c = count_all in omega arith);

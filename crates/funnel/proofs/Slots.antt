@@ -12,7 +12,7 @@ use Rattle.document_store.specs.declared.column.Column.TheVariants as became
 use Rattle.document_store.specs.declared.records.Slot.{Slot}
 use Rattle.funnel_model.specs.History.{Document}
 use Rattle.funnel_model.specs.Slices.{Unclaimed, Pending, Live, IsOver}
-use Rattle.funnel.specs.Kept.{IsLiveIn, document_at, is_over, is_over_in, state_in, state_of}
+use Rattle.funnel.specs.Kept.{IsLiveIn, document_added_at, is_over, is_over_in, state_in, state_of}
 
 -- a column in the state `Unclaimed` is recorded as free
 free_in : (c : Column) (doc : Option Parts) → FitsColumn c doc → state_in c doc ≡ Unclaimed → c ≡ became.Free
@@ -37,16 +37,16 @@ pub pending_by_state : (slot : Slot) (pass : ℕ) → FitsColumn slot.column slo
 pending_by_state slot pass fits is = pending_in pass slot.column slot.doc fits is
 
 -- a column with a live document has the state of it
-pub state-live : (slot : Slot) (doc : Parts) (live : IsLiveIn slot doc) → state_of slot ≡ Live (document_at live.added doc)
+pub state-live : (slot : Slot) (doc : Parts) (live : IsLiveIn slot doc) → state_of slot ≡ Live (document_added_at live.added doc)
 state-live slot doc live = ap (λ c. state_in c slot.doc) live.column ∙ ap (state_in (became.Live live.added)) live.doc_is
 
 -- and the other way round
 live_in : (d : Document) (c : Column) (doc : Option Parts) → FitsColumn c doc → state_in c doc ≡ Live d →
-    (added : ℕ) × (p : Parts) × (c ≡ became.Live added) × (doc ≡ Some p) × (document_at added p ≡ d)
+    (added : ℕ) × (p : Parts) × (c ≡ became.Live added) × (doc ≡ Some p) × (document_added_at added p ≡ d)
 live_in d became.Free doc fits is = cc
 live_in d (became.Pending pass) doc fits is = cc
 live_in d (became.Live added) doc fits is =
-    let same : Live (document_at added fits.0) ≡ Live d = sym (ap (state_in (became.Live added)) fits.1) ∙ is in
+    let same : Live (document_added_at added fits.0) ≡ Live d = sym (ap (state_in (became.Live added)) fits.1) ∙ is in
     (added, fits.0, refl, fits.1, cc)
 live_in d (became.Deleted added deleted) doc fits is = cc (ap (state_in (became.Deleted added deleted)) fits.1)
 live_in d became.Dropped doc fits is = cc
@@ -54,7 +54,7 @@ live_in d became.Dropped doc fits is = cc
 pub record LiveSlot (slot : Slot) (d : Document) : Type 0 where
   pub doc : Parts
   pub live : IsLiveIn slot doc
-  pub is : document_at live.added doc ≡ d
+  pub is : document_added_at live.added doc ≡ d
 
 pub live_by_state : (slot : Slot) (d : Document) → FitsColumn slot.column slot.doc → state_of slot ≡ Live d → LiveSlot slot d
 live_by_state slot d fits is =

@@ -4,11 +4,11 @@ use Rattle.funnel_model.specs.declared.event.Event.{Event}
 use Rattle.funnel_model.specs.declared.reply.Reply.{Reply}
 use Rattle.funnel_model.specs.declared.reply.Reply.TheVariants as reply
 use Rattle.funnel_model.specs.Legal.{Limits}
-use Rattle.line_proto.specs.Forms.{Item, item_of}
+use Rattle.line_proto.specs.Forms.{Item}
 use Rattle.line_proto.specs.Texts.{is_list, text_of}
 use Rattle.funnel.specs.Pending.{Pending}
-use Rattle.funnel.specs.Reading.{EndsLine, IsPending}
-use Rattle.funnel.specs.Session.{AnswersItem}
+use Rattle.funnel.specs.Reading.{EndsLine, IsPendingInput}
+use Rattle.funnel.specs.Session.{AnswersItem, program_item}
 use Rattle.funnel.specs.Taking.{Takes}
 
 -- the text is the reply's, or, for a list of numbers, that of a want of memory
@@ -26,13 +26,13 @@ pub record LineOf (bytes : List ℕ) (new : Pending) (item : Item) : Type 0 wher
   pub line : List ℕ
   pub rest : List ℕ
   pub ends : EndsLine bytes line rest new.ended
-  pub kept : IsPending new rest
-  pub item_is : item_of line ≡ item
+  pub kept : IsPendingInput new rest
+  pub item_is : program_item line ≡ item
 
 -- some bytes were taken, and with those before them they give a line, which was answered by this text
 pub record IsAnswered (limits : Limits) (old new : Pending) (before after : List Event) (left_old left_new taken_old taken_new : Option (List ℕ)) (may_old may_new : ℕ) (text : List ℕ) : Type 0 where
   pub bytes : List ℕ
   pub takes : Takes bytes left_old left_new taken_old taken_new may_old may_new
   pub item : Item
-  pub gives : (rest : List ℕ) → IsPending old rest → LineOf (rest ++ bytes) new item
+  pub gives : (rest : List ℕ) → IsPendingInput old rest → LineOf (rest ++ bytes) new item
   pub replies : Replies limits before item after text

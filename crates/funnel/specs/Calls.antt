@@ -1,5 +1,5 @@
 -- What a call does, by its answer.
-use Rattle.std.specs.Prelude.{◌≡◌, ◌<◌, ℕ, false, List, [], ◌∷◌, ◌++◌, Some}
+use Rattle.std.specs.Prelude.{◌≡◌, ◌<◌, ℕ, false, List, [], ◌∷◌, ◌++◌}
 use Rattle.funnel_model.specs.declared.bit_list.Bit.{Bit}
 use Rattle.funnel_model.specs.declared.call.Call.{Call}
 use Rattle.funnel_model.specs.declared.call.Call.TheVariants as call
@@ -7,25 +7,25 @@ use Rattle.funnel_model.specs.declared.event.Event.{Event}
 use Rattle.funnel_model.specs.declared.event.Event.TheVariants as event
 use Rattle.funnel_model.specs.declared.reply.Reply.{Reply}
 use Rattle.funnel_model.specs.declared.reply.Reply.TheVariants as reply
-use Rattle.funnel_model.specs.History.{is_live, live, place}
-use Rattle.funnel_model.specs.Legal.{IsRefused}
-use Rattle.funnel_model.specs.Steps.{refusal}
-use Rattle.funnel.specs.Kept.{State, IsRoom, clearing_of, column_of, limits_of, slice_columns, slice_of}
+use Rattle.funnel_model.specs.History.{is_live, live}
+use Rattle.funnel_model.specs.Legal.{HasJournalRoom, IsRefused}
+use Rattle.funnel_model.specs.Steps.{IsReplyToRefused}
+use Rattle.funnel.specs.Kept.{State, IsRoom, clearing_of, column_of_room, limits_of, slice_columns, slice_of}
 use Rattle.funnel.specs.Session.{AnswersCall}
 use Rattle.funnel.specs.declared.index.filling.Room.{Room}
 
 -- the call may be refused so
 pub record IsRefusal (state : State) (asked : Call) (given : Reply) : Type 0 where
   pub refused : IsRefused (limits_of state.slices) state.history asked
-  pub reply : refusal (limits_of state.slices) state.history asked ≡ Some given
+  pub reply : IsReplyToRefused (limits_of state.slices) state.history asked given
 
 -- nothing keeps a document with this number out, and it can go to this room
 pub record MayAddIn (state : State) (id : ℕ) (at : Room) : Type 0 where
   pub absent : is_live id state.history ≡ false
-  pub journal : place state.history < (limits_of state.slices).commits
+  pub journal : HasJournalRoom (limits_of state.slices) state.history
   pub room : IsRoom state at
   pub slice : slice_of at < 1024
-  pub column : column_of at < slice_columns
+  pub column : column_of_room at < slice_columns
 
 -- a refused call leaves its refusal alone, and the live documents as they were
 pub record LeavesRefusal (before after : List Event) (asked : Call) : Type 0 where
@@ -40,7 +40,7 @@ pub record LeavesAdded (before : State) (after : List Event) (asked : Call) : Ty
   pub text : List ℕ
   pub bits : List Bit
   pub call : asked ≡ call.Add id text
-  pub events : after ≡ ((before.history ++ clearing_of at) ++ event.Take 0 (slice_of at) (column_of at) ∷ []) ++ event.Add 0 id text (slice_of at) (column_of at) bits ∷ []
+  pub events : after ≡ ((before.history ++ clearing_of at) ++ event.Take 0 (slice_of at) (column_of_room at) ∷ []) ++ event.Add 0 id text (slice_of at) (column_of_room at) bits ∷ []
 
 -- what a call leaves, by its answer: a spent engine takes no call, and want of memory changes no document
 abbrev pub Leaves : State → List Event → Call → Reply → Type 0
@@ -51,6 +51,8 @@ Leaves before after asked (reply.Present n) = LeavesRefusal before.history after
 Leaves before after asked reply.Full = LeavesRefusal before.history after asked
 Leaves before after asked reply.JournalFull = LeavesRefusal before.history after asked
 Leaves before after asked reply.Absent = LeavesRefusal before.history after asked
+Leaves before after asked reply.NothingRetired = LeavesRefusal before.history after asked
+Leaves before after asked (reply.Guarded slice pass) = LeavesRefusal before.history after asked
 Leaves before after asked _ = Unit {0}
 
 -- a call led from one state to another, and was answered so

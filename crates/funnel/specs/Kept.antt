@@ -51,15 +51,15 @@ HasFoot (event.Add pass id text slice column bits) = IsFoot (words text) slice c
 HasFoot _ = Unit {0}
 
 -- a document that was added at this place
-abbrev pub document_at : ℕ → Parts → Document
-document_at added doc = record { id = doc.id; text = doc.text; place = added }
+abbrev pub document_added_at : ℕ → Parts → Document
+document_added_at added doc = record { id = doc.id; text = doc.text; place = added }
 
 -- the state of the column that is recorded so
 abbrev pub state_in : Column → Option Parts → ColumnState
 state_in became.Free doc = Unclaimed
 state_in (became.Pending pass) doc = Pending pass
-state_in (became.Live added) doc = option_map_or (λ d. Live (document_at added d)) doc Unclaimed
-state_in (became.Deleted added deleted) doc = option_map_or (λ d. Deleted (document_at added d) deleted) doc Unclaimed
+state_in (became.Live added) doc = option_map_or (λ d. Live (document_added_at added d)) doc Unclaimed
+state_in (became.Deleted added deleted) doc = option_map_or (λ d. Deleted (document_added_at added d) deleted) doc Unclaimed
 state_in became.Dropped doc = Dropped
 
 abbrev pub state_of : Slot → ColumnState
@@ -170,9 +170,9 @@ abbrev pub slice_of : Room → ℕ
 slice_of (room.Unclaimed slice column) = slice
 slice_of (room.Retired slice) = slice
 
-abbrev pub column_of : Room → ℕ
-column_of (room.Unclaimed slice column) = column
-column_of (room.Retired slice) = 0
+abbrev pub column_of_room : Room → ℕ
+column_of_room (room.Unclaimed slice column) = column
+column_of_room (room.Retired slice) = 0
 
 -- the events by which the room is made
 abbrev pub clearing_of : Room → List Event

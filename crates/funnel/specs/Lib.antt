@@ -11,3 +11,4 @@ pub mod Running
 pub mod Serving
 pub mod Session
 pub mod Taking
+pub mod Told

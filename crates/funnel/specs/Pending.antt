@@ -1,7 +1,7 @@
 -- What a reader of lines keeps between its calls.
 use Rattle.std.specs.Prelude.{◌≡◌, ◌<◌, ◌+◌, ℕ, Bool, List, [], ◌++◌, length, MatchBool, if◌then◌else◌}
 use Rattle.funnel_io.specs.Lines.{HasNoNewline}
-use Rattle.line_proto.specs.Forms.{max_line_len}
+use Rattle.funnel_io.specs.declared.line_reader.TheConstants.{MAX_LINE_LEN}
 
 -- the bytes held of those after the last line, whether the line at hand is too long and the bytes
 -- before were dropped, whether the source is at its end, and the last line that was given whole
@@ -17,7 +17,7 @@ pub record IsEndOf (held : List ℕ) (long : Bool) (rest : List ℕ) : Type 0 wh
   pub dropped : List ℕ
   pub joined : rest ≡ dropped ++ held
   pub clean : HasNoNewline dropped
-  pub count : MatchBool long (max_line_len < length dropped) (dropped ≡ [])
+  pub count : MatchBool long (MAX_LINE_LEN < length dropped) (dropped ≡ [])
 
 -- whatever the bytes held were the end of, they are now
 abbrev pub KeepsAll : List ℕ → Bool → List ℕ → Bool → Type 0

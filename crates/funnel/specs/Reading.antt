@@ -1,15 +1,15 @@
 -- What a reader of lines keeps between its calls, and what a call gives.
 use Rattle.std.specs.Prelude.{◌≡◌, ◌≢◌, ◌<◌, ◌≤◌, ◌⊎◌, ℕ, Bool, true, false, List, [], ◌∷◌, ◌++◌, Option, length, Contains, ⊤}
 use Rattle.funnel_io.specs.Lines.{HasNoNewline}
-use Rattle.line_proto.specs.Forms.{max_line_len}
+use Rattle.funnel_io.specs.declared.line_reader.TheConstants.{MAX_LINE_LEN}
 use Rattle.funnel.specs.Pending.{Pending, IsEndOf}
 use Rattle.funnel.specs.Taking.{Takes}
 use Rattle.funnel.specs.declared.reader.Line.{Line}
 use Rattle.funnel.specs.declared.reader.Line.TheVariants as answer
 
 -- `rest` is all that came after the last line
-abbrev pub IsPending : Pending → List ℕ → Type 0
-IsPending pending rest = IsEndOf pending.held pending.long rest
+abbrev pub IsPendingInput : Pending → List ℕ → Type 0
+IsPendingInput pending rest = IsEndOf pending.held pending.long rest
 
 -- nothing has to be read for an answer, or nothing may be
 abbrev pub IsDecided : Pending → ℕ → Type 0
@@ -31,28 +31,28 @@ pub record EndsLine (bytes line rest : List ℕ) (ended : Bool) : Type 0 where
 pub record GivesWhole (bytes : List ℕ) (new : Pending) : Type 0 where
   pub rest : List ℕ
   pub ends : EndsLine bytes new.line rest new.ended
-  pub fits : length new.line ≤ max_line_len
-  pub pending : IsPending new rest
+  pub fits : length new.line ≤ MAX_LINE_LEN
+  pub pending : IsPendingInput new rest
 
 -- a line ended that is too long
 pub record GivesLong (bytes : List ℕ) (new : Pending) : Type 0 where
   pub line : List ℕ
   pub rest : List ℕ
   pub ends : EndsLine bytes line rest new.ended
-  pub too_long : max_line_len < length line
-  pub pending : IsPending new rest
+  pub too_long : MAX_LINE_LEN < length line
+  pub pending : IsPendingInput new rest
 
 -- the source is at its end, and nothing came after the last line
 pub record Finishes (bytes : List ℕ) (new : Pending) : Type 0 where
   pub nothing : bytes ≡ []
   pub at_end : new.ended ≡ true
-  pub pending : IsPending new []
+  pub pending : IsPendingInput new []
 
 -- no line ended, and the bytes are kept
 pub record Stops (bytes : List ℕ) (new : Pending) : Type 0 where
   pub clean : HasNoNewline bytes
   pub not_at_end : new.ended ≡ false
-  pub pending : IsPending new bytes
+  pub pending : IsPendingInput new bytes
 
 -- what each answer says of all the bytes that came after the last line
 abbrev pub Gives : Line → List ℕ → Pending → Type 0
@@ -70,6 +70,11 @@ IsOfBytes answer.Finished = ⊤
 IsOfBytes answer.Failed = ⊥
 IsOfBytes answer.Limit = ⊥
 
+-- the read of the call failed
+abbrev pub line_failed : Line → Bool
+line_failed answer.Failed = true
+line_failed _ = false
+
 -- an answer that says that a line ended
 abbrev pub IsLine : Line → Type 0
 IsLine answer.Whole = ⊤
@@ -82,10 +87,10 @@ IsLine answer.Limit = ⊥
 pub record Advances (old new : Pending) (line : Line) (left_old left_new taken_old taken_new : Option (List ℕ)) (may_old may_new : ℕ) : Type 0 where
   pub bytes : List ℕ
   pub takes : Takes bytes left_old left_new taken_old taken_new may_old may_new
-  pub gives : (rest : List ℕ) → IsPending old rest → Gives line (rest ++ bytes) new
+  pub gives : (rest : List ℕ) → IsPendingInput old rest → Gives line (rest ++ bytes) new
 
 -- some bytes were taken and go on what came before them
 pub record Continues (old new : Pending) (left_old left_new taken_old taken_new : Option (List ℕ)) (may_old may_new : ℕ) : Type 0 where
   pub bytes : List ℕ
   pub takes : Takes bytes left_old left_new taken_old taken_new may_old may_new
-  pub keeps : (rest : List ℕ) → IsPending old rest → IsPending new (rest ++ bytes)
+  pub keeps : (rest : List ℕ) → IsPendingInput old rest → IsPendingInput new (rest ++ bytes)

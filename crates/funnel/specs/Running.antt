@@ -8,7 +8,7 @@ use Rattle.funnel_model.specs.Events.{pass_of}
 use Rattle.funnel_model.specs.History.{commits}
 use Rattle.funnel_model.specs.Legal.{Limits, IsLegal}
 use Rattle.funnel.specs.Ended.{Ending}
-use Rattle.funnel.specs.Serving.{IsOver, Streams}
+use Rattle.funnel.specs.Serving.{IsSessionOver, Streams}
 use Rattle.funnel.specs.declared.ended.Why.{Why}
 use Rattle.funnel.specs.declared.ended.Why.TheVariants as why_of
 
@@ -42,7 +42,7 @@ NoFault before after = (Rose before.reads after.reads → ⊥) × (Rose before.w
 pub record Ran (limits : Limits) (limit : ℕ) (before after : Streams) (why : Why) (ending : Ending) : Type 0 where
   pub end : End
   pub answered : why ≡ of_end end
-  pub over : IsOver limits limit before after ending.history end
+  pub over : IsSessionOver limits limit before after ending.history end
   pub legal : IsLegal limits ending.history
   pub alone : All (λ e. pass_of e ≡ 0) ending.history
   pub commits_are : ending.commits ≡ commits ending.history

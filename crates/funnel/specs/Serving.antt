@@ -1,6 +1,6 @@
 -- How far a session has come, and how it ends.
 use Rattle.std.specs.Prelude.{◌≡◌, ◌+◌, ◌<◌, ◌≤◌, ◌⊎◌, ℕ, ⊤, Bool, true, false, List, [], ◌++◌, length, Option, IfSome, vec_capacity}
-use Rattle.funnel_io.specs.Bytes.{AppendedTo, TakenFrom}
+use Rattle.funnel.specs.Told.{AppendedTo, TakenFrom}
 use Rattle.funnel_io.specs.Counts.{Rose}
 use Rattle.funnel_io.specs.Lines.{lines, rest_of, whole_lines}
 use Rattle.funnel_io.specs.declared.end.End.{End}
@@ -8,11 +8,10 @@ use Rattle.funnel_io.specs.declared.end.End.TheVariants as end_of
 use Rattle.funnel_model.specs.declared.event.Event.{Event}
 use Rattle.funnel_model.specs.declared.reply.Reply.{Reply}
 use Rattle.funnel_model.specs.Legal.{Limits}
-use Rattle.line_proto.specs.Forms.{items}
 use Rattle.line_proto.specs.Texts.{texts}
 use Rattle.funnel.specs.Pending.{Pending}
-use Rattle.funnel.specs.Reading.{IsPending}
-use Rattle.funnel.specs.Session.{Answers, AnswersSome, Session}
+use Rattle.funnel.specs.Reading.{IsPendingInput}
+use Rattle.funnel.specs.Session.{Answers, AnswersSome, Session, items}
 use Rattle.funnel.specs.declared.serving.Server.{Server}
 
 -- what an input and an output tell: the bytes left, taken and written, where they tell them, and their counts of faults
@@ -51,7 +50,7 @@ pub record Progress (limits : Limits) (limit : ℕ) (before now : Streams) (pend
   pub takes : TakenFrom before.left (consumed ++ rest) now.left
   pub adds : AppendedTo before.taken (consumed ++ rest) now.taken
   pub count : may + length (consumed ++ rest) ≡ limit
-  pub kept : IsPending pending rest
+  pub kept : IsPendingInput pending rest
   pub cut : IsAtNewline consumed done ⊎ IsAtEnd consumed rest done pending.ended
   pub answers : Answers limits 0 [] (items done) replies history
   pub writes : AppendedTo before.written (texts replies) now.written
@@ -63,7 +62,7 @@ pub record Progress (limits : Limits) (limit : ℕ) (before now : Streams) (pend
 -- the session is over: it took these bytes and wrote those, and had a cause to end so; the input's end and a failure come
 -- of a read, which is made only where a byte may be taken (`below`); where a write failed nothing is left, or only lines
 -- that a newline ended were answered (`none_left_unended`)
-pub record IsOver (limits : Limits) (limit : ℕ) (before after : Streams) (history : List Event) (end : End) : Type 0 where
+pub record IsSessionOver (limits : Limits) (limit : ℕ) (before after : Streams) (history : List Event) (end : End) : Type 0 where
   pub taken : List ℕ
   pub written : List ℕ
   pub takes : TakenFrom before.left taken after.left

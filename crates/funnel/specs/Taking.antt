@@ -1,6 +1,6 @@
 -- Bytes that are taken from a source.
 use Rattle.std.specs.Prelude.{◌≡◌, ◌+◌, ◌++◌, ℕ, List, Option, length}
-use Rattle.funnel_io.specs.Bytes.{TakenFrom, AppendedTo}
+use Rattle.funnel.specs.Told.{TakenFrom, AppendedTo}
 
 -- the bytes were taken from the source, and their number from the number that may be taken
 pub record Takes (bytes : List ℕ) (left_old left_new taken_old taken_new : Option (List ℕ)) (may_old may_new : ℕ) : Type 0 where

@@ -1,14 +1,14 @@
-ghost use Rattle.std.specs.Prelude.{◌≡◌, ◌≤◌, ℕ, [], ◌∷◌, vec_capacity};
+ghost use Rattle.std.specs.Prelude.{◌≡◌, ◌≤◌, length, vec_capacity};
 ghost use Rattle.funnel_model.specs.Legal.{IsIdle, IsLegal};
 ghost use Rattle.funnel_model.specs.declared.reply.Reply.TheVariants as reply;
 ghost use Rattle.funnel.specs.Kept.{limits_of};
-ghost use Rattle.funnel.specs.Session.{AnswersItem};
+ghost use Rattle.funnel.specs.Session.{AnswersItem, program_item};
 ghost use Rattle.funnel.specs.Answering.{IsRendered, Replies};
-ghost use Rattle.line_proto.specs.Forms.{item_of};
 ghost use Rattle.line_proto.specs.Texts.{text_of};
 
 use crate::calls::{add, delete, find, place};
 use crate::index::Index;
+use funnel_io::MAX_LINE_LEN;
 use funnel_model::Reply;
 use line_proto::{Request, parse_line, reply_text};
 use std::alloc::Global;
@@ -22,8 +22,9 @@ pub fn answer(index: &mut Index, alloc: Global, line: &[u8], text: &mut Vec<u8>)
     requires idle { IsIdle 0 index.old.history }
     requires legal { IsLegal (limits_of index.old.slices) index.old.history }
     requires room { TEXT_ROOM ≤ vec_capacity text.old }
+    requires fits { length line.now ≤ MAX_LINE_LEN }
     ensures slices { index.new.slices ≡ index.old.slices }
-    ensures replies { Replies (limits_of index.old.slices) index.old.history (item_of line.now) index.new.history text.new.items }
+    ensures replies { Replies (limits_of index.old.slices) index.old.history (program_item line.now) index.new.history text.new.items }
     ensures room { TEXT_ROOM ≤ vec_capacity text.new }
 {
     let reply = reply_to(index, alloc, line);
@@ -34,11 +35,12 @@ pub fn answer(index: &mut Index, alloc: Global, line: &[u8], text: &mut Vec<u8>)
 fn reply_to(index: &mut Index, alloc: Global, line: &[u8]) -> Reply
     requires idle { IsIdle 0 index.old.history }
     requires legal { IsLegal (limits_of index.old.slices) index.old.history }
+    requires fits { length line.now ≤ MAX_LINE_LEN }
     ensures slices { index.new.slices ≡ index.old.slices }
-    ensures answers { AnswersItem (limits_of index.old.slices) 0 index.old.history (item_of line.now) result index.new.history }
+    ensures answers { AnswersItem (limits_of index.old.slices) 0 index.old.history (program_item line.now) result index.new.history }
 {
     match parse_line(line) {
-        None => Reply::Line,
+        None | Some(Request::Journal { .. } | Request::Recycle) => Reply::Line,
         Some(Request::Add { id, text }) => add(index, alloc, id, text),
         Some(Request::Delete { id }) => delete(index, id),
         Some(Request::Find { query }) => find(index, alloc, query),

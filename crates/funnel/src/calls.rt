@@ -9,7 +9,7 @@ ghost use Rattle.funnel_model.specs.History.{answer};
 ghost use Rattle.funnel.specs.Calls.{IsCall, IsRefusal, MayAddIn};
 ghost use Rattle.funnel.specs.Foot.{slice_rows};
 ghost use Rattle.funnel.specs.Hits.{AreHits, IsScanned};
-ghost use Rattle.funnel.specs.Kept.{IsOpenFind, IsRoom, WithEvent, clearing_of, column_of, limits_of, slice_of};
+ghost use Rattle.funnel.specs.Kept.{IsOpenFind, IsRoom, WithEvent, clearing_of, column_of_room, limits_of, slice_of};
 
 use crate::draft::Draft;
 use crate::index::{EVENT_ROOM, Index, Room};
@@ -83,11 +83,11 @@ fn claim_in(index: &mut Index, room: Room) -> Claim
     requires room { length index.old.history + 3 ≤ EVENT_ROOM }
     requires idle { IsIdle 0 index.old.history }
     requires may { IsRoom index.old room }
-    requires column { column_of room < 64 }
+    requires column { column_of_room room < 64 }
     ensures slice { result.slice ≡ slice_of room }
-    ensures column { result.column ≡ column_of room }
+    ensures column { result.column ≡ column_of_room room }
     ensures slices { index.new.slices ≡ index.old.slices }
-    ensures history { index.new.history ≡ (index.old.history ++ clearing_of room) ++ event.Take 0 (slice_of room) (column_of room) ∷ [] }
+    ensures history { index.new.history ≡ (index.old.history ++ clearing_of room) ++ event.Take 0 (slice_of room) (column_of_room room) ∷ [] }
     ensures legal { IsLegal (limits_of index.new.slices) index.new.history }
 {
     match room {

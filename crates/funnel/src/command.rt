@@ -25,8 +25,8 @@ pub fn funnel_main<C: Source, S: Source, K: Sink, G: Gate + Send>(
     ensures usage { result.why ≡ Why.Usage ↔ (IsRun (map (λ word. word.now) words.now) → ⊥) }
     ensures nothing_run { (IsRun (map (λ word. word.now) words.now) → ⊥) → result.closed ≡ None }
     ensures ran { IsRun (map (λ word. word.now) words.now) → RanOrNot (limits_of 2) (2 ^ 40)
-        record { left = S.left input.old; taken = S.taken input.old; written = K.written output.old; reads = S.read_faults input.old; writes = K.write_faults output.old }
-        record { left = S.left input.new; taken = S.taken input.new; written = K.written output.new; reads = S.read_faults input.new; writes = K.write_faults output.new }
+        record { left = (S.incoming input.old).left; taken = (S.incoming input.old).taken; written = (K.outgoing output.old).written; reads = (S.incoming input.old).faults; writes = (K.outgoing output.old).faults }
+        record { left = (S.incoming input.new).left; taken = (S.incoming input.new).taken; written = (K.outgoing output.new).written; reads = (S.incoming input.new).faults; writes = (K.outgoing output.new).faults }
         result.why result.closed }
     ensures input_untouched { IfNone result.closed (input.new ≡ input.old) }
     ensures output_untouched { IfNone result.closed (output.new ≡ output.old) }

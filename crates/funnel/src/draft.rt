@@ -27,7 +27,7 @@ impl Draft {
         let Ok(set) = words(alloc, text) else {
             return Err(Memory);
         };
-        let rows = rows_of(alloc, set.as_slice())?;
+        let rows = rows_of(alloc, &set)?;
         let text = Text::new(String::from_str(alloc, text)?);
         Ok(Draft {
             text,

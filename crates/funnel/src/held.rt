@@ -1,12 +1,12 @@
-ghost use Rattle.std.specs.Prelude.{◌≡◌, ◌<◌, ◌≤◌, ◌+◌, [], ◌∷◌, ◌++◌, IfOk, IfSome, MatchBool, length, take, drop, ⊤};
-ghost use Rattle.funnel_io.specs.Answers.{MatchGot};
-ghost use Rattle.funnel_io.specs.Bytes.{TakenFrom, AppendedTo};
-ghost use Rattle.funnel_io.specs.Counts.{Rose};
+ghost use Rattle.std.specs.Prelude.{◌≡◌, ◌<◌, ◌≤◌, ◌+◌, [], ◌∷◌, ◌++◌, IfOk, MatchBool, length, take, drop, ⊤};
+ghost use Rattle.std.specs.Io.KnownBytes.{IsAtEnd};
+ghost use Rattle.funnel_io.specs.Answers.{MatchGot, bytes_got, read_failed};
+ghost use Rattle.funnel_io.specs.Counts.{counted};
 ghost use Rattle.funnel_io.specs.Lines.{HasNoNewline};
+ghost use Rattle.funnel_io.specs.Streams.{Takes};
 ghost use Rattle.funnel.specs.Taking.{Reads};
 
-use funnel_io::{Got, Memory, Source};
-use line_proto::MAX_LINE_LEN;
+use funnel_io::{Got, MAX_LINE_LEN, Memory, Source};
 use memchr::memchr;
 use std::alloc::Global;
 use std::marker::Model;
@@ -139,15 +139,14 @@ impl Held {
         requires clean { HasNoNewline self.old.bytes }
         requires room { LEAST_ROOM ≤ self.old.room }
         requires some { 0 < left.old }
-        ensures never_falls { C.read_faults conn.old ≤ C.read_faults conn.new }
         ensures borrowed { C.borrowed conn.new ≡ C.borrowed conn.old }
         ensures beside { C.beside_read conn.new ≡ C.beside_read conn.old }
-        ensures reads { Reads self.old.bytes self.new.bytes (C.left conn.old) (C.left conn.new)
-            (C.taken conn.old) (C.taken conn.new) left.old left.new }
+        ensures reads { Reads self.old.bytes self.new.bytes (C.incoming conn.old).left (C.incoming conn.new).left
+            (C.incoming conn.old).taken (C.incoming conn.new).taken left.old left.new }
         ensures some { MatchGot result (λ _. left.new < left.old) ⊤ ⊤ }
         ensures nothing { MatchGot result (λ _. ⊤) (left.new ≡ left.old) (left.new ≡ left.old) }
-        ensures end { MatchGot result (λ _. ⊤) (IfSome (C.left conn.new) (λ bytes. bytes ≡ [])) ⊤ }
-        ensures failed { MatchGot result (λ _. ⊤) ⊤ (Rose (C.read_faults conn.old) (C.read_faults conn.new)) }
+        ensures end { MatchGot result (λ _. ⊤) (IsAtEnd (C.incoming conn.new).left) ⊤ }
+        ensures faults { (C.incoming conn.new).faults ≡ counted (read_failed result) (C.incoming conn.old).faults }
     {
         match read_behind(conn, &mut self.buffer, self.end, *left) {
             Got::Bytes(n) => {
@@ -165,21 +164,13 @@ impl Held {
 fn read_behind<C: Source>(conn: &mut C, buffer: &mut [u8], end: usize, left: u64) -> Got
     requires room { end + LEAST_ROOM ≤ length buffer.old }
     requires some { 0 < left }
-    ensures never_falls { C.read_faults conn.old ≤ C.read_faults conn.new }
     ensures borrowed { C.borrowed conn.new ≡ C.borrowed conn.old }
     ensures beside { C.beside_read conn.new ≡ C.beside_read conn.old }
     ensures kept { take end buffer.new ≡ take end buffer.old }
     ensures count { MatchGot result (λ n. (1 ≤ n) × (n ≤ left) × (end + n ≤ length buffer.new)) ⊤ ⊤ }
-    ensures left { MatchGot result
-        (λ n. TakenFrom (C.left conn.old) (take n (drop end buffer.new)) (C.left conn.new))
-        (C.left conn.new ≡ C.left conn.old)
-        (C.left conn.new ≡ C.left conn.old) }
-    ensures taken { MatchGot result
-        (λ n. AppendedTo (C.taken conn.old) (take n (drop end buffer.new)) (C.taken conn.new))
-        (C.taken conn.new ≡ C.taken conn.old)
-        (C.taken conn.new ≡ C.taken conn.old) }
-    ensures end { MatchGot result (λ _. ⊤) (IfSome (C.left conn.new) (λ bytes. bytes ≡ [])) ⊤ }
-    ensures failed { MatchGot result (λ _. ⊤) ⊤ (Rose (C.read_faults conn.old) (C.read_faults conn.new)) }
+    ensures takes { Takes (bytes_got result (drop end buffer.new)) (C.incoming conn.old) (C.incoming conn.new) }
+    ensures end { MatchGot result (λ _. ⊤) (IsAtEnd (C.incoming conn.new).left) ⊤ }
+    ensures faults { (C.incoming conn.new).faults ≡ counted (read_failed result) (C.incoming conn.old).faults }
 {
     let most = left.min((buffer.len() - end) as u64) as usize;
     prove!(most as u64 == left || most >= 64);

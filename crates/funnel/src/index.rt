@@ -4,7 +4,7 @@ ghost use Rattle.funnel_model.specs.declared.call.Call.TheVariants as call;
 ghost use Rattle.funnel_model.specs.declared.event.Event.TheVariants as event;
 ghost use Rattle.funnel_model.specs.Events.{pass_of};
 ghost use Rattle.funnel_model.specs.History.{is_live, live_place, place};
-ghost use Rattle.funnel_model.specs.Legal.{IsIdle, IsJournalFull, IsLegal, IsRefused, MayDelete};
+ghost use Rattle.funnel_model.specs.Legal.{IsIdle, IsLegal, IsRefused, MayDelete, is_journal_full};
 ghost use Rattle.funnel.specs.Ended.{ending_of};
 ghost use Rattle.funnel.specs.Kept.{State, WithEvent, limits_of};
 
@@ -102,7 +102,7 @@ impl Index {
 
     /// Whether the journal holds as many commits as it can.
     pub fn is_journal_full(&self) -> bool
-        ensures full { IsTrue result ↔ IsJournalFull (limits_of self.now.slices) self.now.history }
+        ensures full { result ≡ is_journal_full (limits_of self.now.slices) self.now.history }
         ensures within { place self.now.history ≤ (limits_of self.now.slices).commits }
     {
         let _ = &self.events;

@@ -1,13 +1,13 @@
-ghost use Rattle.std.specs.Prelude.{◌≡◌, ◌<◌, ◌≤◌, ◌+◌, ◌⊎◌, [], true, false, nat_lt, ◌||◌, if◌then◌else◌, IfOk, IfSome, MatchOption, length, ⊤};
-ghost use Rattle.funnel_io.specs.Answers.{MatchGot};
-ghost use Rattle.funnel_io.specs.Counts.{Rose};
+ghost use Rattle.std.specs.Prelude.{◌≡◌, ◌<◌, ◌≤◌, ◌+◌, ◌⊎◌, [], true, false, nat_lt, ◌||◌, if◌then◌else◌, IfOk, MatchOption, length, ⊤};
+ghost use Rattle.std.specs.Io.KnownBytes.{IsAtEnd};
+ghost use Rattle.funnel_io.specs.Answers.{MatchGot, read_failed};
+ghost use Rattle.funnel_io.specs.Counts.{counted};
 ghost use Rattle.funnel_io.specs.Lines.{HasNoNewline};
 ghost use Rattle.funnel.specs.Pending.{KeepsAll, most_lines};
-ghost use Rattle.funnel.specs.Reading.{IsPending, IsDecided, Gives, Advances, Continues, IsOfBytes, IsLine};
+ghost use Rattle.funnel.specs.Reading.{IsPendingInput, IsDecided, Gives, line_failed, Advances, Continues, IsOfBytes, IsLine};
 
 use crate::held::{Held, LEAST_ROOM};
-use funnel_io::{Got, Memory, Source};
-use line_proto::MAX_LINE_LEN;
+use funnel_io::{Got, MAX_LINE_LEN, Memory, Source};
 use std::alloc::Global;
 use std::marker::Model;
 
@@ -75,22 +75,22 @@ impl LineReader {
     /// Gives the next line, and takes at most `left` bytes for it, which it counts down. It reads
     /// only where the bytes that it holds decide no answer, and takes no memory.
     pub fn next_line<C: Source>(&mut self, conn: &mut C, left: &mut u64) -> Line
-        ensures never_falls { C.read_faults conn.old ≤ C.read_faults conn.new }
         ensures borrowed { C.borrowed conn.new ≡ C.borrowed conn.old }
         ensures beside { C.beside_read conn.new ≡ C.beside_read conn.old }
-        ensures advances { Advances self.old self.new result (C.left conn.old) (C.left conn.new)
-            (C.taken conn.old) (C.taken conn.new) left.old left.new }
+        ensures advances { Advances self.old self.new result (C.incoming conn.old).left (C.incoming conn.new).left
+            (C.incoming conn.old).taken (C.incoming conn.new).taken left.old left.new }
 
         // Where nothing has to be read or nothing may be, the source is not touched.
         ensures untouched { IsDecided self.old left.old → conn.new ≡ conn.old }
         ensures uncounted { IsDecided self.old left.old → left.new ≡ left.old }
         ensures at_end { self.new.ended ≡ true
-            → (self.old.ended ≡ true) ⊎ IfSome (C.left conn.new) (λ bytes. bytes ≡ []) }
+            → (self.old.ended ≡ true) ⊎ IsAtEnd (C.incoming conn.new).left }
         ensures may_more { self.new.ended ≡ true → (self.old.ended ≡ true) ⊎ (0 < left.new) }
         ensures stays_at_end { self.old.ended ≡ true → self.new.ended ≡ true }
-        ensures failed { result ≡ Line.Failed → Rose (C.read_faults conn.old) (C.read_faults conn.new) }
+        ensures faults { (C.incoming conn.new).faults ≡ counted (line_failed result) (C.incoming conn.old).faults }
         ensures failed_below_limit { result ≡ Line.Failed → 0 < left.new }
         ensures limit { result ≡ Line.Limit → left.new ≡ 0 }
+        ensures fits { result ≡ Line.Whole → length self.new.line ≤ MAX_LINE_LEN }
 
         // A line that is given leaves fewer that can still come.
         ensures fewer { IsLine result → most_lines self.new.held self.new.long + left.new
@@ -114,11 +114,12 @@ impl LineReader {
     // The answer that the bytes at hand decide, if they do.
     fn held_line(&mut self) -> Option<Line>
         ensures line { MatchOption result (self.new ≡ self.old)
-            (λ line. (rest : _) → IsPending self.old rest → Gives line rest self.new) }
+            (λ line. (rest : _) → IsPendingInput self.old rest → Gives line rest self.new) }
         ensures clean { MatchOption result (HasNoNewline self.new.held) (λ _. ⊤) }
         ensures not_at_end { MatchOption result (self.new.ended ≡ false) (λ _. ⊤) }
         ensures ended { self.new.ended ≡ self.old.ended }
         ensures decided { MatchOption result ⊤ IsOfBytes }
+        ensures fits { MatchOption result ⊤ (λ line. line ≡ Line.Whole → length self.new.line ≤ MAX_LINE_LEN) }
         ensures fewer { MatchOption result ⊤ (λ line. IsLine line
             → most_lines self.new.held self.new.long < most_lines self.old.held self.old.long) }
     {
@@ -138,9 +139,10 @@ impl LineReader {
     fn last_line(&mut self) -> Line
         requires at_end { self.old.ended ≡ true }
         requires clean { HasNoNewline self.old.held }
-        ensures line { (rest : _) → IsPending self.old rest → Gives result rest self.new }
+        ensures line { (rest : _) → IsPendingInput self.old rest → Gives result rest self.new }
         ensures ended { self.new.ended ≡ true }
         ensures decided { IsOfBytes result }
+        ensures fits { result ≡ Line.Whole → length self.new.line ≤ MAX_LINE_LEN }
         ensures fewer { IsLine result
             → most_lines self.new.held self.new.long < most_lines self.old.held self.old.long }
     {
@@ -158,19 +160,18 @@ impl LineReader {
         requires not_at_end { self.old.ended ≡ false }
         requires clean { HasNoNewline self.old.held }
         requires some { 0 < left.old }
-        ensures never_falls { C.read_faults conn.old ≤ C.read_faults conn.new }
         ensures borrowed { C.borrowed conn.new ≡ C.borrowed conn.old }
         ensures beside { C.beside_read conn.new ≡ C.beside_read conn.old }
-        ensures continues { Continues self.old self.new (C.left conn.old) (C.left conn.new)
-            (C.taken conn.old) (C.taken conn.new) left.old left.new }
+        ensures continues { Continues self.old self.new (C.incoming conn.old).left (C.incoming conn.new).left
+            (C.incoming conn.old).taken (C.incoming conn.new).taken left.old left.new }
         ensures no_more { most_lines self.new.held self.new.long + left.new
             ≤ most_lines self.old.held self.old.long + left.old }
         ensures some { MatchGot result (λ _. left.new < left.old) ⊤ ⊤ }
         ensures nothing { MatchGot result (λ _. ⊤) (left.new ≡ left.old) (left.new ≡ left.old) }
         ensures clean { MatchGot result (λ _. ⊤) (HasNoNewline self.new.held) (HasNoNewline self.new.held) }
         ensures ended { MatchGot result (λ _. self.new.ended ≡ false) (self.new.ended ≡ true) (self.new.ended ≡ false) }
-        ensures end { MatchGot result (λ _. ⊤) (IfSome (C.left conn.new) (λ bytes. bytes ≡ [])) ⊤ }
-        ensures failed { MatchGot result (λ _. ⊤) ⊤ (Rose (C.read_faults conn.old) (C.read_faults conn.new)) }
+        ensures end { MatchGot result (λ _. ⊤) (IsAtEnd (C.incoming conn.new).left) ⊤ }
+        ensures faults { (C.incoming conn.new).faults ≡ counted (read_failed result) (C.incoming conn.old).faults }
     {
         self.long = make_room(&mut self.held, self.long);
         let got = self.held.read(conn, left);
@@ -183,7 +184,8 @@ impl LineReader {
 
 // The answer for a line that ended; `long` tells that bytes of it were dropped.
 fn judge(long: bool, line: &[u8]) -> Line
-    ensures { result ≡ (if long || nat_lt MAX_LINE_LEN (length line.now) then Line.Long else Line.Whole) }
+    ensures judged { result ≡ (if long || nat_lt MAX_LINE_LEN (length line.now) then Line.Long else Line.Whole) }
+    ensures fits { result ≡ Line.Whole → length line.now ≤ MAX_LINE_LEN }
 {
     if long || line.len() > MAX_LINE_LEN {
         Line::Long

@@ -1,11 +1,11 @@
-ghost use Rattle.std.specs.Prelude.{◌≡◌, ◌≢◌, ◌↔◌, ◌⊎◌, ◌<◌, ◌≤◌, ◌+◌, ◌*◌, ◌^◌, ℕ, List, length, map, string_bytes, slice_index, Contains, IfOk};
+ghost use Rattle.std.specs.Prelude.{◌≡◌, ◌≢◌, ◌↔◌, ◌⊎◌, ◌<◌, ◌≤◌, ◌+◌, ◌*◌, ◌^◌, ℕ, List, length, slice_index, Contains, IfOk};
 ghost use Rattle.std.specs.List.{All};
 ghost use Rattle.std.specs.List.Sorted.{IsStrictlySortedBy};
 ghost use Rattle.std.specs.Ordering.{nat_cmp};
 ghost use Rattle.funnel_model.specs.declared.bit_list.Bit.{Bit};
 ghost use Rattle.funnel.specs.Foot.{HasBit, IsListed, rows_of_words, slice_rows};
 
-use funnel_model::Bit;
+use funnel_model::{Bit, WordSet};
 use std::alloc::{AllocError, Global};
 use term_hash::row_of;
 
@@ -13,9 +13,9 @@ use term_hash::row_of;
 pub const SLICE_ROWS: usize = 1024;
 
 /// The rows of these words in rising order, each once.
-pub fn rows_of(alloc: Global, words: &[String]) -> Result<Vec<u32>, AllocError>
+pub fn rows_of(alloc: Global, words: &WordSet) -> Result<Vec<u32>, AllocError>
     ensures rising { IfOk result (λ rows. IsStrictlySortedBy nat_cmp rows.items) }
-    ensures exactly { IfOk result (λ rows. (row : ℕ) → Contains rows.items row ↔ Contains (rows_of_words (map string_bytes words.now)) row) }
+    ensures exactly { IfOk result (λ rows. (row : ℕ) → Contains rows.items row ↔ Contains (rows_of_words words.now) row) }
     ensures within { IfOk result (λ rows. All (λ row. row < slice_rows) rows.items) }
 {
     let mut rows = rows_by_word(alloc, words)?;
@@ -25,14 +25,14 @@ pub fn rows_of(alloc: Global, words: &[String]) -> Result<Vec<u32>, AllocError>
 }
 
 /// The rows of each word, as they come.
-fn rows_by_word(alloc: Global, words: &[String]) -> Result<Vec<u32>, AllocError>
-    ensures rows { IfOk result (λ rows. rows.items ≡ rows_of_words (map string_bytes words.now)) }
+fn rows_by_word(alloc: Global, words: &WordSet) -> Result<Vec<u32>, AllocError>
+    ensures rows { IfOk result (λ rows. rows.items ≡ rows_of_words words.now) }
     ensures within { IfOk result (λ rows. All (λ row. row < slice_rows) rows.items) }
 {
     let mut rows = Vec::new(alloc);
-    for word in words {
-        rows.push(row_of(word.as_bytes(), 0, SLICE_ROWS as u32))?;
-        rows.push(row_of(word.as_bytes(), 1, SLICE_ROWS as u32))?;
+    for word in words.iter() {
+        rows.push(row_of(word, 0, SLICE_ROWS as u32))?;
+        rows.push(row_of(word, 1, SLICE_ROWS as u32))?;
     }
     Ok(rows)
 }

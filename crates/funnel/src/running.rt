@@ -22,8 +22,8 @@ pub fn run_with<S: Source, K: Sink>(
     requires some { 1 ≤ slices }
     requires few { slices ≤ 1024 }
     ensures ran { RanOrNot (limits_of slices) (2 ^ 40)
-        record { left = S.left input.old; taken = S.taken input.old; written = K.written output.old; reads = S.read_faults input.old; writes = K.write_faults output.old }
-        record { left = S.left input.new; taken = S.taken input.new; written = K.written output.new; reads = S.read_faults input.new; writes = K.write_faults output.new }
+        record { left = (S.incoming input.old).left; taken = (S.incoming input.old).taken; written = (K.outgoing output.old).written; reads = (S.incoming input.old).faults; writes = (K.outgoing output.old).faults }
+        record { left = (S.incoming input.new).left; taken = (S.incoming input.new).taken; written = (K.outgoing output.new).written; reads = (S.incoming input.new).faults; writes = (K.outgoing output.new).faults }
         result.0 result.1 }
     ensures input_untouched { IfNone result.1 (input.new ≡ input.old) }
     ensures output_untouched { IfNone result.1 (output.new ≡ output.old) }
@@ -44,8 +44,8 @@ pub(crate) fn run_up_to<S: Source, K: Sink>(
     requires some { 1 ≤ slices }
     requires few { slices ≤ 1024 }
     ensures ran { RanOrNot (limits_of slices) limit
-        record { left = S.left input.old; taken = S.taken input.old; written = K.written output.old; reads = S.read_faults input.old; writes = K.write_faults output.old }
-        record { left = S.left input.new; taken = S.taken input.new; written = K.written output.new; reads = S.read_faults input.new; writes = K.write_faults output.new }
+        record { left = (S.incoming input.old).left; taken = (S.incoming input.old).taken; written = (K.outgoing output.old).written; reads = (S.incoming input.old).faults; writes = (K.outgoing output.old).faults }
+        record { left = (S.incoming input.new).left; taken = (S.incoming input.new).taken; written = (K.outgoing output.new).written; reads = (S.incoming input.new).faults; writes = (K.outgoing output.new).faults }
         result.0 result.1 }
     ensures input_untouched { IfNone result.1 (input.new ≡ input.old) }
     ensures output_untouched { IfNone result.1 (output.new ≡ output.old) }

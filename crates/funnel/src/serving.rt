@@ -6,7 +6,7 @@ ghost use Rattle.funnel.specs.Answering.{IsAnswered};
 ghost use Rattle.funnel.specs.Ended.{ending_of};
 ghost use Rattle.funnel.specs.Kept.{limits_of};
 ghost use Rattle.funnel.specs.Pending.{most_lines};
-ghost use Rattle.funnel.specs.Serving.{IsFresh, IsOver, Progress, Streams};
+ghost use Rattle.funnel.specs.Serving.{IsFresh, IsSessionOver, Progress, Streams};
 
 use crate::answering::{TEXT_ROOM, answer, render};
 use crate::closed::Closed;
@@ -48,13 +48,13 @@ impl Server {
     ) -> End
         requires fresh { IsFresh self.old.index.slices self.old }
         ensures slices { self.new.index.slices ≡ self.old.index.slices }
-        ensures reads { C.read_faults input.old ≤ C.read_faults input.new }
-        ensures writes { K.write_faults output.old ≤ K.write_faults output.new }
+        ensures reads { (C.incoming input.old).faults ≤ (C.incoming input.new).faults }
+        ensures writes { (K.outgoing output.old).faults ≤ (K.outgoing output.new).faults }
         ensures source_borrowed { C.borrowed input.new ≡ C.borrowed input.old }
         ensures sink_borrowed { K.borrowed output.new ≡ K.borrowed output.old }
-        ensures over { IsOver (limits_of self.old.index.slices) limit
-            record { left = C.left input.old; taken = C.taken input.old; written = K.written output.old; reads = C.read_faults input.old; writes = K.write_faults output.old }
-            record { left = C.left input.new; taken = C.taken input.new; written = K.written output.new; reads = C.read_faults input.new; writes = K.write_faults output.new }
+        ensures over { IsSessionOver (limits_of self.old.index.slices) limit
+            record { left = (C.incoming input.old).left; taken = (C.incoming input.old).taken; written = (K.outgoing output.old).written; reads = (C.incoming input.old).faults; writes = (K.outgoing output.old).faults }
+            record { left = (C.incoming input.new).left; taken = (C.incoming input.new).taken; written = (K.outgoing output.new).written; reads = (C.incoming input.new).faults; writes = (K.outgoing output.new).faults }
             self.new.index.history result }
     {
         let mut left = limit;
@@ -87,21 +87,21 @@ impl Server {
         requires legal { IsLegal (limits_of self.old.index.slices) self.old.index.history }
         requires room { TEXT_ROOM ≤ vec_capacity self.old.text }
         ensures slices { self.new.index.slices ≡ self.old.index.slices }
-        ensures reads { C.read_faults input.old ≤ C.read_faults input.new }
-        ensures writes { K.write_faults output.old ≤ K.write_faults output.new }
+        ensures reads { (C.incoming input.old).faults ≤ (C.incoming input.new).faults }
+        ensures writes { (K.outgoing output.old).faults ≤ (K.outgoing output.new).faults }
         ensures source_borrowed { C.borrowed input.new ≡ C.borrowed input.old }
         ensures sink_borrowed { K.borrowed output.new ≡ K.borrowed output.old }
         ensures on { IfNone result (IsIdle 0 self.new.index.history × IsLegal (limits_of self.new.index.slices) self.new.index.history × (TEXT_ROOM ≤ vec_capacity self.new.text)) }
         ensures progress { (before : Streams) →
             Progress (limits_of self.old.index.slices) limit before
-            record { left = C.left input.old; taken = C.taken input.old; written = K.written output.old; reads = C.read_faults input.old; writes = K.write_faults output.old }
+            record { left = (C.incoming input.old).left; taken = (C.incoming input.old).taken; written = (K.outgoing output.old).written; reads = (C.incoming input.old).faults; writes = (K.outgoing output.old).faults }
             self.old.reader self.old.index.history left.old →
             MatchOption result
             (Progress (limits_of self.old.index.slices) limit before
-            record { left = C.left input.new; taken = C.taken input.new; written = K.written output.new; reads = C.read_faults input.new; writes = K.write_faults output.new }
+            record { left = (C.incoming input.new).left; taken = (C.incoming input.new).taken; written = (K.outgoing output.new).written; reads = (C.incoming input.new).faults; writes = (K.outgoing output.new).faults }
             self.new.reader self.new.index.history left.new)
-            (IsOver (limits_of self.old.index.slices) limit before
-            record { left = C.left input.new; taken = C.taken input.new; written = K.written output.new; reads = C.read_faults input.new; writes = K.write_faults output.new }
+            (IsSessionOver (limits_of self.old.index.slices) limit before
+            record { left = (C.incoming input.new).left; taken = (C.incoming input.new).taken; written = (K.outgoing output.new).written; reads = (C.incoming input.new).faults; writes = (K.outgoing output.new).faults }
             self.new.index.history) }
         ensures fewer { IfNone result (most_lines self.new.reader.held self.new.reader.long + left.new
             < most_lines self.old.reader.held self.old.reader.long + left.old) }
@@ -127,22 +127,22 @@ impl Server {
         requires legal { IsLegal (limits_of self.old.index.slices) self.old.index.history }
         requires room { TEXT_ROOM ≤ vec_capacity self.old.text }
         ensures slices { self.new.index.slices ≡ self.old.index.slices }
-        ensures reads { C.read_faults input.old ≤ C.read_faults input.new }
+        ensures reads { (C.incoming input.old).faults ≤ (C.incoming input.new).faults }
         ensures source_borrowed { C.borrowed input.new ≡ C.borrowed input.old }
         ensures room { TEXT_ROOM ≤ vec_capacity self.new.text }
         ensures answered { IfNone result (IsAnswered (limits_of self.old.index.slices) self.old.reader self.new.reader self.old.index.history self.new.index.history
-            (C.left input.old) (C.left input.new) (C.taken input.old) (C.taken input.new) left.old left.new self.new.text.items) }
+            (C.incoming input.old).left (C.incoming input.new).left (C.incoming input.old).taken (C.incoming input.new).taken left.old left.new self.new.text.items) }
         ensures untouched { self.old.reader.ended ≡ true → left.new ≡ left.old }
-        ensures none_left { self.new.reader.ended ≡ true → (self.old.reader.ended ≡ true → IfSome (C.left input.old) (λ bytes. bytes ≡ [])) → IfSome (C.left input.new) (λ bytes. bytes ≡ []) }
+        ensures none_left { self.new.reader.ended ≡ true → (self.old.reader.ended ≡ true → IfSome (C.incoming input.old).left (λ bytes. bytes ≡ [])) → IfSome (C.incoming input.new).left (λ bytes. bytes ≡ []) }
         ensures may_more { self.new.reader.ended ≡ true → (self.old.reader.ended ≡ true → 0 < left.old) → 0 < left.new }
         ensures fewer { IfNone result (most_lines self.new.reader.held self.new.reader.long + left.new
             < most_lines self.old.reader.held self.old.reader.long + left.old) }
         ensures over { (before : Streams) (written : Option (List ℕ)) (writes : ℕ) →
             Progress (limits_of self.old.index.slices) limit before
-            record { left = C.left input.old; taken = C.taken input.old; written = written; reads = C.read_faults input.old; writes = writes }
+            record { left = (C.incoming input.old).left; taken = (C.incoming input.old).taken; written = written; reads = (C.incoming input.old).faults; writes = writes }
             self.old.reader self.old.index.history left.old →
-            IfSome result (IsOver (limits_of self.old.index.slices) limit before
-            record { left = C.left input.new; taken = C.taken input.new; written = written; reads = C.read_faults input.new; writes = writes }
+            IfSome result (IsSessionOver (limits_of self.old.index.slices) limit before
+            record { left = (C.incoming input.new).left; taken = (C.incoming input.new).taken; written = written; reads = (C.incoming input.new).faults; writes = writes }
             self.new.index.history) }
     {
         match self.reader.next_line(input, left) {
@@ -152,7 +152,7 @@ impl Server {
                 None
             }
             Line::Long => {
-                render(Reply::Line, &mut self.text);
+                render(Reply::Long, &mut self.text);
                 None
             }
             Line::Finished => Some(End::Done),

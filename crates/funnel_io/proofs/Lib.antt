@@ -1,5 +1,7 @@
-pub mod Told
-pub mod Counting
+pub mod Taking
 pub mod Sending
 pub mod CutLaws
 pub mod PlaceLaws
+pub mod Ranges
+pub mod Holding
+pub mod LineLaws

@@ -1,19 +1,18 @@
 -- How far a write of all bytes has come.
-use Rattle.std.proofs.Common.{◌≡◌, ℕ, ◌+◌, ◌-◌, ◌≤◌, List, ◌++◌, Option, length, take, drop, sym, ap, ◌∙◌, subst, arith, length-take, length-drop}
+use Rattle.std.proofs.Common.{◌≡◌, ℕ, ◌+◌, ◌-◌, ◌≤◌, List, ◌++◌, length, take, drop, sym, ap, ◌∙◌, subst, arith, length-take, length-drop}
 use Rattle.std.proofs.lemmas.List.{take_rest}
 use Rattle.std.proofs.Math.Seq.{take-add}
-use Rattle.funnel_io.specs.Bytes.{AppendedTo}
+use Rattle.std.proofs.KnownBytes.{Appends-trans}
 use Rattle.funnel_io.specs.Borrowed.{Borrowed}
-use Rattle.funnel_io.specs.Sides.{ReadSide}
-use Rattle.funnel_io.proofs.Told.{AppendedTo-append}
+use Rattle.funnel_io.specs.Streams.{Incoming, Outgoing, Writes}
 
--- the first bytes went out, and the count did not fall
-pub record HasSent (bytes : List ℕ) (sent : ℕ) (before now : Option (List ℕ)) (faults_before faults : ℕ) (side_before side : ReadSide) (borrowed_before borrowed_now : Borrowed) : Type 0 where
+-- the first bytes went out, and no write failed
+pub record HasSent (bytes : List ℕ) (sent : ℕ) (old now : Outgoing) (side_old side : Incoming) (borrowed_old borrowed_now : Borrowed) : Type 0 where
   pub within : sent ≤ length bytes
-  pub appended : AppendedTo before (take sent bytes) now
-  pub not_less : faults_before ≤ faults
-  pub beside : side ≡ side_before
-  pub borrowed : borrowed_now ≡ borrowed_before
+  pub writes : Writes (take sent bytes) old now
+  pub faults : now.faults ≡ old.faults
+  pub beside : side ≡ side_old
+  pub borrowed : borrowed_now ≡ borrowed_old
 
 -- the first bytes of what is left, after those that went out already
 pub take-sent : (bytes : List ℕ) (sent n : ℕ)
@@ -22,14 +21,14 @@ take-sent bytes sent n =
     ap (λ rest. take sent bytes ++ take n rest) (take_rest bytes sent) ∙ sym (take-add sent n bytes)
 
 -- a further piece went out
-pub appended_more : (bytes : List ℕ) (sent n : ℕ) (before between after : Option (List ℕ))
-    → AppendedTo before (take sent bytes) between
-    → AppendedTo between (take n (take (length bytes - sent) (drop sent bytes))) after
-    → AppendedTo before (take (sent + n) bytes) after
-appended_more bytes sent n before between after first second =
-    let P : List ℕ → Type 0 = λ piece. AppendedTo before piece after in
+pub writes_more : (bytes : List ℕ) (sent n : ℕ) (old between now : Outgoing)
+    → Writes (take sent bytes) old between
+    → Writes (take n (take (length bytes - sent) (drop sent bytes))) between now
+    → Writes (take (sent + n) bytes) old now
+writes_more bytes sent n old between now first second =
+    let P : List ℕ → Type 0 = λ piece. Writes piece old now in
     subst P (take-sent bytes sent n)
-    (AppendedTo-append before (take sent bytes) between (take n (take (length bytes - sent) (drop sent bytes))) after first second)
+    (Appends-trans old.written between.written now.written (take sent bytes) (take n (take (length bytes - sent) (drop sent bytes))) first second)
 
 -- a count within the rest is within the whole
 pub within_more : (bytes : List ℕ) (sent n : ℕ) → sent ≤ length bytes

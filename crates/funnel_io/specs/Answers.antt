@@ -1,5 +1,5 @@
--- A fact for each answer of a read, a write and a gate.
-use Rattle.std.specs.Prelude.{ℕ}
+-- What the answer of a read, a write or a gate tells.
+use Rattle.std.specs.Prelude.{ℕ, Bool, true, false, List, [], take}
 use Rattle.funnel_io.specs.declared.gate.Next.{Next}
 use Rattle.funnel_io.specs.declared.gate.Next.TheVariants as next
 use Rattle.funnel_io.specs.declared.source.Got.{Got}
@@ -23,3 +23,31 @@ abbrev pub MatchNext : {C : Type 0} → Next C → (C → Type 0) → Type 0 →
 MatchNext (next.Conn conn) P Q R = P conn
 MatchNext next.Closed P Q R = Q
 MatchNext next.Fault P Q R = R
+
+-- the bytes that a read gave, which stand at the front of the room
+abbrev pub bytes_got : Got → List ℕ → List ℕ
+bytes_got (got.Bytes n) room = take n room
+bytes_got got.End room = []
+bytes_got got.Failed room = []
+
+-- the bytes that a write took, which stand at the front of the piece
+abbrev pub bytes_put : Put → List ℕ → List ℕ
+bytes_put (put.Bytes n) piece = take n piece
+bytes_put put.Failed piece = []
+
+-- the read failed
+abbrev pub read_failed : Got → Bool
+read_failed (got.Bytes n) = false
+read_failed got.End = false
+read_failed got.Failed = true
+
+-- the write failed
+abbrev pub write_failed : Put → Bool
+write_failed (put.Bytes n) = false
+write_failed put.Failed = true
+
+-- the gate failed
+abbrev pub gate_failed : {C : Type 0} → Next C → Bool
+gate_failed (next.Conn conn) = false
+gate_failed next.Closed = false
+gate_failed next.Fault = true

@@ -1,9 +1,13 @@
--- Counts that never fall.
-use Rattle.std.specs.Prelude.{ℕ, ◌+◌, ◌-◌, ◌^◌, ◌≤◌, min}
+-- Counts of faults.
+use Rattle.std.specs.Prelude.{ℕ, ◌+◌, ◌-◌, ◌^◌, ◌≤◌, min, max, Bool, if◌then◌else◌}
 
--- the count after one more, which stands still at the last value of its counter
+-- the count after one more fault, up to the last value of its counter; it never falls
 abbrev pub raised : ℕ → ℕ
-raised count = min (count + 1) (2 ^ 64 - 1)
+raised count = max count (min (count + 1) (2 ^ 64 - 1))
+
+-- the count after a call that failed or didn't
+abbrev pub counted : Bool → ℕ → ℕ
+counted failed count = if failed then raised count else count
 
 -- the count rose, or stands at the last value of its counter
 abbrev pub Rose : ℕ → ℕ → Type 0

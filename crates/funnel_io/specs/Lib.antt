@@ -1,10 +1,13 @@
 pub mod Counts
-pub mod Bytes
 pub mod Borrowed
-pub mod Sides
+pub mod Streams
+pub mod Std
 pub mod Answers
 pub mod Served
 pub mod Memory
 pub mod Places
 pub mod MemGates
 pub mod Lines
+pub mod LineReading
+pub mod LineSteps
+pub mod LineBuffers

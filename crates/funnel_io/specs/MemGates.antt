@@ -1,10 +1,11 @@
 -- Gates in memory, as contracts see them.
-use Rattle.std.specs.Prelude.{◌≡◌, ◌↔◌, ℕ, ◌+◌, List, [], ◌∷◌, Some, Contains}
-use Rattle.funnel_io.specs.Counts.{raised}
-use Rattle.funnel_io.specs.Answers.{MatchNext}
+use Rattle.std.specs.Prelude.{◌≡◌, ◌↔◌, ℕ, ◌+◌, List, [], ◌∷◌, Contains}
+use Rattle.funnel_io.specs.Counts.{raised, counted}
+use Rattle.funnel_io.specs.Answers.{MatchNext, gate_failed}
+use Rattle.funnel_io.specs.Memory.{incoming_of, outgoing_of}
 use Rattle.funnel_io.specs.declared.gate.Next.{Next}
 use Rattle.funnel_io.specs.declared.gate.Next.TheVariants as next
-use Rattle.funnel_io.specs.Served.{Served, IsFresh}
+use Rattle.funnel_io.specs.Served.{Served, served_as, IsFresh}
 use Rattle.funnel_io.specs.declared.mem_conn.MemConn.{MemConn}
 use Rattle.funnel_io.specs.declared.served_conn.ServedConn.{ServedConn}
 
@@ -20,23 +21,11 @@ pub record GateState : Type 0 where
 
 -- nothing was read from the connection or written to it, and no call on it failed
 abbrev pub IsUnused : MemConn → Type 0
-IsUnused conn = IsFresh (Some conn.source.taken) (Some conn.sink.written) conn.source.faults conn.sink.faults
+IsUnused conn = IsFresh (incoming_of conn.source) (outgoing_of conn.sink)
 
 -- what a gate tells of a connection that came back
 abbrev pub served_of : ServedConn → Served
-served_of served = record {
-  bytes_in = Some served.conn.source.taken;
-  bytes_out = Some served.conn.sink.written;
-  read_faults = served.conn.source.faults;
-  write_faults = served.conn.sink.faults;
-  session_end = served.session_end;
-}
-
--- the count of faults after a call of `next`
-abbrev pub faults_after_next : Next MemConn → ℕ → ℕ
-faults_after_next (next.Conn conn) faults = faults
-faults_after_next next.Closed faults = faults
-faults_after_next next.Fault faults = raised faults
+served_of served = served_as (incoming_of served.conn.source) (outgoing_of served.conn.sink) served.session_end
 
 -- a call of `next` is the next by number, fails by its number alone, and otherwise gives the first
 -- connection that waits
@@ -44,7 +33,7 @@ pub record IsNext (old : GateState) (answer : Next MemConn) (new : GateState) : 
   pub calls : new.calls ≡ raised old.calls
   pub fails : new.fails ≡ old.fails
   pub by_number : (answer ≡ next.Fault) ↔ Contains old.fails new.calls
-  pub faults : new.faults ≡ faults_after_next answer old.faults
+  pub faults : new.faults ≡ counted (gate_failed answer) old.faults
   pub waiting : MatchNext answer (λ conn. old.waiting ≡ conn ∷ new.waiting)
       ((old.waiting ≡ []) × (new.waiting ≡ [])) (new.waiting ≡ old.waiting)
   pub out : MatchNext answer (λ _. new.out ≡ old.out + 1) (new.out ≡ old.out) (new.out ≡ old.out)

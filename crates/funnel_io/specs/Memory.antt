@@ -1,12 +1,13 @@
 -- Sources and sinks in memory, as contracts see them.
-use Rattle.std.specs.Prelude.{◌≡◌, ◌↔◌, ℕ, ◌+◌, ◌<◌, ◌⊎◌, ⊤, List, [], ◌∷◌, drop, length, min, Contains}
+use Rattle.std.specs.Prelude.{◌≡◌, ◌↔◌, ℕ, ◌+◌, ◌<◌, ◌⊎◌, ⊤, List, [], ◌∷◌, Some, drop, length, min, Contains}
 use Rattle.std.specs.List.{concat}
 use Rattle.funnel_io.specs.declared.source.Got.{Got}
 use Rattle.funnel_io.specs.declared.source.Got.TheVariants as got
 use Rattle.funnel_io.specs.declared.sink.Put.{Put}
 use Rattle.funnel_io.specs.declared.sink.Put.TheVariants as put
-use Rattle.funnel_io.specs.Answers.{MatchGot, MatchPut}
-use Rattle.funnel_io.specs.Counts.{raised}
+use Rattle.funnel_io.specs.Answers.{MatchGot, MatchPut, read_failed, write_failed}
+use Rattle.funnel_io.specs.Counts.{raised, counted}
+use Rattle.funnel_io.specs.Streams.{Incoming, Outgoing}
 
 -- a source: the pieces left, the bytes taken, the number of reads made, the numbers of the reads
 -- that fail, and the count of those that failed
@@ -26,9 +27,13 @@ pub record SinkState : Type 0 where
   pub fails : List ℕ
   pub faults : ℕ
 
--- the bytes left: the pieces joined
-abbrev pub bytes_left : SourceState → List ℕ
-bytes_left source = concat source.pieces
+-- what is read from the source: the bytes left are the pieces joined
+abbrev pub incoming_of : SourceState → Incoming
+incoming_of source = record { left = Some (concat source.pieces); taken = Some source.taken; faults = source.faults }
+
+-- what is written to the sink
+abbrev pub outgoing_of : SinkState → Outgoing
+outgoing_of sink = record { written = Some sink.written; faults = sink.faults }
 
 -- the pieces without the empty ones at their front
 abbrev pub unread : List (List ℕ) → List (List ℕ)
@@ -46,24 +51,13 @@ abbrev pub drop_front : ℕ → List (List ℕ) → List (List ℕ)
 drop_front n [] = []
 drop_front n (piece ∷ pieces) = drop n piece ∷ pieces
 
--- the count of faults after a read
-abbrev pub faults_after_read : Got → ℕ → ℕ
-faults_after_read (got.Bytes n) faults = faults
-faults_after_read got.End faults = faults
-faults_after_read got.Failed faults = raised faults
-
--- the count of faults after a write
-abbrev pub faults_after_write : Put → ℕ → ℕ
-faults_after_write (put.Bytes n) faults = faults
-faults_after_write put.Failed faults = raised faults
-
 -- a read into so much room is the next by number, fails by its number alone, and otherwise gives
 -- as many bytes of the next piece as fit
 pub record IsRead (old : SourceState) (room : ℕ) (answer : Got) (new : SourceState) : Type 0 where
   pub reads : new.reads ≡ raised old.reads
   pub fails : new.fails ≡ old.fails
   pub by_number : (answer ≡ got.Failed) ↔ Contains old.fails new.reads
-  pub faults : new.faults ≡ faults_after_read answer old.faults
+  pub faults : new.faults ≡ counted (read_failed answer) old.faults
   pub one_piece : MatchGot answer
       (λ n. n ≡ min room (length (first_piece (unread old.pieces)))) (unread old.pieces ≡ []) ⊤
   pub pieces : MatchGot answer
@@ -75,6 +69,6 @@ pub record IsWrite (old : SinkState) (piece : List ℕ) (answer : Put) (new : Si
   pub writes : new.writes ≡ raised old.writes
   pub fails : new.fails ≡ old.fails
   pub where_it_must : (answer ≡ put.Failed) ↔ (Contains old.fails new.writes ⊎ (old.room < length piece))
-  pub faults : new.faults ≡ faults_after_write answer old.faults
+  pub faults : new.faults ≡ counted (write_failed answer) old.faults
   pub whole : MatchPut answer (λ n. n ≡ length piece) ⊤
   pub room : MatchPut answer (λ n. old.room ≡ new.room + n) (new.room ≡ old.room)

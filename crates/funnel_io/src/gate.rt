@@ -1,8 +1,8 @@
-ghost use Rattle.std.specs.Prelude.{◌≡◌, ◌<◌, ◌≤◌, ◌+◌, ℕ, List, [], ◌∷◌, ◌++◌, Option, IfSome, OnSome, ⊤};
+ghost use Rattle.std.specs.Prelude.{◌≡◌, ◌<◌, ◌+◌, ℕ, List, [], ◌∷◌, ◌++◌, Option, IfSome, OnSome, ⊤};
 ghost use Rattle.std.specs.Option.{option_map};
-ghost use Rattle.funnel_io.specs.Counts.{Rose};
-ghost use Rattle.funnel_io.specs.Answers.{MatchNext};
-ghost use Rattle.funnel_io.specs.Served.{Served, IsFresh};
+ghost use Rattle.funnel_io.specs.Counts.{counted};
+ghost use Rattle.funnel_io.specs.Answers.{MatchNext, gate_failed};
+ghost use Rattle.funnel_io.specs.Served.{Served, served_as, IsFresh};
 
 use crate::connection::Connection;
 use crate::end::End;
@@ -36,7 +36,7 @@ pub trait Gate {
 
     /// Waits for the next connection and hands it out.
     fn next(&mut self) -> Next<Self::Conn>
-        ensures never_falls { gate_faults self.old ≤ gate_faults self.new }
+        ensures faults { gate_faults self.new ≡ counted (gate_failed result) (gate_faults self.old) }
         ensures served { served self.new ≡ served self.old }
         ensures waiting { MatchNext result
             (λ conn. waiting self.old ≡ option_map (λ rest. conn ∷ rest) (waiting self.new))
@@ -47,11 +47,8 @@ pub trait Gate {
             (out self.new ≡ out self.old)
             (out self.new ≡ out self.old) }
         ensures fresh { MatchNext result
-            (λ conn. IsFresh (Self.Conn.taken conn) (Self.Conn.written conn)
-            (Self.Conn.read_faults conn) (Self.Conn.write_faults conn))
-            ⊤ ⊤ }
-        ensures closed { MatchNext result (λ _. ⊤) (IfSome (waiting self.old) (λ conns. conns ≡ [])) ⊤ }
-        ensures fault { MatchNext result (λ _. ⊤) ⊤ (Rose (gate_faults self.old) (gate_faults self.new)) };
+            (λ conn. IsFresh (Self.Conn.incoming conn) (Self.Conn.outgoing conn)) ⊤ ⊤ }
+        ensures closed { MatchNext result (λ _. ⊤) (IfSome (waiting self.old) (λ conns. conns ≡ [])) ⊤ };
 
     /// Takes back a connection of its own, with the end of its session.
     fn done(&mut self, conn: Self::Conn, end: End)
@@ -59,11 +56,7 @@ pub trait Gate {
         ensures count { gate_faults self.new ≡ gate_faults self.old }
         ensures waiting { waiting self.new ≡ waiting self.old }
         ensures out { OnSome (waiting self.old) (out self.old ≡ out self.new + 1) }
-        ensures served { served self.new ≡ option_map (λ list. list ++ record {
-          bytes_in = Self.Conn.taken conn;
-          bytes_out = Self.Conn.written conn;
-          read_faults = Self.Conn.read_faults conn;
-          write_faults = Self.Conn.write_faults conn;
-          session_end = end;
-        } ∷ []) (served self.old) };
+        ensures served { served self.new ≡ option_map
+            (λ list. list ++ served_as (Self.Conn.incoming conn) (Self.Conn.outgoing conn) end ∷ [])
+            (served self.old) };
 }

@@ -1,6 +1,8 @@
-ghost use Rattle.std.specs.Prelude.{◌≡◌, ◌<◌, ◌≤◌, [], ◌++◌, length, take, ⊤};
-ghost use Rattle.funnel_io.specs.Memory.{IsRead, IsWrite, bytes_left};
-ghost use Rattle.funnel_io.specs.Answers.{MatchGot, MatchPut};
+ghost use Rattle.std.specs.Prelude.{◌≡◌, ◌<◌, ◌≤◌, length, ⊤};
+ghost use Rattle.std.specs.Io.KnownBytes.{IsAtEnd};
+ghost use Rattle.funnel_io.specs.Memory.{IsRead, IsWrite, incoming_of, outgoing_of};
+ghost use Rattle.funnel_io.specs.Answers.{MatchGot, MatchPut, bytes_got, bytes_put};
+ghost use Rattle.funnel_io.specs.Streams.{Takes, Writes};
 
 use crate::borrower::Borrower;
 use crate::connection::Connection;
@@ -29,30 +31,17 @@ impl MemConn {
 impl Borrower for MemConn {}
 
 impl Source for MemConn {
-    ghost use Rattle.std.specs.Prelude.{Some};
-    ghost use Rattle.funnel_io.specs.Memory.{bytes_left};
+    ghost use Rattle.funnel_io.specs.Memory.{incoming_of, outgoing_of};
 
-    ghost left = { λ c. Some (bytes_left c.source) };
+    ghost incoming = { λ c. incoming_of c.source };
 
-    ghost taken = { λ c. Some c.source.taken };
-
-    ghost read_faults = { λ c. c.source.faults };
-
-    ghost beside_read = { λ c. record { written = Some c.sink.written; faults = c.sink.faults } };
+    ghost beside_read = { λ c. outgoing_of c.sink };
 
     fn read(&mut self, room: &mut [u8]) -> Got
         requires { 0 < length room.old }
-        ensures never_falls { self.old.source.faults ≤ self.new.source.faults }
         ensures count { MatchGot result (λ n. (1 ≤ n) × (n ≤ length room.new)) ⊤ ⊤ }
-        ensures left { MatchGot result
-            (λ n. bytes_left self.old.source ≡ take n room.new ++ bytes_left self.new.source)
-            (bytes_left self.new.source ≡ bytes_left self.old.source)
-            (bytes_left self.new.source ≡ bytes_left self.old.source) }
-        ensures taken { MatchGot result
-            (λ n. self.new.source.taken ≡ self.old.source.taken ++ take n room.new)
-            (self.new.source.taken ≡ self.old.source.taken)
-            (self.new.source.taken ≡ self.old.source.taken) }
-        ensures end { MatchGot result (λ _. ⊤) (bytes_left self.old.source ≡ []) ⊤ }
+        ensures takes { Takes (bytes_got result room.new) (incoming_of self.old.source) (incoming_of self.new.source) }
+        ensures end { MatchGot result (λ _. ⊤) (IsAtEnd (incoming_of self.new.source).left) ⊤ }
 
         // A read of the source, which leaves the sink as it was.
         ensures exact { IsRead self.old.source (length room.old) result self.new.source }
@@ -63,22 +52,16 @@ impl Source for MemConn {
 }
 
 impl Sink for MemConn {
-    ghost use Rattle.std.specs.Prelude.{Some};
-    ghost use Rattle.funnel_io.specs.Memory.{bytes_left};
+    ghost use Rattle.funnel_io.specs.Memory.{incoming_of, outgoing_of};
 
-    ghost written = { λ c. Some c.sink.written };
+    ghost outgoing = { λ c. outgoing_of c.sink };
 
-    ghost write_faults = { λ c. c.sink.faults };
-
-    ghost beside_write = { λ c. record { left = Some (bytes_left c.source); taken = Some c.source.taken; faults = c.source.faults } };
+    ghost beside_write = { λ c. incoming_of c.source };
 
     fn write(&mut self, piece: &[u8]) -> Put
         requires { 0 < length piece.now }
-        ensures never_falls { self.old.sink.faults ≤ self.new.sink.faults }
         ensures count { MatchPut result (λ n. (1 ≤ n) × (n ≤ length piece.now)) ⊤ }
-        ensures written { MatchPut result
-            (λ n. self.new.sink.written ≡ self.old.sink.written ++ take n piece.now)
-            (self.new.sink.written ≡ self.old.sink.written) }
+        ensures writes { Writes (bytes_put result piece.now) (outgoing_of self.old.sink) (outgoing_of self.new.sink) }
 
         // A write to the sink, which leaves the source as it was.
         ensures exact { IsWrite self.old.sink piece.now result self.new.sink }

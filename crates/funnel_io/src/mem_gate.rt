@@ -90,7 +90,6 @@ impl Gate for MemGate {
     ghost served = { λ g. Some (map served_of g.served) };
 
     fn next(&mut self) -> Next<MemConn>
-        ensures never_falls { self.old.faults ≤ self.new.faults }
         ensures fresh { MatchNext result IsUnused ⊤ ⊤ }
 
         // Which calls fail, and what each other one gives.

@@ -1,6 +1,7 @@
-ghost use Rattle.std.specs.Prelude.{◌≡◌, ◌<◌, ◌≤◌, ◌+◌, ◌-◌, [], ◌++◌, Some, IfOk, length, take, ⊤};
-ghost use Rattle.funnel_io.specs.Memory.{IsWrite};
-ghost use Rattle.funnel_io.specs.Answers.{MatchPut};
+ghost use Rattle.std.specs.Prelude.{◌≡◌, ◌<◌, ◌≤◌, ◌-◌, [], IfOk, length, ⊤};
+ghost use Rattle.funnel_io.specs.Memory.{IsWrite, outgoing_of};
+ghost use Rattle.funnel_io.specs.Answers.{MatchPut, bytes_put};
+ghost use Rattle.funnel_io.specs.Streams.{Writes};
 
 use crate::borrower::Borrower;
 use crate::memory::Memory;
@@ -66,22 +67,17 @@ impl MemSink {
 impl Borrower for MemSink {}
 
 impl Sink for MemSink {
-    ghost use Rattle.std.specs.Prelude.{Some};
-    ghost use Rattle.funnel_io.specs.Sides.{nothing_read};
+    ghost use Rattle.funnel_io.specs.Memory.{outgoing_of};
+    ghost use Rattle.funnel_io.specs.Streams.{nothing_read};
 
-    ghost written = { λ s. Some s.written };
-
-    ghost write_faults = { λ s. s.faults };
+    ghost outgoing = { outgoing_of };
 
     ghost beside_write = { λ _. nothing_read };
 
     fn write(&mut self, piece: &[u8]) -> Put
         requires { 0 < length piece.now }
-        ensures never_falls { self.old.faults ≤ self.new.faults }
         ensures count { MatchPut result (λ n. (1 ≤ n) × (n ≤ length piece.now)) ⊤ }
-        ensures written { MatchPut result
-            (λ n. self.new.written ≡ self.old.written ++ take n piece.now)
-            (self.new.written ≡ self.old.written) }
+        ensures writes { Writes (bytes_put result piece.now) (outgoing_of self.old) (outgoing_of self.new) }
 
         // Which writes fail; each other write takes the whole piece.
         ensures exact { IsWrite self.old piece.now result self.new }

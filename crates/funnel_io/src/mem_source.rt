@@ -1,7 +1,9 @@
-ghost use Rattle.std.specs.Prelude.{◌≡◌, ◌<◌, ◌≤◌, ◌+◌, ◌-◌, [], ◌++◌, Some, length, take, drop, min, ⊤};
-ghost use Rattle.funnel_io.specs.Memory.{IsRead, bytes_left, unread};
+ghost use Rattle.std.specs.Prelude.{◌≡◌, ◌<◌, ◌≤◌, ◌-◌, [], length, take, drop, min, ⊤};
+ghost use Rattle.std.specs.Io.KnownBytes.{IsAtEnd};
+ghost use Rattle.funnel_io.specs.Memory.{IsRead, incoming_of, unread};
 ghost use Rattle.funnel_io.specs.Places.{bytes_of, piece_at, pieces_from, bytes_before, IsPlace};
-ghost use Rattle.funnel_io.specs.Answers.{MatchGot};
+ghost use Rattle.funnel_io.specs.Answers.{MatchGot, bytes_got};
+ghost use Rattle.funnel_io.specs.Streams.{Takes};
 
 use crate::borrower::Borrower;
 use crate::source::{Got, Source};
@@ -100,31 +102,18 @@ fn copy_from(piece: &[u8], from: usize, room: &mut [u8]) -> usize
 impl Borrower for MemSource {}
 
 impl Source for MemSource {
-    ghost use Rattle.std.specs.Prelude.{Some};
-    ghost use Rattle.funnel_io.specs.Memory.{bytes_left};
-    ghost use Rattle.funnel_io.specs.Sides.{nothing_written};
+    ghost use Rattle.funnel_io.specs.Memory.{incoming_of};
+    ghost use Rattle.funnel_io.specs.Streams.{nothing_written};
 
-    ghost left = { λ s. Some (bytes_left s) };
-
-    ghost taken = { λ s. Some s.taken };
-
-    ghost read_faults = { λ s. s.faults };
+    ghost incoming = { incoming_of };
 
     ghost beside_read = { λ _. nothing_written };
 
     fn read(&mut self, room: &mut [u8]) -> Got
         requires { 0 < length room.old }
-        ensures never_falls { self.old.faults ≤ self.new.faults }
         ensures count { MatchGot result (λ n. (1 ≤ n) × (n ≤ length room.new)) ⊤ ⊤ }
-        ensures left { MatchGot result
-            (λ n. bytes_left self.old ≡ take n room.new ++ bytes_left self.new)
-            (bytes_left self.new ≡ bytes_left self.old)
-            (bytes_left self.new ≡ bytes_left self.old) }
-        ensures taken { MatchGot result
-            (λ n. self.new.taken ≡ self.old.taken ++ take n room.new)
-            (self.new.taken ≡ self.old.taken)
-            (self.new.taken ≡ self.old.taken) }
-        ensures end { MatchGot result (λ _. ⊤) (bytes_left self.old ≡ []) ⊤ }
+        ensures takes { Takes (bytes_got result room.new) (incoming_of self.old) (incoming_of self.new) }
+        ensures end { MatchGot result (λ _. ⊤) (IsAtEnd (incoming_of self.new).left) ⊤ }
 
         // Which reads fail, and how much each other read gives.
         ensures exact { IsRead self.old (length room.old) result self.new }

@@ -19,13 +19,9 @@ impl<S: Source, K: Sink> Borrower for Pair<'_, S, K> {
 }
 
 impl<S: Source, K: Sink> Source for Pair<'_, S, K> {
-    ghost left = { λ p. S.left p.source.now };
+    ghost incoming = { λ p. S.incoming p.source.now };
 
-    ghost taken = { λ p. S.taken p.source.now };
-
-    ghost read_faults = { λ p. S.read_faults p.source.now };
-
-    ghost beside_read = { λ p. record { written = K.written p.sink.now; faults = K.write_faults p.sink.now } };
+    ghost beside_read = { λ p. K.outgoing p.sink.now };
 
     fn read(&mut self, room: &mut [u8]) -> Got {
         self.source.read(room)
@@ -33,11 +29,9 @@ impl<S: Source, K: Sink> Source for Pair<'_, S, K> {
 }
 
 impl<S: Source, K: Sink> Sink for Pair<'_, S, K> {
-    ghost written = { λ p. K.written p.sink.now };
+    ghost outgoing = { λ p. K.outgoing p.sink.now };
 
-    ghost write_faults = { λ p. K.write_faults p.sink.now };
-
-    ghost beside_write = { λ p. record { left = S.left p.source.now; taken = S.taken p.source.now; faults = S.read_faults p.source.now } };
+    ghost beside_write = { λ p. S.incoming p.source.now };
 
     fn write(&mut self, piece: &[u8]) -> Put {
         self.sink.write(piece)

@@ -1,8 +1,7 @@
-ghost use Rattle.std.specs.Prelude.{◌≡◌, ◌<◌, ◌≤◌, ℕ, List, Option, length, take, ⊤};
-ghost use Rattle.funnel_io.specs.Counts.{Rose};
-ghost use Rattle.funnel_io.specs.Bytes.{AppendedTo};
-ghost use Rattle.funnel_io.specs.Sides.{ReadSide};
-ghost use Rattle.funnel_io.specs.Answers.{MatchPut};
+ghost use Rattle.std.specs.Prelude.{◌≡◌, ◌<◌, ◌≤◌, length, ⊤};
+ghost use Rattle.funnel_io.specs.Answers.{MatchPut, bytes_put, write_failed};
+ghost use Rattle.funnel_io.specs.Counts.{counted};
+ghost use Rattle.funnel_io.specs.Streams.{Incoming, Outgoing, Writes};
 
 use crate::borrower::Borrower;
 
@@ -17,24 +16,18 @@ pub enum Put {
 
 /// Where bytes go.
 pub trait Sink: Borrower {
-    // The bytes that were written so far, where the sink tells them.
-    ghost written: { Self → Option (List ℕ) };
+    // What is written: the bytes so far, and the count of writes that failed.
+    ghost outgoing: { Self → Outgoing };
 
-    // How many writes failed, up to the counter's last value.
-    ghost write_faults: { Self → ℕ };
-
-    // What a write leaves as it is: the read side, where the sink is a connection.
-    ghost beside_write: { Self → ReadSide };
+    // What a write leaves as it is: what is read, where the sink is a connection.
+    ghost beside_write: { Self → Incoming };
 
     /// Writes the piece, or the front of it.
     fn write(&mut self, piece: &[u8]) -> Put
         requires { 0 < length piece.now }
-        ensures never_falls { write_faults self.old ≤ write_faults self.new }
         ensures borrowed { Self.borrowed self.new ≡ Self.borrowed self.old }
         ensures beside { beside_write self.new ≡ beside_write self.old }
         ensures count { MatchPut result (λ n. (1 ≤ n) × (n ≤ length piece.now)) ⊤ }
-        ensures written { MatchPut result
-            (λ n. AppendedTo (written self.old) (take n piece.now) (written self.new))
-            (written self.new ≡ written self.old) }
-        ensures failed { MatchPut result (λ _. ⊤) (Rose (write_faults self.old) (write_faults self.new)) };
+        ensures writes { Writes (bytes_put result piece.now) (outgoing self.old) (outgoing self.new) }
+        ensures faults { (outgoing self.new).faults ≡ counted (write_failed result) (outgoing self.old).faults };
 }

@@ -1,8 +1,8 @@
-ghost use Rattle.std.specs.Prelude.{◌≡◌, ◌<◌, ◌≤◌, ℕ, List, [], Option, IfSome, length, take, ⊤};
-ghost use Rattle.funnel_io.specs.Counts.{Rose};
-ghost use Rattle.funnel_io.specs.Bytes.{TakenFrom, AppendedTo};
-ghost use Rattle.funnel_io.specs.Sides.{WriteSide};
-ghost use Rattle.funnel_io.specs.Answers.{MatchGot};
+ghost use Rattle.std.specs.Prelude.{◌≡◌, ◌<◌, ◌≤◌, length, ⊤};
+ghost use Rattle.std.specs.Io.KnownBytes.{IsAtEnd};
+ghost use Rattle.funnel_io.specs.Answers.{MatchGot, bytes_got, read_failed};
+ghost use Rattle.funnel_io.specs.Counts.{counted};
+ghost use Rattle.funnel_io.specs.Streams.{Incoming, Outgoing, Takes};
 
 use crate::borrower::Borrower;
 
@@ -19,33 +19,19 @@ pub enum Got {
 
 /// Where bytes come from.
 pub trait Source: Borrower {
-    // The bytes that are left, where the source tells them.
-    ghost left: { Self → Option (List ℕ) };
+    // What is read: the bytes left and those taken, and the count of reads that failed.
+    ghost incoming: { Self → Incoming };
 
-    // The bytes that were taken so far, where the source tells them.
-    ghost taken: { Self → Option (List ℕ) };
-
-    // How many reads failed, up to the counter's last value.
-    ghost read_faults: { Self → ℕ };
-
-    // What a read leaves as it is: the written side, where the source is a connection.
-    ghost beside_read: { Self → WriteSide };
+    // What a read leaves as it is: what is written, where the source is a connection.
+    ghost beside_read: { Self → Outgoing };
 
     /// Reads the next bytes into the front of `room`.
     fn read(&mut self, room: &mut [u8]) -> Got
         requires { 0 < length room.old }
-        ensures never_falls { read_faults self.old ≤ read_faults self.new }
         ensures borrowed { Self.borrowed self.new ≡ Self.borrowed self.old }
         ensures beside { beside_read self.new ≡ beside_read self.old }
         ensures count { MatchGot result (λ n. (1 ≤ n) × (n ≤ length room.new)) ⊤ ⊤ }
-        ensures left { MatchGot result
-            (λ n. TakenFrom (left self.old) (take n room.new) (left self.new))
-            (left self.new ≡ left self.old)
-            (left self.new ≡ left self.old) }
-        ensures taken { MatchGot result
-            (λ n. AppendedTo (taken self.old) (take n room.new) (taken self.new))
-            (taken self.new ≡ taken self.old)
-            (taken self.new ≡ taken self.old) }
-        ensures end { MatchGot result (λ _. ⊤) (IfSome (left self.old) (λ bytes. bytes ≡ [])) ⊤ }
-        ensures failed { MatchGot result (λ _. ⊤) ⊤ (Rose (read_faults self.old) (read_faults self.new)) };
+        ensures takes { Takes (bytes_got result room.new) (incoming self.old) (incoming self.new) }
+        ensures end { MatchGot result (λ _. ⊤) (IsAtEnd (incoming self.new).left) ⊤ }
+        ensures faults { (incoming self.new).faults ≡ counted (read_failed result) (incoming self.old).faults };
 }

@@ -1,14 +1,15 @@
-ghost use Rattle.std.specs.Prelude.{◌≡◌, [], ◌∷◌, IfOk, IfSome, OnOk, true, false};
-ghost use Rattle.funnel_io.specs.Bytes.{TakenFrom};
+ghost use Rattle.std.specs.Prelude.{◌≡◌, [], ◌∷◌, IfOk, OnOk, true, false};
+ghost use Rattle.std.specs.Io.KnownBytes.{IsAtEnd};
 ghost use Rattle.funnel_io.specs.Lines.{lines};
 ghost use Rattle.funnel_io.specs.MemGates.{IsUnused};
+ghost use Rattle.funnel_io.specs.Streams.{Takes};
 
-use super::streams::{read_once, write_once};
 use super::*;
 use std::alloc::{AllocError, Global};
-use std::io;
 use std::io::{Read, Write};
+use std::process::Abort;
 use std::test::Fail;
+use std::{fs, io};
 
 fn source_of(alloc: Global, pieces: &[&[u8]], fails: &[u64]) -> Result<MemSource, AllocError>
     ensures faults { IfOk result (λ source. source.faults ≡ 0) }
@@ -23,8 +24,8 @@ fn source_of(alloc: Global, pieces: &[&[u8]], fails: &[u64]) -> Result<MemSource
 
 // Reads until the end of a source.
 fn read_to_end<S: Source>(alloc: Global, source: &mut S) -> Result<Vec<u8>, Fail>
-    ensures whole { IfOk result (λ all. TakenFrom (S.left source.old) all.items (S.left source.new)) }
-    ensures end { OnOk result (IfSome (S.left source.new) (λ bytes. bytes ≡ [])) }
+    ensures whole { IfOk result (λ all. Takes all.items (S.incoming source.old) (S.incoming source.new)) }
+    ensures end { OnOk result (IsAtEnd (S.incoming source.new).left) }
 {
     let mut all = Vec::new(alloc);
     let mut room = [0u8; 4];
@@ -181,42 +182,118 @@ impl Write for Broken {
 }
 
 #[test]
-fn each_error_of_a_stream_raises_its_count(rt: HostRuntime) {
+fn each_error_of_std_is_a_failure(rt: HostRuntime) {
     let mut room = [0u8; 4];
-    let mut faults = 0;
-    assert_eq!(rt; read_once(&mut Broken, &mut faults, &mut room), Got::Failed);
-    assert_eq!(rt; faults, 1);
-    assert_eq!(rt; write_once(&mut Broken, &mut faults, b"a"), Put::Failed);
-    assert_eq!(rt; faults, 2);
-    let mut full: &mut [u8] = &mut [];
-    assert_eq!(rt; write_once(&mut full, &mut faults, b"a"), Put::Failed);
-    assert_eq!(rt; faults, 3);
+    let mut source = ReaderSource::new(Broken);
+    assert_eq!(rt; source.read(&mut room), Got::Failed);
+    assert_eq!(rt; source.read(&mut room), Got::Failed);
+    assert_eq!(rt; WriterSink::new(Broken).write(b"a"), Put::Failed);
 }
 
-#[test]
-fn a_stream_gives_and_takes_bytes(rt: HostRuntime) {
-    let mut room = [0u8; 4];
-    let mut faults = 0;
-    let mut bytes: &[u8] = b"abcdef";
-    for want in [Got::Bytes(4), Got::Bytes(2), Got::End] {
-        assert_eq!(rt; read_once(&mut bytes, &mut faults, &mut room), want);
+// Reads with room for four bytes until something else than bytes is answered.
+fn expect_reads(rt: &impl Abort, source: &mut impl Source, wanted: &[(Got, &[u8; 4])]) {
+    let mut room = [b'-'; 4];
+    for (got, bytes) in wanted {
+        assert_eq!(rt; source.read(&mut room), *got);
+        assert_eq!(rt; room.as_slice(), bytes.as_slice());
     }
-    assert_eq!(rt;
-        write_once(&mut rt.stdout(), &mut faults, b"out\n"),
-        Put::Bytes(4)
-    );
-    assert_eq!(rt; faults, 0);
 }
 
 #[test]
-fn an_empty_standard_input_is_at_its_end(rt: HostRuntime) {
+fn a_reader_of_std_gives_its_bytes(rt: HostRuntime) {
+    let bytes: &[u8] = b"abcdef";
+    expect_reads(
+        &rt,
+        &mut ReaderSource::new(bytes),
+        &[
+            (Got::Bytes(4), b"abcd"),
+            (Got::Bytes(2), b"efcd"),
+            (Got::End, b"efcd"),
+            (Got::End, b"efcd"),
+        ],
+    );
+}
+
+#[test]
+fn a_writer_of_std_takes_what_fits(rt: HostRuntime) {
+    let mut room = [b'-'; 5];
+    let mut sink = WriterSink::new(room.as_mut_slice());
+    assert_eq!(rt; sink.write(b"abc"), Put::Bytes(3));
+    assert_eq!(rt; sink.write(b"def"), Put::Bytes(2));
+    assert_eq!(rt; sink.write(b"f"), Put::Failed);
+    assert_eq!(rt; room.as_slice(), b"abcde".as_slice());
+}
+
+#[test]
+fn bytes_go_through_a_pipe(rt: HostRuntime) -> Result<(), Fail> {
+    let (reader, writer) = io::pipe(&rt)?;
+    let mut sink = WriterSink::new(writer);
+    let mut source = ReaderSource::new(reader);
+    assert_eq!(rt; write_all(&mut sink, b"abcdefg"), Ok(()));
+    expect_reads(
+        &rt,
+        &mut source,
+        &[(Got::Bytes(4), b"abcd"), (Got::Bytes(3), b"efgd")],
+    );
+    assert_eq!(rt; sink.write(b"h"), Put::Bytes(1));
+    drop(sink);
+    expect_reads(
+        &rt,
+        &mut source,
+        &[(Got::Bytes(1), b"h---"), (Got::End, b"h---")],
+    );
+    Ok(())
+}
+
+#[test]
+fn a_file_is_read_to_its_end(rt: HostRuntime) -> Result<(), Fail> {
+    let path = "funnel_io_file_source.txt";
+    fs::write(&rt, path, "abcdef")?;
+    let mut source = FileSource::open(&rt, path);
+    fs::remove_file(&rt, path)?;
+    expect_reads(
+        &rt,
+        &mut source,
+        &[
+            (Got::Bytes(4), b"abcd"),
+            (Got::Bytes(2), b"efcd"),
+            (Got::End, b"efcd"),
+        ],
+    );
+    Ok(())
+}
+
+#[test]
+fn a_file_that_is_not_there_is_empty(rt: HostRuntime) {
+    expect_reads(
+        &rt,
+        &mut FileSource::open(&rt, "no_such_file.txt"),
+        &[(Got::End, b"----"), (Got::End, b"----")],
+    );
+}
+
+#[test]
+fn a_file_that_cannot_be_opened_or_read_fails(rt: HostRuntime) {
+    for path in ["/dev/null/inside", "."] {
+        expect_reads(
+            &rt,
+            &mut FileSource::open(&rt, path),
+            &[(Got::Failed, b"----"), (Got::Failed, b"----")],
+        );
+    }
+}
+
+#[test]
+fn standard_input_is_read(rt: HostRuntime) {
     let mut room = [0u8; 4];
     assert_eq!(rt; StdinSource::new(rt.stdin()).read(&mut room), Got::End);
 }
 
 #[test]
 fn standard_output_takes_bytes(rt: HostRuntime) {
-    assert_eq!(rt; StdoutSink::new(rt.stdout()).write(b"out\n"), Put::Bytes(4));
+    let mut sink = StdoutSink::new(rt.stdout());
+    assert_eq!(rt; sink.write(b"out\n"), Put::Bytes(4));
+    assert_eq!(rt; write_all(&mut sink, b"and more\n"), Ok(()));
 }
 
 #[test]

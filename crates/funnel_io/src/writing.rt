@@ -1,6 +1,6 @@
-ghost use Rattle.std.specs.Prelude.{◌≡◌, ◌≤◌, OnOk, OnErr};
-ghost use Rattle.funnel_io.specs.Counts.{Rose};
-ghost use Rattle.funnel_io.specs.Bytes.{AppendedTo, AppendedPart};
+ghost use Rattle.std.specs.Prelude.{◌≡◌, OnOk, OnErr, is_err};
+ghost use Rattle.funnel_io.specs.Counts.{counted};
+ghost use Rattle.funnel_io.specs.Streams.{Writes, WritesPart};
 
 use crate::sink::{Put, Sink};
 use std::error::Error;
@@ -18,14 +18,13 @@ impl fmt::Display for WriteFailed {
 
 impl Error for WriteFailed {}
 
-/// Writes all bytes, in as many writes as the sink needs. It takes no memory.
+/// Writes all bytes, in as many writes as the sink needs, and stops at the first that fails. It takes no memory.
 pub fn write_all<K: Sink>(sink: &mut K, bytes: &[u8]) -> Result<(), WriteFailed>
-    ensures never_falls { K.write_faults sink.old ≤ K.write_faults sink.new }
     ensures borrowed { K.borrowed sink.new ≡ K.borrowed sink.old }
     ensures beside { K.beside_write sink.new ≡ K.beside_write sink.old }
-    ensures ok { OnOk result (AppendedTo (K.written sink.old) bytes.now (K.written sink.new)) }
-    ensures failed { OnErr result (Rose (K.write_faults sink.old) (K.write_faults sink.new)) }
-    ensures part { OnErr result (AppendedPart (K.written sink.old) bytes.now (K.written sink.new)) }
+    ensures ok { OnOk result (Writes bytes.now (K.outgoing sink.old) (K.outgoing sink.new)) }
+    ensures part { OnErr result (WritesPart bytes.now (K.outgoing sink.old) (K.outgoing sink.new)) }
+    ensures faults { (K.outgoing sink.new).faults ≡ counted (is_err result) (K.outgoing sink.old).faults }
 {
     let mut sent = 0;
     while sent < bytes.len() {

@@ -1,17 +1,18 @@
 -- What the last events of the passes tell: who clears a slice, whose token is open, and what is awaited where one pass is alone.
 use Rattle.std.proofs.Common.{◌≡◌, ℕ, ⊎_elim, Bool, true, false, cond, List, [], ◌∷◌, ◌++◌, Option, Some, None, sym, refl, ap, ◌∙◌, subst}
-use Rattle.std.proofs.lemmas.Bool.{both_ways, cases_eq, eq-eqb, eqb-true, false≢true, false_from_ne_true, or_cases, or_left, or_right}
+use Rattle.std.proofs.lemmas.Bool.{and_from, and_parts, both_ways, cases_eq, eq-eqb, eqb-true, false≢true, false_from_ne_true, or_cases, or_left, or_right}
 use Rattle.std.proofs.lemmas.List.Elements.{All-head, All-tail}
 use Rattle.std.specs.List.{All, fold, list_any}
 use Rattle.std.specs.Option.{IfSome, option_and_then}
-use Rattle.std.specs.Prelude.{◌==◌}
+use Rattle.std.specs.Prelude.{◌==◌, ◌&&◌}
 use Rattle.funnel_model.specs.declared.event.Event.{Event}
 use Rattle.funnel_model.specs.declared.event.Event.TheVariants as event
 use Rattle.funnel_model.specs.Events.{clears, finds_or_ends, leaves_open, next_after, opens, pass_of}
 use Rattle.funnel_model.specs.History.{last_by}
 use Rattle.funnel_model.specs.Legal.{Limits, IsAllowed, IsIdle, IsLegal, awaited}
-use Rattle.funnel_model.specs.Slices.{is_clearing}
+use Rattle.funnel_model.specs.Slices.{is_clearing, is_clearing_by, span}
 use Rattle.funnel_model.specs.Tokens.{HasToken, IsGuarded}
+use Rattle.funnel_model.proofs.AnswerLemmas.{any_contained, contained_any}
 use Rattle.funnel_model.proofs.Histories.{holds_of_legal}
 use Rattle.funnel_model.proofs.NextEvents.{busy, last_by_before, next_of_clear, next_of_find}
 use Rattle.funnel_model.proofs.Spans.{in_span-push, last_by-other, last_by-own, none_of_push, not_empty, span-opened, split_at_end}
@@ -30,9 +31,18 @@ opens_is slice _ is = absurd (false≢true is)
 pub not_clearing_opened : (slice : ℕ) (history : List Event) (e : Event) → opens slice e ≡ true → is_clearing slice (history ++ e ∷ []) ≡ false
 not_clearing_opened slice history e is = ap (list_any (clears slice)) (span-opened slice history e is)
 
--- each slice that is being cleared has a pass whose last event is the Clear of it
+-- a slice that is being cleared is so by some pass
+pub clearing_by : (slice : ℕ) (history : List Event) → is_clearing slice history ≡ true → (pass : ℕ) × (is_clearing_by pass slice history ≡ true)
+clearing_by slice history clearing =
+    let by = contained_any (clears slice) (span slice history) clearing in (
+      pass_of by.0,
+      any_contained (λ e. pass_of e == pass_of by.0 && clears slice e) (span slice history) by.0 by.1
+          (and_from (pass_of by.0 == pass_of by.0) (clears slice by.0) (eq-eqb (pass_of by.0) (pass_of by.0) refl) by.2),
+    )
+
+-- each pass that is clearing a slice has the Clear of it as its last event
 abbrev HaveClearers : List Event → Type 0
-HaveClearers history = (slice : ℕ) → is_clearing slice history ≡ true → (pass : ℕ) × (last_by pass history ≡ Some (event.Clear pass slice))
+HaveClearers history = (pass slice : ℕ) → is_clearing_by pass slice history ≡ true → last_by pass history ≡ Some (event.Clear pass slice)
 
 -- the last event of a pass stays the Clear of a slice with an event that doesn't open the slice
 clearer_stays : (limits : Limits) (history : List Event) (e : Event) (slice pass : ℕ) → IsAllowed limits history e → opens slice e ≡ false →
@@ -45,24 +55,40 @@ clearer_stays limits history e slice pass allowed stays last =
     (λ other. last_by-other pass history e other ∙ last)
     (cases_eq (pass_of e) pass)
 
--- each slice that is being cleared has such a pass after an event that is allowed
-clearers-push : (limits : Limits) (history : List Event) (e : Event) (slice : ℕ) → HaveClearers history → IsAllowed limits history e →
-    (opened : Bool) → opens slice e ≡ opened → is_clearing slice (history ++ e ∷ []) ≡ true →
-    (pass : ℕ) × (last_by pass (history ++ e ∷ []) ≡ Some (event.Clear pass slice))
-clearers-push limits history e slice before allowed true opened clearing =
-    absurd (both_ways (is_clearing slice (history ++ e ∷ [])) (not_clearing_opened slice history e opened) clearing)
-clearers-push limits history e slice before allowed false opened clearing =
+-- a pass that clears a slice by an event has that event as its last
+clears_now : (pass slice : ℕ) (history : List Event) (e : Event) → (pass_of e == pass && clears slice e) ≡ true →
+    last_by pass (history ++ e ∷ []) ≡ Some (event.Clear pass slice)
+clears_now pass slice history e is =
+    let both = and_parts (pass_of e == pass) (clears slice e) is in
+    let own = eqb-true (pass_of e) pass both.0 in
+    last_by-own pass history e own ∙ ap Some (clears_is slice e both.1 ∙ ap (λ p. event.Clear p slice) own)
+
+-- each pass that is clearing a slice has such a last event after an event that is allowed
+clearers-push : (limits : Limits) (history : List Event) (e : Event) (pass slice : ℕ) → HaveClearers history → IsAllowed limits history e →
+    (opened : Bool) → opens slice e ≡ opened → is_clearing_by pass slice (history ++ e ∷ []) ≡ true →
+    last_by pass (history ++ e ∷ []) ≡ Some (event.Clear pass slice)
+clearers-push limits history e pass slice before allowed true opened clearing =
+    let test = λ (x : Event). pass_of x == pass && clears slice x in
+    absurd (false≢true (sym (ap (list_any test) (span-opened slice history e opened)) ∙ clearing))
+clearers-push limits history e pass slice before allowed false opened clearing =
+    let test = λ (x : Event). pass_of x == pass && clears slice x in
     ⊎_elim
-    (λ was. let by = before slice was in (by.0, clearer_stays limits history e slice by.0 allowed opened by.1))
-    (λ now. (pass_of e, last_by-own (pass_of e) history e refl ∙ ap Some (clears_is slice e now)))
-    (or_cases (is_clearing slice history) (clears slice e) (sym (in_span-push (clears slice) slice history e opened) ∙ clearing))
+    (λ was. clearer_stays limits history e slice pass allowed opened (before pass slice was))
+    (λ now. clears_now pass slice history e now)
+    (or_cases (is_clearing_by pass slice history) (test e) (sym (in_span-push test slice history e opened) ∙ clearing))
+
+-- a pass that is clearing a slice has made no event since its Clear of it
+pub clearer_is_last : (limits : Limits) (history : List Event) (pass slice : ℕ) → IsLegal limits history → is_clearing_by pass slice history ≡ true →
+    last_by pass history ≡ Some (event.Clear pass slice)
+clearer_is_last limits history pass slice legal =
+    holds_of_legal limits HaveClearers (λ p s is. absurd (false≢true is))
+    (λ h e is_legal before allowed p s. clearers-push limits h e p s before allowed (opens s e) refl) history legal pass slice
 
 -- a slice that is being cleared has a pass whose last event is the Clear of it
 pub clearing_is_last : (limits : Limits) (history : List Event) (slice : ℕ) → IsLegal limits history → is_clearing slice history ≡ true →
     (pass : ℕ) × (last_by pass history ≡ Some (event.Clear pass slice))
-clearing_is_last limits history slice legal =
-    holds_of_legal limits HaveClearers (λ s is. absurd (false≢true is))
-    (λ h e is_legal before allowed s. clearers-push limits h e s before allowed (opens s e) refl) history legal slice
+clearing_is_last limits history slice legal clearing =
+    let by = clearing_by slice history clearing in (by.0, clearer_is_last limits history by.0 slice legal by.1)
 
 -- a pass whose last event is the Clear of a slice is clearing it, and no other pass is
 record AreClearers (history : List Event) : Type 0 where
@@ -81,7 +107,7 @@ clearing-push limits history e pass slice before allowed other last false opened
     in_span-push (clears slice) slice history e opened ∙ or_left (is_clearing slice history) (clears slice e) (before.clearing pass slice last)
 
 -- a slice is being cleared after the Clear of it
-cleared_now : (slice pass : ℕ) (history : List Event) → is_clearing slice (history ++ event.Clear pass slice ∷ []) ≡ true
+pub cleared_now : (slice pass : ℕ) (history : List Event) → is_clearing slice (history ++ event.Clear pass slice ∷ []) ≡ true
 cleared_now slice pass history =
     in_span-push (clears slice) slice history (event.Clear pass slice) refl
     ∙ or_right (is_clearing slice history) (slice == slice) (eq-eqb slice slice refl)
@@ -129,6 +155,14 @@ last_is_clearing limits history pass slice legal = (are_clearers limits history 
 pub one_clearer : (limits : Limits) (history : List Event) (pass other slice : ℕ) → IsLegal limits history →
     last_by pass history ≡ Some (event.Clear pass slice) → last_by other history ≡ Some (event.Clear other slice) → pass ≡ other
 one_clearer limits history pass other slice legal = (are_clearers limits history legal).one pass other slice
+
+-- a pass whose last event is the Clear of a slice is the one that is clearing it
+pub last_is_clearer : (limits : Limits) (history : List Event) (pass slice : ℕ) → IsLegal limits history →
+    last_by pass history ≡ Some (event.Clear pass slice) → is_clearing_by pass slice history ≡ true
+last_is_clearer limits history pass slice legal last =
+    let by = clearing_by slice history (last_is_clearing limits history pass slice legal last) in
+    let same = one_clearer limits history by.0 pass slice legal (clearer_is_last limits history by.0 slice legal by.1) last in
+    subst (λ p. is_clearing_by p slice history ≡ true) same by.1
 
 -- the last event of each pass whose token is open is its find
 abbrev HaveFinds : List Event → Type 0

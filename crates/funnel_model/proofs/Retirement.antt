@@ -10,7 +10,7 @@ use Rattle.funnel_model.specs.declared.event.Event.TheVariants as event
 use Rattle.funnel_model.specs.Events.{drops_on, opens}
 use Rattle.funnel_model.specs.Legal.{Limits, IsAllowed, IsFull, IsLegal}
 use Rattle.funnel_model.specs.Slices.{AllOver, ColumnState, Unclaimed, Pending, Dropped, Live, Deleted, HasUnclaimed, IsInState, IsOver, IsRetired, IsRetiredAt, is_claimed, span}
-use Rattle.funnel_model.specs.Tokens.{IsGuarded, MayRead}
+use Rattle.funnel_model.specs.Tokens.{Guards, MayRead}
 use Rattle.funnel_model.proofs.Columns.{clearing_is_over, one_state, over_is_claimed, some_state}
 use Rattle.funnel_model.proofs.ColumnStates.{deleted-push, state_of, state_of-push}
 use Rattle.funnel_model.proofs.ColumnsKept.{kept}
@@ -43,7 +43,7 @@ all_over-append columns slice history (e ∷ later) stays over =
     (all_over-append columns slice (history ++ e ∷ []) later parts.1 (all_over-push columns slice history e parts.0 over))
 
 -- where a list is split at an element, a longer front of it has the element too
-split_front : {A : Type 0} (front rest earlier later : List A) (x : A) → front ++ rest ≡ earlier ++ x ∷ later → length earlier < length front →
+pub split_front : {A : Type 0} (front rest earlier later : List A) (x : A) → front ++ rest ≡ earlier ++ x ∷ later → length earlier < length front →
     (between : List A) × (front ≡ (earlier ++ x ∷ []) ++ between) × (later ≡ between ++ rest)
 split_front [] rest earlier later x is less = absurd (omega arith)
 split_front (y ∷ ys) rest [] later x is less = let same : y ≡ x = cc in (ys, cc, cc)
@@ -54,7 +54,7 @@ split_front (y ∷ ys) rest (z ∷ zs) later x is less =
     (more.0, cc, more.2)
 
 -- splits of a list at one length are one split
-same_split : {A : Type 0} (xs ys more later : List A) (a b : A) → xs ++ a ∷ more ≡ ys ++ b ∷ later → length xs ≡ length ys → (xs ≡ ys) × (a ≡ b)
+pub same_split : {A : Type 0} (xs ys more later : List A) (a b : A) → xs ++ a ∷ more ≡ ys ++ b ∷ later → length xs ≡ length ys → (xs ≡ ys) × (a ≡ b)
 same_split [] [] more later a b is same = (refl, cc)
 same_split [] (y ∷ ys) more later a b is same = absurd (omega arith)
 same_split (x ∷ xs) [] more later a b is same = absurd (omega arith)
@@ -144,7 +144,7 @@ over_cases (Pending pass) = inr (λ h. h)
 over_cases (Live d) = inr (λ h. h)
 
 -- in a legal history a slice is all over or not
-all_over_cases : (limits : Limits) (slice : ℕ) (history : List Event) → IsLegal limits history → (columns : ℕ) →
+pub all_over_cases : (limits : Limits) (slice : ℕ) (history : List Event) → IsLegal limits history → (columns : ℕ) →
     AllOver columns slice history ⊎ (AllOver columns slice history → ⊥)
 all_over_cases limits slice history legal zero = inl (λ column in'. absurd (omega arith))
 all_over_cases limits slice history legal (suc columns) =
@@ -265,31 +265,34 @@ began_before limits history reader slice retired_at legal at read =
 
 -- an open token that may read a retired slice guards it
 pub reader_guards : (limits : Limits) (history : List Event) (reader slice : ℕ) → IsLegal limits history → IsRetired limits.columns slice history →
-    MayRead limits.columns history reader slice → IsGuarded limits.columns history slice
+    (read : MayRead limits.columns history reader slice) → Guards limits.columns history slice reader read.number
 reader_guards limits history reader slice legal retired read =
     ⊎_elim
     (λ (some : 0 < limits.columns).
-    let at = retired_at_some limits history slice legal some retired.over in (
-      reader,
-      read.number,
-      record {
-        token = read.token;
-        retired = retired;
-        retired_at = at.0;
-        at_event = at.1;
-        before = began_before limits history reader slice at.0 legal at.1 read;
-      },
-    ))
+    let at = retired_at_some limits history slice legal some retired.over in
+    record {
+      token = read.token;
+      retired = retired;
+      retired_at = at.0;
+      at_event = at.1;
+      before = began_before limits history reader slice at.0 legal at.1 read;
+    })
     (λ (none : limits.columns ≤ 0). absurd (read.in_use.not_retired (record {
       over = λ column in'. absurd (omega arith);
       not_clearing = read.in_use.not_clearing;
     })))
     (cases_lt 0 limits.columns)
 
+-- a slice that a token may read isn't cleared by the next event
+pub reader_blocks_clear : (limits : Limits) (history : List Event) (pass slice reader : ℕ) → IsLegal limits history →
+    IsAllowed limits history (event.Clear pass slice) → MayRead limits.columns history reader slice → ⊥
+reader_blocks_clear limits history pass slice reader legal allowed read =
+    allowed.rule.can_clear.unguarded
+    (reader, read.number, reader_guards limits history reader slice legal allowed.rule.can_clear.retired read)
+
 -- no slice is cleared that an open token may read
 pub not_cleared_under_reader : (limits : Limits) (before later : List Event) (pass slice reader : ℕ) → IsLegal limits (before ++ event.Clear pass slice ∷ later) →
     MayRead limits.columns before reader slice → ⊥
 not_cleared_under_reader limits before later pass slice reader legal read =
-    let allowed = allowed_within limits (before ++ event.Clear pass slice ∷ later) before (event.Clear pass slice) later legal refl in
-    allowed.rule.can_clear.unguarded
-    (reader_guards limits before reader slice (legal_before limits before (event.Clear pass slice ∷ later) legal) allowed.rule.can_clear.retired read)
+    reader_blocks_clear limits before pass slice reader (legal_before limits before (event.Clear pass slice ∷ later) legal)
+    (allowed_within limits (before ++ event.Clear pass slice ∷ later) before (event.Clear pass slice) later legal refl) read

@@ -19,7 +19,7 @@ use Rattle.funnel_model.proofs.Spans.{last_by-own}
 use Rattle.funnel_model.specs.Events.{call_of, leaves_open, pass_of}
 use Rattle.funnel_model.specs.History.{answer, call_by, own, place}
 use Rattle.funnel_model.specs.Legal.{Limits, IsIdle, IsLegal}
-use Rattle.funnel_model.specs.Steps.{AddsCall, AddsNone, FindsNoMemory, Linear, Step, refusal, reply_to}
+use Rattle.funnel_model.specs.Steps.{AddsCall, AddsNone, FindsNoMemory, IsReply, IsReplyToRead, IsReplyToRefused, Linear, Step}
 
 pub own-append : (pass : ℕ) (xs ys : List Event) → own pass (xs ++ ys) ≡ own pass xs ++ own pass ys
 own-append pass xs ys = filter_map-append (call_by pass) xs ys
@@ -34,7 +34,7 @@ prefix_trans xs ys zs p q = (p.0 ++ q.0, sym (append_assoc xs p.0 q.0) ∙ ap (�
 -- a call that led to a front without an answer; then come the event that answers it, and some that answer nothing
 pub step_made_from : (limits : Limits) (pass : ℕ) (before middle : List Event) (e : Event) (later : List Event) (asked : Call) (given : Reply) →
     IsIdle pass before → IsPrefix before middle → AddsNone pass before middle → call_by pass e ≡ Some asked → own pass later ≡ [] →
-    reply_to limits middle e ≡ Some given → IsLegal limits (middle ++ e ∷ later) → IsIdle pass (middle ++ e ∷ later) →
+    IsReply limits middle e given → IsLegal limits (middle ++ e ∷ later) → IsIdle pass (middle ++ e ∷ later) →
     Step limits pass before (middle ++ e ∷ later) asked given
 step_made_from limits pass before middle e later asked given idle grows none call last replied legal idle_after = record {
   grows = prefix_trans before middle (middle ++ e ∷ later) grows (e ∷ later, refl);
@@ -56,7 +56,7 @@ adds_none pass before more none = own-append pass before more ∙ ap (λ cs. own
 
 -- a call whose events are these: first some that answer nothing, then the one that answers it, then some that answer nothing
 pub step_made : (limits : Limits) (pass : ℕ) (before first : List Event) (e : Event) (later : List Event) (asked : Call) (given : Reply) →
-    IsIdle pass before → own pass first ≡ [] → call_by pass e ≡ Some asked → own pass later ≡ [] → reply_to limits (before ++ first) e ≡ Some given →
+    IsIdle pass before → own pass first ≡ [] → call_by pass e ≡ Some asked → own pass later ≡ [] → IsReply limits (before ++ first) e given →
     IsLegal limits ((before ++ first) ++ e ∷ later) → IsIdle pass ((before ++ first) ++ e ∷ later) →
     Step limits pass before ((before ++ first) ++ e ∷ later) asked given
 step_made limits pass before first e later asked given idle none call last replied legal idle_after =
@@ -83,6 +83,31 @@ linear-push limits pass before middle after (c ∷ cs) (r ∷ rs) asked given ru
 linear-push limits pass before middle after [] (r ∷ rs) asked given run step = absurd run
 linear-push limits pass before middle after (c ∷ cs) [] asked given run step = absurd run
 
+-- calls lead to a front that goes on from their start
+pub linear-grows : (limits : Limits) (pass : ℕ) (before after : List Event) (calls : List Call) (replies : List Reply) →
+    Linear limits pass before after calls replies → IsPrefix before after
+linear-grows limits pass before after [] [] is = ([], append-nil before ∙ is)
+linear-grows limits pass before after (c ∷ cs) (r ∷ rs) run =
+    prefix_trans before run.0 after run.1.grows (linear-grows limits pass run.0 after cs rs run.2)
+linear-grows limits pass before after [] (r ∷ rs) run = absurd run
+linear-grows limits pass before after (c ∷ cs) [] run = absurd run
+
+-- which is legal where their start is
+pub linear-legal : (limits : Limits) (pass : ℕ) (before after : List Event) (calls : List Call) (replies : List Reply) → IsLegal limits before →
+    Linear limits pass before after calls replies → IsLegal limits after
+linear-legal limits pass before after [] [] legal is = subst (IsLegal limits) is legal
+linear-legal limits pass before after (c ∷ cs) (r ∷ rs) legal run = linear-legal limits pass run.0 after cs rs run.1.legal run.2
+linear-legal limits pass before after [] (r ∷ rs) legal run = absurd run
+linear-legal limits pass before after (c ∷ cs) [] legal run = absurd run
+
+-- and each call has its reply
+pub linear-answered : (limits : Limits) (pass : ℕ) (before after : List Event) (calls : List Call) (replies : List Reply) →
+    Linear limits pass before after calls replies → length calls ≡ length replies
+linear-answered limits pass before after [] [] is = refl
+linear-answered limits pass before after (c ∷ cs) (r ∷ rs) run = let rest = linear-answered limits pass run.0 after cs rs run.2 in omega arith
+linear-answered limits pass before after [] (r ∷ rs) run = absurd run
+linear-answered limits pass before after (c ∷ cs) [] run = absurd run
+
 -- after an event that ends a call its pass is idle
 pub idle_after : (pass : ℕ) (history : List Event) (e : Event) → pass_of e ≡ pass → leaves_open e ≡ false → IsIdle pass (history ++ e ∷ [])
 idle_after pass history e own ends =
@@ -99,13 +124,13 @@ own-one pass e none = by_pass (pass_of e == pass) where
   by_pass false = refl
 
 -- a call of one event
-step_of_one : (limits : Limits) (pass : ℕ) (before : List Event) (e : Event) (asked : Call) (given : Reply) → IsIdle pass before → call_by pass e ≡ Some asked → reply_to limits before e ≡ Some given →
+step_of_one : (limits : Limits) (pass : ℕ) (before : List Event) (e : Event) (asked : Call) (given : Reply) → IsIdle pass before → call_by pass e ≡ Some asked → IsReply limits before e given →
     IsLegal limits (before ++ e ∷ []) → IsIdle pass (before ++ e ∷ []) → Step limits pass before (before ++ e ∷ []) asked given
 step_of_one limits pass before e asked given idle call replied legal after =
     step_made_from limits pass before before e [] asked given idle (prefix_refl before) refl call refl replied legal after
 
 -- a call that was refused before any other event of it
-pub step_refused : (limits : Limits) (pass : ℕ) (before : List Event) (asked : Call) (given : Reply) → IsIdle pass before → refusal limits before asked ≡ Some given → IsLegal limits (before ++ event.No pass asked ∷ []) →
+pub step_refused : (limits : Limits) (pass : ℕ) (before : List Event) (asked : Call) (given : Reply) → IsIdle pass before → IsReplyToRefused limits before asked given → IsLegal limits (before ++ event.No pass asked ∷ []) →
     Step limits pass before (before ++ event.No pass asked ∷ []) asked given
 step_refused limits pass before asked given idle refused legal =
     step_of_one limits pass before (event.No pass asked) asked given idle (call_by-own pass (event.No pass asked) refl) refused legal (idle_after pass before (event.No pass asked) refl refl)
@@ -125,7 +150,7 @@ step_added_from limits pass before middle id text slice column bits n idle grows
     let at : place (middle ++ taken ∷ []) + 1 ≡ n = omega (arith, place-append middle (taken ∷ []), same, is) in
     step_made_from limits pass before (middle ++ taken ∷ []) added [] (call.Add id text) (reply.Added n) idle
     (prefix_trans before middle (middle ++ taken ∷ []) grows (taken ∷ [], refl)) (adds_none-one pass middle taken refl ∙ none)
-    (call_by-own pass added refl) refl (ap (λ k. Some (reply.Added k)) at) legal (idle_after pass (middle ++ taken ∷ []) added refl refl)
+    (call_by-own pass added refl) refl (ap (λ k. reply.Added k) (sym at)) legal (idle_after pass (middle ++ taken ∷ []) added refl refl)
 
 -- an add that took a column and was committed
 pub step_added : (limits : Limits) (pass : ℕ) (before : List Event) (id : ℕ) (text : List ℕ) (slice column : ℕ) (bits : List Bit) (n : ℕ) → IsIdle pass before → n ≡ place before + 1 →
@@ -153,14 +178,46 @@ pub step_deleted : (limits : Limits) (pass : ℕ) (before : List Event) (id n : 
     IsLegal limits (before ++ event.Del pass id ∷ []) → Step limits pass before (before ++ event.Del pass id ∷ []) (call.Delete id) (reply.Deleted n)
 step_deleted limits pass before id n idle is legal =
     step_of_one limits pass before (event.Del pass id) (call.Delete id) (reply.Deleted n) idle (call_by-own pass (event.Del pass id) refl)
-    (ap (λ k. Some (reply.Deleted k)) (sym is)) legal (idle_after pass before (event.Del pass id) refl refl)
+    (ap (λ k. reply.Deleted k) is) legal (idle_after pass before (event.Del pass id) refl refl)
+
+-- a call that only read
+pub step_read_off : (limits : Limits) (pass : ℕ) (before : List Event) (asked : Call) (given : Reply) → IsIdle pass before → IsReplyToRead before asked given →
+    IsLegal limits (before ++ event.Read pass asked ∷ []) → Step limits pass before (before ++ event.Read pass asked ∷ []) asked given
+step_read_off limits pass before asked given idle told legal =
+    step_of_one limits pass before (event.Read pass asked) asked given idle (call_by-own pass (event.Read pass asked) refl)
+    told legal (idle_after pass before (event.Read pass asked) refl refl)
 
 -- a call that read the number of commits
 pub step_read : (limits : Limits) (pass : ℕ) (before : List Event) (n : ℕ) → IsIdle pass before → n ≡ place before →
     IsLegal limits (before ++ event.Read pass call.Place ∷ []) → Step limits pass before (before ++ event.Read pass call.Place ∷ []) call.Place (reply.Place n)
-step_read limits pass before n idle is legal =
-    step_of_one limits pass before (event.Read pass call.Place) call.Place (reply.Place n) idle (call_by-own pass (event.Read pass call.Place) refl)
-    (ap (λ k. Some (reply.Place k)) (sym is)) legal (idle_after pass before (event.Read pass call.Place) refl refl)
+step_read limits pass before n idle is legal = step_read_off limits pass before call.Place (reply.Place n) idle (ap (λ k. reply.Place k) is) legal
+
+-- a journal that found no memory for its commits
+pub step_read_no_memory : (limits : Limits) (pass : ℕ) (before : List Event) (from : ℕ) → IsIdle pass before →
+    IsLegal limits (before ++ event.Read pass (call.Journal from) ∷ []) → Step limits pass before (before ++ event.Read pass (call.Journal from) ∷ []) (call.Journal from) reply.Memory
+step_read_no_memory limits pass before from idle legal =
+    let e = event.Read pass (call.Journal from) in
+    record {
+      grows = (e ∷ [], refl);
+      legal = legal;
+      idle_before = idle;
+      idle_after = idle_after pass before e refl refl;
+      outcome = inr (inl (record {
+        reply = refl;
+        call = inr (own-append pass before (e ∷ []) ∙ ap (λ o. own pass before ++ cons_option o []) (call_by-own pass e refl));
+      }));
+    }
+
+-- a recycle that cleared a slice and opened it
+pub step_recycled : (limits : Limits) (pass : ℕ) (before : List Event) (slice : ℕ) → IsIdle pass before →
+    IsLegal limits ((before ++ event.Clear pass slice ∷ []) ++ event.Opened pass slice true ∷ []) →
+    Step limits pass before ((before ++ event.Clear pass slice ∷ []) ++ event.Opened pass slice true ∷ []) call.Recycle (reply.Recycled slice)
+step_recycled limits pass before slice idle legal =
+    let clear = event.Clear pass slice in
+    let opened = event.Opened pass slice true in
+    step_made_from limits pass before (before ++ clear ∷ []) opened [] call.Recycle (reply.Recycled slice) idle (clear ∷ [], refl)
+    (adds_none-one pass before clear refl) (call_by-own pass opened refl) refl (refl, refl) legal
+    (idle_after pass (before ++ clear ∷ []) opened refl refl)
 
 -- a call that came after so many events that no call is taken any more
 pub step_spent : (limits : Limits) (pass : ℕ) (history : List Event) (asked : Call) → limits.events ≤ length history → IsLegal limits history → IsIdle pass history →

@@ -1,5 +1,6 @@
 -- What the definitions read of an event. Where the last line has a `_`, all other kinds of event are silent.
-use Rattle.std.specs.Prelude.{ℕ, Bool, true, false, not, ◌&&◌, ◌==◌, Option, Some, None, List, if◌then◌else◌}
+use Rattle.std.specs.Prelude.{ℕ, Bool, true, false, not, ◌&&◌, ◌==◌, Option, Some, None, List, [], if◌then◌else◌}
+use Rattle.funnel_model.specs.declared.bit_list.Bit.{Bit}
 use Rattle.funnel_model.specs.declared.call.Call.{Call}
 use Rattle.funnel_model.specs.declared.call.Call.TheVariants as call
 use Rattle.funnel_model.specs.declared.commit.Commit.{Commit}
@@ -41,6 +42,7 @@ call_of (event.Add pass id text slice column bits) = Some (call.Add id text)
 call_of (event.Drop pass id text slice column) = Some (call.Add id text)
 call_of (event.Del pass id) = Some (call.Delete id)
 call_of (event.Find pass query) = Some (call.Find query)
+call_of (event.Opened pass slice alone) = if alone then Some call.Recycle else None
 call_of (event.No pass asked) = Some asked
 call_of (event.Read pass asked) = Some asked
 call_of _ = None
@@ -64,6 +66,18 @@ added_on slice column _ = None
 abbrev pub drops_on : ℕ → ℕ → Event → Bool
 drops_on slice column (event.Drop pass id text dropped at) = dropped == slice && at == column
 drops_on slice column _ = false
+
+-- the bits that the event adds in the slice
+abbrev pub bits_added_in : ℕ → Event → List Bit
+bits_added_in slice (event.Add pass id text added column bits) = if added == slice then bits else []
+bits_added_in slice _ = []
+
+-- whether the event claims a column of the slice, or adds or drops a document on one
+abbrev pub fills : ℕ → Event → Bool
+fills slice (event.Take pass taken column) = taken == slice
+fills slice (event.Add pass id text added column bits) = added == slice
+fills slice (event.Drop pass id text dropped column) = dropped == slice
+fills slice _ = false
 
 -- whether the event begins to clear the slice
 abbrev pub clears : ℕ → Event → Bool

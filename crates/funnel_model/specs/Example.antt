@@ -1,14 +1,14 @@
 -- Small engines and histories of them. Together the histories have each kind of event, and the refusals Present, Full,
 -- JournalFull and Absent.
-use Rattle.std.specs.Prelude.{false, List, [], ◌∷◌, ◌++◌}
-use Rattle.std.specs.List.{cons_option}
+use Rattle.std.specs.Prelude.{◌≡◌, ◌⊎◌, false, List, [], ◌∷◌, ◌++◌, None}
 use Rattle.funnel_model.specs.declared.call.Call.TheVariants as call
 use Rattle.funnel_model.specs.declared.event.Event.{Event}
 use Rattle.funnel_model.specs.declared.event.Event.TheVariants as event
 use Rattle.funnel_model.specs.declared.reply.Reply.{Reply}
 use Rattle.funnel_model.specs.declared.reply.Reply.TheVariants as reply
+use Rattle.funnel_model.specs.Events.{call_of}
 use Rattle.funnel_model.specs.Legal.{Limits}
-use Rattle.funnel_model.specs.Steps.{reply_to}
+use Rattle.funnel_model.specs.Steps.{IsReply}
 
 -- one pass, and one slice of two columns
 abbrev pub small : Limits
@@ -20,14 +20,17 @@ episode =
     event.Take 0 0 0 ∷ event.Add 0 9 [] 0 0 [] ∷ event.No 0 (call.Add 9 []) ∷ event.Take 0 0 1 ∷ event.Add 0 7 [] 0 1 []
     ∷ event.Find 0 [] ∷ event.End 0 ∷ event.No 0 (call.Add 5 []) ∷ []
 
--- the replies to the later events, where the history was these before
-abbrev pub replies_after : Limits → List Event → List Event → List Reply
-replies_after limits history [] = []
-replies_after limits history (e ∷ later) = cons_option (reply_to limits history e) (replies_after limits (history ++ e ∷ []) later)
+-- the replies to the later events, where the history was these before; an event that answers no call has none
+abbrev pub AreRepliesAfter : Limits → List Event → List Event → List Reply → Type 0
+AreRepliesAfter limits before [] replies = replies ≡ []
+AreRepliesAfter limits before (e ∷ later) replies =
+    ((call_of e ≡ None) × AreRepliesAfter limits (before ++ e ∷ []) later replies)
+    ⊎ ((given : Reply) × (rest : List Reply) × (replies ≡ given ∷ rest) × IsReply limits before e given
+    × AreRepliesAfter limits (before ++ e ∷ []) later rest)
 
 -- the replies to the calls of a history, in order
-abbrev pub replies_of : Limits → List Event → List Reply
-replies_of limits history = replies_after limits [] history
+abbrev pub AreReplies : Limits → List Event → List Reply → Type 0
+AreReplies limits history replies = AreRepliesAfter limits [] history replies
 
 abbrev pub episode_replies : List Reply
 episode_replies = reply.Added 1 ∷ reply.Present 1 ∷ reply.Added 2 ∷ reply.Found (9 ∷ 7 ∷ []) ∷ reply.Full ∷ []
@@ -36,12 +39,16 @@ episode_replies = reply.Added 1 ∷ reply.Present 1 ∷ reply.Added 2 ∷ reply.
 abbrev pub shared : Limits
 shared = record { passes = 2; slices = 1; columns = 2; slice_words = 4; commits = 5; events = 64 }
 
--- documents 9 and 7 fill the slice; pass 1 begins a find, and both are deleted under its token, so that the slice retires and
--- is guarded, and 5 is refused; the find ends, and the slice is cleared, opened and used again for 5; then the journal is full
+-- documents 9 and 7 fill the slice; pass 1 begins a find, and both are deleted under its token, so that the slice retires
+abbrev pub filling_and_deleting : List Event
+filling_and_deleting =
+    event.Take 0 0 0 ∷ event.Add 0 9 [] 0 0 [] ∷ event.Take 0 0 1 ∷ event.Add 0 7 [] 0 1 []
+    ∷ event.Find 1 [] ∷ event.Del 0 9 ∷ event.Del 0 7 ∷ []
+
+-- it is guarded, and 5 is refused; the find ends, and the slice is cleared, opened and used again for 5; then the journal is full
 abbrev pub reuse : List Event
 reuse =
-    event.Take 0 0 0 ∷ event.Add 0 9 [] 0 0 [] ∷ event.Take 0 0 1 ∷ event.Add 0 7 [] 0 1 []
-    ∷ event.Find 1 [] ∷ event.Del 0 9 ∷ event.Del 0 7 ∷ event.No 0 (call.Add 5 []) ∷ event.End 1
+    filling_and_deleting ++ event.No 0 (call.Add 5 []) ∷ event.End 1
     ∷ event.Clear 0 0 ∷ event.Opened 0 0 false ∷ event.Take 0 0 0 ∷ event.Add 0 5 [] 0 0 []
     ∷ event.Find 0 [] ∷ event.End 0 ∷ event.Read 0 call.Place
     ∷ event.No 0 (call.Delete 9) ∷ event.No 0 (call.Delete 5) ∷ event.No 0 (call.Add 5 []) ∷ event.No 0 (call.Add 6 []) ∷ []

@@ -1,5 +1,5 @@
 -- What a history says: its commits, its live documents and each pass's calls. A history is the list of its events, oldest first.
-use Rattle.std.specs.Prelude.{ℕ, ◌+◌, ◌==◌, Bool, List, [], ◌∷◌, ◌++◌, length, map, filter, Option, Some, None, option_to_list, if◌then◌else◌}
+use Rattle.std.specs.Prelude.{ℕ, ◌+◌, ◌≡◌, ◌==◌, Bool, false, List, [], ◌∷◌, ◌++◌, length, map, filter, drop, Option, Some, None, option_to_list, if◌then◌else◌}
 use Rattle.std.specs.List.{filter_map, list_any, find, fold}
 use Rattle.std.specs.Option.{option_map}
 use Rattle.funnel_model.specs.declared.call.Call.{Call}
@@ -15,6 +15,10 @@ commits history = filter_map commit_of history
 -- the place of a history is its number of commits
 abbrev pub place : List Event → ℕ
 place history = length (commits history)
+
+-- the commits without the first so many; none where there are no more
+abbrev pub commits_after : List Event → ℕ → List Commit
+commits_after history n = drop n (commits history)
 
 -- a document that is live: its number, its text, and the place right after its add
 pub record Document : Type 0 where
@@ -60,3 +64,9 @@ own pass history = filter_map (call_by pass) history
 -- the last event of a pass, where there is one
 abbrev pub last_by : ℕ → List Event → Option Event
 last_by pass history = fold (λ last e. if pass_of e == pass then Some e else last) None history
+
+-- the history goes on from the front, and has no event of the pass after it
+pub record IsFrontOf (pass : ℕ) (front history : List Event) : Type 0 where
+  pub later : List Event
+  pub whole : history ≡ front ++ later
+  pub silent : list_any (λ e. pass_of e == pass) later ≡ false

@@ -1,5 +1,5 @@
 -- Which histories are legal.
-use Rattle.std.specs.Prelude.{ℕ, ◌+◌, ◌*◌, ◌<◌, ◌≤◌, ◌≡◌, ◌⊎◌, Bool, true, false, List, [], ◌∷◌, ◌++◌, length, Option, None, Some, IfSome}
+use Rattle.std.specs.Prelude.{ℕ, ◌+◌, ◌*◌, ◌<◌, ◌≤◌, ◌≡◌, ◌==◌, ◌⊎◌, Bool, true, false, List, [], ◌∷◌, ◌++◌, length, Option, None, Some, IfSome}
 use Rattle.std.specs.List.{All, fold}
 use Rattle.funnel_model.specs.declared.bit_list.Bit.{Bit}
 use Rattle.funnel_model.specs.declared.call.Call.{Call}
@@ -36,9 +36,13 @@ IsBlocked columns history slice =
 abbrev pub IsFull : Limits → List Event → Type 0
 IsFull limits history = (slice : ℕ) → slice < limits.slices → IsBlocked limits.columns history slice
 
--- the journal holds as many commits as it can
-abbrev pub IsJournalFull : Limits → List Event → Type 0
-IsJournalFull limits history = place history ≡ limits.commits
+-- whether the journal holds as many commits as it can
+abbrev pub is_journal_full : Limits → List Event → Bool
+is_journal_full limits history = place history == limits.commits
+
+-- the journal has room for one more commit
+abbrev pub HasJournalRoom : Limits → List Event → Type 0
+HasJournalRoom limits history = place history < limits.commits
 
 -- the row word is one of the slice
 pub record IsInSlice (slice_words slice word : ℕ) : Type 0 where
@@ -68,19 +72,19 @@ pub record MayTakeOpened (limits : Limits) (history : List Event) (pass slice co
 pub record MayAdd (limits : Limits) (history : List Event) (pass id slice column : ℕ) (bits : List Bit) : Type 0 where
   pub taken : last_by pass history ≡ Some (event.Take pass slice column)
   pub absent : is_live id history ≡ false
-  pub room : place history < limits.commits
+  pub room : HasJournalRoom limits history
   pub inside : All (λ b. IsInSlice limits.slice_words slice b.word) bits
 
 -- a pass may drop the document for the column that it just took, where it can't be added
 pub record MayDrop (limits : Limits) (history : List Event) (pass id slice column : ℕ) : Type 0 where
   pub taken : last_by pass history ≡ Some (event.Take pass slice column)
-  pub refused : (is_live id history ≡ true) ⊎ IsJournalFull limits history
+  pub refused : (is_live id history ≡ true) ⊎ (is_journal_full limits history ≡ true)
 
 -- an idle pass may delete a live document where the journal has room
 pub record MayDelete (limits : Limits) (history : List Event) (pass id : ℕ) : Type 0 where
   pub idle : IsIdle pass history
   pub present : is_live id history ≡ true
-  pub room : place history < limits.commits
+  pub room : HasJournalRoom limits history
 
 -- a pass may end a find that it began
 pub record MayEnd (history : List Event) (pass : ℕ) : Type 0 where
@@ -99,16 +103,22 @@ pub record MayClear (limits : Limits) (history : List Event) (pass slice : ℕ) 
   pub can_clear : CanClear limits.columns history slice
   pub lowest : (lower : ℕ) → lower < slice → CanClear limits.columns history lower → ⊥
 
--- a pass may open the slice that it cleared; it does so only for an add now
-pub record MayOpen (history : List Event) (pass slice : ℕ) (alone : Bool) : Type 0 where
+-- a pass may open the slice that it cleared
+pub record MayOpen (history : List Event) (pass slice : ℕ) : Type 0 where
   pub cleared : last_by pass history ≡ Some (event.Clear pass slice)
-  pub for_add : alone ≡ false
+
+-- no slice can be cleared: each that is retired is guarded
+abbrev pub NoneCanClear : Limits → List Event → Type 0
+NoneCanClear limits history =
+    (slice : ℕ) → slice < limits.slices → IsRetired limits.columns slice history → IsGuarded limits.columns history slice
 
 -- an add may be refused where its number is live, where the journal is full, and where the engine is full; a delete where its
--- number is not live, and where the journal is full; other calls never
+-- number is not live, and where the journal is full; a recycle where no slice can be cleared; other calls never
 abbrev pub IsRefused : Limits → List Event → Call → Type 0
-IsRefused limits history (call.Add id text) = (is_live id history ≡ true) ⊎ IsJournalFull limits history ⊎ IsFull limits history
-IsRefused limits history (call.Delete id) = (is_live id history ≡ false) ⊎ IsJournalFull limits history
+IsRefused limits history (call.Add id text) =
+    (is_live id history ≡ true) ⊎ (is_journal_full limits history ≡ true) ⊎ IsFull limits history
+IsRefused limits history (call.Delete id) = (is_live id history ≡ false) ⊎ (is_journal_full limits history ≡ true)
+IsRefused limits history call.Recycle = NoneCanClear limits history
 IsRefused limits history _ = ⊥
 
 -- an idle pass may be refused such a call
@@ -119,6 +129,7 @@ pub record MayRefuse (limits : Limits) (history : List Event) (pass : ℕ) (aske
 -- the call only reads
 abbrev pub IsRead : Call → Type 0
 IsRead call.Place = Unit {0}
+IsRead (call.Journal from) = Unit {0}
 IsRead _ = ⊥
 
 -- an idle pass may make a call that only reads
@@ -135,7 +146,7 @@ MayFollow limits history (event.Del pass id) = MayDelete limits history pass id
 MayFollow limits history (event.Find pass query) = IsIdle pass history
 MayFollow limits history (event.End pass) = MayEnd history pass
 MayFollow limits history (event.Clear pass slice) = MayClear limits history pass slice
-MayFollow limits history (event.Opened pass slice alone) = MayOpen history pass slice alone
+MayFollow limits history (event.Opened pass slice alone) = MayOpen history pass slice
 MayFollow limits history (event.No pass asked) = MayRefuse limits history pass asked
 MayFollow limits history (event.Read pass asked) = MayReadOff history pass asked
 

@@ -5,6 +5,8 @@ pub mod Example
 pub mod History
 pub mod Legal
 pub mod Listed
+pub mod RecycleExample
+pub mod RowWords
 pub mod Sizes
 pub mod SliceSets
 pub mod Slices
@@ -13,3 +15,4 @@ pub mod Tokens
 pub mod Treatment
 pub mod TreatmentLaws
 pub mod Words
+pub mod WordSets

@@ -1,7 +1,6 @@
 -- What a call is answered, and the step from front to front that it makes. A front is the part of the history that a pass has seen.
-use Rattle.std.specs.Prelude.{ℕ, ◌+◌, ◌-◌, ◌≤◌, ◌≡◌, ◌==◌, ◌⊎◌, List, [], ◌∷◌, ◌++◌, length, take, Option, Some, None, if◌then◌else◌}
-use Rattle.std.specs.List.{slice_get}
-use Rattle.std.specs.Option.{option_map_or, option_and_then}
+use Rattle.std.specs.Prelude.{ℕ, ◌+◌, ◌<◌, ◌≤◌, ◌≡◌, ◌⊎◌, true, List, [], ◌∷◌, ◌++◌, length, Some, if◌then◌else◌}
+use Rattle.std.specs.Option.{option_map_or}
 use mathlib.Core.List.{IsPrefix}
 use Rattle.funnel_model.specs.declared.call.Call.{Call}
 use Rattle.funnel_model.specs.declared.call.Call.TheVariants as call
@@ -9,36 +8,64 @@ use Rattle.funnel_model.specs.declared.event.Event.{Event}
 use Rattle.funnel_model.specs.declared.event.Event.TheVariants as event
 use Rattle.funnel_model.specs.declared.reply.Reply.{Reply}
 use Rattle.funnel_model.specs.declared.reply.Reply.TheVariants as reply
-use Rattle.funnel_model.specs.History.{place, answer, is_live, live_place, own, call_by}
-use Rattle.funnel_model.specs.Legal.{Limits, IsIdle, IsLegal}
+use Rattle.funnel_model.specs.Blocks.{IsLowestGuard}
+use Rattle.funnel_model.specs.History.{place, commits_after, answer, is_live, live_place, own, call_by}
+use Rattle.funnel_model.specs.Legal.{Limits, IsIdle, IsLegal, is_journal_full}
+use Rattle.funnel_model.specs.Slices.{IsRetired}
 
--- what a call is answered that is refused after these events: an add by the place of its number's add where it is live, then by a
--- full journal, then by want of room; a delete by the number's absence, then by a full journal
-abbrev pub refusal : Limits → List Event → Call → Option Reply
-refusal limits history (call.Add id text) =
-    Some (option_map_or reply.Present (live_place id history) (if place history == limits.commits then reply.JournalFull else reply.Full))
-refusal limits history (call.Delete id) = Some (if is_live id history then reply.JournalFull else reply.Absent)
-refusal limits history _ = None
+-- no slice is retired
+abbrev pub NoneRetired : Limits → List Event → Type 0
+NoneRetired limits history = (slice : ℕ) → slice < limits.slices → IsRetired limits.columns slice history → ⊥
 
--- what a call is answered that only reads
-abbrev pub read_off : List Event → Call → Option Reply
-read_off history call.Place = Some (reply.Place (place history))
-read_off history _ = None
+-- the slice is the lowest that is retired, and the pass is the lowest that guards it
+pub record IsLowestGuarded (limits : Limits) (history : List Event) (slice pass : ℕ) : Type 0 where
+  pub in_range : slice < limits.slices
+  pub retired : IsRetired limits.columns slice history
+  pub lowest : (lower : ℕ) → lower < slice → IsRetired limits.columns lower history → ⊥
+  pub number : ℕ
+  pub guard : IsLowestGuard limits.columns history slice pass number
 
--- the reply that an event gives after these events, where it answers a call
-abbrev pub reply_to : Limits → List Event → Event → Option Reply
-reply_to limits history (event.Add pass id text slice column bits) = Some (reply.Added (place history + 1))
-reply_to limits history (event.Drop pass id text slice column) = Some (option_map_or reply.Present (live_place id history) reply.JournalFull)
-reply_to limits history (event.Del pass id) = Some (reply.Deleted (place history + 1))
-reply_to limits history (event.Find pass query) = Some (reply.Found (answer history query))
-reply_to limits history (event.No pass asked) = refusal limits history asked
-reply_to limits history (event.Read pass asked) = read_off history asked
-reply_to limits history _ = None
+-- a recycle is refused so: no slice is retired, or the lowest that is retired is guarded by this pass and none below it
+abbrev pub IsReplyToRecycle : Limits → List Event → Reply → Type 0
+IsReplyToRecycle limits history reply.NothingRetired = NoneRetired limits history
+IsReplyToRecycle limits history (reply.Guarded slice pass) = IsLowestGuarded limits history slice pass
+IsReplyToRecycle limits history _ = ⊥
 
--- the reply that the event with this number gives; the first event has number 1, and no event has number 0
-abbrev pub reply_at : Limits → List Event → ℕ → Option Reply
-reply_at limits history number =
-    if number == 0 then None else option_and_then (reply_to limits (take (number - 1) history)) (slice_get history (number - 1))
+-- a call is refused so after these events: an add by the place of its number's add where it is live, then by a full journal, then
+-- by want of room; a delete by the number's absence, then by a full journal
+abbrev pub IsReplyToRefused : Limits → List Event → Call → Reply → Type 0
+IsReplyToRefused limits history (call.Add id text) given =
+    given ≡ option_map_or reply.Present (live_place id history) (if is_journal_full limits history then reply.JournalFull else reply.Full)
+IsReplyToRefused limits history (call.Delete id) given = given ≡ (if is_live id history then reply.JournalFull else reply.Absent)
+IsReplyToRefused limits history call.Recycle given = IsReplyToRecycle limits history given
+IsReplyToRefused limits history _ given = ⊥
+
+-- a call that only reads is answered so
+abbrev pub IsReplyToRead : List Event → Call → Reply → Type 0
+IsReplyToRead history call.Place given = given ≡ reply.Place (place history)
+IsReplyToRead history (call.Journal from) given = given ≡ reply.Commits (commits_after history from)
+IsReplyToRead history _ given = ⊥
+
+-- the event, which comes after these, gives this reply; an event that answers no call gives none
+abbrev pub IsReply : Limits → List Event → Event → Reply → Type 0
+IsReply limits history (event.Add pass id text slice column bits) given = given ≡ reply.Added (place history + 1)
+IsReply limits history (event.Drop pass id text slice column) given =
+    given ≡ option_map_or reply.Present (live_place id history) reply.JournalFull
+IsReply limits history (event.Del pass id) given = given ≡ reply.Deleted (place history + 1)
+IsReply limits history (event.Find pass query) given = given ≡ reply.Found (answer history query)
+IsReply limits history (event.Opened pass slice alone) given = (alone ≡ true) × (given ≡ reply.Recycled slice)
+IsReply limits history (event.No pass asked) given = IsReplyToRefused limits history asked given
+IsReply limits history (event.Read pass asked) given = IsReplyToRead history asked given
+IsReply limits history _ given = ⊥
+
+-- the event with this number gives this reply; the first event has number 1
+pub record IsReplyAt (limits : Limits) (history : List Event) (number : ℕ) (given : Reply) : Type 0 where
+  pub earlier : List Event
+  pub event : Event
+  pub later : List Event
+  pub whole : history ≡ earlier ++ event ∷ later
+  pub count : number ≡ length earlier + 1
+  pub reply : IsReply limits earlier event given
 
 -- the pass's last call in the history is this one, and this is the reply that its event gives
 pub record AnswersLast (limits : Limits) (pass : ℕ) (history : List Event) (asked : Call) (given : Reply) : Type 0 where
@@ -48,7 +75,7 @@ pub record AnswersLast (limits : Limits) (pass : ℕ) (history : List Event) (as
   pub whole : history ≡ earlier ++ event ∷ later
   pub call : call_by pass event ≡ Some asked
   pub last : own pass later ≡ []
-  pub reply : reply_to limits earlier event ≡ Some given
+  pub reply : IsReply limits earlier event given
 
 -- the pass's calls are those before and then this one
 abbrev pub AddsCall : ℕ → List Event → List Event → Call → Type 0
@@ -58,10 +85,11 @@ AddsCall pass before after asked = own pass after ≡ own pass before ++ asked �
 abbrev pub AddsNone : ℕ → List Event → List Event → Type 0
 AddsNone pass before after = own pass after ≡ own pass before
 
--- for want of memory an add makes no call, and a find makes one or none; no other call wants memory
+-- for want of memory an add makes no call, and a find or a journal makes one or none; no other call wants memory
 abbrev pub FindsNoMemory : ℕ → List Event → List Event → Call → Type 0
 FindsNoMemory pass before after (call.Add id text) = AddsNone pass before after
 FindsNoMemory pass before after (call.Find query) = AddsNone pass before after ⊎ AddsCall pass before after (call.Find query)
+FindsNoMemory pass before after (call.Journal from) = AddsNone pass before after ⊎ AddsCall pass before after (call.Journal from)
 FindsNoMemory pass before after _ = ⊥
 
 -- the call was made, and is answered as the history says

@@ -49,7 +49,7 @@ pub enum Event {
         slice: u32,
     },
     /// The slice that the pass cleared is empty, and its columns are free again. `alone` is false where an add
-    /// cleared it, whose `Take` follows at once.
+    /// cleared it, whose `Take` follows at once, and true where the pass's call was to recycle.
     Opened {
         pass: u32,
         slice: u32,

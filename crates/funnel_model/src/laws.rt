@@ -4,15 +4,17 @@ ghost use Rattle.std.specs.List.{AllPairs, list_any};
 ghost use Rattle.funnel_model.specs.Blocks.{IsBlock};
 ghost use Rattle.funnel_model.specs.declared.block.Block.{Block};
 ghost use Rattle.funnel_model.specs.declared.event.Event.{Event};
-ghost use Rattle.funnel_model.specs.declared.event.Event.TheVariants as event;
 ghost use Rattle.funnel_model.specs.Events.{opens};
-ghost use Rattle.funnel_model.specs.Example.{episode, episode_replies, replies_of, reuse, reuse_replies, same_number, same_number_replies, shared, small};
 ghost use Rattle.funnel_model.specs.History.{Document, answer, is_live, live};
 ghost use Rattle.funnel_model.specs.Legal.{IsAllowed, IsFull, IsLegal, Limits};
 ghost use Rattle.funnel_model.specs.Slices.{ColumnState, Live, Pending, AllOver, HasUnclaimed, IsInState, IsRetired, IsRetiredAt};
-ghost use Rattle.funnel_model.specs.Steps.{reply_at, reply_to};
-ghost use Rattle.funnel_model.specs.Tokens.{MayRead};
 ghost use Rattle.funnel_model.specs.Words.{meets};
+
+pub mod clears;
+pub mod counter_examples;
+pub mod examples;
+pub mod invariants;
+pub mod replies;
 
 /// A history is legal exactly where each of its events is allowed after those before it.
 pub fn legal_event_by_event()
@@ -41,13 +43,6 @@ pub fn answers()
         (d : Document) × Contains (live history) d × (d.id ≡ id) × (meets d.text query ≡ true) }
     ensures once { (limits : Limits) (history : List Event) (query : List ℕ) → IsLegal limits history →
         AllPairs (λ i j. i ≢ j) (answer history query) }
-{}
-
-/// The reply that the event with a number gives is its reply after the events before it. No event has number 0.
-pub fn replies_by_number()
-    ensures reply { (limits : Limits) (before : List Event) (e : Event) (later : List Event) →
-        reply_at limits (before ++ e ∷ later) (length before + 1) ≡ reply_to limits before e }
-    ensures none { (limits : Limits) (history : List Event) → reply_at limits history 0 ≡ None }
 {}
 
 /// In a legal history each column is in one state, and in no other.
@@ -106,31 +101,4 @@ pub fn full_engines_have_no_room()
 pub fn full_engines_have_blocks()
     ensures { (limits : Limits) (history : List Event) (slice : ℕ) → IsLegal limits history → IsFull limits history →
         slice < limits.slices → (block : Block) × IsBlock limits.columns history slice block }
-{}
-
-/// In a legal history no slice is cleared that an open token may read.
-pub fn no_slice_is_cleared_under_a_reader()
-    ensures { (limits : Limits) (before later : List Event) (pass slice reader : ℕ) →
-        IsLegal limits (before ++ event.Clear pass slice ∷ later) → MayRead limits.columns before reader slice → ⊥ }
-{}
-
-/// There is a legal history with two adds, a find, a refused add of a number that is live and a refused add where no column is
-/// left, and these are its replies.
-pub fn example()
-    ensures legal { IsLegal small episode }
-    ensures replies { replies_of small episode ≡ episode_replies }
-{}
-
-/// There is a legal history that fills a slice, retires it under an open token, clears it, opens it and uses it again. It has
-/// deletes, a call that only reads, and refused adds and deletes, and these are its replies.
-pub fn reuse_example()
-    ensures legal { IsLegal shared reuse }
-    ensures replies { replies_of shared reuse ≡ reuse_replies }
-{}
-
-/// There is a legal history in which two passes add the same number at once, and the later one is dropped. These are its
-/// replies.
-pub fn drop_example()
-    ensures legal { IsLegal shared same_number }
-    ensures replies { replies_of shared same_number ≡ same_number_replies }
 {}

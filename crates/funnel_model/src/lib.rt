@@ -34,7 +34,7 @@ pub use memory::Memory;
 pub use reply::Reply;
 pub use slice_set::{MOST_SLICES, SliceSet};
 pub use text::Text;
-pub use word_set::WordSet;
+pub use word_set::{WordSet, Words};
 
 #[cfg(test)]
 mod tests;

@@ -1,3 +1,4 @@
+use crate::commit::Commits;
 use crate::ids::Ids;
 
 /// What a line is answered.
@@ -19,10 +20,21 @@ pub enum Reply {
     Found(Ids),
     /// The number of commits so far.
     Place(u64),
+    /// The commits that were asked for, in order.
+    Commits(Commits),
+    /// This slice was cleared, and its columns are free again.
+    Recycled(u32),
+    /// No slice can be recycled: none is retired.
+    NothingRetired,
+    /// No slice can be recycled: each that is retired is guarded by a running find. The lowest of these slices, and the
+    /// lowest pass that guards it.
+    Guarded { slice: u32, pass: u32 },
     /// The history has so many events that no call is taken any more.
     Spent,
     /// No memory was found for the call.
     Memory,
     /// The line is none of the protocol.
     Line,
+    /// The line is longer than a line may be.
+    Long,
 }

@@ -1,11 +1,11 @@
 -- What the steps of reading a configuration give, for the clauses of functions that are not public.
 use Rattle.std.specs.Prelude.{◌≡◌, ◌+◌, ◌≤◌, ⊤, ℕ, List, length, Vec, Option, Some, None, Result, Err, MatchResult}
 use Rattle.std.specs.Global.{Global}
-use Rattle.funnel_io.specs.Bytes.{TakenFrom, AppendedTo}
+use Rattle.std.specs.Io.KnownBytes.{IsAtEnd}
+use Rattle.funnel_io.specs.Streams.{Incoming, Takes}
 use Rattle.funnel_model.specs.declared.config.Config.{Config}
 use Rattle.serde_json.specs.Data.{Members}
 use Rattle.funnel_stats.specs.Configurations.{longest}
-use Rattle.funnel_stats.specs.Reading.{IsAtEnd}
 use Rattle.funnel_stats.specs.declared.fault.ConfigFault.{ConfigFault}
 use Rattle.funnel_stats.specs.declared.fault.ConfigFault.TheVariants.{ReadFault, TooLong, NotJson, Memory}
 
@@ -44,10 +44,9 @@ IsTakingFault Memory bytes = ⊤
 IsTakingFault fault bytes = (fault ≡ TooLong longest) × (length bytes ≡ longest + 1)
 
 -- bytes were taken from a source: all of them, or those up to a fault
-pub record IsTaken (answer : Result (Vec ℕ Global) ConfigFault) (left left' taken taken' : Option (List ℕ)) : Type 0 where
+pub record IsTaken (answer : Result (Vec ℕ Global) ConfigFault) (before after : Incoming) : Type 0 where
   pub bytes : List ℕ
-  pub taken_from : TakenFrom left bytes left'
-  pub appended : AppendedTo taken bytes taken'
+  pub takes : Takes bytes before after
   pub few : length bytes ≤ longest + 1
   pub answers : MatchResult answer
-      (λ all. (all.items ≡ bytes) × (length bytes ≤ longest) × IsAtEnd left') (λ fault. IsTakingFault fault bytes)
+      (λ all. (all.items ≡ bytes) × (length bytes ≤ longest) × IsAtEnd after.left) (λ fault. IsTakingFault fault bytes)

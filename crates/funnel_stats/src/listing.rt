@@ -1,5 +1,6 @@
-ghost use Rattle.std.specs.Prelude.{◌≡◌, ◌↔◌, [], ◌∷◌, true, false, Some, IsTrue, IfOk, MatchOption, MatchResult, map, option_map, option_and_then, string_bytes};
+ghost use Rattle.std.specs.Prelude.{◌≡◌, ◌↔◌, [], ◌∷◌, true, false, Some, IsTrue, IfOk, MatchOption, MatchResult, map, option_map, option_and_then};
 ghost use Rattle.funnel_model.specs.Listed.{IsInByteOrder};
+ghost use Rattle.funnel_model.specs.Words.{IsRising};
 ghost use Rattle.serde_json.specs.Find.{as_object};
 ghost use Rattle.serde_json.specs.View.{view, members_view};
 ghost use Rattle.funnel_stats.specs.Configurations.{counted, first_of};
@@ -12,7 +13,7 @@ use crate::fault::ConfigFault;
 use crate::kept::Kept;
 use crate::key::Key;
 use crate::object::value_of;
-use funnel_model::{Listed, Text};
+use funnel_model::{Listed, Text, WordSet};
 use serde_json::{Map, Value};
 use std::alloc::Global;
 use word_cut::words;
@@ -69,17 +70,15 @@ fn is_word(alloc: Global, text: &str) -> Result<bool, ConfigFault>
     ensures { MatchResult result (λ is. is ≡ is_word text.now) (λ fault. fault ≡ ConfigFault.Memory) }
 {
     let found = words(alloc, text)?;
-    Ok(is_alone(found.as_slice(), text))
+    Ok(is_alone(&found, text))
 }
 
 /// Whether the text is all that the words are.
-fn is_alone(words: &[String], text: &str) -> bool
-    ensures { IsTrue result ↔ (map string_bytes words.now ≡ text.now ∷ []) }
+fn is_alone(words: &WordSet, text: &str) -> bool
+    ensures alone { IsTrue result ↔ (words.now ≡ text.now ∷ []) }
+    ensures rising { IsRising words.now }
 {
-    match words {
-        [word] => word.as_str() == text,
-        _ => false,
-    }
+    words.len() == 1 && words.contains(text.as_bytes())
 }
 
 /// The words with their counts, each from 1 to the number of documents.

@@ -1,6 +1,7 @@
-ghost use Rattle.std.specs.Prelude.{◌≡◌, ◌≤◌, IfOk, IfErr};
+ghost use Rattle.std.specs.Prelude.{◌≡◌, IfOk, MatchResult};
+ghost use Rattle.funnel_io.specs.Counts.{counted};
 ghost use Rattle.funnel_model.specs.Configuration.{IsValid};
-ghost use Rattle.funnel_stats.specs.Reading.{IsRead, RoseAtFault};
+ghost use Rattle.funnel_stats.specs.Reading.{IsConfigRead, is_read_fault};
 ghost use Rattle.funnel_stats.specs.Steps.{IsTaken};
 
 use crate::fault::ConfigFault;
@@ -18,11 +19,12 @@ const PIECE: usize = 4_096;
 /// Reads the source to its end as a configuration, however its reads cut the bytes. Of a source that is too long one
 /// byte more is taken than a configuration may have, and no further one.
 pub fn read_config<S: Source>(alloc: Global, source: &mut S) -> Result<Config, ConfigFault>
-    ensures never_falls { S.read_faults source.old ≤ S.read_faults source.new }
     ensures borrowed { S.borrowed source.new ≡ S.borrowed source.old }
     ensures beside { S.beside_read source.new ≡ S.beside_read source.old }
-    ensures answer { IsRead result (S.left source.old) (S.left source.new) (S.taken source.old) (S.taken source.new) }
-    ensures failed { IfErr result (λ fault. RoseAtFault fault (S.read_faults source.old) (S.read_faults source.new)) }
+    ensures answer { IsConfigRead result (S.incoming source.old) (S.incoming source.new) }
+    ensures faults { MatchResult result
+        (λ _. (S.incoming source.new).faults ≡ (S.incoming source.old).faults)
+        (λ fault. (S.incoming source.new).faults ≡ counted (is_read_fault fault) (S.incoming source.old).faults) }
     ensures valid { IfOk result IsValid }
 {
     let bytes = read_all(alloc, source)?;
@@ -31,11 +33,12 @@ pub fn read_config<S: Source>(alloc: Global, source: &mut S) -> Result<Config, C
 
 /// All bytes of the source.
 fn read_all<S: Source>(alloc: Global, source: &mut S) -> Result<Vec<u8>, ConfigFault>
-    ensures never_falls { S.read_faults source.old ≤ S.read_faults source.new }
     ensures borrowed { S.borrowed source.new ≡ S.borrowed source.old }
     ensures beside { S.beside_read source.new ≡ S.beside_read source.old }
-    ensures taken { IsTaken result (S.left source.old) (S.left source.new) (S.taken source.old) (S.taken source.new) }
-    ensures failed { IfErr result (λ fault. RoseAtFault fault (S.read_faults source.old) (S.read_faults source.new)) }
+    ensures taken { IsTaken result (S.incoming source.old) (S.incoming source.new) }
+    ensures faults { MatchResult result
+        (λ _. (S.incoming source.new).faults ≡ (S.incoming source.old).faults)
+        (λ fault. (S.incoming source.new).faults ≡ counted (is_read_fault fault) (S.incoming source.old).faults) }
 {
     let mut bytes = Vec::new(alloc);
     let mut room = [0; PIECE];

@@ -254,12 +254,18 @@ fn an_object_nests_at_most_127_deep(rt: HostRuntime) -> Result<(), Fail> {
 
 #[test]
 fn a_source_is_read_to_the_limit(rt: HostRuntime) -> Result<(), Fail> {
-    for (spaces, wanted) in [
-        (16_777_214, DEFAULTS),
-        (16_777_215, "2: more than 16777216 bytes"),
+    for (spaces, object, wanted) in [
+        (16_777_214, "{}", DEFAULTS),
+        (16_777_215, "{}", "2: more than 16777216 bytes"),
+        (2_000_000, "[1]", "3: no JSON object"),
+        (
+            2_000_000,
+            "{\"slices\":1024,\"blocks\":64}",
+            "9: 39321600 words in the pool",
+        ),
     ] {
         let mut bytes = vec![in rt.alloc(); b' '; spaces]?;
-        bytes.extend_from_slice(b"{}")?;
+        bytes.extend_from_slice(object.as_bytes())?;
         let answer = read(rt.alloc(), &bytes, 1_000_000, &[])?;
         assert_eq!(rt; answer.as_str(), wanted, "of {spaces} spaces");
     }

@@ -3,3 +3,4 @@ pub mod Lines
 pub mod Replies
 pub mod Words
 pub mod Readings
+pub mod Rendering

@@ -4,7 +4,8 @@ use Rattle.std.specs.Str.{IsUtf8, is_utf8}
 use Rattle.std.proofs.lemmas.Bool.{le-ltb}
 use Rattle.std.proofs.lemmas.Str.{IsUtf8-from_is_utf8, is_utf8-from_IsUtf8}
 use Rattle.funnel_model.specs.declared.call.Call.{Call}
-use Rattle.line_proto.specs.Forms.{max_line_len, without_return, call_of_text, form_of}
+use Rattle.funnel_io.specs.declared.line_reader.TheConstants.{MAX_LINE_LEN}
+use Rattle.line_proto.specs.Forms.{without_return, call_of_text, form_of}
 
 -- a test that isn't true is false
 not_from_test : (b : Bool) → ¬ (b ≡ true) → b ≡ false
@@ -21,10 +22,10 @@ pub form_of-not_text : (line : List ℕ) → ¬ (IsUtf8 (without_return line)) �
 unfolding form_of
 form_of-not_text line other =
     let fails : is_utf8 (without_return line) ≡ false = not_from_test (is_utf8 (without_return line)) (λ e. other (IsUtf8-from_is_utf8 (without_return line) e)) in
-    unless_cond (nat_lt max_line_len (length line)) (is_utf8 (without_return line)) (call_of_text (without_return line)) fails
+    unless_cond (nat_lt MAX_LINE_LEN (length line)) (is_utf8 (without_return line)) (call_of_text (without_return line)) fails
 
 -- a line of text that is short enough has the call of its text
-pub form_of-text : (line : List ℕ) → length line ≤ max_line_len → IsUtf8 (without_return line) → form_of line ≡ call_of_text (without_return line)
+pub form_of-text : (line : List ℕ) → length line ≤ MAX_LINE_LEN → IsUtf8 (without_return line) → form_of line ≡ call_of_text (without_return line)
 unfolding form_of
 form_of-text line short text =
-    rw (le-ltb max_line_len (length line) short, is_utf8-from_IsUtf8 (without_return line) text) refl
+    rw (le-ltb MAX_LINE_LEN (length line) short, is_utf8-from_IsUtf8 (without_return line) text) refl

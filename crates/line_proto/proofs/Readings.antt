@@ -9,8 +9,9 @@ use Rattle.std.proofs.lemmas.List.{take_at}
 use Rattle.std.proofs.lemmas.Slice.Eq.{bytes_eq-Decides, ends_is}
 use Rattle.std.proofs.lemmas.Str.{IsUtf8-append, IsUtf8-from_ascii, IsUtf8-from_is_utf8, IsUtf8-nil}
 use Rattle.funnel_model.specs.declared.call.Call.{Call}
-use Rattle.funnel_model.specs.declared.call.Call.TheVariants.{Add, Delete, Find, Place}
-use Rattle.line_proto.specs.Forms.{max_line_len, without_return, word_of, rest_of, number_of, add_of, delete_of, call_of_text, form_of}
+use Rattle.funnel_model.specs.declared.call.Call.TheVariants.{Add, Delete, Find, Place, Journal, Recycle}
+use Rattle.funnel_io.specs.declared.line_reader.TheConstants.{MAX_LINE_LEN}
+use Rattle.line_proto.specs.Forms.{without_return, word_of, rest_of, number_of, add_of, delete_of, journal_of, call_of_word, call_of_text, form_of}
 use Rattle.line_proto.specs.Grammar.{WritesNumber, EndsWithText, IsForm, DropsReturn, HasForm, IsReadByForms}
 use Rattle.line_proto.proofs.Lines.{form_of-text}
 use Rattle.line_proto.proofs.Numbers.{number_of-writes, number_of-written}
@@ -118,32 +119,62 @@ delete-form bytes call u word h =
     let read = mapped Delete (number_of (rest_of bytes)) call h in
     subst (IsForm bytes) read.2 (delete-form-at bytes split.0 read.0 (subst (λ (w : List ℕ). bytes ≡ w ++ split.0) word split.1) (number_of-writes (rest_of bytes) read.0 read.1) split.2)
 
+-- and before the number of a journal
+journal-form-at : (bytes end : List ℕ) (from : ℕ) → bytes ≡ codes "journal" ++ end → WritesNumber (rest_of bytes) from → EndsWithText end (rest_of bytes) → IsForm bytes (Journal from)
+journal-form-at bytes end from whole w (inl e) = absurd (omega (arith, w.numeral.0, ap length e.1))
+journal-form-at bytes end from whole w (inr e) = (rest_of bytes, whole ∙ ap (λ (x : List ℕ). codes "journal" ++ x) e.0, w)
+
+-- a text with the word `journal`, and with a number and nothing else, is a form of the journal
+journal-form : (bytes : List ℕ) (call : Call) → IsUtf8 bytes → word_of bytes ≡ codes "journal" → journal_of (rest_of bytes) ≡ Some call → IsForm bytes call
+unfolding journal_of
+journal-form bytes call u word h =
+    let split = splits bytes u in
+    let read = mapped Journal (number_of (rest_of bytes)) call h in
+    subst (IsForm bytes) read.2 (journal-form-at bytes split.0 read.0 (subst (λ (w : List ℕ). bytes ≡ w ++ split.0) word split.1) (number_of-writes (rest_of bytes) read.0 read.1) split.2)
+
 -- the call of a text whose word is not `add`, `del` or `find`
-abbrev place_or_none : List ℕ → Option Call
-place_or_none bytes = cond (bytes_eq bytes (codes "place")) (Some Place) None
+abbrev journal_or_later : List ℕ → Option Call
+journal_or_later bytes = cond (bytes_eq (word_of bytes) (codes "journal")) (journal_of (rest_of bytes)) (call_of_word bytes)
 
 -- the call of a text whose word is not `add` or `del`
 abbrev find_or_later : List ℕ → Option Call
-find_or_later bytes = cond (bytes_eq (word_of bytes) (codes "find")) (Some (Find (rest_of bytes))) (place_or_none bytes)
+find_or_later bytes = cond (bytes_eq (word_of bytes) (codes "find")) (Some (Find (rest_of bytes))) (journal_or_later bytes)
 
 -- the call of a text whose word is not `add`
 abbrev delete_or_later : List ℕ → Option Call
 delete_or_later bytes = cond (bytes_eq (word_of bytes) (codes "del")) (delete_of (rest_of bytes)) (find_or_later bytes)
 
--- a text that is `place` is its form
-place-form : (bytes : List ℕ) (call : Call) → place_or_none bytes ≡ Some call → IsForm bytes call
-place-form bytes call h =
-    elim (by_test (bytes_eq bytes (codes "place")) (Some Place) None call h) [
-      | inl found ↦ subst (IsForm bytes) (same_call Place call found.1) ((bytes_eq-Decides bytes (codes "place")).0 found.0)
+-- a text that is `recycle` is its form
+recycle-form : (bytes : List ℕ) (call : Call) → cond (bytes_eq bytes (codes "recycle")) (Some Recycle) None ≡ Some call → IsForm bytes call
+recycle-form bytes call h =
+    elim (by_test (bytes_eq bytes (codes "recycle")) (Some Recycle) None call h) [
+      | inl found ↦ subst (IsForm bytes) (same_call Recycle call found.1) ((bytes_eq-Decides bytes (codes "recycle")).0 found.0)
       | inr found ↦ absurd (cc)
     ]
 
--- a text whose word is not `add` or `del` is a form of its call
+-- so is one that is `place`
+word-form : (bytes : List ℕ) (call : Call) → call_of_word bytes ≡ Some call → IsForm bytes call
+unfolding call_of_word
+word-form bytes call h =
+    elim (by_test (bytes_eq bytes (codes "place")) (Some Place) (cond (bytes_eq bytes (codes "recycle")) (Some Recycle) None) call h) [
+      | inl found ↦ subst (IsForm bytes) (same_call Place call found.1) ((bytes_eq-Decides bytes (codes "place")).0 found.0)
+      | inr found ↦ recycle-form bytes call found
+    ]
+
+-- a text whose word is not `add`, `del` or `find` is a form of its call
+journal-form-or-later : (bytes : List ℕ) (call : Call) → IsUtf8 bytes → journal_or_later bytes ≡ Some call → IsForm bytes call
+journal-form-or-later bytes call u h =
+    elim (by_word bytes (codes "journal") (journal_of (rest_of bytes)) (call_of_word bytes) call h) [
+      | inl found ↦ journal-form bytes call u found.0 found.1
+      | inr found ↦ word-form bytes call found
+    ]
+
+-- so is a text whose word is not `add` or `del`
 find-form-or-later : (bytes : List ℕ) (call : Call) → IsUtf8 bytes → find_or_later bytes ≡ Some call → IsForm bytes call
 find-form-or-later bytes call u h =
-    elim (by_word bytes (codes "find") (Some (Find (rest_of bytes))) (place_or_none bytes) call h) [
+    elim (by_word bytes (codes "find") (Some (Find (rest_of bytes))) (journal_or_later bytes) call h) [
       | inl found ↦ subst (IsForm bytes) (same_call (Find (rest_of bytes)) call found.1) (find-form bytes u found.0)
-      | inr found ↦ place-form bytes call found
+      | inr found ↦ journal-form-or-later bytes call u found
     ]
 
 -- so is a text whose word is not `add`
@@ -167,9 +198,9 @@ text-form bytes call u h =
 has-form : (line : List ℕ) (call : Call) → form_of line ≡ Some call → HasForm line call
 unfolding form_of
 has-form line call h =
-    let read = passes_both (nat_lt max_line_len (length line)) (is_utf8 (without_return line)) (call_of_text (without_return line)) call h in
+    let read = passes_both (nat_lt MAX_LINE_LEN (length line)) (is_utf8 (without_return line)) (call_of_text (without_return line)) call h in
     record {
-      short = ltb-false max_line_len (length line) read.0;
+      short = ltb-false MAX_LINE_LEN (length line) read.0;
       bytes = without_return line;
       dropped = drops line;
       form = text-form (without_return line) call (IsUtf8-from_is_utf8 (without_return line) read.1) read.2;
@@ -198,6 +229,14 @@ find-is-text : IsUtf8 (codes "find")
 unfolding lib.Utf8.encode
 find-is-text = (codes "find", (refl, refl))
 
+journal-is-text : IsUtf8 (codes "journal ")
+unfolding lib.Utf8.encode
+journal-is-text = (codes "journal ", (refl, refl))
+
+recycle-is-text : IsUtf8 (codes "recycle")
+unfolding lib.Utf8.encode
+recycle-is-text = (codes "recycle", (refl, refl))
+
 -- an end with a text is UTF-8
 end-is-text : (end text : List ℕ) → EndsWithText end text → IsUtf8 end
 end-is-text end text (inl e) = subst IsUtf8 (sym e.0) IsUtf8-nil
@@ -213,6 +252,9 @@ form-is-text bytes (Delete id) f =
 form-is-text bytes (Find query) f =
     subst IsUtf8 (sym f.1) (IsUtf8-append (codes "find") f.0 find-is-text (end-is-text f.0 query f.2))
 form-is-text bytes Place f = subst IsUtf8 (sym f) place-is-text
+form-is-text bytes (Journal from) f =
+    subst IsUtf8 (sym f.1) (IsUtf8-append (codes "journal ") f.0 journal-is-text (IsUtf8-from_ascii f.0 (IsAscii-from_digits f.0 f.2.numeral.1)))
+form-is-text bytes Recycle f = subst IsUtf8 (sym f) recycle-is-text
 
 -- behind `add` and a space stands what tells the add
 call-of-add : (rest : List ℕ) → call_of_text (codes "add " ++ rest) ≡ add_of rest
@@ -236,10 +278,25 @@ delete-of-digits : (digits : List ℕ) (id : ℕ) → WritesNumber digits id →
 unfolding delete_of
 delete-of-digits digits id w = ap (option_map Delete) (number_of-written digits id w)
 
+-- behind `journal` and a space stands the number
+call-of-journal : (rest : List ℕ) → call_of_text (codes "journal " ++ rest) ≡ journal_of rest
+unfolding call_of_text
+call-of-journal rest = refl
+
+-- digits tell the number of a journal
+journal-of-digits : (digits : List ℕ) (from : ℕ) → WritesNumber digits from → journal_of digits ≡ Some (Journal from)
+unfolding journal_of
+journal-of-digits digits from w = ap (option_map Journal) (number_of-written digits from w)
+
 -- `place` stands alone
 call-of-place : call_of_text (codes "place") ≡ Some Place
-unfolding call_of_text
+unfolding call_of_text call_of_word
 call-of-place = refl
+
+-- so does `recycle`
+call-of-recycle : call_of_text (codes "recycle") ≡ Some Recycle
+unfolding call_of_text call_of_word
+call-of-recycle = refl
 
 -- behind `find` stands the query
 call-of-find : (end query : List ℕ) → EndsWithText end query → call_of_text (codes "find" ++ end) ≡ Some (Find query)
@@ -255,6 +312,8 @@ call-of-form bytes (Add id text) f =
 call-of-form bytes (Delete id) f = ap call_of_text f.1 ∙ call-of-delete f.0 ∙ delete-of-digits f.0 id f.2
 call-of-form bytes (Find query) f = ap call_of_text f.1 ∙ call-of-find f.0 query f.2
 call-of-form bytes Place f = ap call_of_text f ∙ call-of-place
+call-of-form bytes (Journal from) f = ap call_of_text f.1 ∙ call-of-journal f.0 ∙ journal-of-digits f.0 from f.2
+call-of-form bytes Recycle f = ap call_of_text f ∙ call-of-recycle
 
 -- a line with a form of a call is read as the call
 read-form : (line : List ℕ) (call : Call) → HasForm line call → form_of line ≡ Some call

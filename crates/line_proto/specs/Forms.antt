@@ -4,11 +4,9 @@ use Rattle.std.specs.List.{before_first, after_first, ends_with}
 use Rattle.std.specs.Str.{all_ascii_digits, is_utf8}
 use Rattle.std.specs.Str.Parse.{digits_value}
 use Rattle.funnel_model.specs.declared.call.Call.{Call}
-use Rattle.funnel_model.specs.declared.call.Call.TheVariants.{Add, Delete, Find, Place}
-
--- the most bytes of a line, a carriage return at its end among them
-abbrev pub max_line_len : ℕ
-max_line_len = 65536
+use Rattle.funnel_model.specs.declared.call.Call.TheVariants.{Add, Delete, Find, Place, Journal, Recycle}
+use Rattle.funnel_io.specs.Lines.{lines}
+use Rattle.funnel_io.specs.declared.line_reader.TheConstants.{MAX_LINE_LEN}
 
 -- the line without one carriage return at its end, if it has one there
 abbrev pub without_return : List ℕ → List ℕ
@@ -42,34 +40,50 @@ add_of bytes = option_map (λ id. Add id (rest_of bytes)) (number_of (word_of by
 unfoldable pub delete_of : List ℕ → Option Call
 delete_of bytes = option_map Delete (number_of bytes)
 
--- the call of a text, by its first word; `place` stands alone
+-- a number and nothing else
+unfoldable pub journal_of : List ℕ → Option Call
+journal_of bytes = option_map Journal (number_of bytes)
+
+-- the call of a text that is one word
+unfoldable pub call_of_word : List ℕ → Option Call
+call_of_word text =
+    if bytes_eq text (codes "place") then Some Place
+    else (if bytes_eq text (codes "recycle") then Some Recycle else None)
+
+-- the call of a text, by its first word; `place` and `recycle` stand alone
 unfoldable pub call_of_text : List ℕ → Option Call
 call_of_text text =
     if bytes_eq (word_of text) (codes "add") then add_of (rest_of text)
     else (if bytes_eq (word_of text) (codes "del") then delete_of (rest_of text)
     else (if bytes_eq (word_of text) (codes "find") then Some (Find (rest_of text))
-    else (if bytes_eq text (codes "place") then Some Place else None)))
+    else (if bytes_eq (word_of text) (codes "journal") then journal_of (rest_of text)
+    else call_of_word text)))
 
 -- the call of a line, or none where the line has no form: it is too long, or no text, or of another shape
 unfoldable pub form_of : List ℕ → Option Call
 form_of line =
-    if nat_lt max_line_len (length line) then None
+    if nat_lt MAX_LINE_LEN (length line) then None
     else (if is_utf8 (without_return line) then call_of_text (without_return line) else None)
 
--- what a line is to the engine: a call, or a line of no form
+-- what a line is to the engine: a call, a line of no form, or a line that is too long
 pub data Item : Type 0 where
   Asks : Call → Item
   Malformed : Item
+  TooLong : Item
 
--- the item of a line that has this form
+-- the item of a line that has this form and isn't too long
 abbrev pub item_from : Option Call → Item
 item_from None = Malformed
 item_from (Some call) = Asks call
 
 -- the item of a line
 abbrev pub item_of : List ℕ → Item
-item_of line = item_from (form_of line)
+item_of line = if nat_lt MAX_LINE_LEN (length line) then TooLong else item_from (form_of line)
 
--- the items of the lines, in their order
-abbrev pub items : List (List ℕ) → List Item
-items lines = map item_of lines
+-- the items of these lines, in their order
+abbrev pub items_of : List (List ℕ) → List Item
+items_of lines = map item_of lines
+
+-- the items of the bytes, of which a rest without newline is one where the bytes ended
+abbrev pub items : List ℕ → Bool → List Item
+items bytes ended = items_of (lines bytes ended)

@@ -3,8 +3,9 @@ use Rattle.std.specs.Prelude.{◌≡◌, ◌≢◌, ◌⊎◌, ◌↔◌, ℕ, �
 use Rattle.std.specs.Str.{IsUtf8}
 use Rattle.std.specs.Str.Parse.{IsNumeral, digits_value}
 use Rattle.funnel_model.specs.declared.call.Call.{Call}
-use Rattle.funnel_model.specs.declared.call.Call.TheVariants.{Add, Delete, Find, Place}
-use Rattle.line_proto.specs.Forms.{max_line_len, form_of}
+use Rattle.funnel_model.specs.declared.call.Call.TheVariants.{Add, Delete, Find, Place, Journal, Recycle}
+use Rattle.funnel_io.specs.declared.line_reader.TheConstants.{MAX_LINE_LEN}
+use Rattle.line_proto.specs.Forms.{form_of}
 
 -- 1 to 20 digits, with leading zeros or without, write a number below 2 ^ 64
 pub record WritesNumber (digits : List ℕ) (number : ℕ) : Type 0 where
@@ -23,6 +24,8 @@ IsForm bytes (Add id text) = (digits : List ℕ) × (end : List ℕ) × (bytes �
 IsForm bytes (Delete id) = (digits : List ℕ) × (bytes ≡ codes "del " ++ digits) × WritesNumber digits id
 IsForm bytes (Find query) = (end : List ℕ) × (bytes ≡ codes "find" ++ end) × EndsWithText end query
 IsForm bytes Place = bytes ≡ codes "place"
+IsForm bytes (Journal from) = (digits : List ℕ) × (bytes ≡ codes "journal " ++ digits) × WritesNumber digits from
+IsForm bytes Recycle = bytes ≡ codes "recycle"
 
 -- the line is these bytes and a carriage return, or it is these bytes and doesn't end with one
 abbrev pub DropsReturn : List ℕ → List ℕ → Type 0
@@ -30,7 +33,7 @@ DropsReturn line bytes = (line ≡ bytes ++ (13 ∷ [])) ⊎ ((line ≡ bytes) �
 
 -- the line has a form of the call
 pub record HasForm (line : List ℕ) (call : Call) : Type 0 where
-  pub short : length line ≤ max_line_len
+  pub short : length line ≤ MAX_LINE_LEN
   pub bytes : List ℕ
   pub dropped : DropsReturn line bytes
   pub form : IsForm bytes call

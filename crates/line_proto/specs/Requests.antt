@@ -2,7 +2,7 @@
 use Rattle.funnel_model.specs.declared.call.Call.{Call}
 use Rattle.funnel_model.specs.declared.call.Call.TheVariants as call
 use Rattle.line_proto.specs.declared.request.Request.{Request}
-use Rattle.line_proto.specs.declared.request.Request.TheVariants.{Add, Delete, Find, Place}
+use Rattle.line_proto.specs.declared.request.Request.TheVariants.{Add, Delete, Find, Place, Journal, Recycle}
 
 -- the call that a request stands for, with its text's bytes
 abbrev pub call_of : Request → Call
@@ -10,3 +10,5 @@ call_of (Add id text) = call.Add id text.now
 call_of (Delete id) = call.Delete id
 call_of (Find query) = call.Find query.now
 call_of Place = call.Place
+call_of (Journal from) = call.Journal from
+call_of Recycle = call.Recycle

@@ -1,7 +1,8 @@
 -- The lines that replies are written as.
-use Rattle.std.specs.Prelude.{ℕ, Bool, true, false, List, ◌∷◌, ◌++◌, length, flat_map, codes, decimal}
+use Rattle.std.specs.Prelude.{ℕ, Bool, true, false, List, ◌∷◌, ◌++◌, length, flat_map, codes, decimal, if◌then◌else◌}
+use Rattle.funnel_model.specs.declared.commit.Commit.{Commit}
 use Rattle.funnel_model.specs.declared.reply.Reply.{Reply}
-use Rattle.funnel_model.specs.declared.reply.Reply.TheVariants.{Added, Present, Full, JournalFull, Deleted, Absent, Found, Place, Spent, Memory, Line}
+use Rattle.funnel_model.specs.declared.reply.Reply.TheVariants.{Added, Present, Full, JournalFull, Deleted, Absent, Found, Place, Commits, Recycled, NothingRetired, Guarded, Spent, Memory, Line, Long}
 
 -- each number after a space
 abbrev pub spaced : List ℕ → List ℕ
@@ -10,6 +11,14 @@ spaced ids = flat_map (λ id. 32 ∷ decimal id) ids
 -- how many numbers there are, and then each of them
 abbrev pub counted : List ℕ → List ℕ
 counted ids = decimal (length ids) ++ spaced ids
+
+-- a commit after a space: a plus for an add or a minus for a delete, and the document's number
+abbrev pub signed : Commit → List ℕ
+signed commit = 32 ∷ (if commit.add then 43 else 45) ∷ decimal commit.id
+
+-- how many commits there are, and then each of them
+abbrev pub counted_commits : List Commit → List ℕ
+counted_commits commits = decimal (length commits) ++ flat_map signed commits
 
 -- the words and numbers of a reply
 abbrev pub message_of : Reply → List ℕ
@@ -21,9 +30,14 @@ message_of (Deleted place) = codes "deleted " ++ decimal place
 message_of Absent = codes "refused absent"
 message_of (Found ids) = codes "found " ++ counted ids
 message_of (Place place) = codes "place " ++ decimal place
+message_of (Commits commits) = codes "commits " ++ counted_commits commits
+message_of (Recycled slice) = codes "recycled " ++ decimal slice
+message_of NothingRetired = codes "nothing retired"
+message_of (Guarded slice pass) = codes "guarded " ++ decimal slice ++ 32 ∷ decimal pass
 message_of Spent = codes "refused spent"
 message_of Memory = codes "refused memory"
 message_of Line = codes "refused line"
+message_of Long = codes "refused long"
 
 -- the reply's line, with the newline at its end
 abbrev pub text_of : Reply → List ℕ
@@ -36,4 +50,5 @@ texts replies = flat_map text_of replies
 -- the reply's line may be of any length
 abbrev pub is_list : Reply → Bool
 is_list (Found ids) = true
+is_list (Commits commits) = true
 is_list _ = false

@@ -6,11 +6,13 @@ mod laws;
 mod parse;
 mod reply;
 mod request;
+mod service;
 
 pub use laws::lines_are_read_by_the_grammar;
-pub use parse::{MAX_LINE_LEN, parse_line};
+pub use parse::parse_line;
 pub use reply::reply_text;
 pub use request::Request;
+pub use service::Service;
 
 #[cfg(test)]
 mod tests;

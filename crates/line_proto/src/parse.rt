@@ -1,18 +1,16 @@
 ghost use Rattle.std.specs.Prelude.{◌≡◌, MatchOption, Some, None};
-ghost use Rattle.line_proto.specs.Forms.{without_return, word_of, rest_of, number_of, add_of, delete_of, call_of_text, form_of};
+ghost use Rattle.line_proto.specs.Forms.{without_return, word_of, rest_of, number_of, add_of, delete_of, journal_of, call_of_word, call_of_text, form_of};
 ghost use Rattle.line_proto.specs.Requests.{call_of};
 
 use crate::request::Request;
+use funnel_io::MAX_LINE_LEN;
 use std::str;
-
-/// The most bytes of a line, a carriage return at its end among them.
-pub const MAX_LINE_LEN: usize = 65_536;
 
 /// The most digits of a number.
 const MAX_DIGITS: usize = 20;
 
 /// The request of a line that is given without its newline, or `None` where the line has no form: it is longer
-/// than `MAX_LINE_LEN`, it isn't UTF-8, or it is of another shape. One carriage return at its end is dropped.
+/// than [`MAX_LINE_LEN`], it isn't UTF-8, or it is of another shape. One carriage return at its end is dropped.
 #[tactic(auto, unfolding(crate::specs::Forms::form_of))]
 pub fn parse_line(line: &[u8]) -> Option<Request<'_>>
     ensures { MatchOption result (form_of line.now ≡ None) (λ r. form_of line.now ≡ Some (call_of r)) }
@@ -26,7 +24,7 @@ pub fn parse_line(line: &[u8]) -> Option<Request<'_>>
     parse_text(text)
 }
 
-/// The request of a line's text, by its first word; `place` stands alone.
+/// The request of a line's text, by its first word; `place` and `recycle` stand alone.
 #[tactic(auto, unfolding(crate::specs::Forms::call_of_text))]
 fn parse_text(text: &str) -> Option<Request<'_>>
     ensures { MatchOption result (call_of_text text.now ≡ None) (λ r. call_of_text text.now ≡ Some (call_of r)) }
@@ -36,7 +34,19 @@ fn parse_text(text: &str) -> Option<Request<'_>>
         "add" => parse_add(rest),
         "del" => parse_delete(rest),
         "find" => Some(Request::Find { query: rest }),
-        _ if text == "place" => Some(Request::Place),
+        "journal" => parse_journal(rest),
+        _ => parse_word(text),
+    }
+}
+
+/// The request of a text that is one word.
+#[tactic(auto, unfolding(crate::specs::Forms::call_of_word))]
+fn parse_word(text: &str) -> Option<Request<'_>>
+    ensures { MatchOption result (call_of_word text.now ≡ None) (λ r. call_of_word text.now ≡ Some (call_of r)) }
+{
+    match text {
+        "place" => Some(Request::Place),
+        "recycle" => Some(Request::Recycle),
         _ => None,
     }
 }
@@ -58,6 +68,15 @@ fn parse_delete(rest: &str) -> Option<Request<'_>>
 {
     let id = parse_number(rest)?;
     Some(Request::Delete { id })
+}
+
+/// The request of what follows `journal` and a space.
+#[tactic(auto, unfolding(crate::specs::Forms::journal_of))]
+fn parse_journal(rest: &str) -> Option<Request<'_>>
+    ensures { MatchOption result (journal_of rest.now ≡ None) (λ r. journal_of rest.now ≡ Some (call_of r)) }
+{
+    let from = parse_number(rest)?;
+    Some(Request::Journal { from })
 }
 
 /// The number that 1 to 20 digits write, if it is below 2^64.

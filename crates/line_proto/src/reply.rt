@@ -1,7 +1,8 @@
-ghost use Rattle.std.specs.Prelude.{◌≡◌, ◌+◌, ◌≤◌, ◌<◌, ◌++◌, false, length, decimal, OnOk, OnErr, IsOk, vec_len, vec_capacity};
-ghost use Rattle.line_proto.specs.Texts.{text_of, message_of, spaced, counted, is_list};
+ghost use Rattle.std.specs.Prelude.{◌≡◌, ◌+◌, ◌≤◌, ◌<◌, ◌++◌, false, length, decimal, OnOk, OnErr, IsOk, flat_map, vec_len, vec_capacity};
+ghost use Rattle.line_proto.specs.Texts.{text_of, message_of, spaced, counted, counted_commits, signed, is_list};
+ghost use Rattle.funnel_model.specs.declared.reply.Reply.TheVariants as reply;
 
-use funnel_model::{Memory, Reply};
+use funnel_model::{Commit, Memory, Reply};
 use itoa::Buffer;
 use std::alloc::AllocError;
 
@@ -10,7 +11,7 @@ use std::alloc::AllocError;
 pub fn reply_text(reply: &Reply, out: &mut Vec<u8>) -> Result<(), Memory>
     ensures ok { OnOk result (out.new.items ≡ text_of reply.now) }
     ensures full { OnErr result (vec_capacity out.old < length (text_of reply.now)) }
-    // Each line but a list of documents has room in 64 bytes.
+    // Each line but a list of numbers or commits has room in 64 bytes.
     ensures room { is_list reply.now ≡ false → 64 ≤ vec_capacity out.old → IsOk result }
     ensures capacity { vec_capacity out.old ≤ vec_capacity out.new }
 {
@@ -44,10 +45,26 @@ fn push_message(out: &mut Vec<u8>, reply: &Reply) -> Result<(), AllocError>
         Reply::Absent => out.extend_from_slice(b"refused absent"),
         Reply::Found(ids) => push_words_and_list(out, b"found ", ids.as_slice()),
         Reply::Place(place) => push_words_and_number(out, b"place ", *place),
+        Reply::Commits(commits) => push_words_and_commits(out, b"commits ", commits.as_slice()),
+        Reply::Recycled(slice) => push_words_and_number(out, b"recycled ", u64::from(*slice)),
+        Reply::NothingRetired => out.extend_from_slice(b"nothing retired"),
+        Reply::Guarded { slice, pass } => push_guarded(out, *slice, *pass),
         Reply::Spent => out.extend_from_slice(b"refused spent"),
         Reply::Memory => out.extend_from_slice(b"refused memory"),
         Reply::Line => out.extend_from_slice(b"refused line"),
+        Reply::Long => out.extend_from_slice(b"refused long"),
     }
+}
+
+/// Appends the slice and its guard.
+fn push_guarded(out: &mut Vec<u8>, slice: u32, pass: u32) -> Result<(), AllocError>
+    ensures ok { OnOk result (out.new.items ≡ out.old.items ++ message_of (reply.Guarded slice pass)) }
+    ensures full { OnErr result (vec_capacity out.old < vec_len out.old + length (message_of (reply.Guarded slice pass))) }
+    ensures short { length (message_of (reply.Guarded slice pass)) < 64 }
+    ensures capacity { vec_capacity out.old ≤ vec_capacity out.new }
+{
+    push_words_and_number(out, b"guarded ", u64::from(slice))?;
+    push_words_and_number(out, b" ", u64::from(pass))
 }
 
 fn push_words_and_number(out: &mut Vec<u8>, words: &[u8], number: u64) -> Result<(), AllocError>
@@ -68,6 +85,44 @@ fn push_words_and_list(out: &mut Vec<u8>, words: &[u8], ids: &[u64]) -> Result<(
 {
     push_words_and_number(out, words, ids.len() as u64)?;
     push_spaced(out, ids)
+}
+
+/// Appends the words, the number of commits, and each of them after a space.
+fn push_words_and_commits(
+    out: &mut Vec<u8>,
+    words: &[u8],
+    commits: &[Commit],
+) -> Result<(), AllocError>
+    ensures ok { OnOk result (out.new.items ≡ out.old.items ++ (words.now ++ counted_commits commits.now)) }
+    ensures full { OnErr result (vec_capacity out.old < vec_len out.old + length (words.now ++ counted_commits commits.now)) }
+    ensures capacity { vec_capacity out.old ≤ vec_capacity out.new }
+{
+    push_words_and_number(out, words, commits.len() as u64)?;
+    push_signed(out, commits)
+}
+
+/// Appends each commit after a space.
+fn push_signed(out: &mut Vec<u8>, commits: &[Commit]) -> Result<(), AllocError>
+    ensures ok { OnOk result (out.new.items ≡ out.old.items ++ flat_map signed commits.now) }
+    ensures full { OnErr result (vec_capacity out.old < vec_len out.old + length (flat_map signed commits.now)) }
+    ensures capacity { vec_capacity out.old ≤ vec_capacity out.new }
+{
+    for commit in commits {
+        push_commit(out, commit)?;
+    }
+    Ok(())
+}
+
+fn push_commit(out: &mut Vec<u8>, commit: &Commit) -> Result<(), AllocError>
+    ensures ok { OnOk result (out.new.items ≡ out.old.items ++ signed commit.now) }
+    ensures full { OnErr result (vec_capacity out.old < vec_len out.old + length (signed commit.now)) }
+    ensures capacity { vec_capacity out.old ≤ vec_capacity out.new }
+{
+    if commit.add {
+        push_words_and_number(out, b" +", commit.id)
+    } else {
+        push_words_and_number(out, b" -", commit.id)
+    }
 }
 
 /// Appends each number after a space.

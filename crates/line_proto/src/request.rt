@@ -9,4 +9,8 @@ pub enum Request<'a> {
     Find { query: &'a str },
     /// Tell how many commits there were.
     Place,
+    /// Tell the commits but the first so many.
+    Journal { from: u64 },
+    /// Clear and open a slice of which each column is deleted or dropped.
+    Recycle,
 }

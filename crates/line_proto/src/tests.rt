@@ -1,5 +1,6 @@
-use crate::{MAX_LINE_LEN, Request, parse_line, reply_text};
-use funnel_model::{Ids, Reply};
+use crate::{Request, parse_line, reply_text};
+use funnel_io::MAX_LINE_LEN;
+use funnel_model::{Commit, Commits, Ids, Reply};
 use std::test::Fail;
 
 const fn add(id: u64, text: &'static str) -> Option<Request<'static>> {
@@ -14,9 +15,13 @@ const fn find(query: &'static str) -> Option<Request<'static>> {
     Some(Request::Find { query })
 }
 
+const fn journal(from: u64) -> Option<Request<'static>> {
+    Some(Request::Journal { from })
+}
+
 #[test]
 fn a_line_of_a_form_is_its_request(rt: HostRuntime) {
-    let rows: [(&[u8], Option<Request<'static>>); 28] = [
+    let rows: [(&[u8], Option<Request<'static>>); 34] = [
         (b"add 7 The cat sat", add(7, "The cat sat")),
         ("add 1 Straße".as_bytes(), add(1, "Straße")),
         (
@@ -43,6 +48,15 @@ fn a_line_of_a_form_is_its_request(rt: HostRuntime) {
         (b"find place", find("place")),
         (b"place", Some(Request::Place)),
         (b"place\r", Some(Request::Place)),
+        (b"journal 1", journal(1)),
+        (b"journal 0", journal(0)),
+        (b"journal 018\r", journal(18)),
+        (
+            b"journal 18446744073709551615",
+            journal(18_446_744_073_709_551_615),
+        ),
+        (b"recycle", Some(Request::Recycle)),
+        (b"recycle\r", Some(Request::Recycle)),
         // one carriage return is dropped, and no second one
         (b"find\r", find("")),
         (b"find cat\r", find("cat")),
@@ -57,7 +71,7 @@ fn a_line_of_a_form_is_its_request(rt: HostRuntime) {
 
 #[test]
 fn a_line_of_no_form_is_no_request(rt: HostRuntime) {
-    let rows: [&[u8]; 38] = [
+    let rows: [&[u8]; 47] = [
         b"",
         b"\r",
         b" ",
@@ -93,6 +107,15 @@ fn a_line_of_no_form_is_no_request(rt: HostRuntime) {
         b"Place",
         b" place",
         b"place\r\r",
+        b"journal",
+        b"journal ",
+        b"journal x",
+        b"journal 5 6",
+        b"journal 5 ",
+        b"journal 18446744073709551616",
+        b"journals 5",
+        b"recycle ",
+        b"recycle 1",
         b"find\r\r",
         b"find \xff",
         b"add 1 \xed\xa0\x80",
@@ -159,14 +182,42 @@ fn a_reply_is_one_line(rt: HostRuntime) -> Result<(), Fail> {
             Reply::Place(18_446_744_073_709_551_615),
             "place 18446744073709551615\n",
         ),
+        (Reply::Commits(Commits::new(Vec::new(alloc))), "commits 0\n"),
+        (
+            Reply::Commits(Commits::new(vec![in alloc;
+                Commit { add: true, id: 9 },
+                Commit { add: false, id: 7 },
+            ]?)),
+            "commits 2 +9 -7\n",
+        ),
+        (Reply::Recycled(3), "recycled 3\n"),
+        (Reply::NothingRetired, "nothing retired\n"),
+        (Reply::Guarded { slice: 0, pass: 1 }, "guarded 0 1\n"),
         (Reply::Spent, "refused spent\n"),
         (Reply::Memory, "refused memory\n"),
         (Reply::Line, "refused line\n"),
+        (Reply::Long, "refused long\n"),
     ];
     let mut out = Vec::with_capacity(alloc, 64)?;
     for (reply, text) in &rows {
         assert_eq!(rt; reply_text(reply, &mut out), Ok(()));
         assert_eq!(rt; out.as_slice(), text.as_bytes());
     }
+    Ok(())
+}
+
+#[test]
+fn a_long_list_is_one_line(rt: HostRuntime) -> Result<(), Fail> {
+    let alloc = rt.alloc();
+    let mut ids = Vec::new(alloc);
+    let mut wanted = format!(in alloc; "found 2000")?;
+    for id in 5_000_000u64..5_002_000 {
+        ids.push(id)?;
+        write!(wanted, " {id}")?;
+    }
+    wanted.push('\n')?;
+    let mut out = Vec::with_capacity(alloc, 64)?;
+    assert_eq!(rt; reply_text(&Reply::Found(Ids::new(ids)), &mut out), Ok(()));
+    assert_eq!(rt; out.as_slice(), wanted.as_str().as_bytes());
     Ok(())
 }

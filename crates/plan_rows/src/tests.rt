@@ -54,15 +54,15 @@ fn ranked_layout(alloc: Global) -> Result<Layout, Memory> {
 }
 
 /// The words of a query.
-fn query(alloc: Global) -> Result<WordSet, AllocError> {
-    let axolotl = String::from_str(alloc, "axolotl")?;
-    let dog = String::from_str(alloc, "dog")?;
-    let the = String::from_str(alloc, "the")?;
-    Ok(WordSet::new(vec![in alloc; axolotl, dog, the]?))
+fn query(alloc: Global) -> Result<WordSet, Memory> {
+    WordSet::from_sorted(
+        alloc,
+        &["axolotl".as_bytes(), "dog".as_bytes(), "the".as_bytes()],
+    )
 }
 
-fn no_words(alloc: Global) -> WordSet {
-    WordSet::new(Vec::new(alloc))
+fn no_words(alloc: Global) -> Result<WordSet, Memory> {
+    WordSet::from_sorted(alloc, &[])
 }
 
 #[test]
@@ -90,7 +90,7 @@ fn rows_are_planned_by_rank_and_start(rt: HostRuntime) -> Result<(), Fail> {
 #[test]
 fn a_query_without_words_has_an_empty_plan(rt: HostRuntime) -> Result<(), Fail> {
     let layout = ranked_layout(rt.alloc())?;
-    let plan = plan(rt.alloc(), &layout, &no_words(rt.alloc()))?;
+    let plan = plan(rt.alloc(), &layout, &no_words(rt.alloc())?)?;
     assert_eq!(rt; plan.into_inner().len(), 0);
     Ok(())
 }

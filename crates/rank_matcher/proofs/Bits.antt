@@ -1,12 +1,33 @@
--- Bits of words, and columns by the word that has their bits.
-use Rattle.std.proofs.Common.{◌≡◌, ℕ, ◌+◌, ◌-◌, ◌*◌, ◌/◌, ◌%◌, ◌^◌, ◌<◌, ◌&&◌, List, ◌++◌, [], ◌∷◌, Bool, true, false, eqb, min, zero, suc, ap, sym, ◌∙◌, refl, arith}
-use Rattle.std.specs.Prelude.{bit_and}
+-- Bits of words.
+use Rattle.std.proofs.Common.{◌≡◌, ℕ, ◌-◌, ◌*◌, ◌^◌, ◌<◌, ◌&&◌, Bool, true, false, not, eqb, min, zero, suc, ap, sym, ◌∙◌, refl, arith}
+use Rattle.std.specs.Prelude.{bit_and, IsBitSet}
 use Rattle.std.specs.Int.{bit_at}
-use Rattle.std.specs.List.{list_all}
-use Rattle.std.proofs.lemmas.Nat.{div-mul-add}
-use Rattle.std.proofs.Math.Nat.{div-div-eq-div-mul}
-use Rattle.std.proofs.lemmas.Nat.Bits.{bit_at_and, bit_at-lt, bit_at_ones}
+use Rattle.std.proofs.lemmas.Bool.Decides.{nat_tests}
+use Rattle.std.proofs.lemmas.Nat.{pow_pos}
+use Rattle.std.proofs.lemmas.Nat.Bits.{and_pow, bit_at_and, bit_at-lt, bit_at-zero, bit_at_ones}
 use Rattle.row_read.specs.Bits.{has_bit}
+
+digit_test : (digit power : ℕ) → digit < 2 → 0 < power → not (eqb (digit * power) 0) ≡ eqb digit 1
+digit_test zero power few some = let e : zero * power ≡ 0 = omega arith in ap (λ n. not (eqb n 0)) e
+digit_test (suc zero) power few some =
+    let e : suc zero * power ≡ power = omega arith in
+    ap (λ n. not (eqb n 0)) e ∙ (let t : not (eqb power 0) ≡ true = grind (arith, nat_tests) in t)
+digit_test (suc (suc digit)) power few some = absurd (omega arith)
+
+-- whether a bit is set, by the digit
+pub has_bit-digit : (n i : ℕ) → has_bit n i ≡ eqb (bit_at n i) 1
+has_bit-digit n i = ap (λ m. not (eqb m 0)) (and_pow n i) ∙ digit_test (bit_at n i) (2 ^ i) (bit_at-lt n i) (pow_pos i)
+
+-- a bit is set where the test says so
+pub test-from_set : (n i : ℕ) → IsBitSet n i → has_bit n i ≡ true
+test-from_set n i set = is_true (bit_and n (2 ^ i)) set
+  where
+    is_true : (m : ℕ) → (m ≡ 0 → ⊥) → not (eqb m 0) ≡ true
+    is_true zero some = absurd (some refl)
+    is_true (suc m) some = grind (arith, nat_tests)
+
+pub set-from_test : (n i : ℕ) → has_bit n i ≡ true → IsBitSet n i
+set-from_test n i test zeros = absurd (let e : false ≡ true = ap (λ m. not (eqb m 0)) (sym zeros) ∙ test in cc)
 
 one_of_two : (x y : ℕ) → x < 2 → y < 2 → eqb (min x y) 1 ≡ eqb x 1 && eqb y 1
 one_of_two zero zero p q = refl
@@ -19,31 +40,26 @@ one_of_two (suc zero) (suc (suc y)) p q = absurd (omega arith)
 
 -- two words have a bit in common where both have it
 pub has_bit-and : (a b i : ℕ) → has_bit (bit_and a b) i ≡ has_bit a i && has_bit b i
-has_bit-and a b i = ap (λ n. eqb n 1) (bit_at_and a b i) ∙ one_of_two (bit_at a i) (bit_at b i) (bit_at-lt a i) (bit_at-lt b i)
+has_bit-and a b i =
+    has_bit-digit (bit_and a b) i ∙ ap (λ n. eqb n 1) (bit_at_and a b i) ∙ one_of_two (bit_at a i) (bit_at b i) (bit_at-lt a i) (bit_at-lt b i)
+    ∙ ap (λ t. t && eqb (bit_at b i) 1) (sym (has_bit-digit a i)) ∙ ap (λ t. has_bit a i && t) (sym (has_bit-digit b i))
 
 -- the word of ones has every bit
 pub has_bit-ones : (i : ℕ) → i < 64 → has_bit (2 ^ 64 - 1) i ≡ true
-has_bit-ones i few = ap (λ n. eqb n 1) (bit_at_ones 64 i few)
+has_bit-ones i few = has_bit-digit (2 ^ 64 - 1) i ∙ ap (λ n. eqb n 1) (bit_at_ones 64 i few)
 
--- the word of a rank that has the bit of a column is that which covers the column's word
-pub column_word : (word bit rank : ℕ) → bit < 64 → (64 * word + bit) / (64 * 2 ^ rank) ≡ word / 2 ^ rank
-column_word word bit rank few =
-    sym (div-div-eq-div-mul (64 * word + bit) 64 (2 ^ rank))
-    ∙ ap (λ n. n / 2 ^ rank) (let e : 64 * word + bit ≡ word * 64 + bit = omega arith in ap (λ n. n / 64) e ∙ div-mul-add word 64 bit few)
+-- zero has none
+pub has_bit-zero : (i : ℕ) → has_bit 0 i ≡ false
+has_bit-zero i = has_bit-digit 0 i ∙ ap (λ n. eqb n 1) (bit_at-zero i)
 
--- and the bit is that of the column within its word
-pub column_bit : (word bit : ℕ) → bit < 64 → (64 * word + bit) % 64 ≡ bit
-column_bit word bit few = omega (arith, few)
-
--- whether all of a list and one more pass
-pub list_all-push : {A : Type 0} (p : A → Bool) (xs : List A) (x : A) → list_all p (xs ++ x ∷ []) ≡ list_all p xs && p x
-list_all-push p [] x = both (p x)
+-- both words have a bit that they have in common, and the other way round
+pub both_have : (a b i : ℕ) → has_bit (bit_and a b) i ≡ true → (has_bit a i ≡ true) × (has_bit b i ≡ true)
+both_have a b i h = both (has_bit a i) (has_bit b i) (sym (has_bit-and a b i) ∙ h)
   where
-    both : (b : Bool) → (b && true) ≡ b
-    both true = refl
-    both false = refl
-list_all-push p (y ∷ ys) x = ap (λ b. p y && b) (list_all-push p ys x) ∙ regroup (p y) (list_all p ys) (p x)
-  where
-    regroup : (a b c : Bool) → (a && (b && c)) ≡ ((a && b) && c)
-    regroup true b c = refl
-    regroup false b c = refl
+    both : (p q : Bool) → (p && q) ≡ true → (p ≡ true) × (q ≡ true)
+    both true true e = (refl, refl)
+    both true false e = absurd (cc)
+    both false q e = absurd (cc)
+
+pub both_give : (a b i : ℕ) → has_bit a i ≡ true → has_bit b i ≡ true → has_bit (bit_and a b) i ≡ true
+both_give a b i p q = has_bit-and a b i ∙ ap (λ x. x && has_bit b i) p ∙ q

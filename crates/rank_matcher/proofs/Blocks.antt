@@ -1,7 +1,6 @@
 -- Columns that pass a test, 64 at a time.
-use Rattle.std.proofs.Common.{◌≡◌, ℕ, ◌+◌, ◌*◌, ◌<◌, List, ◌++◌, [], ◌∷◌, Bool, true, false, cond, zero, suc, map, ap, subst, ◌∙◌, refl, arith}
+use Rattle.std.proofs.Common.{◌≡◌, ℕ, ◌+◌, ◌<◌, List, ◌++◌, [], ◌∷◌, Bool, true, false, cond, zero, suc, map, ap, subst, ◌∙◌, refl, arith}
 use Rattle.std.specs.List.{filter, range_with_len}
-use Rattle.std.proofs.lemmas.List.Elements.{filter-append}
 
 -- a range in two parts
 pub range_split : (a m n : ℕ) → range_with_len a (m + n) ≡ range_with_len a m ++ range_with_len (a + m) n
@@ -52,15 +51,3 @@ block_passes p q first n h =
   where
     at_start : (k : ℕ) → k < n → p (first + (0 + k)) ≡ q (0 + k)
     at_start k low = let e : k ≡ 0 + k = omega arith in subst (λ i. p (first + i) ≡ q i) e (h k low)
-
--- the numbers that pass, with one more block
-pub passes_more : (p q : ℕ → Bool) (word : ℕ) → ((k : ℕ) → k < 64 → p (64 * word + k) ≡ q k)
-    → filter p (range_with_len 0 (64 * (word + 1))) ≡ filter p (range_with_len 0 (64 * word)) ++ map (λ k. 64 * word + k) (filter q (range_with_len 0 64))
-passes_more p q word h =
-    let e : 64 * (word + 1) ≡ 64 * word + 64 = omega arith in
-    let z : 0 + 64 * word ≡ 64 * word = omega arith in
-    ap (λ n. filter p (range_with_len 0 n)) e
-    ∙ ap (filter p) (range_split 0 (64 * word) 64)
-    ∙ filter-append p (range_with_len 0 (64 * word)) (range_with_len (0 + 64 * word) 64)
-    ∙ ap (λ a. filter p (range_with_len 0 (64 * word)) ++ filter p (range_with_len a 64)) z
-    ∙ ap (λ (xs : List ℕ). filter p (range_with_len 0 (64 * word)) ++ xs) (block_passes p q (64 * word) 64 h)

@@ -1,9 +1,11 @@
 pub mod Bits
-pub mod Intersections
 pub mod Blocks
-pub mod Columns
 pub mod SetBits
 pub mod Ranges
-pub mod Searches
-pub mod Coverings
 pub mod DocumentHits
+pub mod Intersections
+pub mod Passing
+pub mod ColumnTests
+pub mod ReadCounts
+pub mod Walks
+pub mod Scans

@@ -8,8 +8,9 @@ use Rattle.std.proofs.Math.Nat.{div-add-mod}
 use Rattle.std.proofs.lemmas.Nat.{pow-add, pow_pos}
 use Rattle.std.proofs.lemmas.Nat.Bits.{bit_at_and, bit_at_cat_high, bit_at_cat_low, bit_at_ones_above, bit_at-trailing_zeros, bit_at-zero, same_from_bits_below}
 use Rattle.rank_matcher.specs.Appended.{candidates_of}
-use Rattle.rank_matcher.specs.Covering.{set_bits}
+use Rattle.rank_matcher.specs.SetBits.{set_bits}
 use Rattle.std.proofs.lemmas.List.{append_assoc, append-nil, map-append}
+use Rattle.rank_matcher.proofs.Bits.{has_bit-digit}
 use Rattle.rank_matcher.proofs.Blocks.{filter_same}
 use Rattle.row_read.specs.Bits.{has_bit}
 
@@ -106,8 +107,16 @@ lowest_first n some small =
     let t : ℕ = trailing_zeros w64 n in
     let within : t < 0 + 64 = lowest.0 in
     first_passes (has_bit n) (has_bit (bit_and n (n - 1))) 0 64 t (omega arith) within
-    (ap (λ k. eqb k 1) lowest.1) (ap (λ k. eqb k 1) (lowest_gone n t lowest.1 lowest.2)) (λ k low. ap (λ m. eqb m 1) (lowest.2 k low))
-    (λ k other. ap (λ m. eqb m 1) (others_stay n t lowest.1 lowest.2 k other))
+    (has_bit-digit n t ∙ ap (λ k. eqb k 1) lowest.1)
+    (has_bit-digit (bit_and n (n - 1)) t ∙ ap (λ k. eqb k 1) (lowest_gone n t lowest.1 lowest.2))
+    (λ k low. has_bit-digit n k ∙ ap (λ m. eqb m 1) (lowest.2 k low))
+    (λ k other. has_bit-digit (bit_and n (n - 1)) k ∙ ap (λ m. eqb m 1) (others_stay n t lowest.1 lowest.2 k other) ∙ sym (has_bit-digit n k))
+
+-- a word that isn't zero has a set bit
+pub some_bit : (n : ℕ) → 0 < n → n < 2 ^ 64 → (bit : ℕ) × (bit < 64) × (has_bit n bit ≡ true)
+some_bit n some small =
+    let lowest = bit_at-trailing_zeros w64 n some small in
+    (trailing_zeros w64 n, lowest.0, has_bit-digit n (trailing_zeros w64 n) ∙ ap (λ k. eqb k 1) lowest.1)
 
 -- zero has none
 pub no_set_bits : set_bits 0 ≡ []

@@ -1,5 +1,6 @@
 pub mod Hits
 pub mod Reads
 pub mod Appended
-pub mod Covering
+pub mod SetBits
+pub mod Walk
 pub mod Laws

@@ -1,13 +1,33 @@
 -- How many words a scan reads.
-use Rattle.std.specs.Prelude.{ℕ, ◌-◌, ◌*◌, ◌^◌, min, List, length}
-use Rattle.funnel_model.specs.Sizes.{width_of_rank}
+use Rattle.std.specs.Prelude.{ℕ, ◌+◌, ◌-◌, ◌*◌, ◌^◌, Bool, min, List, [], ◌∷◌, ◌++◌, sum_by, count_by}
+use Rattle.std.specs.List.{list_any, range_with_len}
 use Rattle.funnel_model.specs.declared.config.Config.{Config}
 use Rattle.row_layout.specs.declared.row.Row.{Row}
+use Rattle.rank_matcher.specs.Hits.{is_hit}
 
 -- a number of reads as their counter shows it, which stays at its last value
-abbrev pub counted : ℕ → ℕ
-counted reads = min reads (2 ^ 64 - 1)
+abbrev pub shown_reads : ℕ → ℕ
+shown_reads reads = min reads (2 ^ 64 - 1)
 
--- one word of every planned row for each word that a row of rank 0 has in the slice
-abbrev pub reads_of_scan : Config → List Row → ℕ
-reads_of_scan config plan = length plan * width_of_rank config 0
+-- the columns that have a bit in a word of a row of this rank
+abbrev pub columns_of_word : ℕ → ℕ → List ℕ
+columns_of_word rank word = range_with_len (64 * 2 ^ rank * word) (64 * 2 ^ rank)
+
+-- whether a word of a row of this rank is read: where one of its columns is a hit of the rows that are planned before it
+abbrev pub is_read : Config → List ℕ → List Row → ℕ → ℕ → ℕ → Bool
+is_read config words before slice rank word = list_any (is_hit config words before slice) (columns_of_word rank word)
+
+-- how many words of these rows are read, where others are planned before them
+abbrev pub reads_after : Config → List ℕ → List Row → List Row → ℕ → ℕ
+reads_after config words before [] slice = 0
+reads_after config words before (row ∷ later) slice =
+    count_by (is_read config words before slice row.rank) (range_with_len 0 row.width)
+    + reads_after config words (before ++ row ∷ []) later slice
+
+-- how many words a scan reads, as pairs of a planned row and one of its words
+abbrev pub reads_of_scan : Config → List ℕ → List Row → ℕ → ℕ
+reads_of_scan config words plan slice = reads_after config words [] plan slice
+
+-- how many words the planned rows have
+abbrev pub words_of_plan : List Row → ℕ
+words_of_plan plan = sum_by (λ row. row.width) plan

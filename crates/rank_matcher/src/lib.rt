@@ -1,14 +1,16 @@
 //! Which columns of a slice may hold documents that meet a query.
 //!
 //! A column is a hit where its bit is set in every planned row. The contract of `scan` says so column by column over
-//! whole rows, and the code intersects row words of 64 columns at a time.
+//! whole rows. The code walks from the rows of the highest rank down: one word of a row of rank r rules out 64 * 2^r
+//! columns at once where no bit is left, and only what is left is looked at in the rows of lower ranks.
 #![tactic(auto)]
 
 mod laws;
 mod scanning;
+mod walk;
 mod words;
 
-pub use laws::documents_with_all_bits_are_hits;
+pub use laws::{documents_with_all_bits_are_hits, written_bits_are_found};
 pub use scanning::scan;
 
 #[cfg(test)]

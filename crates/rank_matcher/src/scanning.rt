@@ -6,11 +6,11 @@ ghost use Rattle.funnel_model.specs.Sizes.{columns_of_slice, words_of_slice};
 ghost use Rattle.funnel_model.specs.declared.bit_list.Bit.{Bit};
 ghost use Rattle.rank_matcher.specs.Appended.{IsPrefix, appended, candidates_of};
 ghost use Rattle.rank_matcher.specs.Hits.{hits};
-ghost use Rattle.rank_matcher.specs.Reads.{counted, reads_of_scan};
-ghost use Rattle.row_layout.specs.Foot.{bit_at};
+ghost use Rattle.rank_matcher.specs.Reads.{shown_reads, reads_of_scan, words_of_plan};
+ghost use Rattle.row_layout.specs.DocumentBits.{bit_at};
 ghost use Rattle.row_layout.specs.Rows.{IsRowOf};
 
-use crate::words::{common_bits, push_columns};
+use crate::walk::{Search, visit};
 use funnel_model::{Candidates, Memory};
 use row_layout::{Layout, Plan};
 use row_read::Rows;
@@ -30,12 +30,13 @@ pub fn scan<R: Rows>(
     ensures appends { out.new ≡ out.old ++ candidates_of slice (appended out.old out.new) }
     ensures hits { OnOk result (IfSome (R.told rows.old) (λ words. appended out.old out.new ≡ hits layout.now words plan.now slice)) }
     ensures part_of_hits { IfSome (R.told rows.old) (λ words. IsPrefix (appended out.old out.new) (hits layout.now words plan.now slice)) }
-    ensures covered { OnOk result ((column : ℕ) → column < columns_of_slice layout.now → All (λ row. R.least rows.old (bit_at layout.now slice column row)) plan.now → Contains (appended out.old out.new) column) }
+    ensures covered { OnOk result ((column : ℕ) → column < columns_of_slice layout.now → All (λ row. R.least rows.old (bit_at (words_of_slice layout.now) slice column row)) plan.now → Contains (appended out.old out.new) column) }
     ensures in_slice { All (λ column. column < columns_of_slice layout.now) (appended out.old out.new) }
     ensures rising { IsStrictlySortedBy nat_cmp (appended out.old out.new) }
-    ensures seen { All (λ column. All (λ row. R.seen rows.new (bit_at layout.now slice column row)) plan.now) (appended out.old out.new) }
-    ensures reads { OnOk result (counted (R.reads rows.new) ≡ counted (R.reads rows.old + reads_of_scan layout.now plan.now)) }
-    ensures reads_at_most { counted (R.reads rows.new) ≤ R.reads rows.old + reads_of_scan layout.now plan.now }
+    ensures seen { All (λ column. All (λ row. R.seen rows.new (bit_at (words_of_slice layout.now) slice column row)) plan.now) (appended out.old out.new) }
+    ensures reads { OnOk result (IfSome (R.told rows.old) (λ words. shown_reads (R.reads rows.new) ≡ shown_reads (R.reads rows.old + reads_of_scan layout.now words plan.now slice))) }
+    ensures part_of_reads { IfSome (R.told rows.old) (λ words. shown_reads (R.reads rows.new) ≤ R.reads rows.old + reads_of_scan layout.now words plan.now slice) }
+    ensures reads_at_most { shown_reads (R.reads rows.new) ≤ R.reads rows.old + words_of_plan plan.now }
     ensures seen_stays { (bit : Bit) → R.seen rows.old bit → R.seen rows.new bit }
     ensures reach_stays { (other : ℕ) → R.reach rows.old other ↔ R.reach rows.new other }
     ensures least_stays { (bit : Bit) → R.least rows.old bit ↔ R.least rows.new bit }
@@ -43,9 +44,6 @@ pub fn scan<R: Rows>(
     ensures kept { R.kept rows.new ≡ R.kept rows.old }
 {
     let (first, _) = layout.slice_range(slice);
-    for word in 0..layout.columns() / 64 {
-        let common = common_bits(rows, plan.as_slice(), first, word);
-        push_columns(out, slice, 64 * word, common)?;
-    }
-    Ok(())
+    let search = Search { plan, slice, first };
+    visit(rows, &search, 7, 0, layout.columns() / 64, u64::MAX, out)
 }

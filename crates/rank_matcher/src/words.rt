@@ -1,46 +1,33 @@
-//! The rows of a plan, 64 columns at a time.
+//! Candidates of words, each of which stands for 64 columns.
 
-ghost use Rattle.std.specs.Prelude.{◌≡◌, ℕ, ◌+◌, ◌<◌, ◌≤◌, ◌^◌, ◌++◌, ◌↔◌, true, map, List, All, IfSome, OnOk, length};
-ghost use Rattle.std.specs.List.{list_all};
-ghost use Rattle.funnel_model.specs.declared.bit_list.Bit.{Bit};
+ghost use Rattle.std.specs.Prelude.{◌≡◌, ℕ, ◌+◌, ◌*◌, ◌<◌, ◌≤◌, ◌^◌, ◌++◌, map, List, OnOk};
 ghost use Rattle.rank_matcher.specs.Appended.{IsPrefix, candidates_of};
-ghost use Rattle.rank_matcher.specs.Covering.{covering, covering_bit, set_bits};
-ghost use Rattle.row_read.specs.Bits.{has_bit, is_set};
-ghost use Rattle.rank_matcher.specs.Reads.{counted};
+ghost use Rattle.rank_matcher.specs.SetBits.{set_bits};
+ghost use Rattle.rank_matcher.specs.Walk.{has_column, passing};
 
 use funnel_model::{Candidates, Memory};
-use row_layout::Row;
-use row_read::Rows;
 
-/// The bits that the words of all rows have in common over the 64 columns from `64 * word` on.
-pub(crate) fn common_bits<R: Rows>(rows: &mut R, plan: &[Row], first: u32, word: u32) -> u64
-    requires ranks { All (λ row. row.rank ≤ 6) plan.now }
-    requires fits { All (λ row. covering first word row < 2 ^ 32) plan.now }
-    requires reach { All (λ row. R.reach rows.old (covering first word row)) plan.now }
-    ensures told { IfSome (R.told rows.old) (λ words. (bit : ℕ) → bit < 64 → has_bit result bit ≡ list_all (λ row. is_set words (covering_bit first word bit row)) plan.now) }
-    ensures least { (bit : ℕ) → bit < 64 → All (λ row. R.least rows.old (covering_bit first word bit row)) plan.now → has_bit result bit ≡ true }
-    ensures seen { (bit : ℕ) → has_bit result bit ≡ true → All (λ row. R.seen rows.new (covering_bit first word bit row)) plan.now }
-    ensures seen_stays { (bit : Bit) → R.seen rows.old bit → R.seen rows.new bit }
-    ensures reach_stays { (other : ℕ) → R.reach rows.old other ↔ R.reach rows.new other }
-    ensures least_stays { (bit : Bit) → R.least rows.old bit ↔ R.least rows.new bit }
-    ensures told_stays { R.told rows.new ≡ R.told rows.old }
-    ensures kept { R.kept rows.new ≡ R.kept rows.old }
-    ensures reads { counted (R.reads rows.new) ≡ counted (R.reads rows.old + length plan.now) }
+/// Adds the columns of a slice whose bits are set in each of the words from `from` up to `to`, which are all the same.
+pub(crate) fn push_words(
+    out: &mut Candidates,
+    slice: u32,
+    from: u32,
+    to: u32,
+    running: u64,
+) -> Result<(), Memory>
+    requires span { from ≤ to }
+    requires few { 64 * to < 2 ^ 32 }
+    ensures all { OnOk result (out.new ≡ out.old ++ candidates_of slice (passing (has_column running) (64 * from) (64 * to))) }
+    ensures part { (front : List ℕ) × IsPrefix front (passing (has_column running) (64 * from) (64 * to)) × (out.new ≡ out.old ++ candidates_of slice front) }
 {
-    let mut common = u64::MAX;
-    for row in plan {
-        common &= rows.read(first + row.start + (word >> row.rank));
+    for word in from..to {
+        push_columns(out, slice, 64 * word, running)?;
     }
-    common
+    Ok(())
 }
 
 /// Adds the columns of a slice whose bits are set in the word that stands for the 64 columns from `first` on.
-pub(crate) fn push_columns(
-    out: &mut Candidates,
-    slice: u32,
-    first: u32,
-    word: u64,
-) -> Result<(), Memory>
+fn push_columns(out: &mut Candidates, slice: u32, first: u32, word: u64) -> Result<(), Memory>
     requires fits { first + 64 ≤ 2 ^ 32 }
     ensures all { OnOk result (out.new ≡ out.old ++ candidates_of slice (map (λ bit. first + bit) (set_bits word))) }
     ensures part { (front : List ℕ) × IsPrefix front (set_bits word) × (out.new ≡ out.old ++ candidates_of slice (map (λ bit. first + bit) front)) }

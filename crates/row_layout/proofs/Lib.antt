@@ -1,6 +1,7 @@
 pub mod Lists
 pub mod Spans
-pub mod Feet
+pub mod BitLemmas
 pub mod WordRows
 pub mod Listing
 pub mod Sorting
+pub mod Ranked

@@ -1,18 +1,18 @@
--- What the foot of some words says of the foot of others.
+-- What the bits of a document say of the bits of other words.
 use Rattle.std.specs.Prelude.{◌≡◌, ℕ, true, List, Contains}
 use Rattle.funnel_model.specs.Words.{words, meets}
 use Rattle.funnel_model.specs.declared.bit_list.Bit.{Bit}
 use Rattle.funnel_model.specs.declared.config.Config.{Config}
-use Rattle.row_layout.specs.Foot.{IsOfFoot}
+use Rattle.row_layout.specs.DocumentBits.{IsDocumentBit}
 
--- the foot of some words has the foot of each set of those words
-abbrev pub FootHasFootOfPart : Type 0
-FootHasFootOfPart =
+-- the bits of each set of words of a document are bits of the document
+abbrev pub DocumentsHaveBitsOfParts : Type 0
+DocumentsHaveBitsOfParts =
     (config : Config) (part whole : List (List ℕ)) → ((word : List ℕ) → Contains part word → Contains whole word)
-    → (slice column : ℕ) (bit : Bit) → IsOfFoot config part slice column bit → IsOfFoot config whole slice column bit
+    → (slice column : ℕ) (bit : Bit) → IsDocumentBit config part slice column bit → IsDocumentBit config whole slice column bit
 
--- the foot of a text has the foot of each query that the text meets
-abbrev pub FootHasFootOfQuery : Type 0
-FootHasFootOfQuery =
+-- and so are the bits of each query that a text meets bits of the text
+abbrev pub TextsHaveBitsOfQueries : Type 0
+TextsHaveBitsOfQueries =
     (config : Config) (text query : List ℕ) → meets text query ≡ true
-    → (slice column : ℕ) (bit : Bit) → IsOfFoot config (words query) slice column bit → IsOfFoot config (words text) slice column bit
+    → (slice column : ℕ) (bit : Bit) → IsDocumentBit config (words query) slice column bit → IsDocumentBit config (words text) slice column bit

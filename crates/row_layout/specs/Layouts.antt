@@ -1,9 +1,11 @@
 -- What a layout keeps beside its configuration.
-use Rattle.std.specs.Prelude.{◌≡◌, ℕ, ◌≤◌, nat_lt, List, map, slice_index, if◌then◌else◌}
+use Rattle.std.specs.Prelude.{◌≡◌, ℕ, ◌<◌, ◌≤◌, nat_lt, List, [], map, slice_index, slice_index_or, if◌then◌else◌}
 use Rattle.funnel_model.specs.Sizes.{class_of_word, shared_rows, base_of_rank, words_of_slice, words_of_pool}
 use Rattle.funnel_model.specs.Configuration.{IsInRange}
 use Rattle.funnel_model.specs.declared.config.Config.{Config}
-use Rattle.row_layout.specs.Rows.{private_number}
+use Rattle.funnel_model.specs.Treatment.{row_count_of_class}
+use Rattle.row_layout.specs.Rows.{private_number, rank_in_class}
+use Rattle.row_layout.specs.declared.class_table.ClassTable.{ClassTable}
 use Rattle.row_layout.specs.declared.word_rows.WordRows.{WordRows}
 use Rattle.row_layout.specs.declared.word_rows.WordRows.TheVariants.{Private, Shared}
 
@@ -12,12 +14,21 @@ unfoldable pub word_rows : Config → List ℕ → WordRows
 word_rows config word =
     if nat_lt (class_of_word config word) 3 then Private (private_number config word) else Shared (class_of_word config word)
 
+-- the row count of each class, which is the number of its rows from class 3 on, and the rank of each row of those that have shared ones, which is none above the highest
+pub record IsClassTable (config : Config) (table : ClassTable) : Type 0 where
+  pub counts_are : (class : ℕ) → class ≤ 15 → slice_index table.counts class ≡ row_count_of_class config.one_in config.snr class
+  pub ranks_are : (class j : ℕ) → 3 ≤ class → class ≤ 15 → j < row_count_of_class config.one_in config.snr class →
+      slice_index (slice_index_or table.ranks class []) j ≡ rank_in_class config class j
+  pub ranks_low : (class j : ℕ) → 3 ≤ class → class ≤ 15 → j < row_count_of_class config.one_in config.snr class →
+      slice_index (slice_index_or table.ranks class []) j ≤ config.max_rank
+
 -- the pool is small enough, and beside the configuration stand the shared rows of each rank, the start of each rank, the
--- words of a slice, and the rows of each listed word
-pub record IsLaidOut (config : Config) (rows bases : List ℕ) (slice_words : ℕ) (listed : List WordRows) : Type 0 where
+-- words of a slice, the rows of each class, and the rows of each listed word
+pub record IsLaidOut (config : Config) (rows bases : List ℕ) (slice_words : ℕ) (classes : ClassTable) (listed : List WordRows) : Type 0 where
   pub in_range : IsInRange config
   pub small_pool : words_of_pool config ≤ 33554432
   pub rows_are : (rank : ℕ) → rank ≤ config.max_rank → slice_index rows rank ≡ shared_rows config rank
   pub bases_are : (rank : ℕ) → rank ≤ config.max_rank → slice_index bases rank ≡ base_of_rank config rank
   pub slice_words_are : slice_words ≡ words_of_slice config
+  pub classes_are : IsClassTable config classes
   pub listed_are : listed ≡ map (λ entry. word_rows config entry.0) config.words

@@ -1,5 +1,6 @@
 pub mod Rows
 pub mod Orders
-pub mod Foot
+pub mod DocumentBits
+pub mod Sound
 pub mod Layouts
 pub mod Laws

@@ -1,5 +1,5 @@
 -- Lists of rows, in the two orders in which they are kept.
-use Rattle.std.specs.Prelude.{ℕ, ◌↔◌, List, Contains}
+use Rattle.std.specs.Prelude.{◌≡◌, ℕ, ◌≤◌, ◌↔◌, nat_eq, nat_le, nat_lt, List, Contains, filter, length, slice_index}
 use Rattle.std.specs.List.Sorted.{IsStrictlySortedBy}
 use Rattle.std.specs.Ordering.{nat_cmp, ordering_then}
 use Rattle.std.specs.declared.cmp.Ordering.{Ordering}
@@ -22,6 +22,22 @@ IsRisingByStart = IsStrictlySortedBy start_cmp
 -- rows in the order of a plan, each once
 abbrev pub IsInPlanOrder : List Row → Type 0
 IsInPlanOrder = IsStrictlySortedBy plan_cmp
+
+-- the rows of a rank, and those of a rank and above, in the order of the list
+abbrev pub rows_of_rank : ℕ → List Row → List Row
+rows_of_rank rank rows = filter (λ row. nat_eq row.rank rank) rows
+
+abbrev pub rows_from_rank : ℕ → List Row → List Row
+rows_from_rank rank rows = filter (λ row. nat_le rank row.rank) rows
+
+-- the rows below a rank
+abbrev pub rows_below_rank : ℕ → List Row → List Row
+rows_below_rank rank rows = filter (λ row. nat_lt row.rank rank) rows
+
+-- rows in the order of a plan, with how many of them have a rank of at least 0, 1 and so on, up to 7
+pub record IsPlanned (rows : List Row) (from_rank : List ℕ) : Type 0 where
+  pub in_order : IsInPlanOrder rows
+  pub counts : (rank : ℕ) → rank ≤ 7 → slice_index from_rank rank ≡ length (rows_from_rank rank rows)
 
 -- the list has exactly the rows of these words
 abbrev pub HasRowsOf : Config → List (List ℕ) → List Row → Type 0

@@ -30,6 +30,10 @@ abbrev pub hashed_row : Config → List ℕ → ℕ → ℕ → Row
 hashed_row config word c j =
     let rank = rank_in_class config c j in shared_row config rank (row_number word j (shared_rows config rank))
 
+-- the rows of a word of class c, from class 3 on
+abbrev pub hashed_rows : Config → List ℕ → ℕ → List Row
+hashed_rows config word c = map (hashed_row config word c) (range_with_len 0 (row_count_of_class config.one_in config.snr c))
+
 -- how many rows a word has
 abbrev pub row_count_of_word : Config → List ℕ → ℕ
 row_count_of_word config word = rows_of_class config (class_of_word config word)

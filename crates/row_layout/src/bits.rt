@@ -1,7 +1,7 @@
 ghost use Rattle.std.specs.Prelude.{◌≡◌, ℕ, ◌<◌, List, IfOk, map, All};
 ghost use Rattle.funnel_model.specs.Legal.{IsInSlice};
 ghost use Rattle.funnel_model.specs.Sizes.{columns_of_slice, words_of_slice};
-ghost use Rattle.row_layout.specs.Foot.{CanPlace, IsFoot, bit_at};
+ghost use Rattle.row_layout.specs.DocumentBits.{CanPlace, AreDocumentBits, bit_at};
 ghost use Rattle.row_layout.specs.Orders.{HasRowsOf};
 
 use crate::layout::Layout;
@@ -20,7 +20,7 @@ pub struct Bits {
 
 impl Model for Bits {
     ghost use Rattle.std.specs.Prelude.{◌≡◌, length};
-    ghost use Rattle.row_layout.specs.Foot.{RowBits};
+    ghost use Rattle.row_layout.specs.DocumentBits.{RowBits};
 
     ghost Value = { RowBits };
 
@@ -43,10 +43,10 @@ impl Bits {
         requires slice { slice < layout.now.slices }
         requires column { column < columns_of_slice layout.now }
         ensures rows { self.new.rows ≡ self.old.rows }
-        ensures bits { self.new.bits ≡ map (bit_at layout.now slice column) self.old.rows }
+        ensures bits { self.new.bits ≡ map (bit_at (words_of_slice layout.now) slice column) self.old.rows }
         ensures inside { All (λ b. IsInSlice (words_of_slice layout.now) slice b.word) self.new.bits }
         ensures of_words { All (λ b. b.bit < 64) self.new.bits }
-        ensures foot { (words : List (List ℕ)) → HasRowsOf layout.now words self.old.rows → IsFoot layout.now words slice column self.new.bits }
+        ensures document_bits { (words : List (List ℕ)) → HasRowsOf layout.now words self.old.rows → AreDocumentBits layout.now words slice column self.new.bits }
     {
         let (first, _) = layout.slice_range(slice);
         for i in 0..self.rows.len() {
@@ -59,7 +59,7 @@ impl Bits {
 pub fn bits_of(alloc: Global, layout: &Layout, words: &WordSet) -> Result<Bits, Memory>
     ensures rows { IfOk result (λ bits. HasRowsOf layout.now words.now bits.rows) }
     ensures can_place { IfOk result (λ bits. CanPlace layout.now bits.rows) }
-    ensures foot { IfOk result (λ bits. IsFoot layout.now words.now 0 0 bits.bits) }
+    ensures document_bits { IfOk result (λ bits. AreDocumentBits layout.now words.now 0 0 bits.bits) }
     ensures inside { IfOk result (λ bits. All (λ b. IsInSlice (words_of_slice layout.now) 0 b.word) bits.bits) }
     ensures of_words { IfOk result (λ bits. All (λ b. b.bit < 64) bits.bits) }
 {

@@ -1,9 +1,9 @@
-//! What holds of the feet of words.
+//! What holds of the bits that documents set.
 
-ghost use Rattle.row_layout.specs.Laws.{FootHasFootOfPart, FootHasFootOfQuery};
+ghost use Rattle.row_layout.specs.Laws.{DocumentsHaveBitsOfParts, TextsHaveBitsOfQueries};
 
-/// The foot of a document has the foot of each set of its words, and so that of each query that the document meets.
-pub fn foot_has_foot_of_part()
-    ensures part { FootHasFootOfPart }
-    ensures query { FootHasFootOfQuery }
+/// A document has the bits of each set of its words, and so those of each query that it meets.
+pub fn documents_have_bits_of_parts()
+    ensures part { DocumentsHaveBitsOfParts }
+    ensures query { TextsHaveBitsOfQueries }
 {}

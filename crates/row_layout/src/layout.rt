@@ -1,19 +1,21 @@
-ghost use Rattle.std.specs.Prelude.{◌≡◌, ◌+◌, ◌<◌, ◌≤◌, ◌++◌, All, IfOk, OnOk, length};
+ghost use Rattle.std.specs.Prelude.{◌≡◌, ℕ, List, ◌+◌, ◌<◌, ◌≤◌, ◌++◌, All, IfOk, OnOk, length};
 ghost use Rattle.funnel_model.specs.Configuration.{IsInRange};
 ghost use Rattle.funnel_model.specs.Sizes.{columns_of_slice, private_words, words_of_pool, words_of_slice};
 ghost use Rattle.funnel_model.specs.Treatment.{row_count_of_class};
-ghost use Rattle.row_layout.specs.Foot.{slice_start};
+ghost use Rattle.row_layout.specs.DocumentBits.{slice_start};
 ghost use Rattle.row_layout.specs.Layouts.{word_rows};
-ghost use Rattle.row_layout.specs.Rows.{IsRowOf, IsSharedRow, hashed_row, private_row, row_count_of_word, row_of_word, rows_of_word, rows_of_words};
+ghost use Rattle.term_hash.specs.Hash.{fnv_1a};
+ghost use Rattle.row_layout.specs.Rows.{IsRowOf, IsSharedRow, hashed_row, hashed_rows, private_row, row_count_of_word, row_of_word, rows_of_word, rows_of_words};
 
+use crate::class_table::ClassTable;
 use crate::listed_rows::{bases_of, copy_of, rows_of_listed, width_of};
 use crate::row::Row;
 use crate::word_rows::WordRows;
 use funnel_model::{Config, Memory, WordSet};
 use std::alloc::Global;
 use std::marker::Model;
-use term_hash::row_of;
-use treatment::{LAST_CLASS, rank_of, row_count, sizes};
+use term_hash::WordHash;
+use treatment::{LAST_CLASS, sizes};
 
 /// Where the rows of every word lie under a configuration. Contracts see the configuration.
 ///
@@ -26,6 +28,7 @@ pub struct Layout {
     /// Where the rows of each rank begin in a slice.
     bases: [u32; 7],
     slice_words: u32,
+    classes: ClassTable,
     /// The rows of each listed word.
     listed: Vec<WordRows>,
 }
@@ -38,7 +41,7 @@ impl Model for Layout {
 
     ghost view = { λ layout. layout.config };
 
-    ghost invariant = { λ layout. IsLaidOut layout.config layout.rows layout.bases layout.slice_words layout.listed.items };
+    ghost invariant = { λ layout. IsLaidOut layout.config layout.rows layout.bases layout.slice_words layout.classes layout.listed.items };
 }
 
 impl Layout {
@@ -52,11 +55,13 @@ impl Layout {
         let listed = rows_of_listed(alloc, &config)?;
         let sizes = sizes(&config);
         let bases = bases_of(&config, &sizes);
+        let classes = ClassTable::new(&config);
         Ok(Layout {
             config,
             rows: sizes.rows,
             bases,
             slice_words: sizes.slice_words as u32,
+            classes,
             listed,
         })
     }
@@ -88,7 +93,7 @@ impl Layout {
     /// The first word of a slice in the pool, and the number of its words.
     pub fn slice_range(&self, slice: u32) -> (u32, u32)
         requires { slice < self.now.slices }
-        ensures first { result.0 ≡ slice_start self.now slice }
+        ensures first { result.0 ≡ slice_start (words_of_slice self.now) slice }
         ensures words { result.1 ≡ words_of_slice self.now }
         ensures within { result.0 + result.1 ≤ words_of_pool self.now }
         ensures small_pool { words_of_pool self.now ≤ 33554432 }
@@ -104,7 +109,7 @@ impl Layout {
     {
         match self.look_up(word) {
             WordRows::Private(_) => 1,
-            WordRows::Shared(class) => row_count(class, self.config.one_in, self.config.snr),
+            WordRows::Shared(class) => self.classes.counts[class as usize],
         }
     }
 
@@ -116,32 +121,49 @@ impl Layout {
     {
         match self.look_up(word) {
             WordRows::Private(number) => self.private(number),
-            WordRows::Shared(class) => self.hashed(word, class, j),
+            WordRows::Shared(class) => self.hashed(&WordHash::new(word), class, j),
         }
     }
 
-    /// The rows of some words, word by word.
+    /// The rows of some words, word by word. The room is taken at once: no word has more rows than an unlisted one.
     pub fn rows_of(&self, alloc: Global, words: &WordSet) -> Result<Vec<Row>, Memory>
         ensures rows { IfOk result (λ rows. rows.items ≡ rows_of_words self.now words.now) }
         ensures laid { IfOk result (λ rows. All (IsRowOf self.now) rows.items) }
         ensures in_range { IsInRange self.now }
     {
-        let _ = &self.config;
-        let mut rows = Vec::new(alloc);
-        for word in words.as_slice() {
-            self.push_rows(word.as_bytes(), &mut rows)?;
+        let most = self.classes.counts[LAST_CLASS as usize] as usize;
+        let mut rows = Vec::with_capacity(alloc, words.len().saturating_mul(most))?;
+        for word in words.iter() {
+            self.push_rows(word, &mut rows)?;
         }
         Ok(rows)
     }
 
-    /// Adds the rows of a folded word.
+    /// Adds the rows of a folded word, which is looked up once and hashed once.
     fn push_rows(&self, word: &[u8], rows: &mut Vec<Row>) -> Result<(), Memory>
         requires { All (IsRowOf self.now) rows.old.items }
         ensures rows { OnOk result (rows.new.items ≡ rows.old.items ++ rows_of_word self.now word.now) }
         ensures laid { All (IsRowOf self.now) rows.new.items }
     {
-        for j in 0..self.count_of(word) {
-            rows.push(self.row_at(word, j))?;
+        match self.look_up(word) {
+            WordRows::Private(number) => {
+                rows.push(self.private(number))?;
+                Ok(())
+            }
+            WordRows::Shared(class) => self.push_hashed(&WordHash::new(word), class, rows),
+        }
+    }
+
+    /// Adds the shared rows of a word with this hash and of this class.
+    fn push_hashed(&self, hash: &WordHash, class: u8, rows: &mut Vec<Row>) -> Result<(), Memory>
+        requires laid { All (IsRowOf self.now) rows.old.items }
+        requires shared { 3 ≤ class }
+        requires class { class ≤ 15 }
+        ensures rows { (word : List ℕ) → hash.now ≡ fnv_1a word → OnOk result (rows.new.items ≡ rows.old.items ++ hashed_rows self.now word class) }
+        ensures laid { All (IsRowOf self.now) rows.new.items }
+    {
+        for j in 0..self.classes.counts[class as usize] {
+            rows.push(self.hashed(hash, class, j))?;
         }
         Ok(())
     }
@@ -171,17 +193,16 @@ impl Layout {
         }
     }
 
-    /// Row `j` of a folded word of this class.
-    fn hashed(&self, word: &[u8], class: u8, j: u8) -> Row
+    /// Row `j` of a word with this hash and of this class.
+    fn hashed(&self, hash: &WordHash, class: u8, j: u8) -> Row
         requires shared { 3 ≤ class }
         requires class { class ≤ 15 }
         requires j { j < row_count_of_class self.now.one_in self.now.snr class }
-        ensures value { result ≡ hashed_row self.now word.now class j }
+        ensures value { (word : List ℕ) → hash.now ≡ fnv_1a word → result ≡ hashed_row self.now word class j }
         ensures laid { IsSharedRow self.now result }
     {
-        let count = row_count(class, self.config.one_in, self.config.snr);
-        let rank = rank_of(class, count, self.config.max_rank, j);
-        let number = row_of(word, j, self.rows[rank as usize]);
+        let rank = self.classes.ranks[class as usize][j as usize];
+        let number = hash.row(j, self.rows[rank as usize]);
         let width = width_of(&self.config, rank);
         Row {
             rank,

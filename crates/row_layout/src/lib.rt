@@ -6,6 +6,7 @@
 #![tactic(auto)]
 
 mod bits;
+mod class_table;
 mod laws;
 mod layout;
 mod listed_rows;
@@ -15,7 +16,7 @@ mod rows;
 mod word_rows;
 
 pub use bits::{Bits, bits_of};
-pub use laws::foot_has_foot_of_part;
+pub use laws::documents_have_bits_of_parts;
 pub use layout::Layout;
 pub use plan::Plan;
 pub use row::Row;

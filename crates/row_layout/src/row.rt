@@ -12,11 +12,13 @@ pub struct Row {
 }
 
 impl Row {
+    ghost use Rattle.row_layout.specs.DocumentBits.{bit_from};
+
     /// The bit of the row at a column of the slice that begins at the pool's word `first`.
     pub(crate) fn bit(self, first: u32, column: u32) -> Bit
         requires rank { self.rank ≤ 6 }
         requires fits { first + self.start + column / (64 * 2 ^ self.rank) < 2 ^ 32 }
-        ensures { result ≡ record { word = first + self.start + column / (64 * 2 ^ self.rank); bit = column % 64 } }
+        ensures { result ≡ bit_from first column self }
     {
         Bit {
             word: first + self.start + column / (64 << self.rank),

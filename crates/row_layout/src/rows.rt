@@ -1,6 +1,6 @@
 ghost use Rattle.std.specs.Prelude.{IfOk};
 ghost use Rattle.funnel_model.specs.Configuration.{IsInRange};
-ghost use Rattle.row_layout.specs.Foot.{CanPlace};
+ghost use Rattle.row_layout.specs.DocumentBits.{CanPlace};
 ghost use Rattle.row_layout.specs.Orders.{HasRowsOf};
 
 use crate::layout::Layout;

@@ -11,8 +11,10 @@ use std::test::Fail;
 use treatment::sizes;
 
 /// The default configuration but for these numbers and words.
-fn config(max_rank: u8, tail: u64, words: Listed) -> Config
+fn config(max_rank: u8, one_in: u64, snr: u64, tail: u64, words: Listed) -> Config
     requires rank { max_rank ≤ 6 }
+    requires one_in { IsWithin 2 20 one_in }
+    requires snr { IsWithin 1 1000 snr }
     requires tail { tail ≤ 10 }
     requires few { length words ≤ 65536 }
     requires counts { All (λ entry. IsWithin 1 1000 entry.1) words }
@@ -27,8 +29,8 @@ fn config(max_rank: u8, tail: u64, words: Listed) -> Config
         blocks: 1,
         max_rank,
         commits: 1024,
-        one_in: 10,
-        snr: 10,
+        one_in,
+        snr,
         documents: 1000,
         tail,
         max_rows: 65536,
@@ -52,7 +54,7 @@ fn ranked_layout(alloc: Global) -> Result<Layout, Memory>
     ensures slices { IfOk result (λ layout. layout.slices ≡ 2) }
     ensures columns { IfOk result (λ layout. columns_of_slice layout ≡ 4096) }
 {
-    let config = config(6, 0, three_words(alloc)?);
+    let config = config(6, 10, 10, 0, three_words(alloc)?);
     if sizes(&config).pool_words > 33_554_432 {
         return Err(Memory);
     }
@@ -61,7 +63,16 @@ fn ranked_layout(alloc: Global) -> Result<Layout, Memory>
 
 /// A layout without listed words, with rows of rank 0 alone.
 fn plain_layout(alloc: Global) -> Result<Layout, Memory> {
-    let config = config(0, 10, Listed::new(Vec::new(alloc)));
+    let config = config(0, 10, 10, 10, Listed::new(Vec::new(alloc)));
+    if sizes(&config).pool_words > 33_554_432 {
+        return Err(Memory);
+    }
+    Layout::new(alloc, &config)
+}
+
+/// A layout without listed words, in which each word has 26 rows.
+fn crowded_layout(alloc: Global) -> Result<Layout, Memory> {
+    let config = config(0, 2, 1000, 10, Listed::new(Vec::new(alloc)));
     if sizes(&config).pool_words > 33_554_432 {
         return Err(Memory);
     }
@@ -69,11 +80,11 @@ fn plain_layout(alloc: Global) -> Result<Layout, Memory> {
 }
 
 /// The words of a document.
-fn document(alloc: Global) -> Result<WordSet, AllocError> {
-    let axolotl = String::from_str(alloc, "axolotl")?;
-    let cat = String::from_str(alloc, "cat")?;
-    let dog = String::from_str(alloc, "dog")?;
-    Ok(WordSet::new(vec![in alloc; axolotl, cat, dog]?))
+fn document(alloc: Global) -> Result<WordSet, Memory> {
+    WordSet::from_sorted(
+        alloc,
+        &["axolotl".as_bytes(), "cat".as_bytes(), "dog".as_bytes()],
+    )
 }
 
 /// The rows of a word, row by row.
@@ -183,5 +194,90 @@ fn bits_move_to_any_column(rt: HostRuntime) -> Result<(), Fail> {
     assert!(rt; pairs(rt.alloc(), &bits)?.as_slice() == later.as_slice());
     bits.place(&layout, 0, 0);
     assert!(rt; pairs(rt.alloc(), &bits)?.as_slice() == opening.as_slice());
+    Ok(())
+}
+
+#[test]
+fn a_document_has_a_bit_in_each_of_its_rows(rt: HostRuntime) -> Result<(), Fail> {
+    let layout = crowded_layout(rt.alloc())?;
+    assert_eq!(rt; layout.count_of(b"cat"), 26);
+    let bits = bits_of(rt.alloc(), &layout, &document(rt.alloc())?)?;
+    let wanted = [
+        (14, 0),
+        (17, 0),
+        (35, 0),
+        (37, 0),
+        (38, 0),
+        (42, 0),
+        (45, 0),
+        (46, 0),
+        (47, 0),
+        (54, 0),
+        (56, 0),
+        (60, 0),
+        (61, 0),
+        (70, 0),
+        (75, 0),
+        (79, 0),
+        (81, 0),
+        (84, 0),
+        (92, 0),
+        (107, 0),
+        (114, 0),
+        (116, 0),
+        (120, 0),
+        (124, 0),
+        (138, 0),
+        (147, 0),
+        (151, 0),
+        (157, 0),
+        (162, 0),
+        (164, 0),
+        (172, 0),
+        (183, 0),
+        (201, 0),
+        (203, 0),
+        (205, 0),
+        (207, 0),
+        (239, 0),
+        (240, 0),
+        (241, 0),
+        (242, 0),
+        (246, 0),
+        (248, 0),
+        (252, 0),
+        (258, 0),
+        (288, 0),
+        (298, 0),
+        (311, 0),
+        (323, 0),
+        (329, 0),
+        (331, 0),
+        (334, 0),
+        (335, 0),
+        (371, 0),
+        (373, 0),
+        (407, 0),
+        (418, 0),
+        (422, 0),
+        (426, 0),
+        (430, 0),
+        (432, 0),
+        (434, 0),
+        (449, 0),
+        (453, 0),
+        (457, 0),
+        (459, 0),
+        (469, 0),
+        (481, 0),
+        (487, 0),
+        (496, 0),
+        (497, 0),
+        (500, 0),
+        (501, 0),
+        (508, 0),
+        (511, 0),
+    ];
+    assert!(rt; pairs(rt.alloc(), &bits)?.as_slice() == wanted.as_slice());
     Ok(())
 }

@@ -6,9 +6,11 @@
 
 mod image;
 mod rows;
+mod shared;
 
 pub use image::Image;
 pub use rows::Rows;
+pub use shared::Shared;
 
 #[cfg(test)]
 mod tests;

@@ -1,7 +1,6 @@
-ghost use Rattle.std.specs.Prelude.{◌≡◌, ℕ, ◌+◌, ◌-◌, ◌^◌, ◌↔◌, true, min, List, IfSome, slice_index};
+ghost use Rattle.std.specs.Prelude.{◌≡◌, ℕ, ◌+◌, ◌-◌, ◌^◌, ◌↔◌, min, IsBitSet, List, IfSome, slice_index};
 ghost use Rattle.std.specs.declared.option.Option.{Option};
 ghost use Rattle.funnel_model.specs.declared.bit_list.Bit.{Bit};
-ghost use Rattle.row_read.specs.Bits.{has_bit};
 
 /// Row words that can be read one by one.
 pub trait Rows {
@@ -29,8 +28,8 @@ pub trait Rows {
     fn read(&mut self, word: u32) -> u64
         requires reach { reach self.old word }
         ensures told { IfSome (told self.old) (λ words. result ≡ slice_index words word) }
-        ensures least { (bit : ℕ) → least self.old (record { word = word; bit = bit }) → has_bit result bit ≡ true }
-        ensures seen { (bit : ℕ) → has_bit result bit ≡ true → seen self.new (record { word = word; bit = bit }) }
+        ensures least { (bit : ℕ) → least self.old (record { word = word; bit = bit }) → IsBitSet result bit }
+        ensures seen { (bit : ℕ) → IsBitSet result bit → seen self.new (record { word = word; bit = bit }) }
         ensures seen_stays { (bit : Bit) → seen self.old bit → seen self.new bit }
         ensures reach_stays { (other : ℕ) → reach self.old other ↔ reach self.new other }
         ensures least_stays { (bit : Bit) → least self.old bit ↔ least self.new bit }

@@ -31,7 +31,7 @@ pub(crate) fn mix(hash: u64) -> u64
 }
 
 /// Takes in one more byte.
-fn take_in(hash: u64, byte: u8) -> u64
+pub(crate) fn take_in(hash: u64, byte: u8) -> u64
     ensures { result ≡ fnv_step hash byte }
 {
     (hash ^ u64::from(byte)).wrapping_mul(PRIME)

@@ -7,4 +7,4 @@ mod row;
 mod tests;
 
 pub use hash::fnv;
-pub use row::row_of;
+pub use row::{WordHash, row_of};

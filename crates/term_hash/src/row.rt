@@ -1,14 +1,48 @@
-ghost use Rattle.std.specs.Prelude.{◌≡◌, ◌<◌, ◌≤◌};
-ghost use Rattle.term_hash.specs.Hash.{row_number};
+ghost use Rattle.std.specs.Prelude.{◌≡◌, ◌<◌, ◌≤◌, ℕ, List};
+ghost use Rattle.term_hash.specs.Hash.{fnv_1a, row_number};
 
-use crate::hash::{fnv, mix};
+use crate::hash::{fnv_1a_of, mix, take_in};
+use std::marker::Model;
 
-/// Row `j` of a word, among `rows` rows: its hash with the high half mixed in, modulo the number of rows.
+/// The hash of a word's bytes, from which each of its rows is told. A word with many rows is hashed once.
+#[derive(Debug, Drop)]
+pub struct WordHash {
+    hash: u64,
+}
+
+impl Model for WordHash {
+    ghost Value = { ℕ };
+
+    ghost view = { λ w. w.hash };
+}
+
+impl WordHash {
+    /// Hashes the word's bytes.
+    pub fn new(word: &[u8]) -> WordHash
+        ensures { result ≡ fnv_1a word.now }
+    {
+        WordHash {
+            hash: fnv_1a_of(word),
+        }
+    }
+
+    /// Row `j` of the word, among `rows` rows: the hash of its bytes followed by `j`, with the high half mixed in,
+    /// modulo the number of rows.
+    pub fn row(&self, j: u8, rows: u32) -> u32
+        requires { 1 ≤ rows }
+        ensures exact { (word : List ℕ) → self.now ≡ fnv_1a word → result ≡ row_number word j rows }
+        ensures within { result < rows }
+    {
+        let hash = mix(take_in(self.hash, j));
+        (hash % u64::from(rows)) as u32
+    }
+}
+
+/// Row `j` of a word, among `rows` rows.
 pub fn row_of(word: &[u8], j: u8, rows: u32) -> u32
     requires { 1 ≤ rows }
     ensures exact { result ≡ row_number word.now j rows }
     ensures within { result < rows }
 {
-    let hash = mix(fnv(word, j));
-    (hash % u64::from(rows)) as u32
+    WordHash::new(word).row(j, rows)
 }

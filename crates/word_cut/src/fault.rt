@@ -1,5 +1,6 @@
 ghost use Rattle.std.specs.Prelude.{Some, codes};
 
+use funnel_model::Memory;
 use std::alloc::{AllocError, AllocFailed};
 use std::error::Error;
 use std::fmt;
@@ -20,6 +21,12 @@ impl fmt::Display for WordFault {
 }
 
 impl Error for WordFault {}
+
+impl From<Memory> for WordFault {
+    fn from(_error: Memory) -> Self {
+        WordFault::Memory
+    }
+}
 
 impl From<AllocError> for WordFault {
     fn from(_error: AllocError) -> Self {

@@ -4,6 +4,7 @@
 
 mod cut;
 mod fault;
+mod folding;
 #[cfg(test)]
 mod tests;
 

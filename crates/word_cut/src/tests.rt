@@ -26,8 +26,8 @@ fn texts_have_their_words(rt: HostRuntime) -> Result<(), Fail> {
     for (text, wanted) in TEXTS {
         let found = words(rt.alloc(), text)?;
         assert_eq!(rt; found.len(), wanted.len(), "the words of {text}");
-        for (word, want) in found.as_slice().iter().zip(wanted) {
-            assert_eq!(rt; word.as_str(), *want, "a word of {text}");
+        for (word, want) in found.iter().zip(wanted) {
+            assert_eq!(rt; word, want.as_bytes(), "a word of {text}");
         }
     }
     Ok(())

@@ -6,7 +6,7 @@ ghost use Rattle.funnel_model.specs.Legal.{IsFull, IsIdle, IsInSlice, IsLegal, M
 ghost use Rattle.funnel_model.specs.Slices.{claimed};
 ghost use Rattle.funnel_model.specs.Words.{AreWordsOf, words};
 ghost use Rattle.funnel.specs.Foot.{HasBit, IsFoot, IsListed, slice_rows};
-ghost use Rattle.funnel.specs.Kept.{AllSet, HasColumn, IsRoom, IsZero, State, WithEvent, column_of, limits_of, slice_of};
+ghost use Rattle.funnel.specs.Kept.{AllSet, HasColumn, IsRoom, IsZero, State, WithEvent, column_of_room, limits_of, slice_of};
 
 use crate::index::{Counts, EVENT_ROOM, Index, NO_COUNTS, PASS, SLICE_COLUMNS};
 use crate::rows::{SLICE_ROWS, clear_rows, set_bits};
@@ -33,7 +33,7 @@ impl Room {
     }
 
     pub fn column(self) -> u32
-        ensures { result ≡ column_of self }
+        ensures { result ≡ column_of_room self }
     {
         match self {
             Room::Unclaimed { column, .. } => column,
@@ -49,7 +49,7 @@ impl Index {
         requires idle { IsIdle 0 self.now.history }
         ensures full { IfNone result (IsFull (limits_of self.now.slices) self.now.history) }
         ensures room { IfSome result (IsRoom self.now) }
-        ensures in_range { IfSome result (λ room. (slice_of room < 1024) × (column_of room < 64)) }
+        ensures in_range { IfSome result (λ room. (slice_of room < 1024) × (column_of_room room < 64)) }
     {
         let _ = &self.events;
         if let Some(slice) = lowest_unfilled(self.counts.as_slice()) {

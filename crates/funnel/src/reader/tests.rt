@@ -1,5 +1,5 @@
 ghost use Rattle.std.specs.Prelude.{◌≡◌, ◌<◌, ◌^◌, List, ℕ, [], false, true, IfSome, length};
-ghost use Rattle.funnel_io.specs.Bytes.{TakenFrom};
+ghost use Rattle.funnel.specs.Told.{TakenFrom};
 ghost use Rattle.funnel_io.specs.Lines.{lines};
 
 use super::{Line, LineReader};
@@ -41,7 +41,7 @@ fn count_lines<C: Source>(reader: &mut LineReader, source: &mut C, left: &mut u6
     requires fresh { reader.old ≡ record { held = []; long = false; ended = false; line = [] } }
     requires few { left.old < 2 ^ 63 }
     ensures { IfSome result (λ count. (bytes : List ℕ)
-        × TakenFrom (C.left source.old) bytes (C.left source.new)
+        × TakenFrom (C.incoming source.old).left bytes (C.incoming source.new).left
         × (count ≡ length (lines bytes true))) }
 {
     let mut count = 0;

@@ -1,4 +1,4 @@
-use Rattle.std.proofs.Common.{cond, Some, sym, ap, ◌∙◌, inl}
+use Rattle.std.proofs.Common.{cond, sym, ap, ◌∙◌, inl}
 use Rattle.funnel_model.specs.declared.reply.Reply.TheVariants as reply
 use Rattle.funnel_model.specs.History.{place}
 use Rattle.std.specs.Option.{option_map_or}
@@ -11,7 +11,7 @@ returns-in-Some c text =
     let i = c.args.index.now in
     record {
       refused = inl (live_by_place c.args.id i.history c.in-Some.place (sym c.in-Some.ensures));
-      reply = ap (λ o. Some (option_map_or reply.Present o (cond (place i.history == 1024) reply.JournalFull reply.Full))) (sym c.in-Some.ensures);
+      reply = ap (λ o. option_map_or reply.Present o (cond (place i.history == 1024) reply.JournalFull reply.Full)) c.in-Some.ensures;
     }
 
 pub returns-in-Some-room : goal.returns-in-Some-room

@@ -1,4 +1,4 @@
-use Rattle.std.proofs.Common.{◌≡◌, ℕ, ◌+◌, ◌<◌, List, [], ◌∷◌, ◌++◌, length, sym, ap, ◌∙◌, subst, arith}
+use Rattle.std.proofs.Common.{◌≡◌, ℕ, ◌+◌, List, [], ◌∷◌, ◌++◌, length, sym, ap, ◌∙◌, subst, arith}
 use Rattle.funnel_model.specs.declared.call.Call.TheVariants as call
 use Rattle.funnel_model.specs.declared.event.Event.{Event}
 use Rattle.funnel_model.specs.declared.event.Event.TheVariants as event
@@ -11,7 +11,7 @@ use Rattle.funnel_model.specs.declared.bit_list.Bit.{Bit}
 use Rattle.document_store.specs.Documents.{Parts}
 use Rattle.funnel_model.specs.Legal.{IsLegal}
 use Rattle.funnel_model.specs.Words.{AreWordsOf}
-use Rattle.funnel.specs.Kept.{clearing_of, column_of, slice_of}
+use Rattle.funnel.specs.Kept.{clearing_of, column_of_room, slice_of}
 use Rattle.funnel.proofs.CallLemmas.{call_added, call_refused, claimed_column, claimed_still, early, live_taken, one_more, place_taken}
 use Rattle.funnel.proofs.calls.try_add.Goals as goal
 
@@ -37,7 +37,7 @@ pub commit-requires-clause-absent : goal.commit-requires-clause-absent
 commit-requires-clause-absent c =
     let i = c.args.index.now in
     let at = c.in-Ok.room in
-    let same = ap live (c.write_column.ensures.history ∙ c.claim_in-claim.ensures.history) ∙ live_taken i.history at (slice_of at) (column_of at) in
+    let same = ap live (c.write_column.ensures.history ∙ c.claim_in-claim.ensures.history) ∙ live_taken i.history at (slice_of at) (column_of_room at) in
     ap (λ (d : Parts). is_live d.id c.write_column.new.self.history) c.new-doc.ensures
     ∙ ap (λ (ds : List Document). list_any (λ (d : Document). d.id == c.args.id) ds) same ∙ c.in-Ok.ensures.absent
 
@@ -45,7 +45,7 @@ pub commit-requires-clause-journal : goal.commit-requires-clause-journal
 commit-requires-clause-journal c =
     let i = c.args.index.now in
     let at = c.in-Ok.room in
-    let same : place c.write_column.new.self.history ≡ place i.history = ap place (c.write_column.ensures.history ∙ c.claim_in-claim.ensures.history) ∙ place_taken i.history at (slice_of at) (column_of at) in
+    let same : place c.write_column.new.self.history ≡ place i.history = ap place (c.write_column.ensures.history ∙ c.claim_in-claim.ensures.history) ∙ place_taken i.history at (slice_of at) (column_of_room at) in
     let room = c.in-Ok.ensures.journal in
     omega arith
 
@@ -67,14 +67,14 @@ returns-in_ok-bits-in-Ok-clause-ok c =
     let claim = c.claim_in-claim.result in
     let more = one_more written after (event.Add 0 c.new-doc.result.id c.new-event_text.result claim.slice claim.column c.in_ok-bits-in-Ok.bits) c.commit.ensures.event c.commit.ensures.legal in
     let slices : after.slices ≡ i.slices = more.slices ∙ c.write_column.ensures.slices ∙ c.claim_in-claim.ensures.slices in
-    let before : written.history ≡ (i.history ++ clearing_of at) ++ event.Take 0 (slice_of at) (column_of at) ∷ [] = c.write_column.ensures.history ∙ c.claim_in-claim.ensures.history in
+    let before : written.history ≡ (i.history ++ clearing_of at) ++ event.Take 0 (slice_of at) (column_of_room at) ∷ [] = c.write_column.ensures.history ∙ c.claim_in-claim.ensures.history in
     let whole = more.history
     ∙ ap (λ (h : List Event). h ++ event.Add 0 c.new-doc.result.id c.new-event_text.result claim.slice claim.column c.in_ok-bits-in-Ok.bits ∷ []) before
-    ∙ ap (λ (d : Parts). ((i.history ++ clearing_of at) ++ event.Take 0 (slice_of at) (column_of at) ∷ []) ++ event.Add 0 d.id c.new-event_text.result claim.slice claim.column c.in_ok-bits-in-Ok.bits ∷ []) c.new-doc.ensures
-    ∙ ap (λ (t : List ℕ). ((i.history ++ clearing_of at) ++ event.Take 0 (slice_of at) (column_of at) ∷ []) ++ event.Add 0 c.args.id t claim.slice claim.column c.in_ok-bits-in-Ok.bits ∷ []) text
-    ∙ ap (λ n. ((i.history ++ clearing_of at) ++ event.Take 0 (slice_of at) (column_of at) ∷ []) ++ event.Add 0 c.args.id c.args.text.now n claim.column c.in_ok-bits-in-Ok.bits ∷ []) slice
-    ∙ ap (λ n. ((i.history ++ clearing_of at) ++ event.Take 0 (slice_of at) (column_of at) ∷ []) ++ event.Add 0 c.args.id c.args.text.now (slice_of at) n c.in_ok-bits-in-Ok.bits ∷ []) column in
-    let at_place : c.commit.result ≡ place i.history + 1 = let same = ap place before ∙ place_taken i.history at (slice_of at) (column_of at) in omega (arith, c.commit.ensures.place) in
+    ∙ ap (λ (d : Parts). ((i.history ++ clearing_of at) ++ event.Take 0 (slice_of at) (column_of_room at) ∷ []) ++ event.Add 0 d.id c.new-event_text.result claim.slice claim.column c.in_ok-bits-in-Ok.bits ∷ []) c.new-doc.ensures
+    ∙ ap (λ (t : List ℕ). ((i.history ++ clearing_of at) ++ event.Take 0 (slice_of at) (column_of_room at) ∷ []) ++ event.Add 0 c.args.id t claim.slice claim.column c.in_ok-bits-in-Ok.bits ∷ []) text
+    ∙ ap (λ n. ((i.history ++ clearing_of at) ++ event.Take 0 (slice_of at) (column_of_room at) ∷ []) ++ event.Add 0 c.args.id c.args.text.now n claim.column c.in_ok-bits-in-Ok.bits ∷ []) slice
+    ∙ ap (λ n. ((i.history ++ clearing_of at) ++ event.Take 0 (slice_of at) (column_of_room at) ∷ []) ++ event.Add 0 c.args.id c.args.text.now (slice_of at) n c.in_ok-bits-in-Ok.bits ∷ []) column in
+    let at_place : c.commit.result ≡ place i.history + 1 = let same = ap place before ∙ place_taken i.history at (slice_of at) (column_of_room at) in omega (arith, c.commit.ensures.place) in
     call_added i after c.requires.idle (early c.is_spent.result (length i.history) c.is_spent.ensures.spent c.if-is_spent.false) slices at c.args.id c.args.text.now c.in_ok-bits-in-Ok.bits c.commit.result c.in-Ok.ensures.room at_place whole
     (subst (λ n. IsLegal (limits_of n) after.history) slices c.commit.ensures.legal)
 

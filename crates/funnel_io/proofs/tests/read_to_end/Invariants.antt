@@ -1,6 +1,6 @@
-use Rattle.funnel_io.specs.Bytes.{TakenFrom}
+use Rattle.funnel_io.specs.Streams.{Takes}
 use Rattle.funnel_io.proofs.tests.read_to_end.Given as goal
 
--- what was taken so far is what was left at the start, without what is left now
+-- what was taken so far
 abbrev pub invariant-loop : goal.invariant-loop
-invariant-loop g l = TakenFrom (g.S.Source.left l.fn.source) l.all.items (g.S.Source.left l.source)
+invariant-loop g l = Takes l.all.items (g.S.Source.incoming l.fn.source) (g.S.Source.incoming l.source)

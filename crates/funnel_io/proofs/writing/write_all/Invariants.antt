@@ -4,8 +4,7 @@ use Rattle.funnel_io.proofs.writing.write_all.Given as goal
 
 abbrev pub invariant-loop-sent : goal.invariant-loop-sent
 invariant-loop-sent g l =
-    HasSent l.bytes l.sent (g.K.Sink.written l.fn.sink) (g.K.Sink.written l.sink)
-    (g.K.Sink.write_faults l.fn.sink) (g.K.Sink.write_faults l.sink)
+    HasSent l.bytes l.sent (g.K.Sink.outgoing l.fn.sink) (g.K.Sink.outgoing l.sink)
     (g.K.Sink.beside_write l.fn.sink) (g.K.Sink.beside_write l.sink)
     (g.K.Borrower.borrowed l.fn.sink) (g.K.Borrower.borrowed l.sink)
 

@@ -1,7 +1,7 @@
 -- Want of memory comes after the bytes were taken.
 use Rattle.std.proofs.Common.{ℕ, ◌≤◌, ◌++◌, length, take, arith, length-append, length-take}
 use Rattle.std.proofs.lemmas.Result.{err_from_is_err_and}
-use Rattle.funnel_io.proofs.Told.{TakenFrom-append, AppendedTo-append}
+use Rattle.funnel_io.proofs.Taking.{Takes-trans}
 use Rattle.funnel_stats.proofs.reading.read_all.Goals as goal
 
 pub returns-in_err-extend_from_slice-in-Bytes-clause-taken : goal.returns-in_err-extend_from_slice-in-Bytes-clause-taken
@@ -12,8 +12,7 @@ returns-in_err-extend_from_slice-in-Bytes-clause-taken g c =
     let few : length (c.loop-room.bytes.items ++ piece) ≤ 16777217 = omega (arith, length-append {A = ℕ}, length-take {A = ℕ}) in
     rw (p.1, p.2) (record {
       bytes = c.loop-room.bytes.items ++ piece;
-      taken_from = TakenFrom-append _ c.loop-room.bytes.items _ piece _ before.taken_from c.in-Bytes.ensures.left;
-      appended = AppendedTo-append _ c.loop-room.bytes.items _ piece _ before.appended c.in-Bytes.ensures.taken;
+      takes = Takes-trans _ (g.S.Source.incoming c.loop-room.source) _ c.loop-room.bytes.items piece before.takes c.in-Bytes.ensures.takes;
       few = few;
       answers = tt;
     })

@@ -5,8 +5,8 @@ use Rattle.funnel_stats.proofs.reading.read_all.Given as goal
 
 abbrev pub invariant-loop-room : goal.invariant-loop-room
 invariant-loop-room g l =
-    HasTaken l.bytes.items (g.S.Source.left l.fn.source) (g.S.Source.left l.source) (g.S.Source.taken l.fn.source) (g.S.Source.taken l.source)
-    (g.S.Source.read_faults l.fn.source) (g.S.Source.read_faults l.source) (g.S.Borrower.borrowed l.fn.source) (g.S.Borrower.borrowed l.source)
+    HasTaken l.bytes.items (g.S.Source.incoming l.fn.source) (g.S.Source.incoming l.source)
+    (g.S.Borrower.borrowed l.fn.source) (g.S.Borrower.borrowed l.source)
     (g.S.Source.beside_read l.fn.source) (g.S.Source.beside_read l.source)
 
 abbrev pub decreases-loop-room : goal.decreases-loop-room

@@ -9,8 +9,7 @@ returns-in_err-bytes-clause-answer g c =
     let taken = c.in_err-bytes.ensures.taken in
     rw (p.1, p.2) (record {
       bytes = taken.bytes;
-      taken_from = taken.taken_from;
-      appended = taken.appended;
+      takes = taken.takes;
       few = taken.few;
       answers = taking_fault c.in_err-bytes.field-0.0 taken.bytes _ taken.answers;
     })

@@ -1,8 +1,6 @@
-use Rattle.std.proofs.Common.{sym, subst, map, string_bytes}
 use Rattle.std.specs.List.Sorted.{IsStrictlySortedBy}
-use Rattle.funnel_model.specs.Words.{IsRising}
 use Rattle.plan_rows.proofs.tests.no_words.Goals as goal
 
-pub new-requires-2 : goal.new-requires-2
+pub from_sorted-requires : goal.from_sorted-requires
 unfolding IsStrictlySortedBy
-new-requires-2 c = subst (λ items. IsRising (map string_bytes items)) (sym c.new.ensures.items) tt
+from_sorted-requires c = tt

@@ -1,154 +1,128 @@
-use Rattle.std.proofs.Common.{rules, ◌≡◌, ℕ, ◌+◌, ◌*◌, ◌/◌, ◌<◌, ◌≤◌, ◌^◌, ◌∙◌, Bool, false, List, length, ap, sym, subst, arith}
+use Rattle.std.proofs.Common.{◌≡◌, ℕ, ◌+◌, ◌-◌, ◌*◌, ◌/◌, ◌^◌, ◌≤◌, List, [], ap, sym, subst, ◌∙◌, arith}
 use Rattle.std.specs.List.{All}
-use Rattle.std.proofs.lemmas.List.{append-nil}
 use Rattle.std.proofs.lemmas.List.Elements.{All-weaker}
-use Rattle.funnel_model.specs.Sizes.{columns_of_slice, width_of_rank}
-use Rattle.std.proofs.lemmas.Nat.{mul-le}
-use Rattle.rank_matcher.specs.Covering.{covering}
-use Rattle.rank_matcher.proofs.Coverings.{covering-fits, covering-in_slice, words-of_row}
-use Rattle.rank_matcher.proofs.Searches.{Agrees, IsFound, agrees-none, agrees-next, common-from, found-stopped, found-all, joined, passing-more, all_hits, all_covered, found-appends, found-in_slice, found-part_of_hits, found-rising, found-seen, IsCommon}
-use Rattle.row_layout.specs.Foot.{slice_start}
+use Rattle.funnel_model.specs.Configuration.{IsInRange}
+use Rattle.funnel_model.specs.Sizes.{columns_of_slice, words_of_slice}
+use Rattle.funnel_model.specs.declared.config.Config.{Config}
+use Rattle.rank_matcher.specs.Reads.{shown_reads, reads_of_scan, words_of_plan}
+use Rattle.rank_matcher.specs.Walk.{HasFound, HasFoundPart, IsReadable, IsTestOf, IsWhole, has_column, reads_between, words_between}
+use Rattle.rank_matcher.proofs.ColumnTests.{test-ones}
+use Rattle.rank_matcher.proofs.Intersections.{if_told}
+use Rattle.rank_matcher.proofs.Scans.{SpansSlice, Part, Whole, all-covered, all-hits, all_below_rank, none_from_rank, over-of_row, part-appends, part-in_slice, part-of_hits, part-rising, part-seen, readable-row, reads-of_slice, whole-of_row, words-of_slice, words-of_slice_rows}
+use Rattle.rank_matcher.proofs.Walks.{on_ok}
+use Rattle.row_layout.specs.DocumentBits.{slice_start}
+use Rattle.row_layout.specs.Orders.{rows_below_rank, rows_from_rank}
 use Rattle.row_layout.specs.Rows.{IsRowOf}
 use Rattle.row_layout.specs.declared.row.Row.{Row}
-use Rattle.row_layout.proofs.Feet.{rank-small}
+use Rattle.row_layout.proofs.BitLemmas.{rank-small}
+use Rattle.row_layout.proofs.Spans.{row-span}
 use Rattle.rank_matcher.proofs.scanning.scan.Given.{Over}
 use Rattle.rank_matcher.proofs.scanning.scan.Goals as goal
-use Rattle.rank_matcher.proofs.scanning.scan.Goals.{After-loop-word, After-push_columns}
+use Rattle.rank_matcher.proofs.scanning.scan.Goals.{After-visit}
 
-pub loop-word-init : goal.loop-word-init
-loop-word-init g c = record {
-  found = (λ _. false, agrees-none (g.R.Rows.told c.args.rows.now) (g.R.Rows.least c.args.rows.now) (g.R.Rows.seen c.args.rows.now) c.args.layout.now c.args.plan.now c.args.slice, sym (append-nil c.args.out.now));
-  reads = omega arith;
-  seen_stays = λ bit has. has;
-  reach_stays = λ other. (λ r. r, λ r. r);
-  least_stays = λ bit. (λ r. r, λ r. r);
-  told_stays = search rules;
-  kept = search rules;
-}
+low_ranks : (config : Config) (plan : List Row) → IsInRange config → All (IsRowOf config) plan → All (λ row. row.rank ≤ 6) plan
+low_ranks config plan range laid = All-weaker (IsRowOf config) (λ row. row.rank ≤ 6) (rank-small config range) plan laid
 
-pub common_bits-common-requires-clause-ranks : goal.common_bits-common-requires-clause-ranks
-common_bits-common-requires-clause-ranks g c =
-    subst (All (λ (row : Row). row.rank ≤ 6)) (sym c.as_slice.ensures.rows)
-    (All-weaker (IsRowOf c.args.layout.now) (λ row. row.rank ≤ 6) (rank-small c.args.layout.now c.slice_range-first.ensures.in_range) c.args.plan.now c.requires.laid)
+pub visit-requires-clause-readable : goal.visit-requires-clause-readable
+visit-requires-clause-readable g c =
+    let config = c.args.layout.now in
+    All-weaker (IsRowOf config) (IsReadable (g.R.Rows.reach c.args.rows.now) c.slice_range-first.result.0)
+    (λ row laid. readable-row config (g.R.Rows.reach c.args.rows.now) c.args.slice c.slice_range-first.result.0 c.slice_range-first.ensures.small_pool c.requires.slice c.slice_range-first.ensures.first c.requires.reach row (row-span config row laid))
+    c.args.plan.now c.requires.laid
 
-inside : (g : Over) (c : goal.After-as_slice g) → 64 * c.loop-word.word < columns_of_slice c.args.layout.now
-inside g c = omega (arith, c.columns-word-end.ensures.value, c.loop-word-test.true)
+pub visit-requires-clause-whole : goal.visit-requires-clause-whole
+visit-requires-clause-whole g c =
+    let config = c.args.layout.now in
+    let plan : List Row = c.args.plan.now in
+    let whole : All (IsWhole 0 (columns_of_slice config / 64)) plan = All-weaker (IsRowOf config) (IsWhole 0 (columns_of_slice config / 64)) (λ row laid. whole-of_row config row (row-span config row laid)) plan c.requires.laid in
+    subst (λ n. All (IsWhole 0 (n / 64)) (rows_below_rank 7 plan)) (sym c.columns.ensures.value)
+    (subst (All (IsWhole 0 (columns_of_slice config / 64))) (sym (all_below_rank plan (low_ranks config plan c.columns.ensures.in_range c.requires.laid))) whole)
 
-pub common_bits-common-requires-clause-fits : goal.common_bits-common-requires-clause-fits
-common_bits-common-requires-clause-fits g c =
-    subst (All (λ (row : Row). covering c.slice_range-first.result.0 c.loop-word.word row < 2 ^ 32)) (sym c.as_slice.ensures.rows)
-    (All-weaker (IsRowOf c.args.layout.now) (λ row. covering c.slice_range-first.result.0 c.loop-word.word row < 2 ^ 32)
-    (covering-fits c.args.layout.now c.slice_range-first.ensures.small_pool c.args.slice c.slice_range-first.result.0 c.loop-word.word c.requires.slice c.slice_range-first.ensures.first (inside g c))
-    c.args.plan.now c.requires.laid)
+pub visit-requires-clause-running : goal.visit-requires-clause-running
+visit-requires-clause-running g c =
+    let config = c.args.layout.now in
+    let plan : List Row = c.args.plan.now in
+    subst
+    (λ (xs : List Row). IsTestOf (g.R.Rows.told c.args.rows.now) (g.R.Rows.least c.args.rows.now) (g.R.Rows.seen c.args.rows.now) c.slice_range-first.result.0 xs 0 (64 * (c.columns.result / 64)) (has_column (2 ^ 64 - 1)))
+    (sym (none_from_rank plan (low_ranks config plan c.columns.ensures.in_range c.requires.laid)))
+    (test-ones (g.R.Rows.told c.args.rows.now) (g.R.Rows.least c.args.rows.now) (g.R.Rows.seen c.args.rows.now) c.slice_range-first.result.0 0 (64 * (c.columns.result / 64)))
 
-pub common_bits-common-requires-clause-reach : goal.common_bits-common-requires-clause-reach
-common_bits-common-requires-clause-reach g c =
-    let first : ℕ = c.slice_range-first.result.0 in
-    let P : Row → Type 0 = λ row. g.R.Rows.reach c.loop-word.rows (covering first c.loop-word.word row) in
-    subst (All P) (sym c.as_slice.ensures.rows)
-    (All-weaker (IsRowOf c.args.layout.now) P
-    (λ row laid. (c.loop-word.invariant.reach_stays (covering first c.loop-word.word row)).0
-    (c.requires.reach (covering first c.loop-word.word row) (covering-in_slice c.args.layout.now c.args.slice first c.loop-word.word c.slice_range-first.ensures.first (inside g c) row laid)))
-    c.args.plan.now c.requires.laid)
+-- the last column of the walk is that of the slice
+end_is : (g : Over) (c : After-visit g) → 64 * (c.columns.result / 64) ≡ columns_of_slice c.args.layout.now
+end_is g c = ap (λ n. 64 * (n / 64)) c.columns.ensures.value ∙ words-of_slice c.args.layout.now
 
--- what reads of this word told, must give and saw
-common_is : (g : Over) (c : After-push_columns g)
-    → IsCommon (g.R.Rows.told c.args.rows.now) (g.R.Rows.least c.args.rows.now) (g.R.Rows.seen c.common_bits-common.new.rows) c.args.plan.now (slice_start c.args.layout.now c.args.slice) c.loop-word.word c.common_bits-common.result
-common_is g c =
-    let before = c.loop-word.invariant in
-    let is = c.common_bits-common.ensures in
-    common-from (g.R.Rows.told c.args.rows.now) (g.R.Rows.told c.loop-word.rows) before.told_stays
-    (g.R.Rows.least c.args.rows.now) (g.R.Rows.least c.loop-word.rows) (g.R.Rows.seen c.common_bits-common.new.rows) before.least_stays
-    c.args.plan.now c.as_slice.result.now c.as_slice.ensures.rows c.slice_range-first.result.0 (slice_start c.args.layout.now c.args.slice) c.slice_range-first.ensures.first
-    c.loop-word.word c.common_bits-common.result is.told is.least is.seen
+part_is : (g : Over) (c : After-visit g)
+    → Part (g.R.Rows.told c.args.rows.now) (g.R.Rows.least c.args.rows.now) (g.R.Rows.seen c.visit.new.rows) c.args.layout.now c.args.plan.now c.args.slice c.args.out.now c.visit.new.out
+part_is g c =
+    subst (λ n. HasFoundPart (g.R.Rows.told c.args.rows.now) (g.R.Rows.least c.args.rows.now) (g.R.Rows.seen c.visit.new.rows) n c.args.plan.now c.args.slice 0 (columns_of_slice c.args.layout.now) c.args.out.now c.visit.new.out) c.slice_range-first.ensures.first
+    (subst (λ n. HasFoundPart (g.R.Rows.told c.args.rows.now) (g.R.Rows.least c.args.rows.now) (g.R.Rows.seen c.visit.new.rows) c.slice_range-first.result.0 c.args.plan.now c.args.slice 0 n c.args.out.now c.visit.new.out) (end_is g c) c.visit.ensures.part)
 
--- the columns of this word are searched too
-agrees_more : (g : Over) (c : After-push_columns g)
-    → Agrees (g.R.Rows.told c.args.rows.now) (g.R.Rows.least c.args.rows.now) (g.R.Rows.seen c.common_bits-common.new.rows) c.args.layout.now c.args.plan.now c.args.slice (64 * (c.loop-word.word + 1)) (joined c.loop-word.invariant.found.0 c.loop-word.word c.common_bits-common.result)
-agrees_more g c =
-    agrees-next (g.R.Rows.told c.args.rows.now) (g.R.Rows.least c.args.rows.now) (g.R.Rows.seen c.loop-word.rows) (g.R.Rows.seen c.common_bits-common.new.rows) c.common_bits-common.ensures.seen_stays
-    c.args.layout.now c.args.plan.now c.args.slice c.loop-word.word c.common_bits-common.result c.loop-word.invariant.found.0 c.loop-word.invariant.found.1 (common_is g c)
-
-found_is : (g : Over) (c : After-push_columns g)
-    → IsFound (g.R.Rows.told c.args.rows.now) (g.R.Rows.least c.args.rows.now) (g.R.Rows.seen c.common_bits-common.new.rows) c.args.layout.now c.args.plan.now c.args.slice c.args.out.now c.push_columns.new.out
-found_is g c =
-    found-stopped (g.R.Rows.told c.args.rows.now) (g.R.Rows.least c.args.rows.now) (g.R.Rows.seen c.common_bits-common.new.rows) c.args.layout.now c.args.plan.now c.args.slice c.args.out.now c.loop-word.out c.push_columns.new.out
-    c.loop-word.invariant.found.0 c.loop-word.word c.common_bits-common.result c.push_columns.ensures.part.0
-    (omega (arith, c.columns-word-end.ensures.value, c.loop-word-test.true)) (agrees_more g c) c.loop-word.invariant.found.2 c.push_columns.ensures.part.1 c.push_columns.ensures.part.2
-
-pub returns-in_err-push_columns-clause-appends : goal.returns-in_err-push_columns-clause-appends
-returns-in_err-push_columns-clause-appends g c = found-appends _ _ _ _ _ _ _ _ (found_is g c.before.before.before)
-
-pub returns-in_err-push_columns-clause-part_of_hits : goal.returns-in_err-push_columns-clause-part_of_hits
-returns-in_err-push_columns-clause-part_of_hits g c = found-part_of_hits _ _ _ _ _ _ _ _ (found_is g c.before.before.before)
-
-pub returns-in_err-push_columns-clause-in_slice : goal.returns-in_err-push_columns-clause-in_slice
-returns-in_err-push_columns-clause-in_slice g c = found-in_slice _ _ _ _ _ _ _ _ (found_is g c.before.before.before)
-
-pub returns-in_err-push_columns-clause-rising : goal.returns-in_err-push_columns-clause-rising
-returns-in_err-push_columns-clause-rising g c = found-rising _ _ _ _ _ _ _ _ (found_is g c.before.before.before)
-
-pub returns-in_err-push_columns-clause-seen : goal.returns-in_err-push_columns-clause-seen
-returns-in_err-push_columns-clause-seen g c = found-seen _ _ _ _ _ _ _ _ (found_is g c.before.before.before)
-
-pub loop-word-preserved : goal.loop-word-preserved
-loop-word-preserved g c =
-    let before = c.loop-word.invariant in
-    let is = c.common_bits-common.ensures in
-    let test : ℕ → Bool = joined before.found.0 c.loop-word.word c.common_bits-common.result in
-    record {
-      found = (
-        test,
-        agrees_more g c.before.before,
-        passing-more c.args.slice c.args.out.now c.loop-word.out c.push_columns.new.out before.found.0 c.loop-word.word c.common_bits-common.result before.found.2 c.in_ok-push_columns.ensures.all,
-      );
-      reads = omega (arith, before.reads, is.reads, ap (λ (rows : List Row). length rows) c.as_slice.ensures.rows);
-      seen_stays = λ bit has. is.seen_stays bit (before.seen_stays bit has);
-      reach_stays = λ other. (λ r. (is.reach_stays other).0 ((before.reach_stays other).0 r), λ r. (before.reach_stays other).1 ((is.reach_stays other).1 r));
-      least_stays = λ bit. (λ r. (is.least_stays bit).0 ((before.least_stays bit).0 r), λ r. (before.least_stays bit).1 ((is.least_stays bit).1 r));
-      told_stays = is.told_stays ∙ before.told_stays;
-      kept = is.kept ∙ before.kept;
-    }
-
--- the scan came to the end of the slice
-all_searched : (g : Over) (c : After-loop-word g) → 64 * c.loop-word.word ≡ columns_of_slice c.args.layout.now
-all_searched g c = omega (arith, c.columns-word-end.ensures.value, c.loop-word-test.false, c.loop-word.auto.word-end)
-
-all_found : (g : Over) (c : After-loop-word g)
-    → IsFound (g.R.Rows.told c.args.rows.now) (g.R.Rows.least c.args.rows.now) (g.R.Rows.seen c.loop-word.rows) c.args.layout.now c.args.plan.now c.args.slice c.args.out.now c.loop-word.out
-all_found g c =
-    let found = c.loop-word.invariant.found in
-    found-all (g.R.Rows.told c.args.rows.now) (g.R.Rows.least c.args.rows.now) (g.R.Rows.seen c.loop-word.rows) c.args.layout.now c.args.plan.now c.args.slice (64 * c.loop-word.word) c.args.out.now c.loop-word.out found.0 (omega (arith, all_searched g c)) found.1 found.2
+whole_is : (g : Over) (c : After-visit g)
+    → HasFound (g.R.Rows.told c.args.rows.now) (g.R.Rows.least c.args.rows.now) (g.R.Rows.seen c.visit.new.rows) c.slice_range-first.result.0 c.args.plan.now c.args.slice 0 (64 * (c.columns.result / 64)) c.args.out.now c.visit.new.out
+    → Whole (g.R.Rows.told c.args.rows.now) (g.R.Rows.least c.args.rows.now) (g.R.Rows.seen c.visit.new.rows) c.args.layout.now c.args.plan.now c.args.slice c.args.out.now c.visit.new.out
+whole_is g c is =
+    subst (λ n. HasFound (g.R.Rows.told c.args.rows.now) (g.R.Rows.least c.args.rows.now) (g.R.Rows.seen c.visit.new.rows) n c.args.plan.now c.args.slice 0 (columns_of_slice c.args.layout.now) c.args.out.now c.visit.new.out) c.slice_range-first.ensures.first
+    (subst (λ n. HasFound (g.R.Rows.told c.args.rows.now) (g.R.Rows.least c.args.rows.now) (g.R.Rows.seen c.visit.new.rows) c.slice_range-first.result.0 c.args.plan.now c.args.slice 0 n c.args.out.now c.visit.new.out) (end_is g c) is)
 
 pub returns-clause-appends : goal.returns-clause-appends
-returns-clause-appends g c = found-appends _ _ _ _ _ _ _ _ (all_found g c)
-
-pub returns-clause-part_of_hits : goal.returns-clause-part_of_hits
-returns-clause-part_of_hits g c = found-part_of_hits _ _ _ _ _ _ _ _ (all_found g c)
+returns-clause-appends g c = part-appends _ _ _ _ _ _ _ _ (part_is g c)
 
 pub returns-clause-in_slice : goal.returns-clause-in_slice
-returns-clause-in_slice g c = found-in_slice _ _ _ _ _ _ _ _ (all_found g c)
-
-pub returns-clause-rising : goal.returns-clause-rising
-returns-clause-rising g c = found-rising _ _ _ _ _ _ _ _ (all_found g c)
+returns-clause-in_slice g c = part-in_slice _ _ _ _ _ _ _ _ (part_is g c)
 
 pub returns-clause-seen : goal.returns-clause-seen
-returns-clause-seen g c = found-seen _ _ _ _ _ _ _ _ (all_found g c)
+returns-clause-seen g c = part-seen _ _ _ _ _ _ _ _ (part_is g c)
+
+pub returns-clause-rising : goal.returns-clause-rising
+returns-clause-rising g c = part-rising _ _ _ _ _ _ _ _ (part_is g c)
+
+pub returns-clause-part_of_hits : goal.returns-clause-part_of_hits
+returns-clause-part_of_hits g c = if_told _ (g.R.Rows.told c.args.rows.now) (λ words is. part-of_hits _ _ _ _ _ _ _ _ words is (part_is g c))
 
 pub returns-clause-hits : goal.returns-clause-hits
 returns-clause-hits g c =
-    let found = c.loop-word.invariant.found in
-    all_hits (g.R.Rows.told c.args.rows.now) (g.R.Rows.least c.args.rows.now) (g.R.Rows.seen c.loop-word.rows) c.args.layout.now c.args.plan.now c.args.slice (64 * c.loop-word.word) c.args.out.now c.loop-word.out found.0 (all_searched g c) found.1 found.2
+    on_ok c.visit.result (λ found. if_told _ (g.R.Rows.told c.args.rows.now) (λ words is. all-hits _ _ _ _ _ _ _ _ words is (whole_is g c found))) c.visit.ensures.found
 
 pub returns-clause-covered : goal.returns-clause-covered
-returns-clause-covered g c =
-    let found = c.loop-word.invariant.found in
-    all_covered (g.R.Rows.told c.args.rows.now) (g.R.Rows.least c.args.rows.now) (g.R.Rows.seen c.loop-word.rows) c.args.layout.now c.args.plan.now c.args.slice (64 * c.loop-word.word) c.args.out.now c.loop-word.out found.0 (all_searched g c) found.1 found.2
+returns-clause-covered g c = on_ok c.visit.result (λ found. all-covered _ _ _ _ _ _ _ _ (whole_is g c found)) c.visit.ensures.found
 
-pub returns-in_err-push_columns-clause-reads_at_most : goal.returns-in_err-push_columns-clause-reads_at_most
-returns-in_err-push_columns-clause-reads_at_most g c =
-    let rows : ℕ = length c.args.plan.now in
-    let width : ℕ = width_of_rank c.args.layout.now 0 in
-    let more : c.loop-word.word + 1 ≤ width = omega (arith, c.loop-word-test.true, ap (λ n. n / 64) c.columns-word-end.ensures.value, words-of_row c.args.layout.now) in
-    let same : length c.as_slice.result.now ≡ rows = ap (λ (xs : List Row). length xs) c.as_slice.ensures.rows in
-    omega (arith, c.loop-word.invariant.reads, c.common_bits-common.ensures.reads, same, mul-le rows (c.loop-word.word + 1) rows width (omega arith) more)
+-- what the walk reads of told words, and how many words there are
+over_is : (g : Over) (c : After-visit g) → All (SpansSlice c.args.layout.now) c.args.plan.now
+over_is g c =
+    let config = c.args.layout.now in
+    All-weaker (IsRowOf config) (SpansSlice config) (λ row laid. over-of_row config row (row-span config row laid)) c.args.plan.now c.requires.laid
+
+reads_are : (g : Over) (c : After-visit g) (words : List ℕ)
+    → reads_between words c.slice_range-first.result.0 (rows_from_rank 7 c.args.plan.now) (rows_below_rank 7 c.args.plan.now) 0 (c.columns.result / 64) ≡ reads_of_scan c.args.layout.now words c.args.plan.now c.args.slice
+reads_are g c words =
+    let config = c.args.layout.now in
+    let plan : List Row = c.args.plan.now in
+    let low = low_ranks config plan c.columns.ensures.in_range c.requires.laid in
+    ap (λ n. reads_between words n (rows_from_rank 7 plan) (rows_below_rank 7 plan) 0 (c.columns.result / 64)) c.slice_range-first.ensures.first
+    ∙ ap (λ n. reads_between words (slice_start (words_of_slice config) c.args.slice) (rows_from_rank 7 plan) (rows_below_rank 7 plan) 0 (n / 64)) c.columns.ensures.value
+    ∙ ap (λ (xs : List Row). reads_between words (slice_start (words_of_slice config) c.args.slice) xs (rows_below_rank 7 plan) 0 (columns_of_slice config / 64)) (none_from_rank plan low)
+    ∙ ap (λ (xs : List Row). reads_between words (slice_start (words_of_slice config) c.args.slice) [] xs 0 (columns_of_slice config / 64)) (all_below_rank plan low)
+    ∙ reads-of_slice config words c.args.slice [] plan (over_is g c)
+
+words_are : (g : Over) (c : After-visit g) → words_between (rows_below_rank 7 c.args.plan.now) 0 (c.columns.result / 64) ≡ words_of_plan c.args.plan.now
+words_are g c =
+    let config = c.args.layout.now in
+    let plan : List Row = c.args.plan.now in
+    ap (λ n. words_between (rows_below_rank 7 plan) 0 (n / 64)) c.columns.ensures.value
+    ∙ ap (λ (xs : List Row). words_between xs 0 (columns_of_slice config / 64)) (all_below_rank plan (low_ranks config plan c.columns.ensures.in_range c.requires.laid))
+    ∙ words-of_slice_rows config plan (over_is g c)
+
+pub returns-clause-reads : goal.returns-clause-reads
+returns-clause-reads g c =
+    on_ok c.visit.result
+    (λ read. if_told _ (g.R.Rows.told c.args.rows.now)
+    (λ words is. read.is ∙ ap (λ n. shown_reads (g.R.Rows.reads c.args.rows.now + n)) (read.told_is words is ∙ reads_are g c words)))
+    c.visit.ensures.reads
+
+pub returns-clause-part_of_reads : goal.returns-clause-part_of_reads
+returns-clause-part_of_reads g c =
+    let read = c.visit.ensures.reads_at_most in
+    if_told _ (g.R.Rows.told c.args.rows.now) (λ words is. omega (arith, read.is, read.told_at_most words is, reads_are g c words))
+
+pub returns-clause-reads_at_most : goal.returns-clause-reads_at_most
+returns-clause-reads_at_most g c = let read = c.visit.ensures.reads_at_most in omega (arith, read.is, read.at_most, words_are g c)

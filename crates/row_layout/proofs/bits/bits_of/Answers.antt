@@ -4,10 +4,10 @@ use Rattle.std.proofs.lemmas.List.{take_all}
 use Rattle.funnel_model.specs.Legal.{IsInSlice}
 use Rattle.funnel_model.specs.Sizes.{words_of_slice}
 use Rattle.funnel_model.specs.declared.bit_list.Bit.{Bit}
-use Rattle.row_layout.specs.Foot.{IsFoot, bit_at}
+use Rattle.row_layout.specs.DocumentBits.{AreDocumentBits, bit_at}
 use Rattle.row_layout.specs.Rows.{IsRowOf}
 use Rattle.row_layout.specs.declared.row.Row.{Row}
-use Rattle.row_layout.proofs.Feet.{bit-fits, bits-in_slice, bits-of_words, columns-positive, foot_of_rows, rank-small}
+use Rattle.row_layout.proofs.BitLemmas.{bit-fits, bits-in_slice, bits-of_words, columns-positive, bits_of_rows, rank-small}
 use Rattle.row_layout.proofs.bits.bits_of.Goals as goal
 use Rattle.row_layout.proofs.bits.bits_of.Goals.{After-new}
 
@@ -27,17 +27,17 @@ bit-requires-clause-fits c =
     (omega (arith, c.slice_range-first.ensures.in_range.slices.0)) (columns-positive c.args.layout.now c.slice_range-first.ensures.in_range) c.slice_range-first.ensures.first _ (laid_at c _)
 
 -- the list is the bits of the rows
-bits_are : (c : After-new) → c.new.result ≡ map (bit_at c.args.layout.now 0 0) c.in_ok-rows.rows.items
+bits_are : (c : After-new) → c.new.result ≡ map (bit_at (words_of_slice c.args.layout.now) 0 0) c.in_ok-rows.rows.items
 bits_are c =
     c.new.ensures ∙ c.loop-row.invariant
-    ∙ ap (map (bit_at c.args.layout.now 0 0)) (take_all c.loop-row.row-index c.deref-row-items.result.now (omega arith) ∙ c.deref-row-items.ensures.value)
+    ∙ ap (map (bit_at (words_of_slice c.args.layout.now) 0 0)) (take_all c.loop-row.row-index c.deref-row-items.result.now (omega arith) ∙ c.deref-row-items.ensures.value)
 
-pub returns-clause-foot : goal.returns-clause-foot
-returns-clause-foot c =
+pub returns-clause-document_bits : goal.returns-clause-document_bits
+returns-clause-document_bits c =
     let config = c.args.layout.now in
     let range = c.slice_range-first.ensures.in_range in
-    subst (IsFoot config c.args.words.now 0 0) (sym (bits_are c))
-    (foot_of_rows config range 0 0 (columns-positive config range) c.in_ok-rows.rows.items c.in_ok-rows.ensures.can_place c.args.words.now c.in_ok-rows.ensures.rows)
+    subst (AreDocumentBits config c.args.words.now 0 0) (sym (bits_are c))
+    (bits_of_rows config range 0 0 (columns-positive config range) c.in_ok-rows.rows.items c.in_ok-rows.ensures.can_place c.args.words.now c.in_ok-rows.ensures.rows)
 
 pub returns-clause-inside : goal.returns-clause-inside
 returns-clause-inside c =

@@ -3,7 +3,7 @@ use Rattle.std.proofs.lemmas.Fn.{always_returns_same}
 use Rattle.std.proofs.lemmas.List.Filters.{dedup_is}
 use Rattle.std.proofs.lemmas.List.Sorted.{All-permutation}
 use Rattle.std.specs.List.{dedup}
-use Rattle.row_layout.specs.Foot.{CanPlace}
+use Rattle.row_layout.specs.DocumentBits.{CanPlace}
 use Rattle.row_layout.specs.Rows.{IsRowOf, rows_of_words}
 use Rattle.row_layout.specs.declared.row.Row.{Row}
 use Rattle.row_layout.proofs.Sorting.{row_eq, kept_all, kept_exactly, rising_from_sorted}

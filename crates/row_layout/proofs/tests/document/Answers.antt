@@ -1,4 +1,4 @@
-use Rattle.std.proofs.Common.{◌≡◌, ℕ, List, [], ◌∷◌, sym, subst, map, refl, string_bytes}
+use Rattle.std.proofs.Common.{◌≡◌, ℕ, List, [], ◌∷◌, refl}
 use Rattle.std.specs.List.Sorted.{IsStrictlySortedBy}
 use Rattle.std.specs.Cmp.Lexicographic.{slice_cmp}
 use Rattle.std.specs.Ordering.{nat_cmp}
@@ -14,7 +14,5 @@ three_rise a b d p q r = ((p, (q, tt)), ((r, tt), (tt, tt)))
 words_rise : (a b d : List ℕ) → a ≡ 97 ∷ 120 ∷ 111 ∷ 108 ∷ 111 ∷ 116 ∷ 108 ∷ [] → b ≡ 99 ∷ 97 ∷ 116 ∷ [] → d ≡ 100 ∷ 111 ∷ 103 ∷ [] → IsRising (a ∷ b ∷ d ∷ [])
 words_rise a b d e f g = three_rise a b d (rw (e, f) refl) (rw (e, g) refl) (rw (f, g) refl)
 
-pub new-requires : goal.new-requires
-new-requires c =
-    subst (λ items. IsRising (map string_bytes items)) (sym c.in_ok-vec.ensures.items)
-    (words_rise _ _ _ c.in_ok-axolotl.ensures.ok c.in_ok-cat.ensures.ok c.in_ok-dog.ensures.ok)
+pub from_sorted-requires : goal.from_sorted-requires
+from_sorted-requires c = words_rise _ _ _ c.as_bytes.ensures.value c.as_bytes-2.ensures.value c.as_bytes-3.ensures.value

@@ -1,12 +1,11 @@
-use Rattle.std.proofs.Common.{ℕ, List, ◌↔◌, Contains, sym, ◌∙◌, subst}
+use Rattle.std.proofs.Common.{sym, ◌∙◌, subst}
 use Rattle.funnel_model.specs.Words.{AreWordsOf}
-use Rattle.funnel.specs.Foot.{rows_of_words}
 use Rattle.funnel.proofs.draft.Draft.new.Goals as goal
 
 pub returns-clause-draft : goal.returns-clause-draft
 returns-clause-draft c = record {
   of_text = subst (AreWordsOf c.in-Ok.set) (sym (c.new-text.ensures ∙ c.in_ok-from_str.ensures.ok)) c.in-Ok.ensures;
   rising = c.in_ok-rows.ensures.rising;
-  exactly = subst (λ (set : List (List ℕ)). (row : ℕ) → Contains c.in_ok-rows.rows.items row ↔ Contains (rows_of_words set) row) c.as_slice.ensures.words c.in_ok-rows.ensures.exactly;
+  exactly = c.in_ok-rows.ensures.exactly;
   within = c.in_ok-rows.ensures.within;
 }

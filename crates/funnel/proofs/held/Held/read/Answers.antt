@@ -46,7 +46,7 @@ returns-in-Bytes-clause-reads g c =
       kept = c.read_behind.ensures.kept;
     })
     (omega (arith, c.self.invariant.in_order, c.self.invariant.not_past_end)) c.in-Bytes.ensures.count.2 c.in-Bytes.ensures.count.1
-    c.in-Bytes.ensures.left c.in-Bytes.ensures.taken)
+    c.in-Bytes.ensures.takes.left c.in-Bytes.ensures.takes.taken)
 
 pub returns-in-End-clause-reads : goal.returns-in-End-clause-reads
 returns-in-End-clause-reads g c =
@@ -58,7 +58,7 @@ returns-in-End-clause-reads g c =
       same_size = c.read_behind.auto.buffer;
       kept = c.read_behind.ensures.kept;
     })
-    c.in-End.ensures.left c.in-End.ensures.taken)
+    c.in-End.ensures.takes.left c.in-End.ensures.takes.taken)
 
 pub returns-in-Failed-clause-reads : goal.returns-in-Failed-clause-reads
 returns-in-Failed-clause-reads g c =
@@ -70,4 +70,4 @@ returns-in-Failed-clause-reads g c =
       same_size = c.read_behind.auto.buffer;
       kept = c.read_behind.ensures.kept;
     })
-    c.in-Failed.ensures.left c.in-Failed.ensures.taken)
+    c.in-Failed.ensures.takes.left c.in-Failed.ensures.takes.taken)

@@ -27,7 +27,7 @@ invariant_of-self c =
     c.push_reserved.ensures.items refl c.free.ensures refl refl refl c.push_reserved.ensures.capacity refl
     (kept-opened i.slices i.events.items i.journal.items i.records i.live i.counts.items i.rows.items (vec_capacity i.events) (vec_capacity i.journal) c.self.invariant s in' begun zero
     (allowed_after i.slices i.events.items i.journal.items i.records i.live i.counts.items i.rows.items (vec_capacity i.events) (vec_capacity i.journal) c.self.invariant (event.Opened 0 s false) (event.Clear 0 s) refl begun refl
-    (record { cleared = begun; for_add = refl })))
+    (record { cleared = begun })))
 
 pub returns-clause-legal : goal.returns-clause-legal
 returns-clause-legal c = (invariant_of-self c).legal

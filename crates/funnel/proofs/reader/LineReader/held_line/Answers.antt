@@ -11,7 +11,7 @@ returns-then-take_line-clause-line c rest pending =
     let end : IsEndOf held c.self.inside.long rest = rw (← c.self.view_is) at pending in
     let new : Pending = record { held = behind; long = false; ended = c.self.inside.ended; line = line } in
     gives_ended c.self.inside.long line end.dropped rest behind new c.judge-line.result
-    (rw c.line.ensures at c.judge-line.ensures)
+    (rw c.line.ensures at c.judge-line.ensures.judged)
     end.count
     (ends_at_newline rest end.dropped held line behind c.self.inside.ended end.joined c.if-take_line.ensures.bytes end.clean c.if-take_line.ensures.clean)
     refl (all_held new behind refl refl)

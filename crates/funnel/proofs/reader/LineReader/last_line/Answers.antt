@@ -18,7 +18,7 @@ returns-clause-line c rest pending =
     ] in
     let new : Pending = record { held = c.take_rest.new.self.bytes; long = false; ended = c.self.inside.ended; line = c.take_rest.new.self.line } in
     gives_ended c.self.inside.long held end.dropped rest [] new c.judge-line.result
-    (rw (c.line.ensures, c.take_rest.ensures.line) at c.judge-line.ensures)
+    (rw (c.line.ensures, c.take_rest.ensures.line) at c.judge-line.ensures.judged)
     end.count
     (ends_at_end rest end.dropped held c.self.inside.long c.self.inside.ended end.joined end.count end.clean clean some at_end)
     c.take_rest.ensures.line (all_held new [] c.take_rest.ensures.empty refl)

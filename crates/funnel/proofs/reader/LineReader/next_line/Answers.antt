@@ -15,7 +15,7 @@ loop-line-preserved g c =
       ended = c.in-Bytes.ensures.ended
           ∙ (sym c.in_default.ensures.not_at_end ∙ (c.in_default.ensures.ended ∙ c.loop-line.invariant.ended));
       no_more = omega (arith, c.loop-line.invariant.no_more, rw c.in_default.ensures.line at c.in-Bytes.ensures.no_more);
-      never_falls = omega (arith, c.loop-line.invariant.never_falls, c.in-Bytes.ensures.never_falls);
+      faults = c.in-Bytes.ensures.faults ∙ c.loop-line.invariant.faults;
       borrowed = c.in-Bytes.ensures.borrowed ∙ c.loop-line.invariant.borrowed;
       beside = c.in-Bytes.ensures.beside ∙ c.loop-line.invariant.beside;
       unmoved = λ decided. absurd (impossible decided);
@@ -36,3 +36,8 @@ returns-in-Failed-clause-advances g c =
     (continues_twice _ c.loop-line.self _ _ _ _ _ _ _ _ _ _ c.loop-line.invariant.continues
     (rw c.in_default.ensures.line at c.in-Failed.ensures.continues))
     (stops c.read_more.new.self c.in-Failed.ensures.clean c.in-Failed.ensures.ended)
+
+pub returns-then-left-eq0-clause-advances : goal.returns-then-left-eq0-clause-advances
+returns-then-left-eq0-clause-advances g c =
+    advances_after _ c.loop-line.self _ _ _ _ _ _ _ _ c.loop-line.invariant.continues
+    (rw (← c.in_default.ensures.line) (stops c.held_line.new.self c.in_default.ensures.clean c.in_default.ensures.not_at_end))

@@ -5,11 +5,11 @@ use Rattle.funnel.proofs.reader.LineReader.next_line.Given as goal
 
 abbrev pub invariant-loop-line : goal.invariant-loop-line
 invariant-loop-line g l = record {
-  continues : Continues l.fn.self l.self (g.C.Source.left l.fn.conn) (g.C.Source.left l.conn)
-      (g.C.Source.taken l.fn.conn) (g.C.Source.taken l.conn) l.fn.left l.left;
+  continues : Continues l.fn.self l.self (g.C.Source.incoming l.fn.conn).left (g.C.Source.incoming l.conn).left
+      (g.C.Source.incoming l.fn.conn).taken (g.C.Source.incoming l.conn).taken l.fn.left l.left;
   ended : l.self.ended ≡ l.fn.self.ended;
   no_more : most_lines l.self.held l.self.long + l.left ≤ most_lines l.fn.self.held l.fn.self.long + l.fn.left;
-  never_falls : g.C.Source.read_faults l.fn.conn ≤ g.C.Source.read_faults l.conn;
+  faults : (g.C.Source.incoming l.conn).faults ≡ (g.C.Source.incoming l.fn.conn).faults;
   borrowed : g.C.Borrower.borrowed l.conn ≡ g.C.Borrower.borrowed l.fn.conn;
   beside : g.C.Source.beside_read l.conn ≡ g.C.Source.beside_read l.fn.conn;
   unmoved : IsDecided l.fn.self l.fn.left → l.self ≡ l.fn.self;

@@ -1,5 +1,5 @@
 use Rattle.std.proofs.Common.{◌∙◌, ◌++◌, length, sym, ap, arith, inl, inr}
-use Rattle.funnel_io.proofs.Told.{TakenFrom-append}
+use Rattle.funnel.proofs.Told.{TakenFrom-append}
 use Rattle.funnel.specs.Pending.{Pending}
 use Rattle.funnel.proofs.LineLaws.{counted_none, counted_more, nothing_taken, has_given_all}
 use Rattle.funnel.proofs.reader.tests.count_lines.Goals as goal

@@ -5,7 +5,7 @@ use Rattle.funnel.proofs.reader.tests.count_lines.Given as goal
 
 abbrev pub invariant-loop-count : goal.invariant-loop-count
 invariant-loop-count g l = record {
-  counted : HasCounted l.reader l.count (g.C.Source.left l.fn.source) (g.C.Source.left l.source);
+  counted : HasCounted l.reader l.count (g.C.Source.incoming l.fn.source).left (g.C.Source.incoming l.source).left;
   few : l.count + (most_lines l.reader.held l.reader.long + l.left) ≤ l.fn.left;
 }
 

@@ -11,13 +11,13 @@ invariant-loop-end g l = record {
   idle : IsIdle 0 l.self.index.history;
   legal : IsLegal (limits_of l.self.index.slices) l.self.index.history;
   room : 64 ≤ vec_capacity l.self.text;
-  reads : g.C.Source.read_faults l.fn.input ≤ g.C.Source.read_faults l.input;
-  writes : g.K.Sink.write_faults l.fn.output ≤ g.K.Sink.write_faults l.output;
+  reads : (g.C.Source.incoming l.fn.input).faults ≤ (g.C.Source.incoming l.input).faults;
+  writes : (g.K.Sink.outgoing l.fn.output).faults ≤ (g.K.Sink.outgoing l.output).faults;
   source_borrowed : g.C.Borrower.borrowed l.input ≡ g.C.Borrower.borrowed l.fn.input;
   sink_borrowed : g.K.Borrower.borrowed l.output ≡ g.K.Borrower.borrowed l.fn.output;
   progress : Progress (limits_of l.fn.self.index.slices) l.fn.limit
-      (record { left = g.C.Source.left l.fn.input; taken = g.C.Source.taken l.fn.input; written = g.K.Sink.written l.fn.output; reads = g.C.Source.read_faults l.fn.input; writes = g.K.Sink.write_faults l.fn.output })
-      (record { left = g.C.Source.left l.input; taken = g.C.Source.taken l.input; written = g.K.Sink.written l.output; reads = g.C.Source.read_faults l.input; writes = g.K.Sink.write_faults l.output })
+      (record { left = (g.C.Source.incoming l.fn.input).left; taken = (g.C.Source.incoming l.fn.input).taken; written = (g.K.Sink.outgoing l.fn.output).written; reads = (g.C.Source.incoming l.fn.input).faults; writes = (g.K.Sink.outgoing l.fn.output).faults })
+      (record { left = (g.C.Source.incoming l.input).left; taken = (g.C.Source.incoming l.input).taken; written = (g.K.Sink.outgoing l.output).written; reads = (g.C.Source.incoming l.input).faults; writes = (g.K.Sink.outgoing l.output).faults })
       l.self.reader l.self.index.history l.left;
 }
 

@@ -1,8 +1,8 @@
-use Rattle.std.proofs.Common.{◌≡◌, ℕ, ◌^◌, ◌<◌, true, eqb, max, zero, suc, ap, ◌∙◌, refl, arith}
-use Rattle.std.specs.Prelude.{bit_or, slice_index}
+use Rattle.std.proofs.Common.{◌≡◌, ℕ, ◌^◌, ◌<◌, true, eqb, max, zero, suc, ap, sym, ◌∙◌, refl, arith}
+use Rattle.std.specs.Prelude.{bit_or, slice_index, IsBitSet}
 use Rattle.std.specs.Int.{bit_at}
 use Rattle.std.proofs.lemmas.Nat.Bits.{bit_at_or, bit_at-lt}
-use Rattle.row_read.specs.Bits.{has_bit}
+use Rattle.rank_matcher.proofs.Bits.{has_bit-digit, set-from_test, test-from_set}
 use Rattle.rank_matcher.proofs.tests.ChangingRows.read.Goals as goal
 
 one_of_either : (x y : ℕ) → x < 2 → y < 2 → eqb x 1 ≡ true → eqb (max x y) 1 ≡ true
@@ -13,8 +13,11 @@ one_of_either (suc zero) (suc (suc y)) p q e = absurd (omega arith)
 one_of_either (suc (suc x)) y p q e = absurd (omega arith)
 
 -- a word keeps its bits where more are set
-has_bit-or : (a b i : ℕ) → has_bit a i ≡ true → has_bit (bit_or a b) i ≡ true
-has_bit-or a b i has = ap (λ n. eqb n 1) (bit_at_or a b i) ∙ one_of_either (bit_at a i) (bit_at b i) (bit_at-lt a i) (bit_at-lt b i) has
+set-or : (a b i : ℕ) → IsBitSet a i → IsBitSet (bit_or a b) i
+set-or a b i set =
+    let has : eqb (bit_at a i) 1 ≡ true = sym (has_bit-digit a i) ∙ test-from_set a i set in
+    set-from_test (bit_or a b) i
+    (has_bit-digit (bit_or a b) i ∙ ap (λ n. eqb n 1) (bit_at_or a b i) ∙ one_of_either (bit_at a i) (bit_at b i) (bit_at-lt a i) (bit_at-lt b i) has)
 
 pub returns-clause-least : goal.returns-clause-least
-returns-clause-least c = λ bit set. has_bit-or (slice_index c.args.self.now.words.now c.args.word) (2 ^ 63) bit set
+returns-clause-least c = λ bit set. set-or (slice_index c.args.self.now.words.now c.args.word) (2 ^ 63) bit set

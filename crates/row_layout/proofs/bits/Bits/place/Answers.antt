@@ -3,10 +3,10 @@ use Rattle.std.specs.List.{All}
 use Rattle.funnel_model.specs.Legal.{IsInSlice}
 use Rattle.funnel_model.specs.Sizes.{words_of_slice}
 use Rattle.funnel_model.specs.declared.bit_list.Bit.{Bit}
-use Rattle.row_layout.specs.Foot.{IsFoot}
+use Rattle.row_layout.specs.DocumentBits.{AreDocumentBits}
 use Rattle.row_layout.specs.Rows.{IsRowOf}
 use Rattle.row_layout.specs.declared.row.Row.{Row}
-use Rattle.row_layout.proofs.Feet.{all_bits, bit-fits, bits-in_slice, bits-of_words, foot_of_rows, rank-small}
+use Rattle.row_layout.proofs.BitLemmas.{all_bits, bit-fits, bits-in_slice, bits-of_words, bits_of_rows, rank-small}
 use Rattle.row_layout.proofs.bits.Bits.place.Goals as goal
 
 laid_at : (c : goal.After-bit-arg-1) → IsRowOf c.args.layout.now c.index.result.now
@@ -32,14 +32,14 @@ returns-clause-inside c =
     (omega (arith, c.loop-i.invariant.end)) (omega (arith, c.loop-i.invariant.end, c.loop-i.invariant.many)) c.loop-i.invariant.moved in
     subst (All (λ (b : Bit). IsInSlice (words_of_slice config) c.args.slice b.word)) (sym moved) (bits-in_slice config c.args.slice c.args.column c.requires.column rows c.requires.rows.laid)
 
-pub returns-clause-foot : goal.returns-clause-foot
-returns-clause-foot c words exactly =
+pub returns-clause-document_bits : goal.returns-clause-document_bits
+returns-clause-document_bits c words exactly =
     let config = c.args.layout.now in
     let rows = c.args.self.now.rows in
     let moved = all_bits config c.args.slice c.args.column c.loop-i.i rows c.loop-i.self-inside.list
     (omega (arith, c.loop-i.invariant.end)) (omega (arith, c.loop-i.invariant.end, c.loop-i.invariant.many)) c.loop-i.invariant.moved in
-    subst (IsFoot config words c.args.slice c.args.column) (sym moved)
-    (foot_of_rows config c.slice_range-first.ensures.in_range c.args.slice c.args.column c.requires.column rows c.requires.rows words exactly)
+    subst (AreDocumentBits config words c.args.slice c.args.column) (sym moved)
+    (bits_of_rows config c.slice_range-first.ensures.in_range c.args.slice c.args.column c.requires.column rows c.requires.rows words exactly)
 
 pub returns-clause-of_words : goal.returns-clause-of_words
 returns-clause-of_words c =

@@ -1,30 +1,49 @@
-use Rattle.std.proofs.Common.{rules, ◌+◌, ◌*◌, ◌^◌, ◌<◌, get_or, sym, subst, arith}
+-- A shared row lies within the slice.
+use Rattle.std.proofs.Common.{rules, ◌≡◌, ◌+◌, ◌*◌, ◌^◌, ◌<◌, ◌≤◌, ℕ, [], get_or, sym, subst, arith}
 use Rattle.funnel_model.specs.Sizes.{shared_rows, width_of_rank}
+use Rattle.funnel_model.specs.Treatment.{row_count_of_class}
+use Rattle.funnel_model.specs.declared.config.Config.{Config}
 use Rattle.funnel_model.proofs.SizesLemmas.{shared_rows-positive}
+use Rattle.funnel_model.proofs.TreatmentLemmas.{row_count-is_small}
+use Rattle.row_layout.specs.Layouts.{IsClassTable}
+use Rattle.row_layout.specs.declared.class_table.ClassTable.{ClassTable}
 use Rattle.row_layout.proofs.Spans.{shared-fits}
 use Rattle.row_layout.proofs.layout.Layout.hashed.Goals as goal
 
-pub row_of-number-requires : goal.row_of-number-requires
-row_of-number-requires c =
-    let rank = c.rank_of-rank.result in
-    omega (arith, c.self.invariant.rows_are rank c.rank_of-rank.ensures.bound, shared_rows-positive c.self.inside.config rank)
+-- the rank in the table is not above the highest
+low : (config known : Config) (classes : ClassTable) (class j : ℕ) → config ≡ known → IsClassTable config classes → 3 ≤ class → class ≤ 15 →
+    j < row_count_of_class known.one_in known.snr class → get_or (get_or classes.ranks class []) j 0 ≤ config.max_rank
+low config known classes class j same table shared last below =
+    table.ranks_low class j shared last (subst (λ (k : Config). j < row_count_of_class k.one_in k.snr class) (sym same) below)
+
+pub bounds-self-inside-j : goal.bounds-self-inside-j
+bounds-self-inside-j c = omega (arith, row_count-is_small c.args.self.now.one_in c.args.self.now.snr c.args.class, c.requires.j)
+
+pub row-number-requires : goal.row-number-requires
+row-number-requires c =
+    let config = c.self.inside.config in
+    let rank = get_or (get_or c.self.inside.classes.ranks c.args.class []) c.args.j 0 in
+    let rank_low : rank ≤ config.max_rank = low config c.args.self.now c.self.inside.classes c.args.class c.args.j c.self.view_is c.self.invariant.classes_are c.requires.shared c.requires.class c.requires.j in
+    omega (arith, c.self.invariant.rows_are rank rank_low, shared_rows-positive config rank)
 
 pub overflow_mul-result : goal.overflow_mul-result
 overflow_mul-result c =
     let config = c.self.inside.config in
-    let rank = c.rank_of-rank.result in
-    let few : c.row_of-number.result < shared_rows config rank = subst (λ n. c.row_of-number.result < n) (c.self.invariant.rows_are rank c.rank_of-rank.ensures.bound) c.row_of-number.ensures.within in
-    let place = shared-fits config c.self.invariant.in_range c.self.invariant.small_pool rank c.row_of-number.result c.rank_of-rank.ensures.bound few in
-    let fits : c.row_of-number.result * c.width_of-width.result < 2 ^ 32 = subst (λ w. c.row_of-number.result * w < 2 ^ 32) (sym c.width_of-width.ensures.value) (omega arith) in
+    let rank = get_or (get_or c.self.inside.classes.ranks c.args.class []) c.args.j 0 in
+    let rank_low : rank ≤ config.max_rank = low config c.args.self.now c.self.inside.classes c.args.class c.args.j c.self.view_is c.self.invariant.classes_are c.requires.shared c.requires.class c.requires.j in
+    let few : c.row-number.result < shared_rows config rank = subst (λ n. c.row-number.result < n) (c.self.invariant.rows_are rank rank_low) c.row-number.ensures.within in
+    let place = shared-fits config c.self.invariant.in_range c.self.invariant.small_pool rank c.row-number.result rank_low few in
+    let fits : c.row-number.result * c.width_of-width.result < 2 ^ 32 = subst (λ w. c.row-number.result * w < 2 ^ 32) (sym c.width_of-width.ensures.value) (omega arith) in
     search rules
 
 pub overflow_add-result : goal.overflow_add-result
 overflow_add-result c =
     let config = c.self.inside.config in
-    let rank = c.rank_of-rank.result in
-    let few : c.row_of-number.result < shared_rows config rank = subst (λ n. c.row_of-number.result < n) (c.self.invariant.rows_are rank c.rank_of-rank.ensures.bound) c.row_of-number.ensures.within in
-    let place = shared-fits config c.self.invariant.in_range c.self.invariant.small_pool rank c.row_of-number.result c.rank_of-rank.ensures.bound few in
-    let fits : get_or c.self.inside.bases rank 0 + c.row_of-number.result * c.width_of-width.result < 2 ^ 32 =
-    subst (λ w. get_or c.self.inside.bases rank 0 + c.row_of-number.result * w < 2 ^ 32) (sym c.width_of-width.ensures.value)
-    (subst (λ b. b + c.row_of-number.result * width_of_rank config rank < 2 ^ 32) (sym (c.self.invariant.bases_are rank c.rank_of-rank.ensures.bound)) place) in
+    let rank = get_or (get_or c.self.inside.classes.ranks c.args.class []) c.args.j 0 in
+    let rank_low : rank ≤ config.max_rank = low config c.args.self.now c.self.inside.classes c.args.class c.args.j c.self.view_is c.self.invariant.classes_are c.requires.shared c.requires.class c.requires.j in
+    let few : c.row-number.result < shared_rows config rank = subst (λ n. c.row-number.result < n) (c.self.invariant.rows_are rank rank_low) c.row-number.ensures.within in
+    let place = shared-fits config c.self.invariant.in_range c.self.invariant.small_pool rank c.row-number.result rank_low few in
+    let fits : get_or c.self.inside.bases rank 0 + c.row-number.result * c.width_of-width.result < 2 ^ 32 =
+    subst (λ w. get_or c.self.inside.bases rank 0 + c.row-number.result * w < 2 ^ 32) (sym c.width_of-width.ensures.value)
+    (subst (λ b. b + c.row-number.result * width_of_rank config rank < 2 ^ 32) (sym (c.self.invariant.bases_are rank rank_low)) place) in
     search rules

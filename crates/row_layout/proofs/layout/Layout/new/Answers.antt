@@ -14,6 +14,7 @@ invariant_of-result c =
       small_pool = subst (λ (k : Config). words_of_pool k ≤ 33554432) (sym c.in_ok-config.ensures) c.requires.small_pool;
       rows_are = λ rank low. ap (λ (rows : List ℕ). get_or rows rank 0) c.sizes-sizes.ensures.rows ∙ row_table-at config range rank low;
       bases_are = c.bases_of-bases.ensures;
+      classes_are = c.new-classes.ensures;
       slice_words_are = c.sizes-sizes.ensures.slice_words;
       listed_are = c.in_ok-listed.ensures;
     }

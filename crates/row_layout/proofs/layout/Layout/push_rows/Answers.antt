@@ -1,25 +1,50 @@
-use Rattle.std.proofs.Common.{◌++◌, List, [], ◌∷◌, map, sym, ap, subst, ◌∙◌, append_assoc}
-use Rattle.std.specs.List.{All, range_with_len}
-use Rattle.std.proofs.lemmas.List.{map-append}
+-- The rows of a word are its private row, or those of its class.
+use Rattle.std.proofs.Common.{◌≡◌, ◌++◌, ◌∷◌, [], ◌<◌, ℕ, List, length, map, ap, sym, subst, ◌∙◌, inl, arith}
+use Rattle.std.specs.List.{All}
+use Rattle.std.specs.Result.{OnOk}
+use Rattle.funnel_model.specs.Sizes.{private_words}
 use Rattle.std.proofs.lemmas.List.Elements.{All-push}
-use Rattle.funnel_model.proofs.Ranges.{range_more}
-use Rattle.row_layout.specs.Rows.{IsRowOf, row_of_word}
-use Rattle.row_layout.specs.declared.row.Row.{Row}
+use Rattle.row_layout.specs.Rows.{IsRowOf, hashed_rows, private_row}
+use Rattle.row_layout.proofs.Listing.{word_rows-private, word_rows-shared, class_of_word-small, private_number-below}
+use Rattle.row_layout.proofs.WordRows.{rows_of_word-private, rows_of_word-shared}
 use Rattle.row_layout.proofs.layout.Layout.push_rows.Goals as goal
 
-pub loop-j-preserved : goal.loop-j-preserved
-loop-j-preserved c =
-    let row = row_of_word c.args.self.now c.args.word.now in
-    let before = c.args.rows.now.items in
-    let so_far : List Row = map row (range_with_len 0 c.loop-j.j) in
-    record {
-      rows =
-          c.in_ok-push.ensures.items
-          ∙ ap (λ (xs : List Row). xs ++ c.row_at.result ∷ []) c.loop-j.invariant.rows
-          ∙ ap (λ (x : Row). before ++ so_far ++ x ∷ []) c.row_at.ensures.value
-          ∙ append_assoc before so_far (row c.loop-j.j ∷ [])
-          ∙ ap (λ (xs : List Row). before ++ xs) (sym (ap (map row) (range_more c.loop-j.j) ∙ map-append row (range_with_len 0 c.loop-j.j) (c.loop-j.j ∷ [])));
-      laid =
-          subst (All (IsRowOf c.args.self.now)) (sym c.in_ok-push.ensures.items)
-          (All-push (IsRowOf c.args.self.now) c.loop-j.rows.items c.row_at.result c.loop-j.invariant.laid c.row_at.ensures.laid);
-    }
+pub private-requires : goal.private-requires
+private-requires c =
+    let config = c.args.self.now in
+    let private = word_rows-private config c.args.word.now c.in-Private.number c.in-Private.ensures.value in
+    subst (λ (i : ℕ). i < length (private_words config)) (sym private.1) (private_number-below config c.args.word.now private.0)
+
+pub push_hashed-requires-clause-shared : goal.push_hashed-requires-clause-shared
+push_hashed-requires-clause-shared c =
+    let shared = word_rows-shared c.args.self.now c.args.word.now c.in-Shared.class c.in-Shared.ensures.value in
+    omega (arith, shared.0, shared.1)
+
+pub push_hashed-requires-clause-class : goal.push_hashed-requires-clause-class
+push_hashed-requires-clause-class c =
+    let shared = word_rows-shared c.args.self.now c.args.word.now c.in-Shared.class c.in-Shared.ensures.value in
+    omega (arith, shared.1, class_of_word-small c.args.self.now c.args.word.now)
+
+pub returns-in_ok-push-in-Private-clause-rows : goal.returns-in_ok-push-in-Private-clause-rows
+returns-in_ok-push-in-Private-clause-rows c =
+    let config = c.args.self.now in
+    let private = word_rows-private config c.args.word.now c.in-Private.number c.in-Private.ensures.value in
+    c.in_ok-push-in-Private.ensures.items
+    ∙ ap (λ row. c.args.rows.now.items ++ row ∷ []) (c.private.ensures ∙ ap (private_row config) private.1)
+    ∙ ap (λ rows. c.args.rows.now.items ++ rows) (sym (rows_of_word-private config c.args.word.now private.0))
+
+pub returns-in_ok-push-in-Private-clause-laid : goal.returns-in_ok-push-in-Private-clause-laid
+returns-in_ok-push-in-Private-clause-laid c =
+    let config = c.args.self.now in
+    let private = word_rows-private config c.args.word.now c.in-Private.number c.in-Private.ensures.value in
+    let below = subst (λ (i : ℕ). i < length (private_words config)) (sym private.1) (private_number-below config c.args.word.now private.0) in
+    subst (All (IsRowOf config)) (sym c.in_ok-push-in-Private.ensures.items)
+    (All-push (IsRowOf config) c.args.rows.now.items c.private.result c.requires (inl (c.in-Private.number, below, c.private.ensures)))
+
+pub returns-in-Shared-clause-rows : goal.returns-in-Shared-clause-rows
+returns-in-Shared-clause-rows c =
+    let config = c.args.self.now in
+    let word = c.args.word.now in
+    let shared = word_rows-shared config word c.in-Shared.class c.in-Shared.ensures.value in
+    subst (λ rows. OnOk c.push_hashed.result (c.push_hashed.new.rows.items ≡ c.args.rows.now.items ++ rows))
+    (ap (hashed_rows config word) shared.1 ∙ sym (rows_of_word-shared config word shared.0)) (c.push_hashed.ensures.rows word c.new.ensures)

@@ -1,0 +1,40 @@
+-- One bit more.
+use Rattle.std.proofs.Common.{◌≡◌, ◌⊎◌, ◌↔◌, ⊎_elim, inl, inr, ℕ, zero, suc, ◌<◌, List, [], ◌∷◌, ◌++◌, refl, sym, ap, ◌∙◌, subst, arith}
+use Rattle.std.proofs.lemmas.List.Elements.{Contains-append_cases, Contains-append_left, Contains-append_right}
+use Rattle.std.specs.List.{Contains, slice_index_or}
+use Rattle.funnel_model.specs.declared.bit_list.Bit.{Bit}
+use Rattle.slice_rule.specs.declared.view.Fact.{Fact}
+use Rattle.slice_rule.specs.declared.view.Fact.TheVariants as fact
+use Rattle.column_writer.specs.Written.{IsBitOf}
+
+-- the own facts are those before and the bits so far
+abbrev pub HasSet : ℕ → List Fact → List Bit → List Fact → Type 0
+HasSet number before bits after = (f : Fact) → Contains after f ↔ (Contains before f ⊎ IsBitOf number bits f)
+
+here : {A : Type 0} (x : A) (xs : List A) → Contains (x ∷ xs) x
+here x xs = (0, omega arith, refl)
+
+only_at : {A : Type 0} (x y : A) (k : ℕ) → k < 1 → slice_index_or (x ∷ []) k y ≡ y → x ≡ y
+only_at x y zero small is = is
+only_at x y (suc k) small is = absurd (omega arith)
+
+only : {A : Type 0} (x y : A) → Contains (x ∷ []) y → x ≡ y
+only x y has = only_at x y has.0 has.1 has.2
+
+pub set_none : (number : ℕ) (before : List Fact) → HasSet number before [] before
+set_none number before f = (λ has. inl has, ⊎_elim (λ has. has) (λ none. let in' = none.1.1 in absurd (omega arith)))
+
+pub set_more : (number : ℕ) (before after : List Fact) (bits : List Bit) (b : Bit) → HasSet number before bits after → HasSet number before (bits ++ b ∷ []) (fact.BitSet number b ∷ after)
+set_more number before after bits b so_far f = (
+  λ has. ⊎_elim
+      (λ first. inr (b, Contains-append_right bits (b ∷ []) b (here b []), sym (only (fact.BitSet number b) f first)))
+      (λ rest. ⊎_elim (λ old. inl old) (λ set. inr (set.0, Contains-append_left bits (b ∷ []) set.0 set.1, set.2)) ((so_far f).0 rest))
+      (Contains-append_cases (fact.BitSet number b ∷ []) after f has),
+  ⊎_elim
+      (λ old. Contains-append_right (fact.BitSet number b ∷ []) after f ((so_far f).1 (inl old)))
+      (λ set. ⊎_elim
+      (λ before_it. Contains-append_right (fact.BitSet number b ∷ []) after f ((so_far f).1 (inr (set.0, before_it, set.2))))
+      (λ last. Contains-append_left (fact.BitSet number b ∷ []) after f
+      (subst (Contains (fact.BitSet number b ∷ [])) (ap (fact.BitSet number) (only b set.0 last) ∙ sym set.2) (here (fact.BitSet number b) [])))
+      (Contains-append_cases bits (b ∷ []) set.0 set.1)),
+)

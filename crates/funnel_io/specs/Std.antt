@@ -1,0 +1,15 @@
+-- Sources and sinks over std's readers and writers, as contracts see them.
+use Rattle.std.specs.Prelude.{ℕ, List, [], Option, Some, None}
+use Rattle.funnel_io.specs.declared.opened_file.OpenedFile.{OpenedFile}
+use Rattle.funnel_io.specs.declared.opened_file.OpenedFile.TheVariants.{Absent, Open, Refused}
+
+-- a reader or a writer, and how many of its calls failed
+pub record Counting (X : Type 0) : Type 0 where
+  pub inner : X
+  pub faults : ℕ
+
+-- what is left of a file: nothing where there is no such file, and not told where it could not be opened
+abbrev pub file_remaining : {F : Type 0} → (F → Option (List ℕ)) → OpenedFile F → Option (List ℕ)
+file_remaining remaining Absent = Some []
+file_remaining remaining (Open file) = remaining file
+file_remaining remaining (Refused kind) = None

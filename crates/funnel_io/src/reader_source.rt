@@ -1,0 +1,56 @@
+ghost use Rattle.std.specs.Prelude.{◌≡◌};
+
+use crate::borrower::Borrower;
+use crate::source::{Got, Source};
+use std::io::{Read, Stdin};
+use std::marker::Model;
+
+/// A source over a reader of std's. It tells what is left where the reader does. Each error of the
+/// reader is a fault, also that of a call that was interrupted: nothing is tried again.
+#[derive(Drop)]
+pub struct ReaderSource<R> {
+    reader: R,
+    faults: u64,
+}
+
+/// The process's standard input. It tells nothing of its bytes.
+pub type StdinSource = ReaderSource<Stdin>;
+
+// A contract sees the reader and the count of its reads that failed.
+impl<R> Model for ReaderSource<R> {
+    ghost use Rattle.funnel_io.specs.Std.{Counting};
+
+    ghost Value = { Counting R };
+
+    ghost view = { λ s. record { inner = s.reader; faults = s.faults } };
+}
+
+impl<R> ReaderSource<R> {
+    pub fn new(reader: R) -> ReaderSource<R>
+        ensures { result ≡ record { inner = reader; faults = 0 } }
+    {
+        ReaderSource { reader, faults: 0 }
+    }
+}
+
+impl<R> Borrower for ReaderSource<R> {}
+
+impl<R: Read> Source for ReaderSource<R> {
+    ghost use Rattle.std.specs.Prelude.{None};
+    ghost use Rattle.funnel_io.specs.Streams.{nothing_written};
+
+    ghost incoming = { λ s. record { left = R.remaining s.inner; taken = None; faults = s.faults } };
+
+    ghost beside_read = { λ _. nothing_written };
+
+    fn read(&mut self, room: &mut [u8]) -> Got {
+        match self.reader.read(room) {
+            Ok(0) => Got::End,
+            Ok(n) => Got::Bytes(n),
+            Err(_) => {
+                self.faults = self.faults.saturating_add(1);
+                Got::Failed
+            }
+        }
+    }
+}

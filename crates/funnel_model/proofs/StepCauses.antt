@@ -1,0 +1,147 @@
+-- What the answer of a step tells of it.
+use Rattle.std.proofs.Common.{◌≡◌, ℕ, ◌<◌, ◌≤◌, ⊎_elim, Bool, true, false, cond, List, [], ◌∷◌, ◌++◌, length, Option, Some, None, sym, refl, ap, ◌∙◌, subst}
+use Rattle.std.proofs.lemmas.Bool.{both_ways, cases_order}
+use Rattle.std.specs.List.{cons_option}
+use Rattle.std.specs.Option.{option_map_or}
+use Rattle.funnel_model.specs.declared.call.Call.{Call}
+use Rattle.funnel_model.specs.declared.call.Call.TheVariants as call
+use Rattle.funnel_model.specs.declared.event.Event.{Event}
+use Rattle.funnel_model.specs.declared.event.Event.TheVariants as event
+use Rattle.funnel_model.specs.declared.reply.Reply.{Reply}
+use Rattle.funnel_model.specs.declared.reply.Reply.TheVariants as reply
+use Rattle.funnel_model.specs.History.{call_by, is_live, live_place, own}
+use Rattle.funnel_model.specs.Legal.{Limits, is_journal_full}
+use Rattle.funnel_model.specs.Steps.{AddsNone, AnswersLast, FindsNoMemory, IsReply, IsReplyToRecycle, IsReplyToRefused, Step}
+use Rattle.funnel_model.proofs.ReplyLemmas.{one_reply}
+use Rattle.funnel_model.proofs.Retirement.{same_split, split_front}
+use Rattle.funnel_model.proofs.Spans.{not_empty}
+use Rattle.funnel_model.proofs.StepLemmas.{own-append}
+
+-- whether a reply is one that no event gives: it comes from outside the history
+abbrev pub is_outside : Reply → Bool
+is_outside reply.Spent = true
+is_outside reply.Memory = true
+is_outside reply.Line = true
+is_outside reply.Long = true
+is_outside _ = false
+
+-- whether it is the reply to a line without a form, or to one that is too long
+abbrev pub is_line : Reply → Bool
+is_line reply.Line = true
+is_line reply.Long = true
+is_line _ = false
+
+line_is_outside : (given : Reply) → is_line given ≡ true → is_outside given ≡ true
+line_is_outside reply.Line is = refl
+line_is_outside reply.Long is = refl
+line_is_outside _ is = cc
+
+-- no refused recycle is answered so
+recycle_inside : (limits : Limits) (history : List Event) (given : Reply) → IsReplyToRecycle limits history given → is_outside given ≡ false
+recycle_inside limits history reply.NothingRetired is = refl
+recycle_inside limits history (reply.Guarded slice pass) is = refl
+recycle_inside limits history given is = absurd is
+
+-- nor any other refused call
+refused_inside : (limits : Limits) (history : List Event) (asked : Call) (given : Reply) → IsReplyToRefused limits history asked given → is_outside given ≡ false
+refused_inside limits history (call.Add id text) given is = ap is_outside is ∙ inside (live_place id history) (is_journal_full limits history) where
+  inside : (o : Option ℕ) (b : Bool) → is_outside (option_map_or reply.Present o (cond b reply.JournalFull reply.Full)) ≡ false
+  inside (Some n) b = refl
+  inside None true = refl
+  inside None false = refl
+refused_inside limits history (call.Delete id) given is = ap is_outside is ∙ inside (is_live id history) where
+  inside : (b : Bool) → is_outside (cond b reply.JournalFull reply.Absent) ≡ false
+  inside true = refl
+  inside false = refl
+refused_inside limits history call.Recycle given is = recycle_inside limits history given is
+refused_inside limits history asked given is = absurd is
+
+-- no event gives such a reply
+reply_inside : (limits : Limits) (history : List Event) (e : Event) (given : Reply) → IsReply limits history e given → is_outside given ≡ false
+reply_inside limits history (event.Add pass id text slice column bits) given is = ap is_outside is
+reply_inside limits history (event.Drop pass id text slice column) given is = ap is_outside is ∙ inside (live_place id history) where
+  inside : (o : Option ℕ) → is_outside (option_map_or reply.Present o reply.JournalFull) ≡ false
+  inside (Some n) = refl
+  inside None = refl
+reply_inside limits history (event.Del pass id) given is = ap is_outside is
+reply_inside limits history (event.Find pass query) given is = ap is_outside is
+reply_inside limits history (event.Opened pass slice alone) given is = ap is_outside is.1
+reply_inside limits history (event.No pass asked) given is = refused_inside limits history asked given is
+reply_inside limits history (event.Read pass call.Place) given is = ap is_outside is
+reply_inside limits history (event.Read pass (call.Journal from)) given is = ap is_outside is
+reply_inside limits history (event.Read pass _) given is = absurd is
+reply_inside limits history _ given is = absurd is
+
+-- a call that is answered from outside the history wasn't made
+not_made : (limits : Limits) (pass : ℕ) (history : List Event) (asked : Call) (given : Reply) → AnswersLast limits pass history asked given → is_outside given ≡ true → ⊥
+not_made limits pass history asked given answered outside =
+    both_ways (is_outside given) (reply_inside limits answered.earlier answered.event given answered.reply) outside
+
+-- Spent comes only of so many events
+pub spent_cause : (limits : Limits) (pass : ℕ) (before after : List Event) (asked : Call) → Step limits pass before after asked reply.Spent →
+    (limits.events ≤ length after) × AddsNone pass before after
+spent_cause limits pass before after asked step =
+    ⊎_elim
+    (λ made. absurd (not_made limits pass after asked reply.Spent made.answered refl))
+    (λ rest. ⊎_elim (λ lacks. let other = lacks.reply in cc) (λ spent. (spent.many, spent.call)) rest)
+    step.outcome
+
+-- want of memory comes only to a call that may want it
+pub memory_cause : (limits : Limits) (pass : ℕ) (before after : List Event) (asked : Call) → Step limits pass before after asked reply.Memory →
+    FindsNoMemory pass before after asked
+memory_cause limits pass before after asked step =
+    ⊎_elim
+    (λ made. absurd (not_made limits pass after asked reply.Memory made.answered refl))
+    (λ rest. ⊎_elim (λ lacks. lacks.call) (λ spent. let other = spent.reply in cc) rest)
+    step.outcome
+
+-- and no step is answered as a line without a form
+pub never_unread : (limits : Limits) (pass : ℕ) (before after : List Event) (asked : Call) (given : Reply) → is_line given ≡ true →
+    Step limits pass before after asked given → ⊥
+never_unread limits pass before after asked given unread step =
+    ⊎_elim
+    (λ made. not_made limits pass after asked given made.answered (line_is_outside given unread))
+    (λ rest. ⊎_elim
+    (λ lacks. both_ways (is_line given) (ap is_line lacks.reply) unread)
+    (λ spent. both_ways (is_line given) (ap is_line spent.reply) unread)
+    rest)
+    step.outcome
+
+-- the last call of a pass isn't followed by an event that answers one
+later_is_last : (pass : ℕ) (earlier other later rest : List Event) (e x : Event) (asked : Call) → earlier ++ e ∷ later ≡ other ++ x ∷ rest → own pass later ≡ [] →
+    call_by pass x ≡ Some asked → length earlier < length other → ⊥
+later_is_last pass earlier other later rest e x asked whole last answers less =
+    let split = split_front other (x ∷ rest) earlier later e (sym whole) less in
+    let calls : own pass later ≡ own pass split.0 ++ asked ∷ own pass rest =
+    ap (own pass) split.2 ∙ own-append pass split.0 (x ∷ rest) ∙ ap (λ o. own pass split.0 ++ cons_option o (own pass rest)) answers in
+    not_empty (own pass split.0) (own pass rest) asked (sym calls ∙ last)
+
+-- two events that answer the last call of a pass are one event
+same_last : (limits : Limits) (pass : ℕ) (history : List Event) (asked other : Call) (given also : Reply) →
+    (is : AnswersLast limits pass history asked given) (is_too : AnswersLast limits pass history other also) →
+    (is.earlier ≡ is_too.earlier) × (is.event ≡ is_too.event)
+same_last limits pass history asked other given also is is_too =
+    let whole = sym is.whole ∙ is_too.whole in
+    ⊎_elim
+    (λ same. same_split is.earlier is_too.earlier is.later is_too.later is.event is_too.event whole same)
+    (λ order. ⊎_elim
+    (λ less. absurd (later_is_last pass is.earlier is_too.earlier is.later is_too.later is.event is_too.event other whole is.last is_too.call less))
+    (λ more. absurd (later_is_last pass is_too.earlier is.earlier is_too.later is.later is_too.event is.event asked (sym whole) is_too.last is.call more))
+    order)
+    (cases_order (length is.earlier) (length is_too.earlier))
+
+-- so the last call of a pass is one
+pub one_last_call : (limits : Limits) (pass : ℕ) (history : List Event) (asked other : Call) (given also : Reply) → AnswersLast limits pass history asked given →
+    AnswersLast limits pass history other also → asked ≡ other
+one_last_call limits pass history asked other given also is is_too =
+    let same = same_last limits pass history asked other given also is is_too in
+    let calls : Some asked ≡ Some other = sym is.call ∙ ap (call_by pass) same.1 ∙ is_too.call in
+    cc
+
+-- and has one answer
+pub one_answer : (limits : Limits) (pass : ℕ) (history : List Event) (asked other : Call) (given also : Reply) → AnswersLast limits pass history asked given →
+    AnswersLast limits pass history other also → given ≡ also
+one_answer limits pass history asked other given also is is_too =
+    let same = same_last limits pass history asked other given also is is_too in
+    one_reply limits is_too.earlier is_too.event given also
+    (subst (λ x. IsReply limits is_too.earlier x given) same.1 (subst (λ h. IsReply limits h is.event given) same.0 is.reply)) is_too.reply

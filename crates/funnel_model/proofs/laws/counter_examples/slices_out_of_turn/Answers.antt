@@ -1,0 +1,40 @@
+use Rattle.std.proofs.Common.{true, [], ◌∷◌, ◌++◌, ⊎_elim, refl, arith}
+use Rattle.funnel_model.specs.declared.call.Call.TheVariants as call
+use Rattle.funnel_model.specs.declared.event.Event.TheVariants as event
+use Rattle.funnel_model.specs.Legal.{CanClear}
+use Rattle.funnel_model.specs.RecycleExample.{guarded, paired, unguarded}
+use Rattle.funnel_model.proofs.Histories.{allowed_within}
+use Rattle.funnel_model.proofs.RecycleFacts.{low_guarded, low_over, low_unguarded}
+use Rattle.funnel_model.proofs.SpareLemmas.{room_by}
+use Rattle.funnel_model.proofs.laws.counter_examples.slices_out_of_turn.Goals as goal
+
+pub returns-clause-take : goal.returns-clause-take
+returns-clause-take c legal =
+    ⊎_elim
+    (λ r. r.lowest 0 (omega arith) (room_by 1 0 0 [] (omega arith) refl refl refl refl))
+    (λ r. let none = r.opened in cc)
+    (allowed_within paired (event.Take 0 1 0 ∷ []) [] (event.Take 0 1 0) [] legal refl).rule
+
+-- slice 0 can be cleared once the find has ended
+can : CanClear 1 unguarded 0
+can = record {
+  retired = record { over = low_over (event.Del 0 7 ∷ event.No 0 call.Recycle ∷ event.End 1 ∷ []) refl; not_clearing = refl };
+  unguarded = low_unguarded 0;
+}
+
+pub returns-clause-clear : goal.returns-clause-clear
+returns-clause-clear c legal =
+    (allowed_within paired (unguarded ++ event.Clear 0 1 ∷ []) unguarded (event.Clear 0 1) [] legal refl).rule.lowest 0 (omega arith) can
+
+pub returns-clause-reader : goal.returns-clause-reader
+returns-clause-reader c legal =
+    (allowed_within paired (guarded ++ event.Clear 0 0 ∷ []) guarded (event.Clear 0 0) [] legal refl).rule.can_clear.unguarded (1, 6, low_guarded)
+
+pub returns-clause-recycle : goal.returns-clause-recycle
+returns-clause-recycle c legal =
+    low_unguarded 0
+    ((allowed_within paired (unguarded ++ event.No 0 call.Recycle ∷ []) unguarded (event.No 0 call.Recycle) [] legal refl).rule.refused 0 (omega arith) can.retired)
+
+pub returns-clause-opened : goal.returns-clause-opened
+returns-clause-opened c legal =
+    let none = (allowed_within paired (event.Opened 0 0 true ∷ []) [] (event.Opened 0 0 true) [] legal refl).rule.cleared in cc

@@ -1,0 +1,33 @@
+use Rattle.std.proofs.Common.{[], ⊎_elim, refl, arith}
+use Rattle.funnel_model.specs.declared.reply.Reply.TheVariants as reply
+use Rattle.funnel_model.specs.RecycleExample.{paired}
+use Rattle.funnel_model.proofs.StepCauses.{memory_cause, never_unread, spent_cause}
+use Rattle.funnel_model.proofs.laws.counter_examples.steps_have_their_cause.Goals as goal
+
+pub returns-clause-spent : goal.returns-clause-spent
+returns-clause-spent c = spent_cause
+
+pub returns-clause-memory : goal.returns-clause-memory
+returns-clause-memory c = memory_cause
+
+pub returns-clause-idle : goal.returns-clause-idle
+returns-clause-idle c limits pass before after asked given step = (step.idle_before, step.idle_after)
+
+pub returns-clause-add : goal.returns-clause-add
+returns-clause-add c limits pass id text before after step = memory_cause limits pass before after _ step
+
+pub returns-clause-delete : goal.returns-clause-delete
+returns-clause-delete c limits pass id before after step = memory_cause limits pass before after _ step
+
+pub returns-clause-place : goal.returns-clause-place
+returns-clause-place c limits pass before after step = memory_cause limits pass before after _ step
+
+pub returns-clause-recycle : goal.returns-clause-recycle
+returns-clause-recycle c limits pass before after step = memory_cause limits pass before after _ step
+
+pub returns-clause-unread : goal.returns-clause-unread
+returns-clause-unread c limits pass before after asked step =
+    ⊎_elim (λ line. never_unread limits pass before after asked reply.Line refl line) (λ long. never_unread limits pass before after asked reply.Long refl long) step
+
+pub returns-clause-empty : goal.returns-clause-empty
+returns-clause-empty c asked step = let many = (spent_cause paired 0 [] [] asked step).0 in omega arith

@@ -1,0 +1,73 @@
+//! What is not legal, is no reply and is no step.
+ghost use Rattle.std.specs.Prelude.{◌≡◌, ◌<◌, ◌≤◌, ◌⊎◌, ℕ, true, false, List, [], ◌∷◌, ◌++◌, length, codes};
+ghost use Rattle.funnel_model.specs.declared.bit_list.Bit.{Bit};
+ghost use Rattle.funnel_model.specs.declared.call.Call.{Call};
+ghost use Rattle.funnel_model.specs.declared.call.Call.TheVariants as call;
+ghost use Rattle.funnel_model.specs.declared.event.Event.{Event};
+ghost use Rattle.funnel_model.specs.declared.event.Event.TheVariants as event;
+ghost use Rattle.funnel_model.specs.declared.reply.Reply.{Reply};
+ghost use Rattle.funnel_model.specs.declared.reply.Reply.TheVariants as reply;
+ghost use Rattle.funnel_model.specs.Legal.{IsIdle, IsLegal, Limits};
+ghost use Rattle.funnel_model.specs.RecycleExample.{guarded, paired, unguarded};
+ghost use Rattle.funnel_model.specs.Steps.{AddsNone, AnswersLast, FindsNoMemory, IsReply, Step};
+
+/// Not legal are a take of slice 1 while slice 0 has an unclaimed column, the clear of slice 1 while slice 0 can be cleared,
+/// that of a slice under a token that may read it, a refused recycle while a retired slice is unguarded, and an opening of a
+/// slice that wasn't cleared.
+pub fn slices_out_of_turn()
+    ensures take { IsLegal paired (event.Take 0 1 0 ∷ []) → ⊥ }
+    ensures clear { IsLegal paired (unguarded ++ event.Clear 0 1 ∷ []) → ⊥ }
+    ensures reader { IsLegal paired (guarded ++ event.Clear 0 0 ∷ []) → ⊥ }
+    ensures recycle { IsLegal paired (unguarded ++ event.No 0 call.Recycle ∷ []) → ⊥ }
+    ensures opened { IsLegal paired (event.Opened 0 0 true ∷ []) → ⊥ }
+{}
+
+/// Not legal are an event of a pass that isn't there, a take after the pass's own take, one in the middle of its find, and an
+/// event of another pass between an opening for an add and its take.
+pub fn passes_out_of_turn()
+    ensures unknown { IsLegal paired (event.Find 2 [] ∷ []) → ⊥ }
+    ensures twice { IsLegal paired (event.Take 0 0 0 ∷ event.Take 0 1 0 ∷ []) → ⊥ }
+    ensures finding { IsLegal paired (event.Find 0 [] ∷ event.Take 0 0 0 ∷ []) → ⊥ }
+    ensures between { IsLegal paired (unguarded ++ event.Clear 0 0 ∷ event.Opened 0 0 false ∷ event.Find 1 [] ∷ []) → ⊥ }
+{}
+
+/// Not legal are an add of bits outside its slice, of a number that is live, and on another column than the one that was taken,
+/// and a delete of a number that isn't live.
+pub fn adds_out_of_place()
+    ensures bits { IsLegal paired (event.Take 0 0 0 ∷ event.Add 0 9 [] 0 0 (record { word = 4; bit = 0 } ∷ []) ∷ []) → ⊥ }
+    ensures below { IsLegal paired (event.Take 0 0 0 ∷ event.Add 0 9 [] 0 0 [] ∷ event.Take 0 1 0 ∷ event.Add 0 7 [] 1 0 (record { word = 3; bit = 0 } ∷ []) ∷ []) → ⊥ }
+    ensures live { IsLegal paired (event.Take 0 0 0 ∷ event.Add 0 9 [] 0 0 [] ∷ event.Take 0 1 0 ∷ event.Add 0 9 [] 1 0 [] ∷ []) → ⊥ }
+    ensures column { IsLegal paired (event.Take 0 0 0 ∷ event.Add 0 9 [] 1 0 [] ∷ []) → ⊥ }
+    ensures absent { IsLegal paired (event.Take 0 0 0 ∷ event.Add 0 9 [] 0 0 [] ∷ event.Del 0 7 ∷ []) → ⊥ }
+{}
+
+/// A recycle that is refused while both slices are guarded is answered by the lower one alone.
+pub fn the_lowest_guarded_slice_is_told()
+    ensures { IsReply paired guarded (event.No 0 call.Recycle) (reply.Guarded 1 1) → ⊥ }
+{}
+
+/// A call that is made is answered by the reply of its own event, which is the pass's last call: by no reply of an earlier one.
+pub fn steps_answer_their_call()
+    ensures call { (limits : Limits) (pass : ℕ) (history : List Event) (asked other : Call) (given also : Reply) →
+        AnswersLast limits pass history asked given → AnswersLast limits pass history other also → asked ≡ other }
+    ensures reply { (limits : Limits) (pass : ℕ) (history : List Event) (asked other : Call) (given also : Reply) →
+        AnswersLast limits pass history asked given → AnswersLast limits pass history other also → given ≡ also }
+{}
+
+/// A step is made between calls of the pass. Only a history with so many events is answered Spent, and then the call isn't made;
+/// and only an add, which isn't made then, a find and a journal are answered by want of memory.
+pub fn steps_have_their_cause()
+    ensures spent { (limits : Limits) (pass : ℕ) (before after : List Event) (asked : Call) → Step limits pass before after asked reply.Spent →
+        (limits.events ≤ length after) × AddsNone pass before after }
+    ensures memory { (limits : Limits) (pass : ℕ) (before after : List Event) (asked : Call) → Step limits pass before after asked reply.Memory →
+        FindsNoMemory pass before after asked }
+    ensures idle { (limits : Limits) (pass : ℕ) (before after : List Event) (asked : Call) (given : Reply) → Step limits pass before after asked given →
+        IsIdle pass before × IsIdle pass after }
+    ensures add { (limits : Limits) (pass id : ℕ) (text : List ℕ) (before after : List Event) → Step limits pass before after (call.Add id text) reply.Memory →
+        AddsNone pass before after }
+    ensures delete { (limits : Limits) (pass id : ℕ) (before after : List Event) → Step limits pass before after (call.Delete id) reply.Memory → ⊥ }
+    ensures place { (limits : Limits) (pass : ℕ) (before after : List Event) → Step limits pass before after call.Place reply.Memory → ⊥ }
+    ensures recycle { (limits : Limits) (pass : ℕ) (before after : List Event) → Step limits pass before after call.Recycle reply.Memory → ⊥ }
+    ensures unread { (limits : Limits) (pass : ℕ) (before after : List Event) (asked : Call) → Step limits pass before after asked reply.Line ⊎ Step limits pass before after asked reply.Long → ⊥ }
+    ensures empty { (asked : Call) → Step paired 0 [] [] asked reply.Spent → ⊥ }
+{}

@@ -1,0 +1,69 @@
+//! What events are answered: each call has one reply, and each refusal has its cause.
+ghost use Rattle.std.specs.Prelude.{◌≡◌, ◌+◌, ◌↔◌, ℕ, true, false, List, [], ◌∷◌, ◌++◌, length, Some};
+ghost use mathlib.Core.List.{IsPrefix};
+ghost use Rattle.funnel_model.specs.Blocks.{AreBlocks, IsBlock};
+ghost use Rattle.funnel_model.specs.declared.block.Block.{Block};
+ghost use Rattle.funnel_model.specs.declared.call.Call.{Call};
+ghost use Rattle.funnel_model.specs.declared.call.Call.TheVariants as call;
+ghost use Rattle.funnel_model.specs.declared.event.Event.{Event};
+ghost use Rattle.funnel_model.specs.declared.event.Event.TheVariants as event;
+ghost use Rattle.funnel_model.specs.declared.reply.Reply.{Reply};
+ghost use Rattle.funnel_model.specs.declared.reply.Reply.TheVariants as reply;
+ghost use Rattle.funnel_model.specs.Events.{call_of};
+ghost use Rattle.funnel_model.specs.History.{is_live, live_place};
+ghost use Rattle.funnel_model.specs.Legal.{IsFull, IsLegal, Limits, NoneCanClear, is_journal_full};
+ghost use Rattle.funnel_model.specs.Steps.{IsLowestGuarded, IsReply, IsReplyAt, Linear, NoneRetired};
+
+/// The reply that the event with a number gives is its reply after the events before it. No event has number 0.
+pub fn replies_by_number()
+    ensures reply { (limits : Limits) (before : List Event) (e : Event) (later : List Event) (given : Reply) →
+        IsReplyAt limits (before ++ e ∷ later) (length before + 1) given ↔ IsReply limits before e given }
+    ensures none { (limits : Limits) (history : List Event) (given : Reply) → IsReplyAt limits history 0 given → ⊥ }
+{}
+
+/// In a legal history each event that answers a call has a reply, and one alone; no other event has any.
+pub fn each_call_has_one_reply()
+    ensures some { (limits : Limits) (before later : List Event) (e : Event) (asked : Call) → IsLegal limits (before ++ e ∷ later) →
+        call_of e ≡ Some asked → (given : Reply) × IsReply limits before e given }
+    ensures one { (limits : Limits) (before : List Event) (e : Event) (given other : Reply) →
+        IsReply limits before e given → IsReply limits before e other → given ≡ other }
+    ensures calls_alone { (limits : Limits) (before : List Event) (e : Event) (given : Reply) → IsReply limits before e given →
+        (asked : Call) × (call_of e ≡ Some asked) }
+{}
+
+/// In a legal history a refusal tells what was so right before its event: Present the place of the live document's add, Journal
+/// full and Full that they are, Absent that the number wasn't live, and of a recycle that no slice was retired, or that each
+/// retired one was guarded, the lowest of them by this pass and none below it.
+pub fn refusals_have_their_cause()
+    ensures present { (limits : Limits) (before : List Event) (e : Event) (place : ℕ) → IsReply limits before e (reply.Present place) →
+        (id : ℕ) × (text : List ℕ) × (call_of e ≡ Some (call.Add id text)) × (live_place id before ≡ Some place) }
+    ensures journal_full { (limits : Limits) (before later : List Event) (e : Event) → IsLegal limits (before ++ e ∷ later) →
+        IsReply limits before e reply.JournalFull → is_journal_full limits before ≡ true }
+    ensures full { (limits : Limits) (before later : List Event) (e : Event) → IsLegal limits (before ++ e ∷ later) →
+        IsReply limits before e reply.Full → IsFull limits before }
+    ensures absent { (limits : Limits) (before : List Event) (e : Event) → IsReply limits before e reply.Absent →
+        (pass : ℕ) × (id : ℕ) × (e ≡ event.No pass (call.Delete id)) × (is_live id before ≡ false) }
+    ensures none_retired { (limits : Limits) (before : List Event) (e : Event) → IsReply limits before e reply.NothingRetired →
+        NoneRetired limits before }
+    ensures guarded { (limits : Limits) (before later : List Event) (e : Event) (slice pass : ℕ) → IsLegal limits (before ++ e ∷ later) →
+        IsReply limits before e (reply.Guarded slice pass) → IsLowestGuarded limits before slice pass × NoneCanClear limits before }
+{}
+
+/// In a legal history one thing at most keeps documents out of a slice, so the blocks of a full engine are determined.
+pub fn blocks_are_determined()
+    ensures one { (limits : Limits) (history : List Event) (slice : ℕ) (block other : Block) → IsLegal limits history →
+        IsBlock limits.columns history slice block → IsBlock limits.columns history slice other → block ≡ other }
+    ensures all { (limits : Limits) (history : List Event) (blocks others : List Block) → IsLegal limits history →
+        AreBlocks limits history blocks → AreBlocks limits history others → blocks ≡ others }
+{}
+
+/// Calls lead to a front that their start is a prefix of, and to no other where there are none.
+pub fn calls_lead_on()
+    ensures grows { (limits : Limits) (pass : ℕ) (before after : List Event) (calls : List Call) (replies : List Reply) →
+        Linear limits pass before after calls replies → IsPrefix before after }
+    ensures legal { (limits : Limits) (pass : ℕ) (before after : List Event) (calls : List Call) (replies : List Reply) →
+        IsLegal limits before → Linear limits pass before after calls replies → IsLegal limits after }
+    ensures answered { (limits : Limits) (pass : ℕ) (before after : List Event) (calls : List Call) (replies : List Reply) →
+        Linear limits pass before after calls replies → length calls ≡ length replies }
+    ensures none { (limits : Limits) (pass : ℕ) (before after : List Event) → Linear limits pass before after [] [] → before ≡ after }
+{}

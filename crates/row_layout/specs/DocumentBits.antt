@@ -1,0 +1,47 @@
+-- The bits that a document sets: one for each of its words and each row of that word, at the document's column.
+use Rattle.std.specs.Prelude.{◌≡◌, ℕ, ◌+◌, ◌*◌, ◌/◌, ◌%◌, ◌^◌, ◌↔◌, List, Contains, All}
+use Rattle.std.specs.List.Sorted.{IsStrictlySortedBy}
+use Rattle.std.specs.Ordering.{nat_cmp, ordering_then}
+use Rattle.std.specs.declared.cmp.Ordering.{Ordering}
+use Rattle.funnel_model.specs.Sizes.{words_of_slice}
+use Rattle.funnel_model.specs.declared.bit_list.Bit.{Bit}
+use Rattle.funnel_model.specs.declared.config.Config.{Config}
+use Rattle.row_layout.specs.Orders.{IsRisingByStart}
+use Rattle.row_layout.specs.Rows.{IsRowOf, rows_of_words}
+use Rattle.row_layout.specs.declared.row.Row.{Row}
+
+-- the first word of a slice in the pool, where each slice has this many words
+abbrev pub slice_start : ℕ → ℕ → ℕ
+slice_start slice_words slice = slice * slice_words
+
+-- the bit of a row at a column, in the slice that begins at this word of the pool: at rank r a bit stands for 2^r columns
+abbrev pub bit_from : ℕ → ℕ → Row → Bit
+bit_from first column row = record { word = first + row.start + column / (64 * 2 ^ row.rank); bit = column % 64 }
+
+-- the bit of a row at a column of a slice, where each slice has this many words
+abbrev pub bit_at : ℕ → ℕ → ℕ → Row → Bit
+bit_at slice_words slice column row = bit_from (slice_start slice_words slice) column row
+
+-- the bit is one that a document with these words sets at the column of the slice
+abbrev pub IsDocumentBit : Config → List (List ℕ) → ℕ → ℕ → Bit → Type 0
+IsDocumentBit config words slice column bit =
+    (row : Row) × Contains (rows_of_words config words) row × (bit ≡ bit_at (words_of_slice config) slice column row)
+
+-- by word, and then by bit
+abbrev pub bit_cmp : Bit → Bit → Ordering
+bit_cmp a b = ordering_then (nat_cmp a.word b.word) (nat_cmp a.bit b.bit)
+
+-- exactly the bits that a document with these words sets at the column of the slice, in rising order, each once
+pub record AreDocumentBits (config : Config) (words : List (List ℕ)) (slice column : ℕ) (bits : List Bit) : Type 0 where
+  pub rising : IsStrictlySortedBy bit_cmp bits
+  pub exactly : (bit : Bit) → Contains bits bit ↔ IsDocumentBit config words slice column bit
+
+-- What `Bits` is seen as: rows of which it has the bits, and those bits.
+pub record RowBits : Type 0 where
+  pub rows : List Row
+  pub bits : List Bit
+
+-- the rows are rows of the configuration in rising order, so that they can be moved to any column
+pub record CanPlace (config : Config) (rows : List Row) : Type 0 where
+  pub rising : IsRisingByStart rows
+  pub laid : All (IsRowOf config) rows

@@ -1,0 +1,51 @@
+-- What contracts see of the words of a pool that a find reads.
+use Rattle.std.specs.Prelude.{◌≡◌, ℕ, List, Contains, IsBitSet}
+use Rattle.funnel_model.specs.declared.bit_list.Bit.{Bit}
+use Rattle.funnel_model.specs.declared.claim.Token.{Token}
+use Rattle.funnel_model.specs.declared.event.Event.{Event}
+use Rattle.funnel_model.specs.Legal.{IsInSlice}
+use Rattle.funnel_model.specs.RowWords.{IsCommitted}
+use Rattle.slice_rule.specs.declared.view.Fact.TheVariants as fact
+use Rattle.row_read.specs.declared.shared.Shared.{Shared}
+use Rattle.slice_rule.specs.Pools.{PoolId}
+use Rattle.slice_rule.specs.Seats.{HasNoneOutstanding, HoldsToken, PassState}
+
+-- the pass is one of the pool and holds the token, and nothing that it asked is outstanding
+pub record CanRead (pool : PoolId) (seat : PassState) (token : Token) : Type 0 where
+  pub same : seat.pool ≡ pool
+  pub holds : HoldsToken seat token
+  pub none_outstanding : HasNoneOutstanding seat
+
+-- the word is one of a slice of the token
+pub record IsInReach (shared : Shared) (word : ℕ) : Type 0 where
+  pub can_read : CanRead shared.pool.now shared.seat.now shared.token.now
+  pub slice : ℕ
+  pub readable : Contains shared.token.now.slices slice
+  pub inside : IsInSlice shared.pool.now.limits.slice_words slice word
+
+-- the bit is one of an add that the pass has seen, in a slice of the token, and it has seen no later clear of that slice
+abbrev pub IsCommittedUnder : Shared → Bit → Type 0
+IsCommittedUnder shared b = (slice : ℕ) × Contains shared.token.now.slices slice × IsCommitted shared.seat.now.front slice b
+
+-- the bit was set in a value that the pass read under the token
+abbrev pub WasReadSet : Shared → Bit → Type 0
+WasReadSet shared b = (value : ℕ) × Contains shared.seat.now.own (fact.WordRead shared.token.now.opened_at b.word value) × IsBitSet value b.bit
+
+-- what no read changes: the pool, the token, which seat is borrowed, and the pass's number, front and asked events
+pub record SharedKept : Type 0 where
+  pub pool : PoolId
+  pub token : Token
+  pub borrow : ℕ
+  pub number : ℕ
+  pub front : List Event
+  pub asked : List Event
+
+abbrev pub kept_of : Shared → SharedKept
+kept_of shared = record {
+  pool = shared.pool.now;
+  token = shared.token.now;
+  borrow = shared.seat.ghost_name;
+  number = shared.seat.now.number;
+  front = shared.seat.now.front;
+  asked = shared.seat.now.asked;
+}

@@ -1,0 +1,4 @@
+pub mod Sessions
+pub mod Ends
+pub mod Steps
+pub mod Laws

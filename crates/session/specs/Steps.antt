@@ -1,0 +1,63 @@
+-- How far a session has come, for the clauses of functions that are not public.
+use Rattle.std.specs.Prelude.{◌≡◌, ◌+◌, ◌<◌, ◌⊎◌, ℕ, true, false, List, ◌++◌, length}
+use Rattle.funnel_io.specs.Counts.{counted}
+use Rattle.funnel_io.specs.LineReading.{ReaderState, HasGiven, GivesLine, KnowsEnd}
+use Rattle.funnel_io.specs.Streams.{Incoming, Takes, Writes}
+use Rattle.funnel_io.specs.Lines.{lines}
+use Rattle.funnel_io.specs.declared.end.End.{End}
+use Rattle.funnel_io.specs.declared.end.End.TheVariants as end_of
+use Rattle.funnel_model.specs.declared.event.Event.{Event}
+use Rattle.funnel_model.specs.declared.reply.Reply.{Reply}
+use Rattle.funnel_model.specs.declared.reply.Reply.TheVariants as reply
+use Rattle.line_proto.specs.Forms.{item_of, items_of}
+use Rattle.line_proto.specs.Services.{Caller}
+use Rattle.line_proto.specs.Texts.{is_list, text_of, texts}
+use Rattle.session.specs.Sessions.{Answers, AnswersItem}
+use Rattle.session.specs.Ends.{Stand, is_read_fault}
+
+-- the text is the reply's, or that of a want of memory, for a list whose text has more bytes than there was room for
+abbrev pub IsRendered : Reply → ℕ → List ℕ → Type 0
+IsRendered given room text =
+    (text ≡ text_of given) ⊎ ((is_list given ≡ true) × (room < length (text_of given)) × (text ≡ text_of reply.Memory))
+
+-- the lines that were given were answered and their replies written, and no call failed
+pub record HasServed (caller : Caller) (limit may : ℕ) (reader : ReaderState) (old now : Stand) : Type 0 where
+  pub taken : List ℕ
+  pub takes : Takes taken old.incoming now.incoming
+  pub count : may + length taken ≡ limit
+  pub given : List (List ℕ)
+  pub has_given : HasGiven reader taken given
+  pub knows_end : KnowsEnd reader now.incoming may
+  pub replies : List Reply
+  pub answers : Answers caller old.front (items_of given) replies now.front
+  pub writes : Writes (texts replies) old.outgoing now.outgoing
+  pub reads_stay : now.incoming.faults ≡ old.incoming.faults
+  pub writes_stay : now.outgoing.faults ≡ old.outgoing.faults
+
+-- some bytes were taken, of the number that may be, and a next line was given and is answered by this reply
+pub record AnswersNext (caller : Caller) (old_reader reader : ReaderState) (before after : Incoming) (may may' : ℕ) (front front' : List Event) (given : Reply) : Type 0 where
+  pub bytes : List ℕ
+  pub takes : Takes bytes before after
+  pub count : may' + length bytes ≡ may
+  pub faults : after.faults ≡ before.faults
+  pub knows_end : KnowsEnd old_reader before may → KnowsEnd reader after may'
+  pub next : (taken : List ℕ) (so_far : List (List ℕ)) → HasGiven old_reader taken so_far →
+      (line : List ℕ) × GivesLine reader (taken ++ bytes) so_far line × AnswersItem caller front (item_of line) given front'
+
+-- what each end that comes before a line says of all bytes taken, of the lines given before, and of those that may still be taken
+abbrev pub EndsAfter : End → List ℕ → List (List ℕ) → ReaderState → ℕ → ℕ → Type 0
+EndsAfter end_of.Done taken given reader may limit = (lines taken true ≡ given) × (reader.ended ≡ true)
+EndsAfter end_of.ReadFault taken given reader may limit = (lines taken false ≡ given) × (0 < may)
+EndsAfter (end_of.ByteLimit told) taken given reader may limit = (lines taken false ≡ given) × (may ≡ 0) × (told ≡ limit)
+EndsAfter end_of.WriteFault taken given reader may limit = ⊥
+EndsAfter end_of.Memory taken given reader may limit = ⊥
+
+-- some bytes were taken, and no line came of them
+pub record EndsNext (limit : ℕ) (old_reader reader : ReaderState) (before after : Incoming) (may may' : ℕ) (front front' : List Event) (end : End) : Type 0 where
+  pub bytes : List ℕ
+  pub takes : Takes bytes before after
+  pub count : may' + length bytes ≡ may
+  pub faults : after.faults ≡ counted (is_read_fault end) before.faults
+  pub same : front' ≡ front
+  pub knows_end : KnowsEnd old_reader before may → KnowsEnd reader after may'
+  pub ends : (taken : List ℕ) (given : List (List ℕ)) → HasGiven old_reader taken given → EndsAfter end (taken ++ bytes) given reader may' limit

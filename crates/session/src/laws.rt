@@ -1,0 +1,54 @@
+//! Laws of sessions, over their definitions alone. Each is the contract of a function that does nothing.
+ghost use Rattle.std.specs.Prelude.{◌≡◌, ◌≤◌, ℕ, false, List, [], length};
+ghost use Rattle.std.specs.Io.KnownBytes.{IsAtEnd};
+ghost use Rattle.funnel_io.specs.Lines.{lines};
+ghost use Rattle.funnel_io.specs.declared.end.End.{End};
+ghost use Rattle.funnel_model.specs.declared.call.Call.TheVariants as call;
+ghost use Rattle.funnel_model.specs.declared.event.Event.{Event};
+ghost use Rattle.funnel_model.specs.declared.reply.Reply.{Reply};
+ghost use Rattle.funnel_model.specs.declared.reply.Reply.TheVariants as reply;
+ghost use Rattle.funnel_model.specs.Steps.{Linear};
+ghost use Rattle.line_proto.specs.Forms.{Item};
+ghost use Rattle.line_proto.specs.Services.{AnswersCall, Caller};
+ghost use Rattle.line_proto.specs.Texts.{texts};
+ghost use Rattle.session.specs.Ends.{Serves, Stand};
+ghost use Rattle.session.specs.Laws.{calls_of, replies_to_calls, TakesNone, IsProperFront, EndsByCount, FindIsOver};
+ghost use Rattle.session.specs.Sessions.{Answers, CutsLast};
+
+/// The calls of a session lead from front to front, one step for each, and their replies are those that were given.
+pub fn a_session_is_one_run_of_calls()
+    ensures { (caller : Caller) (before after : List Event) (asked : List Item) (replies : List Reply) →
+        Answers caller before asked replies after →
+        Linear caller.limits caller.pass before after (calls_of asked) (replies_to_calls asked replies) }
+{}
+
+/// Over a front that is spent every call is refused, as spent or for want of memory, and is in no history.
+pub fn spent_fronts_take_no_call()
+    ensures { (caller : Caller) (before after : List Event) (asked : List Item) (replies : List Reply) →
+        caller.limits.events ≤ length before → Answers caller before asked replies after →
+        TakesNone caller.pass before after replies }
+{}
+
+/// Where a write failed, the text of the replies is not written to its end.
+pub fn failed_writes_cut_the_text()
+    ensures { (replies : List Reply) (written : List ℕ) → CutsLast replies written → IsProperFront written (texts replies) }
+{}
+
+/// Where a write failed and no newline was among the bytes taken, nothing is left to be read.
+pub fn a_last_line_leaves_nothing()
+    ensures { (caller : Caller) (limit : ℕ) (old new : Stand) (served : Serves caller limit old new End.WriteFault) →
+        lines served.taken false ≡ [] → IsAtEnd new.incoming.left }
+{}
+
+/// Without a fault a session ends with Done exactly where it took fewer bytes than the limit, but for want of memory.
+pub fn sessions_end_by_their_bytes()
+    ensures { (caller : Caller) (limit : ℕ) (old new : Stand) (end : End) (served : Serves caller limit old new end) →
+        EndsByCount caller limit old new end served }
+{}
+
+/// A find that found no memory is over: its pass has no token, and made no other call.
+pub fn finds_without_memory_are_over()
+    ensures { (caller : Caller) (before after : List Event) (query : List ℕ) →
+        AnswersCall caller before after (call.Find query) reply.Memory →
+        FindIsOver caller.pass before after query }
+{}

@@ -1,0 +1,222 @@
+-- The home appends an event.
+use Rattle.std.proofs.Common.{◌≡◌, ◌==◌, Bool, true, false, cond, Some, None, ℕ, ◌+◌, ◌-◌, ◌%◌, ◌^◌, ◌<◌, List, [], ◌∷◌, ◌++◌, length, get_or, set, refl, ap, sym, ◌∙◌, subst, arith, ⊎_elim, length-append, length-set, get_or-set_same, get_or-set_other}
+use Rattle.std.proofs.lemmas.Bool.{both_ways, cases_eq, false≢true, false_from_ne_true, or_from, or_parts}
+use Rattle.std.proofs.lemmas.List.{drop-set-lt}
+use Rattle.std.proofs.lemmas.List.Elements.{All-contains, All-weaker}
+use Rattle.std.specs.List.{All, Contains, list_any}
+use Rattle.std.specs.Option.{is_some}
+use Rattle.std.specs.Prelude.{slice_index}
+use mathlib.Core.Option.{none, some}
+use mathlib.Core.List.{IsPrefix}
+use lib.ListN.{get_elem?}
+use Rattle.atomic_table.specs.Table.{State, Allows, keeps, step}
+use Rattle.funnel_model.specs.declared.event.Event.{Event}
+use Rattle.funnel_model.specs.declared.event.Event.TheVariants as event
+use Rattle.funnel_model.specs.declared.bit_list.Bit.{Bit}
+use Rattle.funnel_model.specs.Events.{clears, fills, pass_of}
+use Rattle.funnel_model.specs.History.{last_by}
+use Rattle.funnel_model.specs.Legal.{Limits, IsAllowed, IsLegal}
+use Rattle.funnel_model.specs.RowWords.{AreFresh, Covers, IsSetIn}
+use Rattle.funnel_model.proofs.RowWords.{covers-add, covers-silent, fresh-opened, fresh-push}
+use Rattle.funnel_model.proofs.Histories.{legal-push}
+use Rattle.slice_rule.specs.declared.view.Role.{Role}
+use Rattle.slice_rule.specs.declared.view.Role.TheVariants as role
+use Rattle.slice_rule.specs.declared.view.Fact.{Fact}
+use Rattle.slice_rule.specs.declared.view.Fact.TheVariants as fact
+use Rattle.slice_rule.specs.declared.view.View.{View}
+use Rattle.slice_rule.specs.Pools.{ask_word, first_row, row_words}
+use Rattle.slice_rule.specs.Rule.{Fits, FitsRole, IsKept, IsKnownSet, IsKnownZero, IsTrueFact}
+use Rattle.slice_rule.specs.Numbers.{last_number, takes_in}
+use Rattle.slice_rule.specs.Seats.{IsBacked}
+use Rattle.slice_rule.proofs.Facts.{all_later}
+use Rattle.slice_rule.proofs.Since.{is_last, none_cleared, none_filled, one_event}
+use Rattle.slice_rule.specs.Tells.{AppendsEvent, Seated}
+use Rattle.slice_rule.specs.Views.{with_event}
+use Rattle.slice_rule.specs.Worlds.{LacksAtMostOne, World, made_by}
+use Rattle.slice_rule.proofs.Numbering.{home_at}
+use Rattle.slice_rule.proofs.Prefixes.{made_by-other, made_by-own, prefix_more, prefix_self, prefix_trans}
+use Rattle.slice_rule.proofs.Seating.{each-set}
+
+-- the world after the event
+abbrev pub longer_world : World → Event → World
+longer_world world e = record world { history = world.history ++ e ∷ [] }
+
+-- what claims a column fills its slice
+takes_fill_by : (column : ℕ) (b : Bool) → is_some (cond b (Some column) None) ≡ true → b ≡ true
+takes_fill_by column true is = refl
+takes_fill_by column false is = absurd (false≢true is)
+
+takes_fill : (slice : ℕ) (e : Event) → takes_in slice e ≡ true → fills slice e ≡ true
+takes_fill slice (event.Take pass taken column) is = takes_fill_by column (taken == slice) is
+takes_fill slice _ is = absurd (false≢true is)
+
+-- where nothing fills a slice nothing is taken in it
+none_taken : (slice : ℕ) (later : List Event) → list_any (fills slice) later ≡ false → list_any (takes_in slice) later ≡ false
+none_taken slice [] is = refl
+none_taken slice (e ∷ later) is =
+    let parts = or_parts (fills slice e) (list_any (fills slice) later) is in
+    or_from (takes_in slice e) (list_any (takes_in slice) later)
+    (false_from_ne_true (takes_in slice e) (λ taken. both_ways (fills slice e) parts.0 (takes_fill slice e taken)))
+    (none_taken slice later parts.1)
+
+module _ (limits : Limits) (history : List Event) (rows : List ℕ) (legal : IsLegal limits history) where
+  -- a bit that is known set under the Take of a pending column is set
+  pub known_is_set : (pass slice column : ℕ) (b : Bit) → last_by pass history ≡ Some (event.Take pass slice column) → IsKnownSet limits history rows (last_number pass history) b → IsSetIn rows b
+  known_is_set pass slice column b last known =
+      let is = is_last pass history (event.Take pass slice column) last in
+      let same = one_event history (last_number pass history) (event.Take known.pass known.slice known.column) (event.Take pass slice column) known.take is.at in
+      let slices : known.slice ≡ slice = let h = same.0 in cc in
+      ⊎_elim
+      (λ set. set)
+      (λ cleared. absurd (both_ways (list_any (clears slice) is.at.later) (none_cleared limits history pass slice column legal is)
+      (subst (λ (later : List Event). list_any (clears slice) later ≡ true) same.1 (subst (λ (s : ℕ). list_any (clears s) known.take.later ≡ true) slices cleared))))
+      known.set
+
+  -- a word that is known zero under the Clear of a slice that is being cleared is zero
+  pub known_is_zero : (pass slice word : ℕ) → last_by pass history ≡ Some (event.Clear pass slice) → IsKnownZero limits history rows (last_number pass history) word → slice_index rows word ≡ 0
+  known_is_zero pass slice word last known =
+      let is = is_last pass history (event.Clear pass slice) last in
+      let same = one_event history (last_number pass history) (event.Clear known.pass known.slice) (event.Clear pass slice) known.clear is.at in
+      let slices : known.slice ≡ slice = let h = same.0 in cc in
+      ⊎_elim
+      (λ zero. zero)
+      (λ taken. absurd (both_ways (list_any (takes_in slice) is.at.later) (none_taken slice is.at.later (none_filled limits history pass slice legal is))
+      (subst (λ (later : List Event). list_any (takes_in slice) later ≡ true) same.1 (subst (λ (s : ℕ). list_any (takes_in s) known.clear.later ≡ true) slices taken))))
+      known.zero
+
+  module _ (world : World) (here : world.history ≡ history) (told : List Fact) (known : All (IsTrueFact limits world rows) told) where
+    known_set : (number : ℕ) (b : Bit) → Contains told (fact.BitSet number b) → IsKnownSet limits history rows number b
+    known_set number b has = subst (λ (h : List Event). IsKnownSet limits h rows number b) here (All-contains (IsTrueFact limits world rows) told (fact.BitSet number b) known has)
+
+    known_zero : (number word : ℕ) → Contains told (fact.WordZero number word) → IsKnownZero limits history rows number word
+    known_zero number word has = subst (λ (h : List Event). IsKnownZero limits h rows number word) here (All-contains (IsTrueFact limits world rows) told (fact.WordZero number word) known has)
+
+    -- the words cover the history with the event
+    pub covers_next : (e : Event) → IsAllowed limits history e → IsBacked limits told history e → Covers rows history → Covers rows (history ++ e ∷ [])
+    covers_next (event.Add pass id text slice column bits) allowed backed covers =
+        covers-add rows history pass id text slice column bits covers
+        (All-weaker (λ b. Contains told (fact.BitSet (last_number pass history) b)) (IsSetIn rows)
+        (λ b has. known_is_set pass slice column b allowed.rule.taken (known_set (last_number pass history) b has)) bits backed)
+    covers_next (event.Take p t c) allowed backed covers = covers-silent rows history (event.Take p t c) covers (λ s. refl)
+    covers_next (event.Drop p id text t c) allowed backed covers = covers-silent rows history (event.Drop p id text t c) covers (λ s. refl)
+    covers_next (event.Del p id) allowed backed covers = covers-silent rows history (event.Del p id) covers (λ s. refl)
+    covers_next (event.Find p query) allowed backed covers = covers-silent rows history (event.Find p query) covers (λ s. refl)
+    covers_next (event.End p) allowed backed covers = covers-silent rows history (event.End p) covers (λ s. refl)
+    covers_next (event.Clear p t) allowed backed covers = covers-silent rows history (event.Clear p t) covers (λ s. refl)
+    covers_next (event.Opened p t alone) allowed backed covers = covers-silent rows history (event.Opened p t alone) covers (λ s. refl)
+    covers_next (event.No p asked) allowed backed covers = covers-silent rows history (event.No p asked) covers (λ s. refl)
+    covers_next (event.Read p asked) allowed backed covers = covers-silent rows history (event.Read p asked) covers (λ s. refl)
+
+    -- and unclaimed slices stay fresh
+    pub fresh_next : (e : Event) → IsAllowed limits history e → IsBacked limits told history e → AreFresh limits rows history → AreFresh limits rows (history ++ e ∷ [])
+    fresh_next (event.Opened pass slice alone) allowed backed fresh =
+        fresh-opened limits rows history pass slice alone fresh
+        (λ word inside. known_is_zero pass slice word allowed.rule.cleared (known_zero (last_number pass history) word (backed word inside)))
+    fresh_next (event.Add p id text t c bits) allowed backed fresh = fresh-push limits rows history (event.Add p id text t c bits) (λ s. refl) fresh
+    fresh_next (event.Take p t c) allowed backed fresh = fresh-push limits rows history (event.Take p t c) (λ s. refl) fresh
+    fresh_next (event.Drop p id text t c) allowed backed fresh = fresh-push limits rows history (event.Drop p id text t c) (λ s. refl) fresh
+    fresh_next (event.Del p id) allowed backed fresh = fresh-push limits rows history (event.Del p id) (λ s. refl) fresh
+    fresh_next (event.Find p query) allowed backed fresh = fresh-push limits rows history (event.Find p query) (λ s. refl) fresh
+    fresh_next (event.End p) allowed backed fresh = fresh-push limits rows history (event.End p) (λ s. refl) fresh
+    fresh_next (event.Clear p t) allowed backed fresh = fresh-push limits rows history (event.Clear p t) (λ s. refl) fresh
+    fresh_next (event.No p asked) allowed backed fresh = fresh-push limits rows history (event.No p asked) (λ s. refl) fresh
+    fresh_next (event.Read p asked) allowed backed fresh = fresh-push limits rows history (event.Read p asked) (λ s. refl) fresh
+
+-- the history has all that the pass asked, or all but the last, also with an event that was asked next
+made_push : (world : World) (e : Event) (pass : ℕ) → LacksAtMostOne (made_by pass world.history) (world.asked pass)
+    → IsPrefix (made_by (pass_of e) world.history ++ e ∷ []) (world.asked (pass_of e))
+    → LacksAtMostOne (made_by pass (world.history ++ e ∷ [])) (world.asked pass)
+made_push world e pass lacks asked =
+    ⊎_elim
+    (λ (own : pass_of e ≡ pass).
+    let begins : IsPrefix (made_by pass world.history ++ e ∷ []) (world.asked pass) = subst (λ (q : ℕ). IsPrefix (made_by q world.history ++ e ∷ []) (world.asked q)) own asked in
+    let few = lacks.few in
+    let more = length-append (made_by pass world.history) (e ∷ []) in
+    subst (λ (xs : List Event). LacksAtMostOne xs (world.asked pass)) (sym (made_by-own pass world.history e own)) (record { begins = begins; few = omega arith }))
+    (λ (other : pass_of e ≡ pass → ⊥). subst (λ (xs : List Event). LacksAtMostOne xs (world.asked pass)) (sym (made_by-other pass world.history e other)) lacks)
+    (cases_eq (pass_of e) pass)
+
+module _ (limits : Limits) where
+  -- what another seat knows when the history has one more event
+  other_role : (world : World) (words : List ℕ) (id n j : ℕ) (e : Event) (front asked : List Event) → id ≡ world.home → (j ≡ id → ⊥) → (role : Role)
+      → FitsRole world words j front asked role → FitsRole (longer_world world e) (set words 0 n) j front asked role
+  other_role world words id n j e front asked home apart (role.Home made seats) fits = absurd (apart (fits.one ∙ sym home))
+  other_role world words id n j e front asked home apart (role.Pass pass) fits = record { made = fits.made; one = fits.one; all = fits.all; seen = fits.seen }
+  other_role world words id n j e front asked home apart role.Note fits = tt
+  other_role world words id n j e front asked home apart role.Spent fits = tt
+
+  appends_at : (s : State (Unit {0}) View) (r : IsKept limits s) (id : ℕ) (v : View) (made seats n : ℕ) (e : Event) → get_elem? s.views id ≡ some v → v.role ≡ role.Home made seats
+      → n ≡ length v.front + 1 → n < 2 ^ 63 → IsAllowed limits v.front e → IsBacked limits v.told v.front e → Contains v.told (fact.Asked (pass_of e) (made_by (pass_of e) v.front ++ e ∷ []))
+      → IsKept limits (record { words = set s.words 0 n; homes = s.homes; views = set s.views id (with_event v e) })
+  appends_at s r id v made seats n e at is next few allowed backed known =
+      let mine = r.seats id v at in
+      let home = home_at limits s r id v made seats at is in
+      let laid = r.laid in
+      let whole = home.whole in
+      let world : World = longer_world r.world e in
+      let more = prefix_more r.world.history (e ∷ []) in
+      let count : n ≡ length (r.world.history ++ e ∷ []) = omega (arith, next, ap length whole, length-append r.world.history (e ∷ [])) in
+      let asked : IsPrefix (made_by (pass_of e) r.world.history ++ e ∷ []) (r.world.asked (pass_of e)) =
+      subst (λ (h : List Event). IsPrefix (made_by (pass_of e) h ++ e ∷ []) (r.world.asked (pass_of e))) whole
+      (All-contains (IsTrueFact limits r.world (row_words limits s.words)) v.told (fact.Asked (pass_of e) (made_by (pass_of e) v.front ++ e ∷ [])) mine.told known) in
+      let rows = drop-set-lt (first_row limits) s.words 0 n (omega arith) in
+      let keeps = λ (facts : List Fact) (before : All (IsTrueFact limits r.world (row_words limits s.words)) facts).
+      subst (λ (ws : List ℕ). All (IsTrueFact limits world ws) facts) (sym rows)
+      (all_later limits r.world world (row_words limits s.words) (e ∷ []) refl (λ pass. refl) facts before) in
+      let next_allowed = subst (λ (h : List Event). IsAllowed limits h e) whole allowed in
+      let next_backed = subst (λ (h : List Event). IsBacked limits v.told h e) whole backed in
+      record {
+        world = world;
+        laid = length-set s.words 0 n ∙ laid;
+        events = record {
+          events = get_or-set_same s.words 0 n 0 (omega arith) ∙ count;
+          few = subst (λ (k : ℕ). k < 2 ^ 63) count few;
+          legal = legal-push limits r.world.history e r.events.legal next_allowed;
+        };
+        asked = record {
+          count = λ pass small. get_or-set_other s.words 0 (ask_word pass) n 0 (λ e. omega arith) ∙ r.asked.count pass small;
+          made = λ pass. made_push r.world e pass (r.asked.made pass) asked;
+          none = r.asked.none;
+        };
+        covers = subst (λ (ws : List ℕ). Covers ws (r.world.history ++ e ∷ [])) (sym rows)
+            (covers_next limits r.world.history (row_words limits s.words) r.events.legal r.world refl v.told mine.told e next_allowed next_backed r.covers);
+        fresh = subst (λ (ws : List ℕ). AreFresh limits ws (r.world.history ++ e ∷ [])) (sym rows)
+            (fresh_next limits r.world.history (row_words limits s.words) r.events.legal r.world refl v.told mine.told e next_allowed next_backed r.fresh);
+        seats = each-set (Fits limits world (set s.words 0 n)) s.views id (with_event v e)
+            (record {
+              sizes = mine.sizes;
+              front = subst (λ (h : List Event). IsPrefix (h ++ e ∷ []) (r.world.history ++ e ∷ [])) (sym whole) (prefix_self (r.world.history ++ e ∷ []));
+              met = prefix_trans v.met r.world.history (r.world.history ++ e ∷ []) mine.met more;
+              own = keeps v.own mine.own;
+              told = keeps v.told mine.told;
+              role = subst (FitsRole world (set s.words 0 n) id (v.front ++ e ∷ []) v.asked) (sym is)
+                  (record {
+                    one = home.one;
+                    whole = ap (λ (h : List Event). h ++ e ∷ []) whole;
+                    counts = get_or-set_other s.words 0 1 n 0 (λ e. omega arith) ∙ home.counts;
+                    seated = home.seated;
+                  });
+            })
+            (λ j w apart there. let theirs = r.seats j w there in record {
+              sizes = theirs.sizes;
+              front = prefix_trans w.front r.world.history (r.world.history ++ e ∷ []) theirs.front more;
+              met = prefix_trans w.met r.world.history (r.world.history ++ e ∷ []) theirs.met more;
+              own = keeps w.own theirs.own;
+              told = keeps w.told theirs.told;
+              role = other_role r.world s.words id n j e w.front w.asked home.one apart w.role theirs.role;
+            });
+      }
+
+  pub appends : (slots id : ℕ) (me : Seated) (made seats : ℕ) (e : Event) → me.0.role ≡ role.Home made seats → length me.0.front < 2 ^ 63 - 1 → IsAllowed limits me.0.front e → IsBacked limits me.0.told me.0.front e
+      → Contains me.0.told (fact.Asked (pass_of e) (made_by (pass_of e) me.0.front ++ e ∷ []))
+      → Allows (IsKept limits) slots id me 0 (λ n. (n + 1) % 2 ^ 64) (AppendsEvent e (step slots 0 1 0 none) me)
+  appends slots id me made seats e is room allowed backed known s r homes at small =
+      let home = home_at limits s r id me.0 made seats at is in
+      let found : get_or s.words 0 0 ≡ length me.0.front = r.events.events ∙ ap length (sym home.whole) in
+      let next : (get_or s.words 0 0 + 1) % 2 ^ 64 ≡ length me.0.front + 1 = omega arith in (
+        with_event me.0 e,
+        keeps,
+        tt,
+        appends_at s r id me.0 made seats ((get_or s.words 0 0 + 1) % 2 ^ 64) e at is next (omega arith) allowed backed known,
+        record { view = refl; number = found },
+      )

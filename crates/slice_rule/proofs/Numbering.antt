@@ -1,0 +1,165 @@
+-- The home numbers a pass, and gives it its seat.
+use Rattle.std.proofs.Common.{◌≡◌, ℕ, ◌+◌, ◌%◌, ◌^◌, ◌<◌, ◌==◌, if◌then◌else◌, Bool, cond, List, [], length, get_or, set, refl, ap, sym, ◌∙◌, subst, arith, length-set, get_or-set_same, get_or-set_other}
+use Rattle.std.proofs.lemmas.Bool.{eq-eqb, ne_eqb}
+use Rattle.std.proofs.lemmas.List.Elements.{All-nil}
+use mathlib.Core.Option.{none, some}
+use lib.ListN.{get_elem?}
+use Rattle.atomic_table.specs.Table.{State, Allows, Splits, keeps, step}
+use Rattle.funnel_model.specs.declared.event.Event.{Event}
+use Rattle.funnel_model.specs.Legal.{Limits}
+use Rattle.slice_rule.specs.declared.view.Role.{Role}
+use Rattle.slice_rule.specs.declared.view.Role.TheVariants as role
+use Rattle.slice_rule.specs.declared.view.View.{View}
+use Rattle.slice_rule.specs.Pools.{ask_word, first_row, row_words}
+use Rattle.slice_rule.specs.Rule.{Fits, FitsRole, HasSizes, IsHome, IsKept, IsTrueFact}
+use Rattle.slice_rule.specs.Tells.{Numbers, Seated}
+use Rattle.slice_rule.specs.Views.{new_pass, new_role, numbered, numbered_role, seated, seated_role}
+use Rattle.slice_rule.specs.Worlds.{LacksAtMostOne, World}
+use Rattle.std.proofs.lemmas.List.{drop-set-lt}
+use Rattle.std.specs.List.{All}
+use Rattle.funnel_model.specs.RowWords.{AreFresh, Covers}
+use Rattle.slice_rule.specs.declared.view.Fact.{Fact}
+use Rattle.slice_rule.proofs.Facts.{all_of_more}
+use Rattle.slice_rule.proofs.Prefixes.{prefix_self}
+use Rattle.slice_rule.proofs.Seating.{each-set, each-snoc}
+
+module _ (limits : Limits) where
+  -- what the home's seat knows
+  pub home_at : (s : State (Unit {0}) View) (r : IsKept limits s) (id : ℕ) (v : View) (made seats : ℕ) → get_elem? s.views id ≡ some v → v.role ≡ role.Home made seats
+      → IsHome r.world s.words id made seats v.front
+  home_at s r id v made seats at is = subst (FitsRole r.world s.words id v.front v.asked) is (r.seats id v at).role
+
+  -- what another seat knows when word 1 changes
+  other_role : (world : World) (words : List ℕ) (id n j : ℕ) (front asked : List Event) → id ≡ world.home → (j ≡ id → ⊥) → (role : Role)
+      → FitsRole world words j front asked role → FitsRole world (set words 1 n) j front asked role
+  other_role world words id n j front asked home apart (role.Home made seats) fits = absurd (apart (fits.one ∙ sym home))
+  other_role world words id n j front asked home apart (role.Pass pass) fits = fits
+  other_role world words id n j front asked home apart role.Note fits = tt
+  other_role world words id n j front asked home apart role.Spent fits = tt
+
+  numbers_at : (s : State (Unit {0}) View) (r : IsKept limits s) (id : ℕ) (v : View) (made seats n : ℕ) → get_elem? s.views id ≡ some v → v.role ≡ role.Home made seats → n ≡ made + 1
+      → IsKept limits (record { words = set s.words 1 n; homes = s.homes; views = set s.views id (numbered v) })
+  numbers_at s r id v made seats n at is next =
+      let mine = r.seats id v at in
+      let home = home_at s r id v made seats at is in
+      let sizes : v.limits ≡ limits = subst (HasSizes limits v.limits) is mine.sizes in
+      let laid = r.laid in
+      let at_one : 1 < length s.words = omega arith in
+      let rows = drop-set-lt (first_row limits) s.words 1 n (omega arith) in
+      let keeps = λ (facts : List Fact) (known : All (IsTrueFact limits r.world (row_words limits s.words)) facts). subst (λ (ws : List ℕ). All (IsTrueFact limits r.world ws) facts) (sym rows) known in
+      record {
+        world = r.world;
+        laid = length-set s.words 1 n ∙ laid;
+        events = record {
+          events = get_or-set_other s.words 1 0 n 0 (λ e. omega arith) ∙ r.events.events;
+          few = r.events.few;
+          legal = r.events.legal;
+        };
+        asked = record {
+          count = λ pass small. get_or-set_other s.words 1 (ask_word pass) n 0 (λ e. omega arith) ∙ r.asked.count pass small;
+          made = r.asked.made;
+          none = r.asked.none;
+        };
+        covers = subst (λ (ws : List ℕ). Covers ws r.world.history) (sym rows) r.covers;
+        fresh = subst (λ (ws : List ℕ). AreFresh limits ws r.world.history) (sym rows) r.fresh;
+        seats = each-set (Fits limits r.world (set s.words 1 n)) s.views id (numbered v)
+            (record {
+              sizes = subst (λ (x : Role). HasSizes limits v.limits (numbered_role x)) (sym is) sizes;
+              front = mine.front;
+              met = mine.met;
+              own = keeps v.own mine.own;
+              told = keeps v.told mine.told;
+              role = subst (λ (x : Role). FitsRole r.world (set s.words 1 n) id v.front v.asked (numbered_role x)) (sym is)
+                  (record { one = home.one; whole = home.whole; counts = get_or-set_same s.words 1 n 0 at_one ∙ next; seated = home.seated });
+            })
+            (λ j w apart there. let theirs = r.seats j w there in record {
+              sizes = theirs.sizes;
+              front = theirs.front;
+              met = theirs.met;
+              own = keeps w.own theirs.own;
+              told = keeps w.told theirs.told;
+              role = other_role r.world s.words id n j w.front w.asked home.one apart w.role theirs.role;
+            });
+      }
+
+  pub numbers : (slots id : ℕ) (me : Seated) (made seats : ℕ) → me.0.role ≡ role.Home made seats → made < 2 ^ 32
+      → Allows (IsKept limits) slots id me 1 (λ n. (n + 1) % 2 ^ 64) (Numbers (step slots 1 1 0 none) me)
+  numbers slots id me made seats is fits s r homes at small =
+      let home = home_at s r id me.0 made seats at is in
+      let counts = home.counts in
+      let next : (get_or s.words 1 0 + 1) % 2 ^ 64 ≡ made + 1 = omega arith in
+      (numbered me.0, keeps, tt, numbers_at s r id me.0 made seats ((get_or s.words 1 0 + 1) % 2 ^ 64) at is next, refl)
+
+  -- the world after one more pass has its seat
+  seated_world : World → ℕ → World
+  seated_world world id = record world { seat = λ pass. if pass == world.seated then id else world.seat pass; seated = world.seated + 1 }
+
+  -- what another seat knows when a pass gets its seat
+  unseated_role : (world : World) (words : List ℕ) (id new j : ℕ) (front asked : List Event) → id ≡ world.home → (j ≡ id → ⊥) → (role : Role)
+      → FitsRole world words j front asked role → FitsRole (seated_world world new) words j front asked role
+  unfolding seated_world
+  unseated_role world words id new j front asked home apart (role.Home made seats) fits = absurd (apart (fits.one ∙ sym home))
+  unseated_role world words id new j front asked home apart (role.Pass pass) fits =
+      let made = fits.made in
+      record {
+        made = omega arith;
+        one = fits.one ∙ sym (ap (λ (b : Bool). cond b new (world.seat pass)) (ne_eqb pass world.seated (λ e. omega arith)));
+        all = fits.all;
+        seen = fits.seen;
+      }
+  unseated_role world words id new j front asked home apart role.Note fits = tt
+  unseated_role world words id new j front asked home apart role.Spent fits = tt
+
+  pub splits_pass : (id : ℕ) (v : View) (made seats : ℕ) → v.role ≡ role.Home made seats → Splits (IsKept limits) id v (seated v) (new_pass v)
+  unfolding seated_world
+  splits_pass id v made seats is s r at =
+      let mine = r.seats id v at in
+      let home = home_at s r id v made seats at is in
+      let sizes : v.limits ≡ limits = subst (HasSizes limits v.limits) is mine.sizes in
+      let new = length (set s.views id (seated v)) in
+      let world = seated_world r.world new in
+      let rows = row_words limits s.words in
+      let keeps = all_of_more limits r.world world rows refl (λ pass. prefix_self (r.world.asked pass)) in
+      record {
+        world = world;
+        laid = r.laid;
+        events = record { events = r.events.events; few = r.events.few; legal = r.events.legal };
+        asked = record { count = r.asked.count; made = r.asked.made; none = λ pass above. r.asked.none pass (omega arith) };
+        covers = r.covers;
+        fresh = r.fresh;
+        seats = each-snoc (Fits limits world s.words) (set s.views id (seated v)) (new_pass v)
+            (each-set (Fits limits world s.words) s.views id (seated v)
+            (record {
+              sizes = subst (λ (x : Role). HasSizes limits v.limits (seated_role x)) (sym is) sizes;
+              front = mine.front;
+              met = mine.met;
+              own = keeps v.own mine.own;
+              told = keeps v.told mine.told;
+              role = subst (λ (x : Role). FitsRole world s.words id v.front v.asked (seated_role x)) (sym is)
+                  (record { one = home.one; whole = home.whole; counts = home.counts; seated = ap (λ (n : ℕ). n + 1) home.seated });
+            })
+            (λ j w apart there. let theirs = r.seats j w there in record {
+              sizes = theirs.sizes;
+              front = theirs.front;
+              met = theirs.met;
+              own = keeps w.own theirs.own;
+              told = keeps w.told theirs.told;
+              role = unseated_role r.world s.words id new j w.front w.asked home.one apart w.role theirs.role;
+            }))
+            (record {
+              sizes = subst (λ (x : Role). HasSizes limits v.limits (new_role x)) (sym is) sizes;
+              front = (r.world.history, refl);
+              met = (r.world.history, refl);
+              own = All-nil (IsTrueFact limits world rows);
+              told = All-nil (IsTrueFact limits world rows);
+              role = subst (λ (x : Role). FitsRole world s.words new [] [] (new_role x)) (sym is)
+                  (let none = r.asked.none seats (let same = home.seated in omega arith) in
+                  let same = home.seated in
+                  record {
+                    made = omega arith;
+                    one = sym (ap (λ (b : Bool). cond b new (r.world.seat seats)) (eq-eqb seats r.world.seated same));
+                    all = sym none;
+                    seen = subst (LacksAtMostOne []) (sym none) (record { begins = ([], refl); few = omega arith });
+                  });
+            });
+      }

@@ -1,0 +1,54 @@
+-- The rule holds of a new pool.
+use Rattle.std.proofs.Common.{◌≡◌, ℕ, ◌+◌, ◌<◌, ◌≤◌, [], ◌∷◌, ◌++◌, map, get_or, replicate, refl, ap, sym, ◌∙◌, arith, ⊎_elim}
+use Rattle.std.proofs.lemmas.Bool.{cases_lt}
+use Rattle.std.proofs.lemmas.List.{get_or-drop, get_or-replicate, get_or_past, length-replicate}
+use Rattle.std.proofs.lemmas.List.Elements.{All-nil}
+use mathlib.Core.List.{map-append}
+use Rattle.std.specs.List.{range_with_len}
+use Rattle.funnel_model.proofs.Ranges.{range_more}
+use Rattle.slice_rule.specs.Pools.{PoolId, ask_word, first_row, pool_words, row_words}
+use Rattle.slice_rule.specs.Seats.{new_pass_state}
+use mathlib.Core.Option.{some-ne-none}
+use Rattle.atomic_table.specs.Table.{opening}
+use Rattle.funnel_model.specs.Legal.{Limits}
+use Rattle.slice_rule.specs.Rule.{Fits, IsKept, IsTrueFact}
+use Rattle.slice_rule.specs.Views.{home_at_start}
+use Rattle.slice_rule.specs.Worlds.{new_world}
+use Rattle.funnel_model.proofs.RowWords.{covers-start, fresh-start}
+use Rattle.slice_rule.proofs.Seating.{each-snoc}
+
+-- each word of zeros is zero
+pub zeros : (n i : ℕ) → ◌≡◌ {A = ℕ} (get_or (replicate n 0) i 0) 0
+zeros n i = ⊎_elim
+    (λ (within : i < n). get_or-replicate n i 0 0 within)
+    (λ (past : n ≤ i). let z : ℕ = 0 in get_or_past (replicate n z) i z (let l = length-replicate n z in omega arith))
+    (cases_lt i n)
+
+pub opens : (limits : Limits) → IsKept limits (opening (replicate (pool_words limits) 0) [] (home_at_start limits))
+opens limits =
+    let n = pool_words limits in
+    record {
+      world = new_world;
+      laid = (let z : ℕ = 0 in length-replicate n z);
+      events = record { events = zeros n 0; few = omega arith; legal = tt };
+      asked = record {
+        count = λ pass small. zeros n (ask_word pass);
+        made = λ pass. record { begins = ([], refl); few = omega arith };
+        none = λ pass above. refl;
+      };
+      covers = covers-start (row_words limits (replicate n 0));
+      fresh = fresh-start limits (row_words limits (replicate n 0)) (λ slice small word inside. get_or-drop (first_row limits) (replicate n 0) word 0 ∙ zeros n (first_row limits + word));
+      seats = each-snoc (Fits limits new_world (replicate n 0)) [] (home_at_start limits) (λ id v at. absurd (some-ne-none v (sym at)))
+          (record {
+            sizes = refl;
+            front = ([], refl);
+            met = ([], refl);
+            own = All-nil (IsTrueFact limits new_world (row_words limits (replicate n 0)));
+            told = All-nil (IsTrueFact limits new_world (row_words limits (replicate n 0)));
+            role = record { one = refl; whole = refl; counts = zeros n 1; seated = refl };
+          });
+    }
+
+-- the passes of a new pool with one more
+pub new_passes_push : (pool : PoolId) (n : ℕ) → map (new_pass_state pool) (range_with_len 0 (n + 1)) ≡ map (new_pass_state pool) (range_with_len 0 n) ++ new_pass_state pool n ∷ []
+new_passes_push pool n = ap (map (new_pass_state pool)) (range_more n) ∙ map-append (new_pass_state pool) (range_with_len 0 n) (n ∷ [])

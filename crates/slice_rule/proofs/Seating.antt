@@ -1,0 +1,126 @@
+-- What holds of each seat, through moves that change no word.
+use Rattle.std.proofs.Common.{◌≡◌, ℕ, zero, suc, List, [], ◌∷◌, ◌++◌, length, set, refl, sym, subst, arith, ⊎_elim, ◌⊎◌, inl, inr}
+use Rattle.std.proofs.lemmas.List.Elements.{All-append, All-cons, All-nil}
+use mathlib.Core.Option.{some, some-injective, some-ne-none}
+use mathlib.Core.List.{IsPrefix}
+use lib.ListN.{get_elem?}
+use Rattle.atomic_table.specs.Table.{State, Splits, Joins}
+use Rattle.atomic_table.proofs.Lists.{at_set}
+use Rattle.funnel_model.specs.Legal.{Limits}
+use Rattle.slice_rule.specs.declared.view.View.{View}
+use Rattle.slice_rule.specs.Rule.{Fits, FitsRole, HasSizes, IsKept, IsTrueFact}
+use Rattle.slice_rule.specs.declared.view.Role.{Role}
+use Rattle.slice_rule.specs.declared.view.Role.TheVariants as role
+use Rattle.slice_rule.specs.declared.view.Fact.TheVariants as fact
+use Rattle.slice_rule.specs.Pools.{row_words}
+use Rattle.slice_rule.specs.Views.{facts_of, note_of, spent, taken_in}
+use Rattle.slice_rule.proofs.Prefixes.{prefix_self}
+use Rattle.std.specs.List.{All}
+
+abbrev pub EachSeat : (ℕ → View → Type 0) → List View → Type 0
+EachSeat P views = (id : ℕ) (v : View) → get_elem? views id ≡ some v → P id v
+
+-- a new last element stands at the length
+pub at_snoc_at : {A : Type 0} (l : List A) (a b : A) (j : ℕ) → get_elem? (l ++ a ∷ []) j ≡ some b → (get_elem? l j ≡ some b) ⊎ ((j ≡ length l) × (a ≡ b))
+at_snoc_at [] a b zero e = inr (refl, some-injective a b e)
+at_snoc_at [] a b (suc j) e = absurd (some-ne-none b (sym e))
+at_snoc_at (x ∷ xs) a b zero e = inl e
+at_snoc_at (x ∷ xs) a b (suc j) e = ⊎_elim (λ t. inl t) (λ t. let n = t.0 in inr (omega arith, t.1)) (at_snoc_at xs a b j e)
+
+-- of each seat where one has a new view
+pub each-set : (P : ℕ → View → Type 0) (views : List View) (id : ℕ) (w : View) → P id w
+    → ((j : ℕ) (v : View) → (j ≡ id → ⊥) → get_elem? views j ≡ some v → P j v) → EachSeat P (set views id w)
+each-set P views id w here others j v at =
+    ⊎_elim (λ t. subst (λ (x : ℕ). P x v) (sym t.0) (subst (P id) t.1 here)) (λ t. others j v t.0 t.1) (at_set views id j w v at)
+
+-- and where there is a new seat
+pub each-snoc : (P : ℕ → View → Type 0) (views : List View) (w : View) → EachSeat P views → P (length views) w → EachSeat P (views ++ w ∷ [])
+each-snoc P views w each here j v at =
+    ⊎_elim (each j v) (λ t. subst (λ (x : ℕ). P x v) (sym t.0) (subst (P (length views)) t.1 here)) (at_snoc_at views w v j at)
+
+-- the seat isn't spent
+abbrev pub IsLive : Role → Type 0
+IsLive role.Spent = ⊥
+IsLive _ = Unit {0}
+
+-- and so it has the sizes of the pool
+pub live_sizes : (limits known : Limits) (role : Role) → IsLive role → HasSizes limits known role → known ≡ limits
+live_sizes limits known (role.Home made seats) live sizes = sizes
+live_sizes limits known (role.Pass pass) live sizes = sizes
+live_sizes limits known role.Note live sizes = sizes
+live_sizes limits known role.Spent live sizes = absurd live
+
+module _ (limits : Limits) where
+  -- one seat has a new view, and no word changes
+  pub viewed : (s : State (Unit {0}) View) (r : IsKept limits s) (id : ℕ) (w : View) → Fits limits r.world s.words id w
+      → IsKept limits (record { words = s.words; homes = s.homes; views = set s.views id w })
+  viewed s r id w fits = record {
+    world = r.world;
+    laid = r.laid;
+    events = r.events;
+    asked = r.asked;
+    covers = r.covers;
+    fresh = r.fresh;
+    seats = each-set (Fits limits r.world s.words) s.views id w fits (λ j v _. r.seats j v);
+  }
+
+  -- all that a seat can tell is true
+  tells : (s : State (Unit {0}) View) (r : IsKept limits s) (id : ℕ) (v : View) (role : Role) → Fits limits r.world s.words id v → FitsRole r.world s.words id v.front v.asked role
+      → All (IsTrueFact limits r.world (row_words limits s.words)) (facts_of role v)
+  tells s r id v (role.Home made seats) fits role_fits = fits.told
+  tells s r id v (role.Pass pass) fits role_fits =
+      All-cons (IsTrueFact limits r.world (row_words limits s.words)) (fact.Asked pass v.asked) (v.own ++ v.told)
+      (subst (IsPrefix v.asked) role_fits.all (prefix_self v.asked))
+      (All-append (IsTrueFact limits r.world (row_words limits s.words)) v.own v.told fits.own fits.told)
+  tells s r id v role.Note fits role_fits = fits.told
+  tells s r id v role.Spent fits role_fits = fits.told
+
+  -- a note fits where the seat that it is split from does
+  pub note_fits : (s : State (Unit {0}) View) (r : IsKept limits s) (id : ℕ) (v : View) (other : ℕ) → IsLive v.role → Fits limits r.world s.words id v → Fits limits r.world s.words other (note_of v)
+  note_fits s r id v other live fits = record {
+    sizes = live_sizes limits v.limits v.role live fits.sizes;
+    front = fits.front;
+    met = (r.world.history, refl);
+    own = All-nil (IsTrueFact limits r.world (row_words limits s.words));
+    told = tells s r id v v.role fits fits.role;
+    role = tt;
+  }
+
+  pub splits_note : (id : ℕ) (v : View) → IsLive v.role → Splits (IsKept limits) id v v (note_of v)
+  splits_note id v live s r at = record {
+    world = r.world;
+    laid = r.laid;
+    events = r.events;
+    asked = r.asked;
+    covers = r.covers;
+    fresh = r.fresh;
+    seats = each-snoc (Fits limits r.world s.words) (set s.views id v) (note_of v)
+        (each-set (Fits limits r.world s.words) s.views id v (r.seats id v at) (λ j w _. r.seats j w))
+        (note_fits s r id v (length (set s.views id v)) live (r.seats id v at));
+  }
+
+  pub joins_note : (id : ℕ) (v : View) (other : ℕ) (w : View) → Joins (IsKept limits) id v other w (taken_in v w) spent
+  joins_note id v other w s r at apart there =
+      let mine = r.seats id v at in
+      let others : EachSeat (Fits limits r.world s.words) (set s.views id v) = each-set (Fits limits r.world s.words) s.views id v mine (λ j x _. r.seats j x) in
+      let note : Fits limits r.world s.words other w =
+      ⊎_elim (λ t. absurd (apart t.0)) (λ t. r.seats other w t.1) (at_set s.views id other (taken_in v w) w there) in
+      let both : Fits limits r.world s.words id (taken_in v w) = record {
+        sizes = mine.sizes;
+        front = mine.front;
+        met = note.front;
+        own = mine.own;
+        told = All-append (IsTrueFact limits r.world (row_words limits s.words)) w.told v.told note.told mine.told;
+        role = mine.role;
+      } in
+      record {
+        world = r.world;
+        laid = r.laid;
+        events = r.events;
+        asked = r.asked;
+        covers = r.covers;
+        fresh = r.fresh;
+        seats = each-set (Fits limits r.world s.words) (set s.views id (taken_in v w)) other spent
+            (record { sizes = tt; front = (r.world.history, refl); met = (r.world.history, refl); own = All-nil (IsTrueFact limits r.world (row_words limits s.words)); told = All-nil (IsTrueFact limits r.world (row_words limits s.words)); role = tt })
+            (λ j x _ here. each-set (Fits limits r.world s.words) s.views id (taken_in v w) both (λ k y _. r.seats k y) j x here);
+      }

@@ -1,0 +1,15 @@
+use Rattle.std.proofs.Common.{◌≡◌, List, ◌++◌, length}
+use Rattle.std.specs.List.{All}
+use Rattle.slice_rule.specs.Seats.{CanEnd, HasEnded, IsSameHome, PassState}
+use Rattle.slice_rule.proofs.pool.Pool.end_passes.Given as goal
+
+-- the passes that are done stood after those that are left
+abbrev pub invariant-loop-seat : goal.invariant-loop-seat
+invariant-loop-seat l = record {
+  home : IsSameHome l.initial.home l.home;
+  ready : All (CanEnd l.self) l.seats.items;
+  done : (ended : List PassState) × (l.initial.seats.items ≡ l.seats.items ++ ended) × All (HasEnded l.initial.home.history) ended;
+}
+
+abbrev pub decreases-loop-seat : goal.decreases-loop-seat
+decreases-loop-seat l = length l.seats.items

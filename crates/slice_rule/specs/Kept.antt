@@ -1,0 +1,39 @@
+-- A pool in the middle of its work, as the rule sees it: every pass has seen the whole history.
+use Rattle.std.specs.Prelude.{◌≡◌, ℕ, ◌*◌, ◌^◌, ◌<◌, List, [], ◌∷◌, ◌++◌, length, map}
+use Rattle.std.specs.List.{range_with_len}
+use Rattle.atomic_table.specs.Table.{State}
+use Rattle.funnel_model.specs.declared.event.Event.{Event}
+use Rattle.funnel_model.specs.Legal.{Limits, IsLegal}
+use Rattle.funnel_model.specs.RowWords.{AreFresh, Covers}
+use Rattle.slice_rule.specs.declared.view.Role.TheVariants as role
+use Rattle.slice_rule.specs.declared.view.View.{View}
+use Rattle.slice_rule.specs.Rule.{IsKept}
+use Rattle.slice_rule.specs.Views.{view_at_start}
+use Rattle.slice_rule.specs.Worlds.{made_by}
+
+-- the home and a pass, after the history
+abbrev pub home_after : Limits → List Event → View
+home_after limits history = record (view_at_start limits (role.Home limits.passes limits.passes)) { front = history }
+
+abbrev pub pass_after : Limits → List Event → ℕ → View
+pass_after limits history pass = record (view_at_start limits (role.Pass pass)) { front = history; asked = made_by pass history }
+
+-- the pool after the history, with these row words
+abbrev pub pool_after : Limits → List Event → List ℕ → State (Unit {0}) View
+pool_after limits history rows = record {
+  words = (length history ∷ limits.passes ∷ map (λ pass. length (made_by pass history)) (range_with_len 0 limits.passes)) ++ rows;
+  homes = [];
+  views = home_after limits history ∷ map (pass_after limits history) (range_with_len 0 limits.passes);
+}
+
+-- a history that is legal can be that of a pool, with any row words that cover it and are fresh
+pub record CanBeKept (limits : Limits) (history : List Event) (rows : List ℕ) : Type 0 where
+  pub legal : IsLegal limits history
+  pub few : length history < 2 ^ 63
+  pub laid : length rows ≡ limits.slices * limits.slice_words
+  pub covers : Covers rows history
+  pub fresh : AreFresh limits rows history
+
+-- whatever the history is
+abbrev pub EachCanBeKept : Type 0
+EachCanBeKept = (limits : Limits) (history : List Event) (rows : List ℕ) → CanBeKept limits history rows → IsKept limits (pool_after limits history rows)

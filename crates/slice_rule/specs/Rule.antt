@@ -1,0 +1,103 @@
+-- The rule of the pool: what holds of its words and of all seats' views between any two steps.
+use Rattle.std.specs.Prelude.{◌≡◌, ℕ, ◌^◌, ◌<◌, ◌≤◌, ◌⊎◌, true, List, [], length, slice_index, All}
+use Rattle.std.specs.List.{list_any}
+use mathlib.Core.Option.{some}
+use mathlib.Core.List.{IsPrefix}
+use lib.ListN.{get_elem?}
+use Rattle.atomic_table.specs.Table.{State}
+use Rattle.funnel_model.specs.declared.event.Event.{Event}
+use Rattle.funnel_model.specs.declared.event.Event.TheVariants as event
+use Rattle.funnel_model.specs.declared.bit_list.Bit.{Bit}
+use Rattle.funnel_model.specs.Events.{clears}
+use Rattle.funnel_model.specs.Legal.{Limits, IsInSlice, IsLegal}
+use Rattle.funnel_model.specs.RowWords.{AreFresh, Covers, IsSetIn}
+use Rattle.slice_rule.specs.declared.view.Role.{Role}
+use Rattle.slice_rule.specs.declared.view.Role.TheVariants as role
+use Rattle.slice_rule.specs.declared.view.Fact.{Fact}
+use Rattle.slice_rule.specs.declared.view.Fact.TheVariants as fact
+use Rattle.slice_rule.specs.declared.view.View.{View}
+use Rattle.slice_rule.specs.Pools.{ask_word, pool_words, row_words}
+use Rattle.slice_rule.specs.Numbers.{HasEvent, takes_in}
+use Rattle.slice_rule.specs.Worlds.{World, LacksAtMostOne, made_by}
+
+-- word 0 is the number of events of the history, which is legal and short enough to be counted
+pub record CountsEvents (limits : Limits) (world : World) (words : List ℕ) : Type 0 where
+  pub events : slice_index words 0 ≡ length world.history
+  pub few : length world.history < 2 ^ 63
+  pub legal : IsLegal limits world.history
+
+-- the word of each pass counts the events that it asked, and the history has all of these, or all but the last; a pass without
+-- a seat asked nothing
+pub record CountsAsked (limits : Limits) (world : World) (words : List ℕ) : Type 0 where
+  pub count : (pass : ℕ) → pass < limits.passes → slice_index words (ask_word pass) ≡ length (world.asked pass)
+  pub made : (pass : ℕ) → LacksAtMostOne (made_by pass world.history) (world.asked pass)
+  pub none : (pass : ℕ) → world.seated ≤ pass → world.asked pass ≡ []
+
+-- the bit lies in the slice of the Take with this number, and it is set, unless that slice was cleared since
+pub record IsKnownSet (limits : Limits) (history : List Event) (rows : List ℕ) (number : ℕ) (b : Bit) : Type 0 where
+  pub pass : ℕ
+  pub slice : ℕ
+  pub column : ℕ
+  pub take : HasEvent history number (event.Take pass slice column)
+  pub inside : IsInSlice limits.slice_words slice b.word
+  pub set : IsSetIn rows b ⊎ (list_any (clears slice) take.later ≡ true)
+
+-- the word lies in the slice of the Clear with this number, and it is zero, unless a column of that slice was taken since
+pub record IsKnownZero (limits : Limits) (history : List Event) (rows : List ℕ) (number word : ℕ) : Type 0 where
+  pub pass : ℕ
+  pub slice : ℕ
+  pub clear : HasEvent history number (event.Clear pass slice)
+  pub inside : IsInSlice limits.slice_words slice word
+  pub zero : (slice_index rows word ≡ 0) ⊎ (list_any (takes_in slice) clear.later ≡ true)
+
+-- what a seat knows is so: of the events that a pass asked it knows a beginning
+abbrev pub IsTrueFact : Limits → World → List ℕ → Fact → Type 0
+IsTrueFact limits world rows (fact.Asked pass events) = IsPrefix events (world.asked pass)
+IsTrueFact limits world rows (fact.BitSet number b) = IsKnownSet limits world.history rows number b
+IsTrueFact limits world rows (fact.WordZero number word) = IsKnownZero limits world.history rows number word
+IsTrueFact limits world rows (fact.WordRead number word value) = Unit {0}
+
+-- the home is one seat, it has seen the whole history, and word 1 counts the passes that it has numbered
+pub record IsHome (world : World) (words : List ℕ) (id made seats : ℕ) (front : List Event) : Type 0 where
+  pub one : id ≡ world.home
+  pub whole : front ≡ world.history
+  pub counts : slice_index words 1 ≡ made
+  pub seated : seats ≡ world.seated
+
+-- the number of a pass belongs to one seat, which knows what the pass asked; its front lacks at most the last of it
+pub record IsPassOf (world : World) (id pass : ℕ) (front asked : List Event) : Type 0 where
+  pub made : pass < world.seated
+  pub one : id ≡ world.seat pass
+  pub all : asked ≡ world.asked pass
+  pub seen : LacksAtMostOne (made_by pass front) (world.asked pass)
+
+-- what a seat knows by its role
+abbrev pub FitsRole : World → List ℕ → ℕ → List Event → List Event → Role → Type 0
+FitsRole world words id front asked (role.Home made seats) = IsHome world words id made seats front
+FitsRole world words id front asked (role.Pass pass) = IsPassOf world id pass front asked
+FitsRole world words id front asked _ = Unit {0}
+
+-- a seat that isn't spent has the sizes of the pool
+abbrev pub HasSizes : Limits → Limits → Role → Type 0
+HasSizes limits known role.Spent = Unit {0}
+HasSizes limits known _ = known ≡ limits
+
+-- a seat knows nothing that isn't so: its front is a beginning of the history, and what it did and was told is true
+pub record Fits (limits : Limits) (world : World) (words : List ℕ) (id : ℕ) (v : View) : Type 0 where
+  pub sizes : HasSizes limits v.limits v.role
+  pub front : IsPrefix v.front world.history
+  pub met : IsPrefix v.met world.history
+  pub own : All (IsTrueFact limits world (row_words limits words)) v.own
+  pub told : All (IsTrueFact limits world (row_words limits words)) v.told
+  pub role : FitsRole world words id v.front v.asked v.role
+
+-- the rule: beside the counts and what the seats know, the row words have each bit that the history has committed, and the words
+-- of a slice without a claimed column are zero
+pub record IsKept (limits : Limits) (s : State (Unit {0}) View) : Type 0 where
+  pub world : World
+  pub laid : length s.words ≡ pool_words limits
+  pub events : CountsEvents limits world s.words
+  pub asked : CountsAsked limits world s.words
+  pub covers : Covers (row_words limits s.words) world.history
+  pub fresh : AreFresh limits (row_words limits s.words) world.history
+  pub seats : (id : ℕ) (v : View) → get_elem? s.views id ≡ some v → Fits limits world s.words id v

@@ -1,0 +1,70 @@
+ghost use Rattle.std.specs.Prelude.{◌≡◌, ◌<◌, length, Option, Some, None, replicate, slice_index_or, slice_set, MatchOption, IfOk, IsSome};
+ghost use Rattle.token_manager.specs.Guarding.{HasOpened, IsLowestBefore, NoneBefore};
+
+use funnel_model::Memory;
+use std::alloc::Global;
+use std::marker::Model;
+
+/// The open tokens of all passes. Contracts see a list by pass, with the number of the event that opened its token.
+#[derive(Debug, Drop)]
+pub struct Tokens {
+    open: Vec<Option<u64>>,
+}
+
+impl Model for Tokens {
+    ghost use Rattle.std.specs.Prelude.{ℕ, ◌<◌, ◌^◌, List, Option, length};
+
+    ghost Value = { List (Option ℕ) };
+
+    ghost view = { λ t. t.open.items };
+
+    ghost invariant = { λ t. length t.open.items < 2 ^ 32 };
+}
+
+impl Tokens {
+    /// Takes the room for this many passes, none of which has a token.
+    pub fn new(alloc: Global, passes: u32) -> Result<Tokens, Memory>
+        ensures { IfOk result (λ tokens. tokens ≡ replicate passes None) }
+    {
+        Ok(Tokens {
+            open: vec![in alloc; None; passes as usize]?,
+        })
+    }
+
+    /// Opens the pass's token.
+    pub fn open(&mut self, pass: u32, event: u64)
+        requires in_range { pass < length self.old }
+        requires none { slice_index_or self.old pass None ≡ None }
+        ensures { self.new ≡ slice_set self.old pass (Some event) }
+    {
+        self.open[pass as usize] = Some(event);
+    }
+
+    /// Ends the pass's token.
+    pub fn end(&mut self, pass: u32)
+        requires { IsSome (slice_index_or self.old pass None) }
+        ensures { self.new ≡ slice_set self.old pass None }
+    {
+        self.open[pass as usize] = None;
+    }
+
+    /// The number of the event that opened the pass's token, where it has one open.
+    pub fn opened_at(&self, pass: u32) -> Option<u64>
+        ensures { result ≡ slice_index_or self.now pass None }
+    {
+        self.open.get(pass as usize).copied().flatten()
+    }
+
+    /// The lowest pass whose token was opened before this event, with the number of its own. It walks over the passes.
+    pub fn guard_of(&self, retired_at: u64) -> Option<(u32, u64)>
+        ensures { MatchOption result (NoneBefore self.now retired_at) (λ guard. IsLowestBefore self.now retired_at guard.0 guard.1) }
+    {
+        for (pass, token) in self.open.iter().enumerate() {
+            match token {
+                Some(event) if *event < retired_at => return Some((pass as u32, *event)),
+                _ => {}
+            }
+        }
+        None
+    }
+}
