@@ -92,6 +92,7 @@ fn add_first(pool: &Pool, home: &mut Home, seat: &mut PassSeat, text: Text, bits
     requires seat { (seat.old.pool ≡ pool.now) × (seat.old.number ≡ 0) × HasNoneOutstanding seat.old }
     requires own { (f : Fact) → Contains seat.old.own f ↔ (Contains [] f ⊎ IsBitOf 1 bits.items f) }
     requires word { All (λ b. b.word ≡ 0) bits.items }
+    requires in_word { All (λ b. b.bit < 64) bits.items }
     ensures home { (home.new.pool ≡ pool.now)
         × (home.new.history ≡ event.Take 0 0 0 ∷ event.Take 1 0 1 ∷ event.Add 0 4 text 0 0 bits.items ∷ []) }
     ensures seat { (seat.new.pool ≡ pool.now) × (seat.new.number ≡ 0) × HasNoneOutstanding seat.new }
@@ -117,6 +118,7 @@ fn add_second(pool: &Pool, home: &mut Home, seat: &mut PassSeat, text: Text, bit
     requires seat { (seat.old.pool ≡ pool.now) × (seat.old.number ≡ 1) × HasNoneOutstanding seat.old }
     requires own { (f : Fact) → Contains seat.old.own f ↔ (Contains [] f ⊎ IsBitOf 2 bits.items f) }
     requires word { All (λ b. b.word ≡ 0) bits.items }
+    requires in_word { All (λ b. b.bit < 64) bits.items }
     ensures home { (home.new.pool ≡ pool.now) × (home.new.history ≡ home.old.history ++ event.Add 1 5 text 0 1 bits.items ∷ []) }
 {
     pool.catch_up(home, seat);

@@ -1,5 +1,9 @@
 pub mod CountLemmas
-pub mod EntryLemmas
 pub mod FoundLemmas
 pub mod SlotLemmas
 pub mod WordSets
+pub mod EntryLemmas
+pub mod ChainLemmas
+pub mod TableLemmas
+pub mod ColumnLemmas
+pub mod AddedLemmas

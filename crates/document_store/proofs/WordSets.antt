@@ -1,9 +1,8 @@
 -- When a document has every word: by membership, by the test, and against the texts.
-use Rattle.std.proofs.Common.{◌≡◌, ◌↔◌, ℕ, true, List, Global, String, map, sym, ◌∙◌, string_bytes}
+use Rattle.std.proofs.Common.{◌≡◌, ◌↔◌, ℕ, true, List, sym, ◌∙◌}
 use Rattle.std.proofs.lemmas.List.Elements.{All-contains, All-contains_itself, All-weaker}
-use Rattle.std.proofs.lemmas.List.Folds.{list_all-map}
 use Rattle.std.proofs.lemmas.List.Sums.{AllPass-from_list_all, list_all-from_AllPass}
-use Rattle.std.specs.List.{Contains, list_any, list_all}
+use Rattle.std.specs.List.{Contains, list_any}
 use Rattle.std.specs.Str.{bytes_eq}
 use Rattle.funnel_model.proofs.WordLemmas.{Contains-has, meets-sets}
 use Rattle.funnel_model.specs.Words.{AreWordsOf, meets}

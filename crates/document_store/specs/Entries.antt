@@ -1,26 +1,20 @@
 -- The column of each live number.
-use Rattle.std.specs.Prelude.{ℕ, ◌==◌, ◌<◌, ◌≤◌, ◌≡◌, List, length, slice_index_or, Option, Result, Ok, Err}
-use Rattle.std.specs.List.{AllPairs, find}
+use Rattle.std.specs.Prelude.{ℕ, ◌==◌, ◌/◌, ◌%◌, Bool, false, List, Option, Some, None}
+use Rattle.std.specs.List.{position}
 use Rattle.std.specs.Option.{option_map}
-use Rattle.document_store.specs.declared.live_list.Entry.{Entry}
 
--- the entries by rising number, and the room that is left for more
+-- so many slices of so many columns; the entries stand slice after slice, in the order of the columns, and each is the
+-- number that is live in its column, where there is one
 pub record Entries : Type 0 where
-  pub entries : List Entry
-  pub room : ℕ
+  pub slices : ℕ
+  pub columns : ℕ
+  pub entries : List (Option ℕ)
 
--- the numbers rise, so each stands once
-abbrev pub RiseByNumber : List Entry → Type 0
-RiseByNumber entries = AllPairs (λ (e later : Entry). e.id < later.id) entries
+-- the entry has this number
+abbrev pub has_id : ℕ → Option ℕ → Bool
+has_id id None = false
+has_id id (Some n) = n == id
 
--- the slice and the column of a number, where it has an entry
+-- the slice and the column of a number, where it is live
 abbrev pub column_of : Entries → ℕ → Option (ℕ × ℕ)
-column_of live id = option_map (λ (e : Entry). (e.slice, e.column)) (find (λ (e : Entry). e.id == id) live.entries)
-
--- a place among entries: that of the number's entry, or that at which it would be where there is none
-abbrev pub IsPlaceOf : List Entry → ℕ → Result ℕ ℕ → Type 0
-IsPlaceOf entries id (Ok i) = (i < length entries) × ((d : Entry) → (slice_index_or entries i d).id ≡ id)
-IsPlaceOf entries id (Err i) =
-    (i ≤ length entries)
-    × ((k : ℕ) (d : Entry) → k < i → (slice_index_or entries k d).id < id)
-    × ((k : ℕ) (d : Entry) → i ≤ k → k < length entries → id < (slice_index_or entries k d).id)
+column_of live id = option_map (λ i. (i / live.columns, i % live.columns)) (position (has_id id) live.entries)

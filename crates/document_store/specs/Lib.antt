@@ -1,3 +1,4 @@
+pub mod Chains
 pub mod Documents
 pub mod Entries
 pub mod Finding

@@ -1,7 +1,8 @@
 //! Documents in their columns, what a find makes of them, and the list of live numbers.
 
-ghost use Rattle.std.specs.Prelude.{◌≡◌, ◌∷◌, [], IfOk};
+ghost use Rattle.std.specs.Prelude.{◌≡◌, ◌≢◌, ℕ, ◌∷◌, [], IfOk, Option, None};
 ghost use Rattle.funnel_model.specs.Words.{words};
+ghost use Rattle.document_store.specs.Entries.{column_of};
 ghost use Rattle.document_store.specs.Slots.{IsColumn};
 
 use super::*;
@@ -150,18 +151,61 @@ fn documents_are_found_in_the_order_of_their_adds(rt: HostRuntime) -> Result<(),
     Ok(())
 }
 
+/// Gives each column of two slices of two columns a number.
+fn fill(live: &mut LiveList, a: u64, b: u64, c: u64, d: u64)
+    requires slices { live.old.slices ≡ 2 }
+    requires columns { live.old.columns ≡ 2 }
+    requires empty { (id : ℕ) → column_of live.old id ≡ None }
+    requires first { (a ≢ b) × (a ≢ c) × (a ≢ d) }
+    requires later { (b ≢ c) × (b ≢ d) × (c ≢ d) }
+    ensures slices { live.new.slices ≡ 2 }
+    ensures columns { live.new.columns ≡ 2 }
+    ensures only { (id : ℕ) → id ≢ a → id ≢ b → id ≢ c → id ≢ d → column_of live.new id ≡ None }
+{
+    live.add(a, 0, 1);
+    live.add(b, 1, 0);
+    live.add(c, 0, 0);
+    live.add(d, 1, 1);
+}
+
+/// Takes four numbers away. Their columns.
+fn take_away(live: &mut LiveList, a: u64, b: u64, c: u64, d: u64) -> [Option<(u32, u32)>; 4]
+    requires only { (id : ℕ) → id ≢ a → id ≢ b → id ≢ c → id ≢ d → column_of live.old id ≡ None }
+    ensures slices { live.new.slices ≡ live.old.slices }
+    ensures columns { live.new.columns ≡ live.old.columns }
+    ensures empty { (id : ℕ) → column_of live.new id ≡ None }
+{
+    [
+        live.remove(a),
+        live.remove(b),
+        live.remove(c),
+        live.remove(d),
+    ]
+}
+
 #[test]
 fn live_numbers_have_their_columns(rt: HostRuntime) -> Result<(), Fail> {
-    let mut live = LiveList::new(rt.alloc(), 3)?;
-    live.add(5, 0, 1);
-    live.add(9, 1, 0);
-    live.add(2, 0, 2);
-    assert_eq!(rt; live.get(5), Some((0, 1)));
-    assert_eq!(rt; live.get(7), None);
-    assert_eq!(rt; live.remove(7), None);
-    assert_eq!(rt; live.remove(5), Some((0, 1)));
+    let mut live = LiveList::new(rt.alloc(), 2, 2)?;
+    // Four numbers have four buckets, so that some share one. These are multiples of 2 to the 32nd.
+    let (a, b, c, d) = (0, 0x1_0000_0000, 0x2_0000_0000, 0x7_0000_0000);
+    fill(&mut live, a, b, c, d);
+    assert_eq!(rt; live.get(a), Some((0, 1)));
+    assert_eq!(rt; live.get(b), Some((1, 0)));
+    assert_eq!(rt; live.get(c), Some((0, 0)));
+    assert_eq!(rt; live.get(d), Some((1, 1)));
+    assert_eq!(rt; live.get(1), None);
+    assert_eq!(rt; live.remove(1), None);
+    assert_eq!(rt;
+        take_away(&mut live, c, a, d, b),
+        [Some((0, 0)), Some((0, 1)), Some((1, 1)), Some((1, 0))]
+    );
+    assert_eq!(rt; live.get(a), None);
+    // Each column can have another number.
+    fill(&mut live, d, 5, a, 6);
+    assert_eq!(rt; live.get(d), Some((0, 1)));
+    assert_eq!(rt; live.get(a), Some((0, 0)));
+    assert_eq!(rt; live.remove(5), Some((1, 0)));
     assert_eq!(rt; live.get(5), None);
-    assert_eq!(rt; live.get(9), Some((1, 0)));
-    assert_eq!(rt; live.get(2), Some((0, 2)));
+    assert_eq!(rt; live.get(6), Some((1, 1)));
     Ok(())
 }

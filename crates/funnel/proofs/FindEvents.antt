@@ -13,7 +13,7 @@ use Rattle.funnel_model.specs.Legal.{IsAllowed, IsIdle}
 use Rattle.funnel_model.proofs.LastEvents.{alone_awaits, idle_awaits_nothing, nothing_clears}
 use Rattle.funnel_model.proofs.Spans.{in_span-push, last_by-own}
 use Rattle.funnel.specs.declared.index.Counts.{Counts}
-use Rattle.funnel.specs.Kept.{IsKept, IsOpenFind, limits_of, no_counts}
+use Rattle.funnel.specs.Kept.{IsKept, IsOpenFind, program_limits, no_counts}
 use Rattle.funnel.proofs.InUse.{used_slices}
 use Rattle.funnel.proofs.KeptEvents.{kept-silent, silent_end, silent_find}
 
@@ -26,7 +26,7 @@ kept-named {slices} {history} {later} {journal} {table} {live} {counts} {rows} {
 
 module _ (slices : ℕ) (history : List Event) (journal : List Commit) (table : Table) (live : Entries) (counts : List Counts) (rows : List ℕ) (er jr : ℕ) (is : IsKept slices history journal table live counts rows er jr) where
   -- an idle pass may begin a find
-  find_allowed : (query : List ℕ) → IsIdle 0 history → IsAllowed (limits_of slices) history (event.Find 0 query)
+  find_allowed : (query : List ℕ) → IsIdle 0 history → IsAllowed (program_limits slices) history (event.Find 0 query)
   find_allowed query idle = record {
     pass = omega arith;
     at_once = subst (λ o. IfSome o (λ next. event.Find 0 query ≡ next)) (sym (idle_awaits_nothing 0 history is.alone idle)) tt;
@@ -39,7 +39,7 @@ module _ (slices : ℕ) (history : List Event) (journal : List Commit) (table : 
       kept-silent slices history journal table live counts rows er jr is (event.Find 0 query) (find_allowed query idle) refl (silent_find 0 query)
 
   -- a pass may end the find that it began
-  end_allowed : (query : List ℕ) → last_by 0 history ≡ Some (event.Find 0 query) → IsAllowed (limits_of slices) history (event.End 0)
+  end_allowed : (query : List ℕ) → last_by 0 history ≡ Some (event.Find 0 query) → IsAllowed (program_limits slices) history (event.End 0)
   end_allowed query begun = record {
     pass = omega arith;
     at_once = subst (λ o. IfSome o (λ next. event.End 0 ≡ next)) (sym (alone_awaits 0 history is.alone ∙ ap (option_and_then next_after) begun)) tt;
@@ -62,5 +62,5 @@ module _ (slices : ℕ) (history : List Event) (journal : List Commit) (table : 
         place_is = place_is ∙ ap length next.journal_is;
         slices_are = used_slices slices (history ++ event.Find 0 query ∷ []) journal table live counts rows er jr next token.slices
             (λ slice. in_span-push (clears slice) slice history (event.Find 0 query) refl
-            ∙ ap (λ b. b || false) (nothing_clears (limits_of slices) 0 slice history is.legal is.alone idle)) counted;
+            ∙ ap (λ b. b || false) (nothing_clears (program_limits slices) 0 slice history is.legal is.alone idle)) counted;
       }

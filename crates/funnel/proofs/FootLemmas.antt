@@ -2,7 +2,7 @@
 use Rattle.std.proofs.Common.{◌≡◌, ℕ, refl, ◌+◌, ◌*◌, ◌<◌, List, [], ◌∷◌, map, get_or, sym, ap, ◌∙◌, subst, arith, Contains}
 use Rattle.std.proofs.lemmas.Cmp.{ranked}
 use Rattle.std.proofs.lemmas.List.{get_or-map, get_or_default, length-map}
-use Rattle.std.proofs.lemmas.List.Elements.{All-map, All-weaker}
+use Rattle.std.proofs.lemmas.List.Elements.{All-map, All-weaker, Contains-get_or}
 use Rattle.std.specs.Cmp.{nat_cmp_is}
 use Rattle.std.specs.List.{All, AllByRecursion}
 use Rattle.std.specs.List.Sorted.{IsStrictlySortedBy}
@@ -63,6 +63,12 @@ pub inside_slice : (slice column : ℕ) (rows : List ℕ) → All (λ row. row <
 inside_slice slice column rows within =
     All-map (λ (b : Bit). IsInSlice slice_rows slice b.word) (bit_at slice column) rows
     (All-weaker (λ row. row < slice_rows) (λ row. IsInSlice slice_rows slice (slice * slice_rows + row)) (λ row below. record { from = omega arith; to = omega arith }) rows within)
+
+-- the bits of a foot are bits of words of 64
+pub foot_in_word : (set : List (List ℕ)) (slice column : ℕ) (bits : List Bit) → IsFoot set slice column bits → column < 64 →
+    All (λ (b : Bit). b.bit < 64) bits
+foot_in_word set slice column bits foot below k d in' =
+    subst (λ (b : Bit). b.bit < 64) (sym ((foot.exactly (get_or bits k d)).0 (Contains-get_or bits k d in')).2) below
 
 -- they stand at the column
 pub at_column : (slice column : ℕ) (rows : List ℕ) → All (λ (b : Bit). b.bit ≡ column) (map (bit_at slice column) rows)

@@ -29,7 +29,7 @@ use Rattle.funnel_model.proofs.Columns.{clearing_is_over, not_retired_by, one_st
 use Rattle.funnel_model.proofs.LiveColumns.{live_column_is_live, live_has_column, live_on_one_column}
 use Rattle.funnel_model.proofs.LiveLemmas.{live_in_order, place-append}
 use Rattle.funnel.specs.Hits.{IsHit, IsScanned, column_cmp}
-use Rattle.funnel.specs.Kept.{AreCovered, AreRecorded, IsLiveIn, document_added_at, limits_of, state_in, state_of}
+use Rattle.funnel.specs.Kept.{AreCovered, AreRecorded, IsLiveIn, document_added_at, program_limits, state_in, state_of}
 use Rattle.funnel.proofs.FootLemmas.{same_rows}
 use Rattle.funnel.proofs.Slots.{live_by_state, state-live}
 use Rattle.funnel.proofs.Sorting.{distinct_given, first_or_rest, pair_below, pairs_in_order, pairs_rise, rising-map, rising_from_pairs, same_members}
@@ -88,7 +88,7 @@ live_rises history =
     let below = live_in_order history i j d lt in' in
     sym (nat_cmp_is (get_or (live history) i d).place (get_or (live history) j d).place Less below))
 
-module _ (slices : ℕ) (history : List Event) (table : Table) (row_words : List ℕ) (recorded : AreRecorded slices history table) (covered : AreCovered slices history table row_words) (legal : IsLegal (limits_of slices) history) where
+module _ (slices : ℕ) (history : List Event) (table : Table) (row_words : List ℕ) (recorded : AreRecorded slices history table) (covered : AreCovered slices history table row_words) (legal : IsLegal (program_limits slices) history) where
   -- a document found is live on its column
   found_live : (candidates : List (ℕ × ℕ)) (set : List (List ℕ)) (found : ℕ × ℕ) → ((slice column : ℕ) → Contains candidates (slice, column) → IsColumn table slice column) →
       (is : IsFound table candidates set (place history) found) → IsLiveOn history is.slice is.at (document_added_at found.0 is.doc)
@@ -118,7 +118,7 @@ module _ (slices : ℕ) (history : List Event) (table : Table) (row_words : List
       let live_x = found_live (x ∷ []) set y (alone x has_x) is_x in
       let live_z = found_live (z ∷ []) set w (alone z has_z) is_z in
       false_from_ne_true (y.1 == w.1) (λ same.
-      let one = live_on_one_column (limits_of slices) history is_x.slice is_x.at is_z.slice is_z.at (document_added_at y.0 is_x.doc) (document_added_at w.0 is_z.doc) legal live_x live_z
+      let one = live_on_one_column (program_limits slices) history is_x.slice is_x.at is_z.slice is_z.at (document_added_at y.0 is_x.doc) (document_added_at w.0 is_z.doc) legal live_x live_z
       (is_x.number ∙ eqb-true y.1 w.1 same ∙ sym is_z.number) in
       let at_x = this x is_x.slice is_x.at is_x.candidate in
       let at_z = this z is_z.slice is_z.at is_z.candidate in
@@ -155,8 +155,8 @@ module _ (slices : ℕ) (history : List Event) (table : Table) (row_words : List
   live_in_use : (slice column : ℕ) (d : Document) → column < 64 → IsInState history slice column (Live d) → IsInUse 64 slice history
   live_in_use slice column d below is =
       record {
-        not_retired = not_retired_by (limits_of slices) history slice column (Live d) legal below is (λ over. over);
-        not_clearing = false_from_ne_true (is_clearing slice history) (λ clearing. clearing_is_over (limits_of slices) history slice column (Live d) legal clearing below is);
+        not_retired = not_retired_by (program_limits slices) history slice column (Live d) legal below is (λ over. over);
+        not_clearing = false_from_ne_true (is_clearing slice history) (λ clearing. clearing_is_over (program_limits slices) history slice column (Live d) legal clearing below is);
       }
 
   -- a live document that meets the query is found
@@ -166,7 +166,7 @@ module _ (slices : ℕ) (history : List Event) (table : Table) (row_words : List
   live_found held candidates set query held_are scanned of_query slice column in' below d is meets_it =
       let in_table : IsColumn table slice column = record { slice_in_range = let h = recorded.slices_are in omega arith; column_in_range = let h = recorded.columns_are in omega arith } in
       let rec = recorded.each slice column in_table in
-      let lives = live_by_state (slot_at table slice column) d rec.fits (one_state (limits_of slices) history slice column (state_of (slot_at table slice column)) (Live d) legal rec.state is) in
+      let lives = live_by_state (slot_at table slice column) d rec.fits (one_state (program_limits slices) history slice column (state_of (slot_at table slice column)) (Live d) legal rec.state is) in
       let looked = (held_are slice).1 (in', live_in_use slice column d below is) in
       subst (λ (x : Document). x.place ≤ place history → meets x.text query ≡ true → IsFound table candidates set (place history) (x.place, x.id)) lives.is
       (λ within passes. column_found held candidates set slice column in_table below looked scanned lives.doc lives.live within
@@ -212,7 +212,7 @@ module _ (slices : ℕ) (history : List Event) (table : Table) (row_words : List
   unfolding met
   met_found held candidates set query held_are scanned of_query found has =
       let kept = kept_by_filter (λ (d : Document). (d.place, d.id)) (λ d. meets d.text query) (live history) found has in
-      let at = live_has_column (limits_of slices) history kept.0 legal kept.1 in
+      let at = live_has_column (program_limits slices) history kept.0 legal kept.1 in
       subst (IsFound table candidates set (place history)) kept.2 (live_found held candidates set query held_are scanned of_query at.0 at.1 at.2 at.3 kept.0 at.4 kept.3)
 
   -- what is found of the candidates of a scan is the answer

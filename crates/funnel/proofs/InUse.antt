@@ -14,7 +14,7 @@ use Rattle.funnel_model.specs.Slices.{AllOver, IsInUse, IsOver, Unclaimed, is_cl
 use Rattle.funnel_model.proofs.Claims.{unclaimed_by_count}
 use Rattle.funnel_model.proofs.Columns.{one_state}
 use Rattle.funnel.specs.declared.index.Counts.{Counts}
-use Rattle.funnel.specs.Kept.{IsKept, is_over, limits_of, no_counts, state_of}
+use Rattle.funnel.specs.Kept.{IsKept, is_over, program_limits, no_counts, state_of}
 use Rattle.funnel.proofs.KeptEvents.{claimed_count, is_column, state_is}
 use Rattle.funnel.proofs.Slots.{column_by_over, over_by_column}
 
@@ -112,7 +112,7 @@ module _ (slices : ℕ) (history : List Event) (journal : List Commit) (table : 
       (λ (all : (get_or counts slice no_counts).over ≡ 64).
       let k = (get_or counts slice no_counts).claimed in
       let state = over_by_count slice in' all k below in
-      let unclaimed = unclaimed_by_count (limits_of slices) slice k history is.legal (let h = claimed_count slices history journal table live counts rows er jr is slice in' in omega arith) in
-      absurd (subst IsOver (one_state (limits_of slices) history slice k state.0 Unclaimed is.legal state.1 unclaimed) state.2))
+      let unclaimed = unclaimed_by_count (program_limits slices) slice k history is.legal (let h = claimed_count slices history journal table live counts rows er jr is slice in' in omega arith) in
+      absurd (subst IsOver (one_state (program_limits slices) history slice k state.0 Unclaimed is.legal state.1 unclaimed) state.2))
       (λ (some : (get_or counts slice no_counts).over ≢ 64). let h : (get_or counts slice no_counts).over < 64 = omega arith in h)
       (cases_eq (get_or counts slice no_counts).over 64)

@@ -24,7 +24,7 @@ use Rattle.funnel_model.proofs.LastEvents.{alone_awaits, idle_awaits_nothing}
 use Rattle.funnel_model.proofs.LiveColumns.{live_column_is_live, live_has_column, live_number}
 use Rattle.funnel_model.proofs.LiveLemmas.{is_live-from_place, live_once}
 use Rattle.funnel.specs.declared.index.Counts.{Counts}
-use Rattle.funnel.specs.Kept.{IsKept, IsLiveIn, document_added_at, limits_of, no_counts}
+use Rattle.funnel.specs.Kept.{IsKept, IsLiveIn, document_added_at, program_limits, no_counts}
 use Rattle.funnel.proofs.KeptEvents.{IsSilent, claimed_count, is_column, kept-silent, next_is_free, state_is}
 use Rattle.funnel.proofs.Slots.{live_by_state, state-live}
 
@@ -45,21 +45,21 @@ find_first (x ∷ xs) (suc k) d in' is before = later (x.id == d.id) (eqb-false-
   eqb-false-from a b ne = ⊎_elim (λ same. absurd (ne same.1)) (λ other. other.0) (eqb_tells a b)
 
 -- the place of the add of a live document
-pub place_of_live : (limits_slices : ℕ) (history : List Event) (d : Document) → IsLegal (limits_of limits_slices) history → Contains (live history) d → live_place d.id history ≡ Some d.place
+pub place_of_live : (limits_slices : ℕ) (history : List Event) (d : Document) → IsLegal (program_limits limits_slices) history → Contains (live history) d → live_place d.id history ≡ Some d.place
 place_of_live slices history d legal (k, in', is) =
     ap (option_map (λ (x : Document). x.place))
     (find_first (live history) k d in' is (λ j lt same.
-    live_once (limits_of slices) history legal j k d lt in' (same ∙ ap (λ (x : Document). x.id) (sym is))))
+    live_once (program_limits slices) history legal j k d lt in' (same ∙ ap (λ (x : Document). x.id) (sym is))))
 
 module _ (slices : ℕ) (history : List Event) (journal : List Commit) (table : Table) (live_list : Entries) (counts : List Counts) (rows : List ℕ) (er jr : ℕ) (is : IsKept slices history journal table live_list counts rows er jr) where
   -- an event of the one pass is allowed where its rule holds and nothing else has to come
-  pub allowed_where : (e : Event) → pass_of e ≡ 0 → awaited history ≡ None → MayFollow (limits_of slices) history e → IsAllowed (limits_of slices) history e
+  pub allowed_where : (e : Event) → pass_of e ≡ 0 → awaited history ≡ None → MayFollow (program_limits slices) history e → IsAllowed (program_limits slices) history e
   allowed_where e own nothing rule = record { pass = omega arith; at_once = subst (λ o. IfSome o (λ next. e ≡ next)) (sym nothing) tt; rule = rule }
 
-  pub allowed_idle : (e : Event) → pass_of e ≡ 0 → IsIdle 0 history → MayFollow (limits_of slices) history e → IsAllowed (limits_of slices) history e
+  pub allowed_idle : (e : Event) → pass_of e ≡ 0 → IsIdle 0 history → MayFollow (program_limits slices) history e → IsAllowed (program_limits slices) history e
   allowed_idle e own idle rule = allowed_where e own (idle_awaits_nothing 0 history is.alone idle) rule
 
-  pub allowed_after : (e last : Event) → pass_of e ≡ 0 → last_by 0 history ≡ Some last → next_after last ≡ None → MayFollow (limits_of slices) history e → IsAllowed (limits_of slices) history e
+  pub allowed_after : (e last : Event) → pass_of e ≡ 0 → last_by 0 history ≡ Some last → next_after last ≡ None → MayFollow (program_limits slices) history e → IsAllowed (program_limits slices) history e
   allowed_after e last own before nothing rule =
       allowed_where e own (alone_awaits 0 history is.alone ∙ ap (option_and_then next_after) before ∙ nothing) rule
 
@@ -77,7 +77,7 @@ module _ (slices : ℕ) (history : List Event) (journal : List Commit) (table : 
   pub live_entry : (id : ℕ) → is_live id history ≡ true → LiveEntry id
   live_entry id some =
       let d = (live_number history id).0 some in
-      let at = live_has_column (limits_of slices) history d.0 is.legal d.1 in
+      let at = live_has_column (program_limits slices) history d.0 is.legal d.1 in
       let column = is_column slices history journal table live_list counts rows er jr is at.0 at.1 at.2 at.3 in
       let slot = live_by_state (slot_at table at.0 at.1) d.0 (is.recorded.each at.0 at.1 column).fits
       (state_is slices history journal table live_list counts rows er jr is at.0 at.1 (Live d.0) at.2 at.3 at.4) in
@@ -143,15 +143,15 @@ module _ (slices : ℕ) (history : List Event) (journal : List Commit) (table : 
         absurd (some_place e.added (ap is_some (sym e.place_is) ∙ sym (is_live-from_place id (live history)) ∙ absent))
 
   -- a silent event of the idle pass leaves what is kept
-  pub kept-idle : (e : Event) → pass_of e ≡ 0 → IsIdle 0 history → MayFollow (limits_of slices) history e → IsSilent e →
+  pub kept-idle : (e : Event) → pass_of e ≡ 0 → IsIdle 0 history → MayFollow (program_limits slices) history e → IsSilent e →
       IsKept slices (history ++ e ∷ []) journal table live_list counts rows er jr
   kept-idle e own idle rule silent = kept-silent slices history journal table live_list counts rows er jr is e (allowed_idle e own idle rule) own silent
 
   -- a take of a slice's next column that may follow is allowed
-  pub take_allowed : (s : ℕ) → s < slices → MayFollow (limits_of slices) history (event.Take 0 s (length (claimed s history))) →
-      IsAllowed (limits_of slices) history (event.Take 0 s (get_or counts s no_counts).claimed)
+  pub take_allowed : (s : ℕ) → s < slices → MayFollow (program_limits slices) history (event.Take 0 s (length (claimed s history))) →
+      IsAllowed (program_limits slices) history (event.Take 0 s (get_or counts s no_counts).claimed)
   take_allowed s in' may =
-      subst (λ k. IsAllowed (limits_of slices) history (event.Take 0 s k)) (claimed_count slices history journal table live_list counts rows er jr is s in')
+      subst (λ k. IsAllowed (program_limits slices) history (event.Take 0 s k)) (claimed_count slices history journal table live_list counts rows er jr is s in')
       (⊎_elim
       (λ next. allowed_idle (event.Take 0 s (length (claimed s history))) refl next.idle (inl next))
       (λ opened. record {
@@ -192,8 +192,8 @@ module _ (slices : ℕ) (history : List Event) (journal : List Commit) (table : 
   -- a slice in which a column is taken has a claimed column
   pub some_claimed : (s column : ℕ) → last_by 0 history ≡ Some (event.Take 0 s column) → claimed s history ≢ []
   some_claimed s column last none =
-      let pending = last_is_pending (limits_of slices) history s column 0 is.legal last in
-      pending_not_unclaimed (one_state (limits_of slices) history s column (Pending 0) Unclaimed is.legal pending
-      (unclaimed_by_count (limits_of slices) s column history is.legal (let h = ap length none in omega arith))) where
+      let pending = last_is_pending (program_limits slices) history s column 0 is.legal last in
+      pending_not_unclaimed (one_state (program_limits slices) history s column (Pending 0) Unclaimed is.legal pending
+      (unclaimed_by_count (program_limits slices) s column history is.legal (let h = ap length none in omega arith))) where
         pending_not_unclaimed : Pending 0 ≡ Unclaimed → ⊥
         pending_not_unclaimed is = cc

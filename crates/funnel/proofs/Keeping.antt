@@ -14,18 +14,18 @@ use Rattle.funnel_model.specs.Slices.{IsInState, claimed}
 use Rattle.funnel_model.specs.Words.{AreWordsOf}
 use Rattle.funnel_model.proofs.ColumnStates.{after}
 use Rattle.funnel.specs.declared.index.Counts.{Counts}
-use Rattle.funnel.specs.Kept.{AreCounted, AreCovered, AreListed, AreRecorded, IsCounted, IsLiveIn, IsRecorded, is_over, limits_of, no_counts, state_of}
+use Rattle.funnel.specs.Kept.{AreCounted, AreCovered, AreListed, AreRecorded, IsCounted, IsLiveIn, IsRecorded, is_over, program_limits, no_counts, state_of}
 use Rattle.funnel_model.proofs.Columns.{in_state-push}
 use Rattle.funnel.proofs.Slots.{with_slot-cases}
 
-module _ (slices : ℕ) (history : List Event) (e : Event) (legal : IsLegal (limits_of slices) history) (allowed : IsAllowed (limits_of slices) history e) where
+module _ (slices : ℕ) (history : List Event) (e : Event) (legal : IsLegal (program_limits slices) history) (allowed : IsAllowed (program_limits slices) history e) where
   -- a column that is recorded with the state after the event
   pub recorded-push : (slice column : ℕ) (x y : Slot) → IsRecorded history slice column x → FitsColumn y.column y.doc →
       state_of y ≡ after slice column (place history) (state_of x) e → ((doc : Parts) → y.doc ≡ Some doc → AreWordsOf doc.words doc.text) →
       IsRecorded (history ++ e ∷ []) slice column y
   recorded-push slice column x y was fits is words = record {
     fits = fits;
-    state = subst (IsInState (history ++ e ∷ []) slice column) (sym is) (in_state-push (limits_of slices) history e legal allowed slice column (state_of x) was.state);
+    state = subst (IsInState (history ++ e ∷ []) slice column) (sym is) (in_state-push (program_limits slices) history e legal allowed slice column (state_of x) was.state);
     words_of_text = words;
   }
 
@@ -70,8 +70,8 @@ listed-same history later table next live are more slices columns same = record 
   every = λ slice column doc in' is.
       let at : IsColumn table slice column = record { slice_in_range = let h = in'.slice_in_range in omega arith; column_in_range = let h = in'.column_in_range in omega arith } in
       are.every slice column doc at ((same slice column doc at).0 is);
-  few = let h = are.few in omega arith;
-  room = are.room;
+  slices_are = are.slices_are ∙ sym slices;
+  columns_are = are.columns_are ∙ sym columns;
 }
 
 -- the rows cover what they covered, where the same columns have the same live documents and no further slice has no claimed column

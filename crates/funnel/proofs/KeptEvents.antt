@@ -19,7 +19,7 @@ use Rattle.funnel_model.specs.declared.call.Call.{Call}
 use Rattle.funnel_model.specs.declared.commit.Commit.{Commit}
 use Rattle.funnel_model.specs.declared.event.Event.{Event}
 use Rattle.funnel_model.specs.declared.event.Event.TheVariants as event
-use Rattle.funnel_model.specs.Events.{pass_of, commit_of, taken_in, opens}
+use Rattle.funnel_model.specs.Events.{pass_of, commit_of, column_taken_in, opens}
 use Rattle.funnel_model.specs.History.{Document, last_by, place, live}
 use Rattle.funnel_model.specs.Legal.{IsAllowed}
 use Rattle.funnel_model.specs.Slices.{ColumnState, Unclaimed, Pending, Dropped, Live, Deleted, IsInState, IsOver, claimed, is_clearing}
@@ -30,7 +30,7 @@ use Rattle.funnel_model.proofs.Histories.{legal-push}
 use Rattle.funnel_model.proofs.LiveLemmas.{commits-append, commits-silent, place-append}
 use Rattle.funnel.specs.declared.index.Counts.{Counts}
 use Rattle.funnel.specs.Foot.{HasBit, IsFoot, slice_rows}
-use Rattle.funnel.specs.Kept.{AllSet, HasBits, HasFoot, IsKept, IsLiveIn, IsRecorded, IsZero, document_added_at, is_over, is_over_in, limits_of, no_counts, state_of}
+use Rattle.funnel.specs.Kept.{AllSet, HasBits, HasFoot, IsKept, IsLiveIn, IsRecorded, IsZero, document_added_at, is_over, is_over_in, program_limits, no_counts, state_of}
 use Rattle.funnel_model.proofs.Claims.{claimed-opened, claimed-take, unclaimed_by_count}
 use Rattle.funnel_model.proofs.Columns.{clearing_is_over, last_is_pending, one_state}
 use Rattle.funnel_model.proofs.LastEvents.{last_is_clearing}
@@ -42,7 +42,7 @@ use Rattle.funnel.proofs.Slots.{count-with_slot, free_by_state, free_slice-cases
 -- an event that changes no document and no column
 pub record IsSilent (e : Event) : Type 0 where
   pub commit : commit_of e ≡ None
-  pub takes : (slice : ℕ) → taken_in slice e ≡ None
+  pub takes : (slice : ℕ) → column_taken_in slice e ≡ None
   pub opens : (slice : ℕ) → opens slice e ≡ false
   pub stays : (slice column place : ℕ) (x : ColumnState) → after slice column place x e ≡ x
   pub foot : HasFoot e
@@ -130,7 +130,7 @@ live-with_slot table s c y here size not_new not_old slice column doc at =
 
 module _ (slices : ℕ) (history : List Event) (journal : List Commit) (table : Table) (live : Entries) (counts : List Counts) (rows : List ℕ) (er jr : ℕ) (is : IsKept slices history journal table live counts rows er jr) where
   -- a silent event leaves what is kept
-  pub kept-silent : (e : Event) → IsAllowed (limits_of slices) history e → pass_of e ≡ 0 → IsSilent e → IsKept slices (history ++ e ∷ []) journal table live counts rows er jr
+  pub kept-silent : (e : Event) → IsAllowed (program_limits slices) history e → pass_of e ≡ 0 → IsSilent e → IsKept slices (history ++ e ∷ []) journal table live counts rows er jr
   kept-silent e allowed own silent =
       let same_commits = commits-silent history e silent.commit in
       let same_place : place (history ++ e ∷ []) ≡ place history = ap length same_commits in
@@ -138,7 +138,7 @@ module _ (slices : ℕ) (history : List Event) (journal : List Commit) (table : 
       record {
         few = is.few;
         some = is.some;
-        legal = legal-push (limits_of slices) history e is.legal allowed;
+        legal = legal-push (program_limits slices) history e is.legal allowed;
         alone = All-push (λ (x : Event). pass_of x ≡ 0) history e is.alone own;
         sound = All-push HasFoot history e is.sound silent.foot;
         journal_is = is.journal_is ∙ sym same_commits;
@@ -164,7 +164,7 @@ module _ (slices : ℕ) (history : List Event) (journal : List Commit) (table : 
   -- a column is in the state that is recorded
   pub state_is : (slice column : ℕ) (x : ColumnState) → slice < slices → column < 64 → IsInState history slice column x → state_of (slot_at table slice column) ≡ x
   state_is slice column x in' below holds =
-      one_state (limits_of slices) history slice column (state_of (slot_at table slice column)) x is.legal
+      one_state (program_limits slices) history slice column (state_of (slot_at table slice column)) x is.legal
       (is.recorded.each slice column (is_column slice column in' below)).state holds
 
   -- the count of a slice's claimed columns
@@ -176,16 +176,16 @@ module _ (slices : ℕ) (history : List Event) (journal : List Commit) (table : 
   next_is_free slice in' below =
       let k = (get_or counts slice no_counts).claimed in
       free_by_state (slot_at table slice k) (is.recorded.each slice k (is_column slice k in' below)).fits
-      (state_is slice k Unclaimed in' below (unclaimed_by_count (limits_of slices) slice k history is.legal (let h = claimed_count slice in' in omega arith)))
+      (state_is slice k Unclaimed in' below (unclaimed_by_count (program_limits slices) slice k history is.legal (let h = claimed_count slice in' in omega arith)))
 
   -- the column of the pass's take is pending by it
   pub taken_is_pending : (slice column : ℕ) → slice < slices → column < 64 → last_by 0 history ≡ Some (event.Take 0 slice column) → (slot_at table slice column).column ≡ became.Pending 0
   taken_is_pending slice column in' below last =
       pending_by_state (slot_at table slice column) 0 (is.recorded.each slice column (is_column slice column in' below)).fits
-      (state_is slice column (Pending 0) in' below (last_is_pending (limits_of slices) history slice column 0 is.legal last))
+      (state_is slice column (Pending 0) in' below (last_is_pending (program_limits slices) history slice column 0 is.legal last))
 
   -- a take of the next column of a slice
-  pub kept-take : (s : ℕ) → s < slices → (get_or counts s no_counts).claimed < 64 → IsAllowed (limits_of slices) history (event.Take 0 s (get_or counts s no_counts).claimed) →
+  pub kept-take : (s : ℕ) → s < slices → (get_or counts s no_counts).claimed < 64 → IsAllowed (program_limits slices) history (event.Take 0 s (get_or counts s no_counts).claimed) →
       IsKept slices (history ++ event.Take 0 s (get_or counts s no_counts).claimed ∷ []) journal (with_slot table s (get_or counts s no_counts).claimed (record { column = became.Pending 0; doc = None })) live
       (set counts s (record { claimed = (get_or counts s no_counts).claimed + 1; over = (get_or counts s no_counts).over })) rows er jr
   kept-take s in' below allowed =
@@ -204,7 +204,7 @@ module _ (slices : ℕ) (history : List Event) (journal : List Commit) (table : 
       record {
         few = is.few;
         some = is.some;
-        legal = legal-push (limits_of slices) history e is.legal allowed;
+        legal = legal-push (program_limits slices) history e is.legal allowed;
         alone = All-push (λ (x : Event). pass_of x ≡ 0) history e is.alone refl;
         sound = All-push HasFoot history e is.sound tt;
         journal_is = is.journal_is ∙ sym same_commits;
@@ -230,7 +230,7 @@ module _ (slices : ℕ) (history : List Event) (journal : List Commit) (table : 
   pub none_live : (slice column : ℕ) (doc : Parts) → slice < slices → column < 64 → is_clearing slice history ≡ true → IsLiveIn (slot_at table slice column) doc → ⊥
   none_live slice column doc in' below clearing l =
       subst IsOver (state-live (slot_at table slice column) doc l)
-      (clearing_is_over (limits_of slices) history slice column (state_of (slot_at table slice column)) is.legal clearing below
+      (clearing_is_over (program_limits slices) history slice column (state_of (slot_at table slice column)) is.legal clearing below
       (is.recorded.each slice column (is_column slice column in' below)).state)
 
   -- other row words, where those of the slices with live documents or unclaimed columns are as they should be
@@ -284,12 +284,12 @@ module _ (slices : ℕ) (history : List Event) (journal : List Commit) (table : 
       others slice row ne within ∙ old row within)
 
   -- a slice whose rows are 0 is opened
-  pub kept-opened : (s : ℕ) → s < slices → last_by 0 history ≡ Some (event.Clear 0 s) → IsZero s rows → IsAllowed (limits_of slices) history (event.Opened 0 s false) →
+  pub kept-opened : (s : ℕ) → s < slices → last_by 0 history ≡ Some (event.Clear 0 s) → IsZero s rows → IsAllowed (program_limits slices) history (event.Opened 0 s false) →
       IsKept slices (history ++ event.Opened 0 s false ∷ []) journal (with_free_slice table s) live (set counts s no_counts) rows er jr
   kept-opened s in' last zero allowed =
       let e = event.Opened 0 s false in
       let next = with_free_slice table s in
-      let clearing = last_is_clearing (limits_of slices) history 0 s is.legal last in
+      let clearing = last_is_clearing (program_limits slices) history 0 s is.legal last in
       let same_commits = commits-silent history e refl in
       let same_place : place (history ++ e ∷ []) ≡ place history = ap length same_commits in
       let other_claims : (slice : ℕ) → slice ≢ s → claimed slice (history ++ e ∷ []) ≡ claimed slice history =
@@ -310,7 +310,7 @@ module _ (slices : ℕ) (history : List Event) (journal : List Commit) (table : 
       record {
         few = is.few;
         some = is.some;
-        legal = legal-push (limits_of slices) history e is.legal allowed;
+        legal = legal-push (program_limits slices) history e is.legal allowed;
         alone = All-push (λ (x : Event). pass_of x ≡ 0) history e is.alone refl;
         sound = All-push HasFoot history e is.sound tt;
         journal_is = is.journal_is ∙ sym same_commits;
@@ -352,12 +352,12 @@ module _ (slices : ℕ) (history : List Event) (journal : List Commit) (table : 
 
   -- the document goes live in the column that the pass has taken
   pub kept-add : (s c : ℕ) (doc : Parts) (bits : List Bit) (next : Entries) → s < slices → c < 64 → last_by 0 history ≡ Some (event.Take 0 s c) →
-      IsAllowed (limits_of slices) history (event.Add 0 doc.id doc.text s c bits) → AreWordsOf doc.words doc.text → IsFoot (words doc.text) s c bits → AllSet bits rows →
+      IsAllowed (program_limits slices) history (event.Add 0 doc.id doc.text s c bits) → AreWordsOf doc.words doc.text → IsFoot (words doc.text) s c bits → AllSet bits rows →
       place history < 1024 → entry_of live doc.id ≡ None →
-      ((other : ℕ) → entry_of next other ≡ cond (other == doc.id) (Some (s, c)) (entry_of live other)) → next.room + 1 ≡ live.room → length next.entries ≡ length live.entries + 1 →
+      ((other : ℕ) → entry_of next other ≡ cond (other == doc.id) (Some (s, c)) (entry_of live other)) → next.slices ≡ live.slices → next.columns ≡ live.columns →
       IsKept slices (history ++ event.Add 0 doc.id doc.text s c bits ∷ []) (journal ++ (record { add = true; id = doc.id }) ∷ [])
       (with_slot table s c (record { column = became.Live (place history + 1); doc = Some doc })) next counts rows er jr
-  kept-add s c doc bits next in' below last allowed of_text foot all_set room absent entries next_room next_len =
+  kept-add s c doc bits next in' below last allowed of_text foot all_set room absent entries next_slices next_columns =
       let e = event.Add 0 doc.id doc.text s c bits in
       let y : Slot = record { column = became.Live (place history + 1); doc = Some doc } in
       let here = is_column s c in' below in
@@ -370,7 +370,7 @@ module _ (slices : ℕ) (history : List Event) (journal : List Commit) (table : 
       record {
         few = is.few;
         some = is.some;
-        legal = legal-push (limits_of slices) history e is.legal allowed;
+        legal = legal-push (program_limits slices) history e is.legal allowed;
         alone = All-push (λ (x : Event). pass_of x ≡ 0) history e is.alone refl;
         sound = All-push HasFoot history e is.sound foot;
         journal_is = ap (λ cs. cs ++ (record { add = true; id = doc.id }) ∷ []) is.journal_is ∙ sym (commits-append history (e ∷ []));
@@ -420,8 +420,8 @@ module _ (slices : ℕ) (history : List Event) (journal : List Commit) (table : 
               entries d.id ∙ passed (d.id == doc.id) (Some (s, c)) (entry_of live d.id)
               (not_same d.id doc.id (λ same. none_some (slice, column) (sym absent ∙ ap (entry_of live) (sym same) ∙ found))) ∙ found)
               (cases slice column at);
-          few = let h = is.listed.few in omega arith;
-          room = let h = is.listed.room in omega arith;
+          slices_are = next_slices ∙ is.listed.slices_are;
+          columns_are = next_columns ∙ is.listed.columns_are;
         };
         counted = record {
           size = is.counted.size;
@@ -465,12 +465,12 @@ module _ (slices : ℕ) (history : List Event) (journal : List Commit) (table : 
 
   -- the live document of a column is deleted
   pub kept-delete : (s c : ℕ) (doc : Parts) (l : IsLiveIn (slot_at table s c) doc) (next : Entries) → s < slices → c < 64 →
-      IsAllowed (limits_of slices) history (event.Del 0 doc.id) → place history < 1024 →
-      ((other : ℕ) → entry_of next other ≡ cond (other == doc.id) None (entry_of live other)) → next.room ≡ live.room + 1 → length next.entries + 1 ≡ length live.entries →
+      IsAllowed (program_limits slices) history (event.Del 0 doc.id) → place history < 1024 →
+      ((other : ℕ) → entry_of next other ≡ cond (other == doc.id) None (entry_of live other)) → next.slices ≡ live.slices → next.columns ≡ live.columns →
       IsKept slices (history ++ event.Del 0 doc.id ∷ []) (journal ++ (record { add = false; id = doc.id }) ∷ [])
       (with_slot table s c (record { column = became.Deleted l.added (place history + 1); doc = Some doc })) next
       (set counts s (record { claimed = (get_or counts s no_counts).claimed; over = (get_or counts s no_counts).over + 1 })) rows er jr
-  kept-delete s c doc l next in' below allowed room entries next_room next_len =
+  kept-delete s c doc l next in' below allowed room entries next_slices next_columns =
       let e = event.Del 0 doc.id in
       let x = slot_at table s c in
       let y : Slot = record { column = became.Deleted l.added (place history + 1); doc = Some doc } in
@@ -482,7 +482,7 @@ module _ (slices : ℕ) (history : List Event) (journal : List Commit) (table : 
       record {
         few = is.few;
         some = is.some;
-        legal = legal-push (limits_of slices) history e is.legal allowed;
+        legal = legal-push (program_limits slices) history e is.legal allowed;
         alone = All-push (λ (x : Event). pass_of x ≡ 0) history e is.alone refl;
         sound = All-push HasFoot history e is.sound tt;
         journal_is = ap (λ cs. cs ++ (record { add = false; id = doc.id }) ∷ []) is.journal_is ∙ sym (commits-append history (e ∷ []));
@@ -523,8 +523,8 @@ module _ (slices : ℕ) (history : List Event) (journal : List Commit) (table : 
               (not_same d.id doc.id (λ same. both_ways (s == slice && c == column) (live_apart s c slice column doc d here at l old same) other.0))
               ∙ is.listed.every slice column d at old)
               (cases slice column at);
-          few = let h = is.listed.few in omega arith;
-          room = let h = is.listed.room in omega arith;
+          slices_are = next_slices ∙ is.listed.slices_are;
+          columns_are = next_columns ∙ is.listed.columns_are;
         };
         counted = counted-one slices history (history ++ e ∷ []) table (with_slot table s c y) counts s (record { claimed = (get_or counts s no_counts).claimed; over = (get_or counts s no_counts).over + 1 }) is.counted in'
             (record {

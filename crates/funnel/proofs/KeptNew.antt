@@ -9,7 +9,6 @@ use Rattle.document_store.specs.Entries.{Entries}
 use Rattle.document_store.specs.Entries.{column_of as entry_of}
 use Rattle.document_store.specs.Slots.{IsColumn, Table, free_slot, slot_at, slots_of}
 use Rattle.document_store.specs.declared.column.Column.TheVariants as became
-use Rattle.document_store.specs.declared.live_list.Entry.{Entry}
 use Rattle.document_store.specs.declared.records.Slot.{Slot}
 use Rattle.funnel_model.specs.declared.event.Event.{Event}
 use Rattle.funnel_model.specs.Events.{pass_of}
@@ -30,7 +29,7 @@ none_of (suc n) = none_of n
 
 module _ (slices : ℕ) (table : Table) (live : Entries) (some : 1 ≤ slices) (few : slices ≤ 1024)
     (table_slices : table.slices ≡ slices) (table_columns : table.columns ≡ 64) (free : table.slots ≡ replicate (slices * 64) free_slot)
-    (empty : live.entries ≡ []) (room : live.room ≡ 1024) where
+    (no_entry : (id : ℕ) → entry_of live id ≡ None) (live_slices : live.slices ≡ slices) (live_columns : live.columns ≡ 64) where
   size : length table.slots ≡ table.slices * table.columns
   size = ap length free ∙ length-replicate (slices * 64) free_slot ∙ ap (λ n. n * 64) (sym table_slices) ∙ ap (λ n. table.slices * n) (sym table_columns)
 
@@ -42,11 +41,6 @@ module _ (slices : ℕ) (table : Table) (live : Entries) (some : 1 ≤ slices) (
 
   none_live : (slice column : ℕ) (doc : Parts) → IsColumn table slice column → IsLiveIn (slot_at table slice column) doc → ⊥
   none_live slice column doc at l = free_not_live l.added (sym (ap (λ (x : Slot). x.column) (slot_free slice column at)) ∙ l.column)
-
-  no_entry : (id : ℕ) → entry_of live id ≡ None
-  no_entry id = found live.entries empty where
-    found : (entries : List Entry) → entries ≡ [] → entry_of (record { entries = entries; room = live.room }) id ≡ None
-    found entries is = ap (λ (es : List Entry). entry_of (record { entries = es; room = live.room }) id) is
 
   none_over : (slice : ℕ) → slice < slices → 0 ≡ count_by is_over (slots_of table slice)
   none_over slice in' =
@@ -77,8 +71,8 @@ module _ (slices : ℕ) (table : Table) (live : Entries) (some : 1 ≤ slices) (
     listed = record {
       listed = λ id slice column found. absurd (none_some (slice, column) (sym (no_entry id) ∙ found));
       every = λ slice column doc at l. absurd (none_live slice column doc at l);
-      few = let h = ap length empty in omega arith;
-      room = omega arith;
+      slices_are = live_slices ∙ sym table_slices;
+      columns_are = live_columns ∙ sym table_columns;
     };
     counted = record {
       size = ap length counts_are ∙ length-replicate slices no_counts;

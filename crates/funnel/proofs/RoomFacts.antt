@@ -9,38 +9,16 @@ use Rattle.funnel_model.specs.declared.event.Event.{Event}
 use Rattle.funnel_model.specs.Legal.{HasRoom, IsFull, IsIdle, MayClear, MayTake}
 use Rattle.funnel_model.specs.Slices.{HasUnclaimed, IsRetired, claimed, is_clearing}
 use Rattle.funnel_model.proofs.ClaimLemmas.{filled_by, unclaimed_next}
+use Rattle.funnel_model.proofs.SliceSetLemmas.{position-none}
 use Rattle.funnel_model.proofs.LastEvents.{nothing_clears, nothing_guards}
 use Rattle.funnel.specs.declared.index.Counts.{Counts}
-use Rattle.funnel.specs.Kept.{IsKept, MayReuse, limits_of, no_counts}
+use Rattle.funnel.specs.Kept.{IsKept, MayReuse, program_limits, no_counts}
 use Rattle.funnel.proofs.InUse.{count_by_over, over_by_count, over_below_claimed, used_by_count}
 use Rattle.funnel.proofs.KeptEvents.{claimed_count}
 
--- where no item passes, each fails
-none_passes : {X : Type 0} (p : X → Bool) (xs : List X) (d : X) → length xs ≤ position_or_len p xs → (k : ℕ) → k < length xs → p (get_or xs k d) ≡ false
-none_passes p [] d long k in' = absurd (omega arith)
-none_passes p (x ∷ xs) d long k in' = first (p x) refl long k in' (λ more j below. none_passes p xs d more j below) where
-  first : (b : Bool) → p x ≡ b → suc (length xs) ≤ cond (not b) (1 + position_or_len p xs) 0 → (k : ℕ) → k < suc (length xs) →
-      (length xs ≤ position_or_len p xs → (j : ℕ) → j < length xs → p (get_or xs j d) ≡ false) → p (get_or (x ∷ xs) k d) ≡ false
-  first true is more k in' rest = absurd (omega arith)
-  first false is more zero in' rest = is
-  first false is more (suc k) in' rest = rest (omega arith) k (omega arith)
-
-pub position-none : {X : Type 0} (p : X → Bool) (xs : List X) (d : X) → position p xs ≡ None → (k : ℕ) → k < length xs → p (get_or xs k d) ≡ false
-position-none p xs d is k in' =
-    ⊎_elim
-    (λ below. absurd (some_none (position_or_len p xs) (sym (chosen (nat_lt (position_or_len p xs) (length xs)) (Some (position_or_len p xs)) None below.0) ∙ is)))
-    (λ above. none_passes p xs d (omega (arith, above.1)) k in')
-    (leb_tells (suc (position_or_len p xs)) (length xs)) where
-      some_none : (n : ℕ) → Some n ≡ None → ⊥
-      some_none n is = cc
-
-      chosen : {X : Type 0} (b : Bool) (x y : X) → b ≡ true → cond b x y ≡ x
-      chosen true x y is = refl
-      chosen false x y is = cc
-
 module _ (slices : ℕ) (history : List Event) (journal : List Commit) (table : Table) (live : Entries) (counts : List Counts) (rows : List ℕ) (er jr : ℕ) (is : IsKept slices history journal table live counts rows er jr) (idle : IsIdle 0 history) where
   not_clearing : (slice : ℕ) → is_clearing slice history ≡ false
-  not_clearing slice = nothing_clears (limits_of slices) 0 slice history is.legal is.alone idle
+  not_clearing slice = nothing_clears (program_limits slices) 0 slice history is.legal is.alone idle
 
   -- a slice with fewer claimed columns than it has takes a document, and one with no fewer doesn't
   has_room : (s : ℕ) → s < slices → (get_or counts s no_counts).claimed < 64 → HasRoom 64 history s
@@ -56,7 +34,7 @@ module _ (slices : ℕ) (history : List Event) (journal : List Commit) (table : 
     both up down = cc
 
   pub may_take : (s : ℕ) → s < slices → (get_or counts s no_counts).claimed < 64 → ((lower : ℕ) → lower < s → 64 ≤ (get_or counts lower no_counts).claimed) →
-      MayTake (limits_of slices) history 0 s (get_or counts s no_counts).claimed
+      MayTake (program_limits slices) history 0 s (get_or counts s no_counts).claimed
   may_take s in' below full = record {
     idle = idle;
     in_range = in';
@@ -70,16 +48,16 @@ module _ (slices : ℕ) (history : List Event) (journal : List Commit) (table : 
   retired s in' all = record { over = over_by_count slices history journal table live counts rows er jr is s in' all; not_clearing = not_clearing s }
 
   pub may_clear : (s : ℕ) → s < slices → (get_or counts s no_counts).over ≡ 64 → ((lower : ℕ) → lower < s → (get_or counts lower no_counts).over ≡ 64 → ⊥) →
-      MayClear (limits_of slices) history 0 s
+      MayClear (program_limits slices) history 0 s
   may_clear s in' all lower_not = record {
     idle = idle;
     in_range = in';
-    can_clear = record { retired = retired s in' all; unguarded = nothing_guards (limits_of slices) 0 64 s history is.legal is.alone idle };
+    can_clear = record { retired = retired s in' all; unguarded = nothing_guards (program_limits slices) 0 64 s history is.legal is.alone idle };
     lowest = λ lower less can. lower_not lower less (count_by_over slices history journal table live counts rows er jr is lower (omega arith) can.retired.over);
   }
 
   -- where moreover every slice is filled, it can be cleared for an add
-  pub may_reuse : ((other : ℕ) → other < slices → 64 ≤ (get_or counts other no_counts).claimed) → (s : ℕ) → MayClear (limits_of slices) history 0 s →
+  pub may_reuse : ((other : ℕ) → other < slices → 64 ≤ (get_or counts other no_counts).claimed) → (s : ℕ) → MayClear (program_limits slices) history 0 s →
       MayReuse (record { slices = slices; history = history; rows = rows }) s
   may_reuse full s may = record {
     none_left = λ other in'. none_left (get_or counts other no_counts).claimed other (is.counted.each other in').claims (full other in');
@@ -88,7 +66,7 @@ module _ (slices : ℕ) (history : List Event) (journal : List Commit) (table : 
 
   -- where every slice is filled and none is retired the engine is full
   pub full_by : ((slice : ℕ) → slice < slices → 64 ≤ (get_or counts slice no_counts).claimed) → ((slice : ℕ) → slice < slices → (get_or counts slice no_counts).over ≡ 64 → ⊥) →
-      IsFull (limits_of slices) history
+      IsFull (program_limits slices) history
   full_by full none_retired slice in' =
       inl (
         filled_by 64 slice (get_or counts slice no_counts).claimed history (is.counted.each slice in').claims (full slice in'),

@@ -19,7 +19,7 @@ use Rattle.line_proto.specs.Texts.{text_of, texts}
 use Rattle.funnel.specs.Answering.{Replies}
 use Rattle.funnel.specs.Pending.{Pending}
 use Rattle.funnel.specs.Reading.{EndsLine, IsLast, IsPendingInput}
-use Rattle.funnel.specs.Serving.{IsAtEnd, IsAtNewline, IsSessionOver, Progress, Streams}
+use Rattle.funnel.specs.Serving.{IsAtLastLine, IsAtNewline, IsSessionOver, Progress, Streams}
 use Rattle.funnel.specs.Session.{Answers, AnswersAll, AnswersItem, AnswersSome, items, program_item}
 use Rattle.funnel.specs.Taking.{Takes}
 
@@ -79,12 +79,12 @@ last_alone line clean some =
 pub record NextCut (consumed rest bytes line rest' : List ℕ) (done : List (List ℕ)) (ended : Bool) : Type 0 where
   pub consumed' : List ℕ
   pub joined : (consumed ++ rest) ++ bytes ≡ consumed' ++ rest'
-  pub cut : IsAtNewline consumed' (done ++ line ∷ []) ⊎ IsAtEnd consumed' rest' (done ++ line ∷ []) ended
+  pub cut : IsAtNewline consumed' (done ++ line ∷ []) ⊎ IsAtLastLine consumed' rest' (done ++ line ∷ []) ended
 
 no_line_of_none : (line rest : List ℕ) → [] ≡ line ++ 10 ∷ rest → ⊥
 no_line_of_none line rest is = let long = ap length is in let parts = length-append line (10 ∷ rest) in let some : length (10 ∷ rest) ≡ suc (length rest) = refl in omega arith
 
-next_cut : (consumed rest bytes line rest' : List ℕ) (done : List (List ℕ)) (old_ended ended : Bool) → (IsAtNewline consumed done ⊎ IsAtEnd consumed rest done old_ended) → (old_ended ≡ true → bytes ≡ []) →
+next_cut : (consumed rest bytes line rest' : List ℕ) (done : List (List ℕ)) (old_ended ended : Bool) → (IsAtNewline consumed done ⊎ IsAtLastLine consumed rest done old_ended) → (old_ended ≡ true → bytes ≡ []) →
     EndsLine (rest ++ bytes) line rest' ended → NextCut consumed rest bytes line rest' done ended
 next_cut consumed rest bytes line rest' done old_ended ended (inl at) still ends = by_cut ends.cut where
   by_cut : ((rest ++ bytes ≡ line ++ 10 ∷ rest') ⊎ IsLast (rest ++ bytes) line rest' ended) → NextCut consumed rest bytes line rest' done ended

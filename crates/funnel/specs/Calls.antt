@@ -1,6 +1,7 @@
 -- What a call does, by its answer.
 use Rattle.std.specs.Prelude.{◌≡◌, ◌<◌, ℕ, false, List, [], ◌∷◌, ◌++◌}
 use Rattle.funnel_model.specs.declared.bit_list.Bit.{Bit}
+use Rattle.funnel_model.specs.declared.config.TheConstants.{MOST_SLICES}
 use Rattle.funnel_model.specs.declared.call.Call.{Call}
 use Rattle.funnel_model.specs.declared.call.Call.TheVariants as call
 use Rattle.funnel_model.specs.declared.event.Event.{Event}
@@ -10,21 +11,21 @@ use Rattle.funnel_model.specs.declared.reply.Reply.TheVariants as reply
 use Rattle.funnel_model.specs.History.{is_live, live}
 use Rattle.funnel_model.specs.Legal.{HasJournalRoom, IsRefused}
 use Rattle.funnel_model.specs.Steps.{IsReplyToRefused}
-use Rattle.funnel.specs.Kept.{State, IsRoom, clearing_of, column_of_room, limits_of, slice_columns, slice_of}
+use Rattle.funnel.specs.Kept.{State, IsRoom, clearing_of, column_of_room, program_limits, slice_columns, slice_of}
 use Rattle.funnel.specs.Session.{AnswersCall}
 use Rattle.funnel.specs.declared.index.filling.Room.{Room}
 
 -- the call may be refused so
 pub record IsRefusal (state : State) (asked : Call) (given : Reply) : Type 0 where
-  pub refused : IsRefused (limits_of state.slices) state.history asked
-  pub reply : IsReplyToRefused (limits_of state.slices) state.history asked given
+  pub refused : IsRefused (program_limits state.slices) state.history asked
+  pub reply : IsReplyToRefused (program_limits state.slices) state.history asked given
 
 -- nothing keeps a document with this number out, and it can go to this room
 pub record MayAddIn (state : State) (id : ℕ) (at : Room) : Type 0 where
   pub absent : is_live id state.history ≡ false
-  pub journal : HasJournalRoom (limits_of state.slices) state.history
+  pub journal : HasJournalRoom (program_limits state.slices) state.history
   pub room : IsRoom state at
-  pub slice : slice_of at < 1024
+  pub slice : slice_of at < MOST_SLICES
   pub column : column_of_room at < slice_columns
 
 -- a refused call leaves its refusal alone, and the live documents as they were
@@ -58,5 +59,5 @@ Leaves before after asked _ = Unit {0}
 -- a call led from one state to another, and was answered so
 pub record IsCall (before after : State) (asked : Call) (given : Reply) : Type 0 where
   pub slices : after.slices ≡ before.slices
-  pub answered : AnswersCall (limits_of before.slices) 0 before.history after.history asked given
+  pub answered : AnswersCall (program_limits before.slices) 0 before.history after.history asked given
   pub leaves : Leaves before after.history asked given

@@ -4,12 +4,13 @@ use Rattle.std.specs.Int.{bit_at as binary_digit}
 use Rattle.std.specs.List.Sorted.{IsStrictlySortedBy}
 use Rattle.std.specs.Ordering.{nat_cmp, ordering_then}
 use Rattle.std.specs.declared.cmp.Ordering.{Ordering}
+use Rattle.funnel.specs.declared.rows.TheConstants.{SLICE_ROWS}
 use Rattle.funnel_model.specs.declared.bit_list.Bit.{Bit}
 use Rattle.term_hash.specs.Hash.{row_number}
 
 -- a slice has so many rows, each of one word
 abbrev pub slice_rows : ℕ
-slice_rows = 1024
+slice_rows = SLICE_ROWS
 
 -- the rows of a word
 abbrev pub rows_of_word : List ℕ → List ℕ

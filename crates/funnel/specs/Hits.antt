@@ -5,6 +5,7 @@ use Rattle.std.specs.List.{range_with_len}
 use Rattle.std.specs.List.Sorted.{IsStrictlySortedBy}
 use Rattle.std.specs.Ordering.{nat_cmp, ordering_then}
 use Rattle.std.specs.declared.cmp.Ordering.{Ordering}
+use Rattle.funnel.specs.declared.index.TheConstants.{SLICE_COLUMNS}
 use Rattle.funnel.specs.Foot.{HasBit, rows_of_words, slice_rows}
 
 -- the bit of the column is set in each of these rows of the slice
@@ -13,7 +14,7 @@ IsInAll row_words slice rows column = (row : ℕ) → Contains rows row → HasB
 
 -- the columns of the slice whose bit is set in the word, in rising order
 abbrev pub set_columns : ℕ → ℕ → List (ℕ × ℕ)
-set_columns slice columns = map (λ column. (slice, column)) (filter (λ column. bit_at columns column == 1) (range_with_len 0 64))
+set_columns slice columns = map (λ column. (slice, column)) (filter (λ column. bit_at columns column == 1) (range_with_len 0 SLICE_COLUMNS))
 
 -- by slice, and then by column
 abbrev pub column_cmp : ℕ × ℕ → ℕ × ℕ → Ordering
@@ -22,7 +23,7 @@ column_cmp a b = ordering_then (nat_cmp a.0 b.0) (nat_cmp a.1 b.1)
 -- a column of one of these slices has its bit set in each row
 pub record IsHit (row_words slices rows : List ℕ) (at : ℕ × ℕ) : Type 0 where
   pub slice : Contains slices at.0
-  pub column : at.1 < 64
+  pub column : at.1 < SLICE_COLUMNS
   pub bits : IsInAll row_words at.0 rows at.1
 
 -- exactly the hits, by slice and column, each once

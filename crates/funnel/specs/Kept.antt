@@ -11,6 +11,7 @@ use Rattle.document_store.specs.Slots.{Table, FitsColumn, IsColumn, slot_at, slo
 use Rattle.document_store.specs.declared.column.Column.{Column}
 use Rattle.document_store.specs.declared.column.Column.TheVariants as became
 use Rattle.document_store.specs.declared.records.Slot.{Slot}
+use Rattle.funnel_model.specs.declared.config.TheConstants.{MOST_SLICES}
 use Rattle.funnel_model.specs.declared.claim.Claim.{Claim}
 use Rattle.funnel_model.specs.declared.claim.Token.{Token}
 use Rattle.funnel_model.specs.declared.bit_list.Bit.{Bit}
@@ -23,17 +24,18 @@ use Rattle.funnel_model.specs.Legal.{Limits, IsLegal, MayClear, MayTake}
 use Rattle.funnel_model.specs.Slices.{ColumnState, Unclaimed, Pending, Dropped, Live, Deleted, HasUnclaimed, IsInState, IsInUse, claimed}
 use Rattle.funnel_model.specs.Words.{AreWordsOf, words}
 use Rattle.funnel.specs.declared.index.Counts.{Counts}
+use Rattle.funnel.specs.declared.index.TheConstants.{SLICE_COLUMNS, JOURNAL_ROOM, MOST_EVENTS, EVENT_ROOM}
 use Rattle.funnel.specs.declared.index.filling.Room.{Room}
 use Rattle.funnel.specs.declared.index.filling.Room.TheVariants as room
 use Rattle.funnel.specs.Foot.{slice_rows, rows_of_words, IsFoot, HasBit}
 
 -- a slice has so many columns
 abbrev pub slice_columns : ℕ
-slice_columns = 64
+slice_columns = SLICE_COLUMNS
 
 -- the sizes of an engine of one pass and so many slices
-abbrev pub limits_of : ℕ → Limits
-limits_of slices = record { passes = 1; slices = slices; columns = slice_columns; slice_words = slice_rows; commits = 1024; events = 5120 }
+abbrev pub program_limits : ℕ → Limits
+program_limits slices = record { passes = 1; slices = slices; columns = slice_columns; slice_words = slice_rows; commits = JOURNAL_ROOM; events = MOST_EVENTS }
 
 -- what contracts see of the index: how many slices it has, the history that it stands for, and its row words
 pub record State : Type 0 where
@@ -91,12 +93,12 @@ pub record IsEntry (table : Table) (id slice column : ℕ) : Type 0 where
   pub live : IsLiveIn (slot_at table slice column) doc
   pub number : doc.id ≡ id
 
--- the live list has the number of each live document with its column, and no other; there is room for as many as the journal takes
+-- the live list has the number of each live document with its column, and no other; it has an entry for each column
 pub record AreListed (history : List Event) (table : Table) (live : Entries) : Type 0 where
   pub listed : (id slice column : ℕ) → entry_of live id ≡ Some (slice, column) → IsEntry table id slice column
   pub every : (slice column : ℕ) (doc : Parts) → IsColumn table slice column → IsLiveIn (slot_at table slice column) doc → entry_of live doc.id ≡ Some (slice, column)
-  pub few : length live.entries ≤ place history
-  pub room : 1024 ≤ length live.entries + live.room
+  pub slices_are : live.slices ≡ table.slices
+  pub columns_are : live.columns ≡ table.columns
 
 -- whether the column that is recorded so is deleted or dropped
 abbrev pub is_over_in : Column → Bool
@@ -141,28 +143,28 @@ pub record AreCovered (slices : ℕ) (history : List Event) (table : Table) (row
 -- the history, and what is kept beside it: the journal of its commits, the records of its columns, the live numbers, how far
 -- each slice is filled, and the rows; the lists have room for all events and commits that there can be
 pub record IsKept (slices : ℕ) (history : List Event) (journal : List Commit) (table : Table) (live : Entries) (counts : List Counts) (row_words : List ℕ) (events_room journal_room : ℕ) : Type 0 where
-  pub few : slices ≤ 1024
+  pub few : slices ≤ MOST_SLICES
   pub some : 1 ≤ slices
-  pub legal : IsLegal (limits_of slices) history
+  pub legal : IsLegal (program_limits slices) history
   pub alone : All (λ e. pass_of e ≡ 0) history
   pub sound : All HasFoot history
   pub journal_is : journal ≡ commits history
-  pub journal_within : place history ≤ 1024
+  pub journal_within : place history ≤ JOURNAL_ROOM
   pub recorded : AreRecorded slices history table
   pub listed : AreListed history table live
   pub counted : AreCounted slices history table counts
   pub rows_covered : AreCovered slices history table row_words
-  pub events_fit : 5124 ≤ events_room
-  pub journal_fits : 1024 ≤ journal_room
+  pub events_fit : EVENT_ROOM ≤ events_room
+  pub journal_fits : JOURNAL_ROOM ≤ journal_room
 
 -- a slice may be cleared for an add: no slice has an unclaimed column, and this is the lowest that can be cleared
 pub record MayReuse (state : State) (slice : ℕ) : Type 0 where
   pub none_left : (other : ℕ) → other < state.slices → HasUnclaimed slice_columns other state.history → ⊥
-  pub clear : MayClear (limits_of state.slices) state.history 0 slice
+  pub clear : MayClear (program_limits state.slices) state.history 0 slice
 
 -- where the next document can go
 abbrev pub IsRoom : State → Room → Type 0
-IsRoom state (room.Unclaimed slice column) = MayTake (limits_of state.slices) state.history 0 slice column
+IsRoom state (room.Unclaimed slice column) = MayTake (program_limits state.slices) state.history 0 slice column
 IsRoom state (room.Retired slice) = MayReuse state slice
 
 -- the slice and the column of a room

@@ -12,6 +12,7 @@ use Rattle.line_proto.specs.Texts.{texts}
 use Rattle.funnel.specs.Pending.{Pending}
 use Rattle.funnel.specs.Reading.{IsPendingInput}
 use Rattle.funnel.specs.Session.{Answers, AnswersSome, Session, items}
+use Rattle.funnel.specs.declared.answering.TheConstants.{TEXT_ROOM}
 use Rattle.funnel.specs.declared.serving.Server.{Server}
 
 -- what an input and an output tell: the bytes left, taken and written, where they tell them, and their counts of faults
@@ -31,7 +32,7 @@ HasCause before after limit (end_of.ByteLimit count) = count ≡ limit
 HasCause before after limit end_of.Memory = ⊥
 
 -- every line but the last was ended by a newline, and the end of the source ended the last
-pub record IsAtEnd (consumed rest : List ℕ) (done : List (List ℕ)) (ended : Bool) : Type 0 where
+pub record IsAtLastLine (consumed rest : List ℕ) (done : List (List ℕ)) (ended : Bool) : Type 0 where
   pub lines : lines consumed true ≡ done
   pub nothing_after : rest ≡ []
   pub at_end : ended ≡ true
@@ -51,7 +52,7 @@ pub record Progress (limits : Limits) (limit : ℕ) (before now : Streams) (pend
   pub adds : AppendedTo before.taken (consumed ++ rest) now.taken
   pub count : may + length (consumed ++ rest) ≡ limit
   pub kept : IsPendingInput pending rest
-  pub cut : IsAtNewline consumed done ⊎ IsAtEnd consumed rest done pending.ended
+  pub cut : IsAtNewline consumed done ⊎ IsAtLastLine consumed rest done pending.ended
   pub answers : Answers limits 0 [] (items done) replies history
   pub writes : AppendedTo before.written (texts replies) now.written
   pub read_faults : before.reads ≤ now.reads
@@ -80,4 +81,4 @@ pub record IsFresh (slices : ℕ) (server : Server) : Type 0 where
   pub slices_are : server.index.slices ≡ slices
   pub no_history : server.index.history ≡ []
   pub nothing_pending : server.reader ≡ record { held = []; long = false; ended = false; line = [] }
-  pub room : 64 ≤ vec_capacity server.text
+  pub room : TEXT_ROOM ≤ vec_capacity server.text

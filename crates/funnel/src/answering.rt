@@ -1,7 +1,7 @@
 ghost use Rattle.std.specs.Prelude.{◌≡◌, ◌≤◌, length, vec_capacity};
 ghost use Rattle.funnel_model.specs.Legal.{IsIdle, IsLegal};
 ghost use Rattle.funnel_model.specs.declared.reply.Reply.TheVariants as reply;
-ghost use Rattle.funnel.specs.Kept.{limits_of};
+ghost use Rattle.funnel.specs.Kept.{program_limits};
 ghost use Rattle.funnel.specs.Session.{AnswersItem, program_item};
 ghost use Rattle.funnel.specs.Answering.{IsRendered, Replies};
 ghost use Rattle.line_proto.specs.Texts.{text_of};
@@ -20,11 +20,11 @@ pub const TEXT_ROOM: usize = 64;
 /// of memory.
 pub fn answer(index: &mut Index, alloc: Global, line: &[u8], text: &mut Vec<u8>)
     requires idle { IsIdle 0 index.old.history }
-    requires legal { IsLegal (limits_of index.old.slices) index.old.history }
+    requires legal { IsLegal (program_limits index.old.slices) index.old.history }
     requires room { TEXT_ROOM ≤ vec_capacity text.old }
     requires fits { length line.now ≤ MAX_LINE_LEN }
     ensures slices { index.new.slices ≡ index.old.slices }
-    ensures replies { Replies (limits_of index.old.slices) index.old.history (program_item line.now) index.new.history text.new.items }
+    ensures replies { Replies (program_limits index.old.slices) index.old.history (program_item line.now) index.new.history text.new.items }
     ensures room { TEXT_ROOM ≤ vec_capacity text.new }
 {
     let reply = reply_to(index, alloc, line);
@@ -34,10 +34,10 @@ pub fn answer(index: &mut Index, alloc: Global, line: &[u8], text: &mut Vec<u8>)
 /// The reply to a line: that of its call, or the refusal of a line that has no form.
 fn reply_to(index: &mut Index, alloc: Global, line: &[u8]) -> Reply
     requires idle { IsIdle 0 index.old.history }
-    requires legal { IsLegal (limits_of index.old.slices) index.old.history }
+    requires legal { IsLegal (program_limits index.old.slices) index.old.history }
     requires fits { length line.now ≤ MAX_LINE_LEN }
     ensures slices { index.new.slices ≡ index.old.slices }
-    ensures answers { AnswersItem (limits_of index.old.slices) 0 index.old.history (program_item line.now) result index.new.history }
+    ensures answers { AnswersItem (program_limits index.old.slices) 0 index.old.history (program_item line.now) result index.new.history }
 {
     match parse_line(line) {
         None | Some(Request::Journal { .. } | Request::Recycle) => Reply::Line,

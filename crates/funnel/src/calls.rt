@@ -1,5 +1,6 @@
 ghost use Rattle.std.specs.Prelude.{◌≡◌, ◌≤◌, ◌<◌, ◌+◌, ◌∷◌, ◌++◌, ℕ, List, [], length, vec_capacity, MatchResult, IfErr, IfOk, IfSome, OnErr};
 ghost use Rattle.std.specs.List.{All};
+ghost use Rattle.funnel.specs.declared.index.TheConstants.{SLICE_COLUMNS};
 ghost use Rattle.funnel_model.specs.declared.call.Call.TheVariants as call;
 ghost use Rattle.funnel_model.specs.declared.event.Event.TheVariants as event;
 ghost use Rattle.funnel_model.specs.Legal.{IsIdle, IsLegal, MayDelete};
@@ -9,7 +10,7 @@ ghost use Rattle.funnel_model.specs.History.{answer};
 ghost use Rattle.funnel.specs.Calls.{IsCall, IsRefusal, MayAddIn};
 ghost use Rattle.funnel.specs.Foot.{slice_rows};
 ghost use Rattle.funnel.specs.Hits.{AreHits, IsScanned};
-ghost use Rattle.funnel.specs.Kept.{IsOpenFind, IsRoom, WithEvent, clearing_of, column_of_room, limits_of, slice_of};
+ghost use Rattle.funnel.specs.Kept.{IsOpenFind, IsRoom, WithEvent, clearing_of, column_of_room, program_limits, slice_of};
 
 use crate::draft::Draft;
 use crate::index::{EVENT_ROOM, Index, Room};
@@ -20,7 +21,7 @@ use std::alloc::Global;
 /// Adds a document, or says why not.
 pub fn add(index: &mut Index, alloc: Global, id: u64, text: &str) -> Reply
     requires idle { IsIdle 0 index.old.history }
-    requires legal { IsLegal (limits_of index.old.slices) index.old.history }
+    requires legal { IsLegal (program_limits index.old.slices) index.old.history }
     ensures { IsCall index.old index.new (call.Add id text.now) result }
 {
     match try_add(index, alloc, id, text) {
@@ -32,7 +33,7 @@ pub fn add(index: &mut Index, alloc: Global, id: u64, text: &str) -> Reply
 /// The same, where a want of memory leaves the index as it was. All memory is taken before the first event.
 fn try_add(index: &mut Index, alloc: Global, id: u64, text: &str) -> Result<Reply, Memory>
     requires idle { IsIdle 0 index.old.history }
-    requires legal { IsLegal (limits_of index.old.slices) index.old.history }
+    requires legal { IsLegal (program_limits index.old.slices) index.old.history }
     ensures ok { IfOk result (IsCall index.old index.new (call.Add id text.now)) }
     ensures err { OnErr result (index.new ≡ index.old) }
 {
@@ -83,12 +84,12 @@ fn claim_in(index: &mut Index, room: Room) -> Claim
     requires room { length index.old.history + 3 ≤ EVENT_ROOM }
     requires idle { IsIdle 0 index.old.history }
     requires may { IsRoom index.old room }
-    requires column { column_of_room room < 64 }
+    requires column { column_of_room room < SLICE_COLUMNS }
     ensures slice { result.slice ≡ slice_of room }
     ensures column { result.column ≡ column_of_room room }
     ensures slices { index.new.slices ≡ index.old.slices }
     ensures history { index.new.history ≡ (index.old.history ++ clearing_of room) ++ event.Take 0 (slice_of room) (column_of_room room) ∷ [] }
-    ensures legal { IsLegal (limits_of index.new.slices) index.new.history }
+    ensures legal { IsLegal (program_limits index.new.slices) index.new.history }
 {
     match room {
         Room::Unclaimed { slice, .. } => index.take(slice),
@@ -104,7 +105,7 @@ fn claim_in(index: &mut Index, room: Room) -> Claim
 /// Deletes a document, or says why not. It takes no memory.
 pub fn delete(index: &mut Index, id: u64) -> Reply
     requires idle { IsIdle 0 index.old.history }
-    requires legal { IsLegal (limits_of index.old.slices) index.old.history }
+    requires legal { IsLegal (program_limits index.old.slices) index.old.history }
     ensures { IsCall index.old index.new (call.Delete id) result }
 {
     if index.is_spent() {
@@ -123,7 +124,7 @@ pub fn delete(index: &mut Index, id: u64) -> Reply
 /// full journal.
 fn may_delete(index: &Index, id: u64) -> Result<(), Reply>
     requires { IsIdle 0 index.now.history }
-    ensures { MatchResult result (λ _. MayDelete (limits_of index.now.slices) index.now.history 0 id) (λ refusal. IsRefusal index.now (call.Delete id) refusal) }
+    ensures { MatchResult result (λ _. MayDelete (program_limits index.now.slices) index.now.history 0 id) (λ refusal. IsRefusal index.now (call.Delete id) refusal) }
 {
     let Some(_) = index.place_of(id) else {
         return Err(Reply::Absent);
@@ -137,7 +138,7 @@ fn may_delete(index: &Index, id: u64) -> Result<(), Reply>
 /// Tells how many commits there were. It takes no memory.
 pub fn place(index: &mut Index) -> Reply
     requires idle { IsIdle 0 index.old.history }
-    requires legal { IsLegal (limits_of index.old.slices) index.old.history }
+    requires legal { IsLegal (program_limits index.old.slices) index.old.history }
     ensures { IsCall index.old index.new call.Place result }
 {
     if index.is_spent() {
@@ -149,7 +150,7 @@ pub fn place(index: &mut Index) -> Reply
 /// Finds the documents that have every word of a query.
 pub fn find(index: &mut Index, alloc: Global, query: &str) -> Reply
     requires idle { IsIdle 0 index.old.history }
-    requires legal { IsLegal (limits_of index.old.slices) index.old.history }
+    requires legal { IsLegal (program_limits index.old.slices) index.old.history }
     ensures { IsCall index.old index.new (call.Find query.now) result }
 {
     match try_find(index, alloc, query) {
@@ -161,7 +162,7 @@ pub fn find(index: &mut Index, alloc: Global, query: &str) -> Reply
 /// The same, where a want of memory before the find began leaves the index as it was.
 fn try_find(index: &mut Index, alloc: Global, query: &str) -> Result<Reply, Memory>
     requires idle { IsIdle 0 index.old.history }
-    requires legal { IsLegal (limits_of index.old.slices) index.old.history }
+    requires legal { IsLegal (program_limits index.old.slices) index.old.history }
     ensures ok { IfOk result (IsCall index.old index.new (call.Find query.now)) }
     ensures err { OnErr result (index.new ≡ index.old) }
 {
@@ -217,7 +218,7 @@ fn end(index: &mut Index, token: Token, search: Search, words: &WordSet) -> Repl
     requires no_ids { search.ids.items ≡ [] }
     requires id_room { length search.candidates ≤ vec_capacity search.ids }
     ensures found { (query : List ℕ) → AreWordsOf words.now query → result ≡ reply.Found (answer index.old.history query) }
-    ensures legal { IsLegal (limits_of index.new.slices) index.new.history }
+    ensures legal { IsLegal (program_limits index.new.slices) index.new.history }
     ensures event { index.new ≡ WithEvent index.old (event.End 0) }
 {
     let Search {

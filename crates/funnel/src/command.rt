@@ -1,5 +1,6 @@
+ghost use Rattle.funnel.specs.declared.running.TheConstants.{MOST_BYTES};
 ghost use Rattle.std.specs.Prelude.{◌≡◌, ◌↔◌, ◌^◌, map, IfNone};
-ghost use Rattle.funnel.specs.Kept.{limits_of};
+ghost use Rattle.funnel.specs.Kept.{program_limits};
 ghost use Rattle.funnel.specs.Running.{IsRun, RanOrNot};
 
 use crate::ended::{Ended, Why};
@@ -24,7 +25,7 @@ pub fn funnel_main<C: Source, S: Source, K: Sink, G: Gate + Send>(
     ensures config { config.new ≡ config.old }
     ensures usage { result.why ≡ Why.Usage ↔ (IsRun (map (λ word. word.now) words.now) → ⊥) }
     ensures nothing_run { (IsRun (map (λ word. word.now) words.now) → ⊥) → result.closed ≡ None }
-    ensures ran { IsRun (map (λ word. word.now) words.now) → RanOrNot (limits_of 2) (2 ^ 40)
+    ensures ran { IsRun (map (λ word. word.now) words.now) → RanOrNot (program_limits RUN_SLICES) MOST_BYTES
         record { left = (S.incoming input.old).left; taken = (S.incoming input.old).taken; written = (K.outgoing output.old).written; reads = (S.incoming input.old).faults; writes = (K.outgoing output.old).faults }
         record { left = (S.incoming input.new).left; taken = (S.incoming input.new).taken; written = (K.outgoing output.new).written; reads = (S.incoming input.new).faults; writes = (K.outgoing output.new).faults }
         result.why result.closed }

@@ -1,5 +1,6 @@
 ghost use Rattle.std.specs.Prelude.{◌≡◌, ◌<◌, ℕ, map, IfOk};
 ghost use Rattle.std.specs.List.{All};
+ghost use Rattle.funnel_model.specs.declared.config.TheConstants.{MOST_SLICES};
 ghost use Rattle.funnel_model.specs.Legal.{IsInSlice};
 ghost use Rattle.funnel_model.specs.Words.{words};
 ghost use Rattle.funnel.specs.Foot.{IsFoot, bit_at, slice_rows};
@@ -39,7 +40,7 @@ impl Draft {
     /// The bits of the rows at a column of a slice.
     pub fn bits_at(&self, alloc: Global, slice: u32, column: u32) -> Result<BitList, Memory>
         requires draft { IsDraft self.now.text self.now.words self.now.rows.items }
-        requires slice { slice < 1024 }
+        requires slice { slice < MOST_SLICES }
         ensures foot { IfOk result (IsFoot (words self.now.text) slice column) }
         ensures inside { IfOk result (All (λ b. IsInSlice slice_rows slice b.word)) }
         ensures column { IfOk result (All (λ b. b.bit ≡ column)) }
@@ -51,7 +52,7 @@ impl Draft {
 
 /// The bits of these rows at a column of a slice.
 fn bits_of_rows(alloc: Global, rows: &[u32], slice: u32, column: u32) -> Result<Vec<Bit>, Memory>
-    requires slice { slice < 1024 }
+    requires slice { slice < MOST_SLICES }
     requires rows { All (λ row. row < slice_rows) rows.now }
     ensures { IfOk result (λ bits. bits.items ≡ map (bit_at slice column) rows.now) }
 {

@@ -1,12 +1,13 @@
 ghost use Rattle.std.specs.Prelude.{◌≡◌, ◌≤◌, ◌<◌, ◌+◌, ◌↔◌, ℕ, true, [], ◌∷◌, ◌++◌, length, IfOk, IsTrue, Contains};
 ghost use Rattle.std.specs.List.{All};
+ghost use Rattle.funnel_model.specs.declared.config.TheConstants.{MOST_SLICES};
 ghost use Rattle.funnel_model.specs.declared.call.Call.TheVariants as call;
 ghost use Rattle.funnel_model.specs.declared.event.Event.TheVariants as event;
 ghost use Rattle.funnel_model.specs.Events.{pass_of};
 ghost use Rattle.funnel_model.specs.History.{is_live, live_place, place};
 ghost use Rattle.funnel_model.specs.Legal.{IsIdle, IsLegal, IsRefused, MayDelete, is_journal_full};
 ghost use Rattle.funnel.specs.Ended.{ending_of};
-ghost use Rattle.funnel.specs.Kept.{State, WithEvent, limits_of};
+ghost use Rattle.funnel.specs.Kept.{State, WithEvent, program_limits};
 
 mod filling;
 mod finding;
@@ -77,7 +78,7 @@ impl Index {
     /// An empty index of so many slices.
     pub fn new(alloc: Global, slices: u32) -> Result<Self, Memory>
         requires some { 1 ≤ slices }
-        requires few { slices ≤ 1024 }
+        requires few { slices ≤ MOST_SLICES }
         ensures slices { IfOk result (λ index. index.slices ≡ slices) }
         ensures empty { IfOk result (λ index. index.history ≡ []) }
     {
@@ -86,7 +87,7 @@ impl Index {
             events: Vec::with_capacity(alloc, EVENT_ROOM)?,
             journal: Vec::with_capacity(alloc, JOURNAL_ROOM)?,
             records: Records::new(alloc, slices, SLICE_COLUMNS)?,
-            live: LiveList::new(alloc, JOURNAL_ROOM)?,
+            live: LiveList::new(alloc, slices, SLICE_COLUMNS)?,
             counts: vec![in alloc; NO_COUNTS; slices as usize]?,
             rows: vec![in alloc; 0; slices as usize * SLICE_ROWS]?,
         })
@@ -94,16 +95,16 @@ impl Index {
 
     /// Whether the history has so many events that no call is taken any more.
     pub fn is_spent(&self) -> bool
-        ensures spent { IsTrue result ↔ ((limits_of self.now.slices).events ≤ length self.now.history) }
-        ensures legal { IsLegal (limits_of self.now.slices) self.now.history }
+        ensures spent { IsTrue result ↔ ((program_limits self.now.slices).events ≤ length self.now.history) }
+        ensures legal { IsLegal (program_limits self.now.slices) self.now.history }
     {
         self.events.len() >= MOST_EVENTS
     }
 
     /// Whether the journal holds as many commits as it can.
     pub fn is_journal_full(&self) -> bool
-        ensures full { result ≡ is_journal_full (limits_of self.now.slices) self.now.history }
-        ensures within { place self.now.history ≤ (limits_of self.now.slices).commits }
+        ensures full { result ≡ is_journal_full (program_limits self.now.slices) self.now.history }
+        ensures within { place self.now.history ≤ (program_limits self.now.slices).commits }
     {
         let _ = &self.events;
         self.journal.len() == JOURNAL_ROOM
@@ -127,8 +128,8 @@ impl Index {
     pub fn refuse(&mut self, asked: Call)
         requires room { length self.old.history < EVENT_ROOM }
         requires idle { IsIdle 0 self.old.history }
-        requires refused { IsRefused (limits_of self.old.slices) self.old.history asked }
-        ensures legal { IsLegal (limits_of self.new.slices) self.new.history }
+        requires refused { IsRefused (program_limits self.old.slices) self.old.history asked }
+        ensures legal { IsLegal (program_limits self.new.slices) self.new.history }
         ensures event { self.new ≡ WithEvent self.old (event.No 0 asked) }
     {
         self.events.push_reserved(Event::No {
@@ -142,7 +143,7 @@ impl Index {
         requires room { length self.old.history < EVENT_ROOM }
         requires idle { IsIdle 0 self.old.history }
         ensures place { result ≡ place self.old.history }
-        ensures legal { IsLegal (limits_of self.new.slices) self.new.history }
+        ensures legal { IsLegal (program_limits self.new.slices) self.new.history }
         ensures event { self.new ≡ WithEvent self.old (event.Read 0 call.Place) }
     {
         self.events.push_reserved(Event::Read {
@@ -155,9 +156,9 @@ impl Index {
     /// Deletes the live document with this number, and gives the place of the delete.
     pub fn delete(&mut self, id: u64) -> u64
         requires room { length self.old.history < EVENT_ROOM }
-        requires may { MayDelete (limits_of self.old.slices) self.old.history 0 id }
+        requires may { MayDelete (program_limits self.old.slices) self.old.history 0 id }
         ensures place { result ≡ place self.old.history + 1 }
-        ensures legal { IsLegal (limits_of self.new.slices) self.new.history }
+        ensures legal { IsLegal (program_limits self.new.slices) self.new.history }
         ensures event { self.new ≡ WithEvent self.old (event.Del 0 id) }
     {
         let place = self.journal.len() as u64 + 1;
@@ -174,7 +175,7 @@ impl Index {
     /// What is left at the end. It takes no memory.
     pub fn close(self) -> Closed
         ensures closed { result ≡ ending_of self.history }
-        ensures legal { IsLegal (limits_of self.slices) self.history }
+        ensures legal { IsLegal (program_limits self.slices) self.history }
         ensures alone { All (λ e. pass_of e ≡ 0) self.history }
     {
         Closed::new(Commits::new(self.journal), self.events)

@@ -1,5 +1,6 @@
+ghost use Rattle.funnel_model.specs.declared.config.TheConstants.{MOST_SLICES};
 ghost use Rattle.std.specs.Prelude.{◌≡◌, ◌≤◌, ◌^◌, IfNone};
-ghost use Rattle.funnel.specs.Kept.{limits_of};
+ghost use Rattle.funnel.specs.Kept.{program_limits};
 ghost use Rattle.funnel.specs.Running.{RanOrNot};
 
 use crate::closed::Closed;
@@ -20,8 +21,8 @@ pub fn run_with<S: Source, K: Sink>(
     output: &mut K,
 ) -> (Why, Option<Closed>)
     requires some { 1 ≤ slices }
-    requires few { slices ≤ 1024 }
-    ensures ran { RanOrNot (limits_of slices) (2 ^ 40)
+    requires few { slices ≤ MOST_SLICES }
+    ensures ran { RanOrNot (program_limits slices) MOST_BYTES
         record { left = (S.incoming input.old).left; taken = (S.incoming input.old).taken; written = (K.outgoing output.old).written; reads = (S.incoming input.old).faults; writes = (K.outgoing output.old).faults }
         record { left = (S.incoming input.new).left; taken = (S.incoming input.new).taken; written = (K.outgoing output.new).written; reads = (S.incoming input.new).faults; writes = (K.outgoing output.new).faults }
         result.0 result.1 }
@@ -42,8 +43,8 @@ pub(crate) fn run_up_to<S: Source, K: Sink>(
     limit: u64,
 ) -> (Why, Option<Closed>)
     requires some { 1 ≤ slices }
-    requires few { slices ≤ 1024 }
-    ensures ran { RanOrNot (limits_of slices) limit
+    requires few { slices ≤ MOST_SLICES }
+    ensures ran { RanOrNot (program_limits slices) limit
         record { left = (S.incoming input.old).left; taken = (S.incoming input.old).taken; written = (K.outgoing output.old).written; reads = (S.incoming input.old).faults; writes = (K.outgoing output.old).faults }
         record { left = (S.incoming input.new).left; taken = (S.incoming input.new).taken; written = (K.outgoing output.new).written; reads = (S.incoming input.new).faults; writes = (K.outgoing output.new).faults }
         result.0 result.1 }

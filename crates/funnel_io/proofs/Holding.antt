@@ -1,12 +1,18 @@
 -- What a buffer holds after a search, and after a read.
-use Rattle.std.proofs.Common.{◌≡◌, ◌≢◌, ℕ, ◌+◌, ◌-◌, ◌<◌, ◌≤◌, Some, None, List, [], ◌∷◌, ◌++◌, length, get_or, take, drop, sym, ap, ◌∙◌, subst, arith, append-nil, length-take, length-drop}
+use Rattle.std.proofs.Common.{◌≡◌, ◌≢◌, ℕ, ◌+◌, ◌-◌, ◌<◌, ◌≤◌, min, Some, None, List, ◌∷◌, ◌++◌, length, get_or, take, drop, refl, sym, ap, ◌∙◌, subst, inl, inr, arith, length-take}
 use Rattle.std.specs.Prelude.{slice_range}
-use Rattle.std.proofs.lemmas.List.{take_at, take-take}
+use Rattle.std.proofs.lemmas.Bool.Decides.{leb_tells}
+use Rattle.std.proofs.lemmas.List.{take_at, take-take, take_min}
 use Rattle.std.proofs.lemmas.List.Elements.{All-append}
 use Rattle.memchr.specs.Find.{IsFirstByte, is_byte}
+use Rattle.funnel_io.specs.Answers.{bytes_got}
+use Rattle.funnel_io.specs.Calls.{Read}
+use Rattle.funnel_io.specs.LineReading.{IsRoomFor}
 use Rattle.funnel_io.specs.Lines.{HasNoNewline}
+use Rattle.funnel_io.specs.declared.source.Got.{Got}
+use Rattle.funnel_io.specs.declared.source.Got.TheVariants as got
 use Rattle.funnel_io.specs.Streams.{Incoming, Takes}
-use Rattle.funnel_io.specs.LineBuffers.{IsInPlace, ReadsBehind}
+use Rattle.funnel_io.specs.LineBuffers.{IsInPlace, ReadsOnce}
 use Rattle.funnel_io.proofs.Ranges.{range_front, range_join, range_cut, range_first, get_or-range, length-range, none_found, none_before, found_byte}
 
 -- two ranges without newline are one without newline
@@ -98,40 +104,6 @@ end_within len old lent new line_start line_end start searched end loan place =
     let same_size : length new ≡ length old = loan.same_size ∙ ap length loan.whole in
     omega (arith, place.within)
 
--- the bytes that were read stand behind those that were held
-pub reads_behind : (len : ℕ) (old lent new : List ℕ) (start end n : ℕ) (before after : Incoming) (may : ℕ)
-    → IsLent len old lent new end → start ≤ end → end + n ≤ length new → n ≤ may
-    → Takes (take n (drop end new)) before after
-    → ReadsBehind (slice_range old start end) (slice_range (take len (new ++ drop (length new) old)) start (end + n))
-    before after may (may - n)
-reads_behind len old lent new start end n before after may loan in_order within few takes =
-    let piece : List ℕ = take n (drop end new) in
-    let size : length piece ≡ n = omega (arith, length-take n (drop end new), length-drop end new) in
-    let P : List ℕ → Type 0 = λ b. ReadsBehind (slice_range old start end) (slice_range b start (end + n)) before after may (may - n) in
-    subst P (sym (after_loan len old lent new end loan))
-    (record {
-      piece = piece;
-      grown = range_join new start end n in_order
-          ∙ ap (λ bytes. bytes ++ piece) (range_kept len old lent new end start end loan (omega arith));
-      takes = takes;
-      count = omega (arith, size);
-    })
-
--- nothing was read
-pub reads_nothing : (len : ℕ) (old lent new : List ℕ) (start end : ℕ) (before after : Incoming) (may : ℕ)
-    → IsLent len old lent new end → Takes [] before after
-    → ReadsBehind (slice_range old start end) (slice_range (take len (new ++ drop (length new) old)) start end)
-    before after may may
-reads_nothing len old lent new start end before after may loan takes =
-    let P : List ℕ → Type 0 = λ b. ReadsBehind (slice_range old start end) (slice_range b start end) before after may may in
-    subst P (sym (after_loan len old lent new end loan))
-    (record {
-      piece = [];
-      grown = range_kept len old lent new end start end loan (omega arith) ∙ sym (append-nil (slice_range old start end));
-      takes = takes;
-      count = omega arith;
-    })
-
 -- a buffer that was searched to the end
 pub in_place_searched : (buffer : List ℕ) (line_start line_end start searched end : ℕ)
     → IsInPlace buffer line_start line_end start searched end
@@ -146,3 +118,34 @@ in_place_searched buffer line_start line_end start searched end place clean = re
   within = place.within;
   clean = clean;
 }
+
+-- the bytes that a read gave are the first of those in its room
+front_got : (answer : Got) (room : List ℕ) → take (length (bytes_got answer room)) room ≡ bytes_got answer room
+front_got (got.Bytes n) room = ap (λ k. take k room) (length-take n room) ∙ take_min n room
+front_got got.End room = refl
+front_got got.Failed room = refl
+
+room_for : (may free : ℕ) → 64 ≤ free → IsRoomFor (min may free) may
+room_for may free enough = elim (leb_tells may free) [ inl within ↦ inr (omega (arith, within.1)) | inr more ↦ inl (omega (arith, more.1, enough)) ]
+
+-- one read was made into the buffer from its end on
+pub reads_once : {S : Type 0} (incoming : S → Incoming) (gives : S → Read → S → Type 0) (before after : S) (len : ℕ) (old lent new : List ℕ) (start end n to : ℕ) (answer : Got) (may may' : ℕ)
+    → IsLent len old lent new end → start ≤ end → to ≡ end + n → n ≡ length (bytes_got answer (drop end new)) → end + 64 ≤ length lent → may' + n ≡ may
+    → gives before (record { room = min may (length lent - end); answer = answer; bytes = bytes_got answer (drop end new) }) after
+    → Takes (bytes_got answer (drop end new)) (incoming before) (incoming after)
+    → ReadsOnce incoming gives before after (slice_range old start end) (slice_range (take len (new ++ drop (length new) old)) start to) answer may may'
+reads_once incoming gives before after len old lent new start end n to answer may may' loan in_order to_is n_is enough count step takes =
+    let bytes : List ℕ = bytes_got answer (drop end new) in
+    let P : List ℕ → Type 0 = λ b. ReadsOnce incoming gives before after (slice_range old start end) (slice_range b start to) answer may may' in
+    subst P (sym (after_loan len old lent new end loan))
+    (record {
+      read = record { room = min may (length lent - end); answer = answer; bytes = bytes };
+      answered = refl;
+      step = step;
+      room = room_for may (length lent - end) (omega (arith, enough));
+      takes = takes;
+      grown = ap (slice_range new start) to_is ∙ range_join new start end n in_order
+          ∙ (ap (λ xs. slice_range new start end ++ xs) (ap (λ k. take k (drop end new)) n_is ∙ front_got answer (drop end new))
+          ∙ ap (λ xs. xs ++ bytes) (range_kept len old lent new end start end loan (omega arith)));
+      count = ap (λ k. may' + k) (sym n_is) ∙ count;
+    })

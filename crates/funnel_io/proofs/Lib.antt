@@ -1,7 +1,9 @@
 pub mod Taking
 pub mod Sending
+pub mod CallLaws
 pub mod CutLaws
 pub mod PlaceLaws
 pub mod Ranges
 pub mod Holding
 pub mod LineLaws
+pub mod ReadingLaws

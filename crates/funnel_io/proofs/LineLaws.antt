@@ -6,14 +6,11 @@ use Rattle.std.proofs.lemmas.Bool.Decides.{leb_tells}
 use Rattle.std.proofs.lemmas.List.Concat.{flat_map-append}
 use Rattle.std.proofs.lemmas.List.Elements.{All-append, All-contains, All-push, All-nil}
 use Rattle.funnel_io.specs.Lines.{Cut, HasNoNewline, with_newlines, last_line, lines, cut, whole_lines, rest_of}
-use Rattle.funnel_io.specs.Streams.{Incoming}
-use Rattle.funnel_io.specs.LineReading.{ReaderState, HoldsEnd, HasGiven, IsCutAtNewline, IsCutAtEnd, Gives, GivesLine, NextLine, IsDecided}
-use Rattle.funnel_io.specs.LineSteps.{KeepsEnd, ReadsOn}
-use Rattle.funnel_io.specs.LineBuffers.{ReadsBehind}
+use Rattle.funnel_io.specs.LineReading.{ReaderState, HoldsEnd, HasGiven, IsCutAtNewline, IsCutAtEnd, Gives, GivesLine, IsDecided}
+use Rattle.funnel_io.specs.LineSteps.{KeepsEnd}
 use Rattle.funnel_io.specs.declared.line_reader.Line.{Line}
 use Rattle.funnel_io.specs.declared.line_reader.Line.TheVariants as answer
 use Rattle.funnel_io.proofs.CutLaws.{only_cut, cut_on}
-use Rattle.funnel_io.proofs.Taking.{Takes-nil, Takes-trans}
 
 -- two lists without newline are one
 pub clean-append : (xs ys : List ℕ) → HasNoNewline xs → HasNoNewline ys → HasNoNewline (xs ++ ys)
@@ -58,50 +55,21 @@ further taken given rest bytes cut = record {
 }
 
 -- bytes that were read behind those held give no further line yet
-pub reads_on : (old new : ReaderState) (held : List ℕ) (before after : Incoming) (may may' : ℕ)
-    → old.ended ≡ false → KeepsEnd old.held old.long held new.long
-    → ReadsBehind held new.held before after may may'
-    → ReadsOn old new before after may may'
-reads_on old new held before after may may' not_at_end keeps reads = record {
-  bytes = reads.piece;
-  takes = reads.takes;
-  count = reads.count;
-  keeps = λ taken given so_far.
-      let end : HoldsEnd held new.long so_far.rest = keeps so_far.rest so_far.holds in
-      record {
-        rest = so_far.rest ++ reads.piece;
-        holds = record {
-          dropped = end.dropped;
-          joined = ap (λ all. all ++ reads.piece) end.joined
-              ∙ (append_assoc end.dropped held reads.piece ∙ ap (λ all. end.dropped ++ all) (sym reads.grown));
-          clean = end.clean;
-          count = end.count;
-        };
-        cut = inl (further taken given so_far.rest reads.piece (at_newline taken given so_far.rest old.ended not_at_end so_far.cut));
+pub reads_on : (old new : ReaderState) (held bytes : List ℕ) → old.ended ≡ false → KeepsEnd old.held old.long held new.long → new.held ≡ held ++ bytes
+    → (taken : List ℕ) (given : List (List ℕ)) → HasGiven old taken given → HasGiven new (taken ++ bytes) given
+reads_on old new held bytes not_at_end keeps grown taken given so_far =
+    let end : HoldsEnd held new.long so_far.rest = keeps so_far.rest so_far.holds in
+    record {
+      rest = so_far.rest ++ bytes;
+      holds = record {
+        dropped = end.dropped;
+        joined = ap (λ all. all ++ bytes) end.joined
+            ∙ (append_assoc end.dropped held bytes ∙ ap (λ all. end.dropped ++ all) (sym grown));
+        clean = end.clean;
+        count = end.count;
       };
-}
-
--- nothing was read yet
-pub reads_none : (now : ReaderState) (incoming : Incoming) (may : ℕ) → ReadsOn now now incoming incoming may may
-reads_none now incoming may = record {
-  bytes = [];
-  takes = Takes-nil incoming;
-  count = omega arith;
-  keeps = λ taken given so_far. let P : List ℕ → Type 0 = λ all. HasGiven now all given in subst P (sym (append-nil taken)) so_far;
-}
-
--- one read after another
-pub reads_twice : (first between now : ReaderState) (before middle after : Incoming) (may may' may'' : ℕ)
-    → ReadsOn first between before middle may may' → ReadsOn between now middle after may' may''
-    → ReadsOn first now before after may may''
-reads_twice first between now before middle after may may' may'' one two = record {
-  bytes = one.bytes ++ two.bytes;
-  takes = Takes-trans before middle after one.bytes two.bytes one.takes two.takes;
-  count = omega (arith, one.count, two.count, length-append one.bytes two.bytes);
-  keeps = λ taken given so_far.
-      let P : List ℕ → Type 0 = λ all. HasGiven now all given in
-      subst P (append_assoc taken one.bytes two.bytes) (two.keeps (taken ++ one.bytes) given (one.keeps taken given so_far));
-}
+      cut = inl (further taken given so_far.rest bytes (at_newline taken given so_far.rest old.ended not_at_end so_far.cut));
+    }
 
 -- where no answer is decided and something may be read
 pub undecided : (now : ReaderState) (may : ℕ) → HasNoNewline now.held → now.ended ≡ false → 0 < may → IsDecided now may → ⊥
@@ -229,17 +197,15 @@ stopped now clean not_at_end taken given so_far =
     (subst HasNoNewline (sym end.joined) (clean-append end.dropped now.held end.clean clean))
     ∙ append-nil given
 
--- an answer of the bytes at hand, after those that were read
-pub next_after : (first now new : ReaderState) (line : Line) (before after : Incoming) (may may' : ℕ)
-    → ReadsOn first now before after may may'
-    → ((taken : List ℕ) (given : List (List ℕ)) → HasGiven now taken given → Gives line taken given new)
-    → NextLine first new line before after may may'
-next_after first now new line before after may may' reads gives = record {
-  bytes = reads.bytes;
-  takes = reads.takes;
-  count = reads.count;
-  gives = λ taken given so_far. gives (taken ++ reads.bytes) given (reads.keeps taken given so_far);
-}
+-- nor do further bytes without newline
+pub still_given : (now : ReaderState) (bytes : List ℕ) → HasNoNewline (now.held ++ bytes) → now.ended ≡ false
+    → (taken : List ℕ) (given : List (List ℕ)) → HasGiven now taken given → lines (taken ++ bytes) false ≡ given
+still_given now bytes clean not_at_end taken given so_far =
+    let end = so_far.holds in
+    lines_of_cut (taken ++ bytes) given (so_far.rest ++ bytes) false
+    (further taken given so_far.rest bytes (at_newline taken given so_far.rest now.ended not_at_end so_far.cut))
+    (subst HasNoNewline (sym (ap (λ xs. xs ++ bytes) end.joined ∙ append_assoc end.dropped now.held bytes)) (clean-append end.dropped (now.held ++ bytes) end.clean clean))
+    ∙ append-nil given
 
 -- after lines that newlines ended, what follows is cut by itself
 pub lines_on : (taken : List ℕ) (given : List (List ℕ)) (rest : List ℕ) (ended : Bool) → IsCutAtNewline taken given rest

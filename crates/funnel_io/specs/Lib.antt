@@ -3,6 +3,7 @@ pub mod Borrowed
 pub mod Streams
 pub mod Std
 pub mod Answers
+pub mod Calls
 pub mod Served
 pub mod Memory
 pub mod Places

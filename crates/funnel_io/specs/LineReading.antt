@@ -1,6 +1,7 @@
 -- What a reader of lines holds, and the lines that it gives of the bytes that it takes.
-use Rattle.std.specs.Prelude.{◌≡◌, ◌+◌, ◌<◌, ◌⊎◌, ⊤, ℕ, Bool, true, false, List, [], ◌∷◌, ◌++◌, length, All, Contains, MatchBool, if◌then◌else◌}
+use Rattle.std.specs.Prelude.{◌≡◌, ◌+◌, ◌<◌, ◌≤◌, ◌⊎◌, ⊤, ℕ, Bool, true, false, ◌||◌, List, [], ◌∷◌, ◌++◌, length, All, Contains, MatchBool, if◌then◌else◌}
 use Rattle.std.specs.Io.KnownBytes.{IsAtEnd}
+use Rattle.funnel_io.specs.Calls.{Read, Leads, GaveBytes, bytes_read, found_end}
 use Rattle.funnel_io.specs.Lines.{HasNoNewline, lines, with_newlines}
 use Rattle.funnel_io.specs.Streams.{Incoming, Takes}
 use Rattle.funnel_io.specs.declared.line_reader.TheConstants.{MAX_LINE_LEN}
@@ -55,12 +56,34 @@ Gives answer.Finished taken given now = (lines taken true ≡ given) × (now.end
 Gives answer.Failed taken given now = (lines taken false ≡ given) × HasGiven now taken given
 Gives answer.Limit taken given now = (lines taken false ≡ given) × HasGiven now taken given
 
--- some bytes were taken, of the number that may be, and the answer is that of all bytes then
-pub record NextLine (old new : ReaderState) (answer : Line) (before after : Incoming) (may may' : ℕ) : Type 0 where
-  pub bytes : List ℕ
-  pub takes : Takes bytes before after
-  pub count : may' + length bytes ≡ may
-  pub gives : (taken : List ℕ) (given : List (List ℕ)) → HasGiven old taken given → Gives answer (taken ++ bytes) given new
+-- so much room is enough for a read: for 64 bytes, or for all bytes that may be taken where these are fewer
+abbrev pub IsRoomFor : ℕ → ℕ → Type 0
+IsRoomFor room may = (64 ≤ room) ⊎ (room ≡ may)
+
+-- a read, after these, has to be made: the bytes held then decide no answer, and some may be taken
+pub record IsNeeded (reader : ReaderState) (may : ℕ) (earlier : List Read) (room : ℕ) : Type 0 where
+  pub not_ended : reader.ended ≡ false
+  pub going_on : GaveBytes earlier
+  pub undecided : HasNoNewline (reader.held ++ bytes_read earlier)
+  pub still : ℕ
+  pub still_is : still + length (bytes_read earlier) ≡ may
+  pub some : 0 < still
+  pub enough : IsRoomFor room still
+
+-- each of the reads, of which the last comes first, has to be made
+abbrev pub AreNeeded : ReaderState → ℕ → List Read → Type 0
+AreNeeded reader may [] = ⊤
+AreNeeded reader may (read ∷ earlier) = AreNeeded reader may earlier × IsNeeded reader may earlier read.room
+
+-- the source was read as often as the line has to be read for, and the answer is that of all bytes taken then
+pub record NextLine {S : Type 0} (incoming : S → Incoming) (step : S → Read → S → Type 0) (old new : ReaderState) (answer : Line) (before after : S) (may may' : ℕ) : Type 0 where
+  pub reads : List Read
+  pub lead : Leads step before reads after
+  pub needed : AreNeeded old may reads
+  pub ended : new.ended ≡ (old.ended || found_end reads)
+  pub takes : Takes (bytes_read reads) (incoming before) (incoming after)
+  pub count : may' + length (bytes_read reads) ≡ may
+  pub gives : (taken : List ℕ) (given : List (List ℕ)) → HasGiven old taken given → Gives answer (taken ++ bytes_read reads) given new
 
 -- the bytes held decide the answer, or no byte may be read
 abbrev pub IsDecided : ReaderState → ℕ → Type 0

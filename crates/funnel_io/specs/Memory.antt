@@ -5,9 +5,10 @@ use Rattle.funnel_io.specs.declared.source.Got.{Got}
 use Rattle.funnel_io.specs.declared.source.Got.TheVariants as got
 use Rattle.funnel_io.specs.declared.sink.Put.{Put}
 use Rattle.funnel_io.specs.declared.sink.Put.TheVariants as put
-use Rattle.funnel_io.specs.Answers.{MatchGot, MatchPut, read_failed, write_failed}
+use Rattle.funnel_io.specs.Answers.{MatchGot, MatchPut, bytes_put, read_failed, write_failed}
+use Rattle.funnel_io.specs.Calls.{Read, Write}
 use Rattle.funnel_io.specs.Counts.{raised, counted}
-use Rattle.funnel_io.specs.Streams.{Incoming, Outgoing}
+use Rattle.funnel_io.specs.Streams.{Incoming, Outgoing, Takes, Writes}
 
 -- a source: the pieces left, the bytes taken, the number of reads made, the numbers of the reads
 -- that fail, and the count of those that failed
@@ -72,3 +73,13 @@ pub record IsWrite (old : SinkState) (piece : List ℕ) (answer : Put) (new : Si
   pub faults : new.faults ≡ counted (write_failed answer) old.faults
   pub whole : MatchPut answer (λ n. n ≡ length piece) ⊤
   pub room : MatchPut answer (λ n. old.room ≡ new.room + n) (new.room ≡ old.room)
+
+-- what a source tells of a read: which it is, and its bytes
+pub record IsSourceRead (old : SourceState) (read : Read) (new : SourceState) : Type 0 where
+  pub exact : IsRead old read.room read.answer new
+  pub takes : Takes read.bytes (incoming_of old) (incoming_of new)
+
+-- what a sink tells of a write: which it is, and its bytes
+pub record IsSinkWrite (old : SinkState) (write : Write) (new : SinkState) : Type 0 where
+  pub exact : IsWrite old write.piece write.answer new
+  pub writes : Writes (bytes_put write.answer write.piece) (outgoing_of old) (outgoing_of new)

@@ -1,9 +1,9 @@
-ghost use Rattle.std.specs.Prelude.{◌≡◌, ◌<◌, ◌≤◌, ◌+◌, [], ◌∷◌, ◌++◌, IfOk, IsTrue, ◌↔◌, MatchBool, length, take, drop, ⊤};
+ghost use Rattle.std.specs.Prelude.{◌≡◌, ◌<◌, ◌≤◌, ◌+◌, ◌-◌, min, [], ◌∷◌, ◌++◌, IfOk, IsTrue, ◌↔◌, MatchBool, length, take, drop, ⊤};
 ghost use Rattle.std.specs.Io.KnownBytes.{IsAtEnd};
 ghost use Rattle.funnel_io.specs.Answers.{MatchGot, bytes_got, read_failed};
 ghost use Rattle.funnel_io.specs.Counts.{counted};
 ghost use Rattle.funnel_io.specs.Lines.{HasNoNewline};
-ghost use Rattle.funnel_io.specs.LineBuffers.{ReadsBehind};
+ghost use Rattle.funnel_io.specs.LineBuffers.{ReadsOnce};
 ghost use Rattle.funnel_io.specs.Streams.{Takes};
 
 use crate::line_reader::MAX_LINE_LEN;
@@ -143,7 +143,7 @@ impl LineBuffer {
         requires some { 0 < left.old }
         ensures borrowed { C.borrowed conn.new ≡ C.borrowed conn.old }
         ensures beside { C.beside_read conn.new ≡ C.beside_read conn.old }
-        ensures reads { ReadsBehind self.old.bytes self.new.bytes (C.incoming conn.old) (C.incoming conn.new) left.old left.new }
+        ensures once { ReadsOnce C.incoming C.read_gives conn.old conn.new self.old.bytes self.new.bytes result left.old left.new }
         ensures left { MatchGot result (λ _. left.new < left.old) (left.new ≡ left.old) (left.new ≡ left.old) }
         ensures end { MatchGot result (λ _. ⊤) (IsAtEnd (C.incoming conn.new).left) ⊤ }
         ensures faults { (C.incoming conn.new).faults ≡ counted (read_failed result) (C.incoming conn.old).faults }
@@ -169,10 +169,12 @@ fn read_behind<C: Source>(conn: &mut C, buffer: &mut [u8], end: usize, left: u64
     ensures kept { take end buffer.new ≡ take end buffer.old }
     ensures count { MatchGot result (λ n. (1 ≤ n) × (n ≤ left) × (end + n ≤ length buffer.new)) ⊤ ⊤ }
     ensures takes { Takes (bytes_got result (drop end buffer.new)) (C.incoming conn.old) (C.incoming conn.new) }
+    ensures gives { C.read_gives conn.old
+        (record { room = min left (length buffer.old - end); answer = result; bytes = bytes_got result (drop end buffer.new) })
+        conn.new }
     ensures end { MatchGot result (λ _. ⊤) (IsAtEnd (C.incoming conn.new).left) ⊤ }
     ensures faults { (C.incoming conn.new).faults ≡ counted (read_failed result) (C.incoming conn.old).faults }
 {
     let most = left.min((buffer.len() - end) as u64) as usize;
-    prove!(most as u64 == left || most >= LEAST_ROOM);
     conn.read(&mut buffer[end..end + most])
 }

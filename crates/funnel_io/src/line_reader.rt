@@ -4,7 +4,7 @@ ghost use Rattle.funnel_io.specs.Answers.{MatchGot, read_failed};
 ghost use Rattle.funnel_io.specs.Counts.{counted};
 ghost use Rattle.funnel_io.specs.Lines.{HasNoNewline};
 ghost use Rattle.funnel_io.specs.LineReading.{unused, HasGiven, Gives, NextLine, IsDecided, KnowsEnd, line_failed, IsLine, most_lines};
-ghost use Rattle.funnel_io.specs.LineSteps.{ReadsOn, KeepsEnd, IsOfBytes};
+ghost use Rattle.funnel_io.specs.LineSteps.{ReadsNext, KeepsEnd, IsOfBytes};
 
 use crate::line_buffer::{LEAST_ROOM, LineBuffer};
 use crate::memory::Memory;
@@ -78,7 +78,10 @@ impl LineReader {
         ensures borrowed { C.borrowed conn.new ≡ C.borrowed conn.old }
         ensures beside { C.beside_read conn.new ≡ C.beside_read conn.old }
         ensures faults { (C.incoming conn.new).faults ≡ counted (line_failed result) (C.incoming conn.old).faults }
-        ensures next { NextLine self.old self.new result (C.incoming conn.old) (C.incoming conn.new) left.old left.new }
+
+        // It reads only where the bytes that it holds decide no answer, into room for 64 bytes or for
+        // all that may be taken, and never after a read that gave none.
+        ensures next { NextLine C.incoming C.read_gives self.old self.new result conn.old conn.new left.old left.new }
         ensures fits { result ≡ Line.Whole → length self.new.line ≤ MAX_LINE_LEN }
         ensures limit { result ≡ Line.Limit → left.new ≡ 0 }
         ensures failed_below_limit { result ≡ Line.Failed → 0 < left.new }
@@ -154,7 +157,7 @@ impl LineReader {
         requires some { 0 < left.old }
         ensures borrowed { C.borrowed conn.new ≡ C.borrowed conn.old }
         ensures beside { C.beside_read conn.new ≡ C.beside_read conn.old }
-        ensures reads_on { ReadsOn self.old self.new (C.incoming conn.old) (C.incoming conn.new) left.old left.new }
+        ensures next { ReadsNext C.incoming C.read_gives conn.old conn.new self.old self.new result left.old left.new }
         ensures no_more { most_lines self.new.held self.new.long + left.new
             ≤ most_lines self.old.held self.old.long + left.old }
         ensures left { MatchGot result (λ _. left.new < left.old) (left.new ≡ left.old) (left.new ≡ left.old) }

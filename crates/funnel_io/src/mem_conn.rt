@@ -31,11 +31,14 @@ impl MemConn {
 impl Borrower for MemConn {}
 
 impl Source for MemConn {
-    ghost use Rattle.funnel_io.specs.Memory.{incoming_of, outgoing_of};
+    ghost use Rattle.std.specs.Prelude.{◌≡◌};
+    ghost use Rattle.funnel_io.specs.Memory.{IsSourceRead, incoming_of, outgoing_of};
 
     ghost incoming = { λ c. incoming_of c.source };
 
     ghost beside_read = { λ c. outgoing_of c.sink };
+
+    ghost read_gives = { λ c read d. IsSourceRead c.source read d.source × (d.sink ≡ c.sink) };
 
     fn read(&mut self, room: &mut [u8]) -> Got
         requires { 0 < length room.old }
@@ -52,11 +55,14 @@ impl Source for MemConn {
 }
 
 impl Sink for MemConn {
-    ghost use Rattle.funnel_io.specs.Memory.{incoming_of, outgoing_of};
+    ghost use Rattle.std.specs.Prelude.{◌≡◌};
+    ghost use Rattle.funnel_io.specs.Memory.{IsSinkWrite, incoming_of, outgoing_of};
 
     ghost outgoing = { λ c. outgoing_of c.sink };
 
     ghost beside_write = { λ c. incoming_of c.source };
+
+    ghost write_gives = { λ c write d. IsSinkWrite c.sink write d.sink × (d.source ≡ c.source) };
 
     fn write(&mut self, piece: &[u8]) -> Put
         requires { 0 < length piece.now }

@@ -67,12 +67,14 @@ impl MemSink {
 impl Borrower for MemSink {}
 
 impl Sink for MemSink {
-    ghost use Rattle.funnel_io.specs.Memory.{outgoing_of};
+    ghost use Rattle.funnel_io.specs.Memory.{IsSinkWrite, outgoing_of};
     ghost use Rattle.funnel_io.specs.Streams.{nothing_read};
 
     ghost outgoing = { outgoing_of };
 
     ghost beside_write = { λ _. nothing_read };
+
+    ghost write_gives = { IsSinkWrite };
 
     fn write(&mut self, piece: &[u8]) -> Put
         requires { 0 < length piece.now }

@@ -102,12 +102,14 @@ fn copy_from(piece: &[u8], from: usize, room: &mut [u8]) -> usize
 impl Borrower for MemSource {}
 
 impl Source for MemSource {
-    ghost use Rattle.funnel_io.specs.Memory.{incoming_of};
+    ghost use Rattle.funnel_io.specs.Memory.{IsSourceRead, incoming_of};
     ghost use Rattle.funnel_io.specs.Streams.{nothing_written};
 
     ghost incoming = { incoming_of };
 
     ghost beside_read = { λ _. nothing_written };
+
+    ghost read_gives = { IsSourceRead };
 
     fn read(&mut self, room: &mut [u8]) -> Got
         requires { 0 < length room.old }

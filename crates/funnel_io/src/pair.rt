@@ -19,9 +19,13 @@ impl<S: Source, K: Sink> Borrower for Pair<'_, S, K> {
 }
 
 impl<S: Source, K: Sink> Source for Pair<'_, S, K> {
+    ghost use Rattle.std.specs.Prelude.{◌≡◌};
+
     ghost incoming = { λ p. S.incoming p.source.now };
 
     ghost beside_read = { λ p. K.outgoing p.sink.now };
+
+    ghost read_gives = { λ p read q. S.read_gives p.source.now read q.source.now × (q.sink.now ≡ p.sink.now) };
 
     fn read(&mut self, room: &mut [u8]) -> Got {
         self.source.read(room)
@@ -29,9 +33,13 @@ impl<S: Source, K: Sink> Source for Pair<'_, S, K> {
 }
 
 impl<S: Source, K: Sink> Sink for Pair<'_, S, K> {
+    ghost use Rattle.std.specs.Prelude.{◌≡◌};
+
     ghost outgoing = { λ p. K.outgoing p.sink.now };
 
     ghost beside_write = { λ p. S.incoming p.source.now };
+
+    ghost write_gives = { λ p write q. K.write_gives p.sink.now write q.sink.now × (q.source.now ≡ p.source.now) };
 
     fn write(&mut self, piece: &[u8]) -> Put {
         self.sink.write(piece)

@@ -1,4 +1,5 @@
 ghost use Rattle.std.specs.Prelude.{◌≡◌, OnOk, OnErr, is_err};
+ghost use Rattle.funnel_io.specs.Calls.{WritesAs};
 ghost use Rattle.funnel_io.specs.Counts.{counted};
 ghost use Rattle.funnel_io.specs.Streams.{Writes, WritesPart};
 
@@ -25,6 +26,9 @@ pub fn write_all<K: Sink>(sink: &mut K, bytes: &[u8]) -> Result<(), WriteFailed>
     ensures ok { OnOk result (Writes bytes.now (K.outgoing sink.old) (K.outgoing sink.new)) }
     ensures part { OnErr result (WritesPart bytes.now (K.outgoing sink.old) (K.outgoing sink.new)) }
     ensures faults { (K.outgoing sink.new).faults ≡ counted (is_err result) (K.outgoing sink.old).faults }
+
+    // Each write is handed all that is left, and none comes after one that failed.
+    ensures writes { WritesAs K.write_gives bytes.now sink.old sink.new (is_err result) }
 {
     let mut sent = 0;
     while sent < bytes.len() {

@@ -6,7 +6,7 @@ use Rattle.std.specs.List.{list_any, range_with_len}
 use Rattle.std.specs.Prelude.{◌==◌}
 use Rattle.funnel_model.specs.declared.event.Event.{Event}
 use Rattle.funnel_model.specs.declared.event.Event.TheVariants as event
-use Rattle.funnel_model.specs.Events.{opens, taken_in}
+use Rattle.funnel_model.specs.Events.{opens, column_taken_in}
 use Rattle.funnel_model.specs.Legal.{Limits, IsAllowed, IsLegal}
 use Rattle.funnel_model.specs.Slices.{claimed, is_claimed, is_clearing}
 use Rattle.funnel_model.proofs.ClaimLemmas.{any_in_range, none_in_range}
@@ -33,7 +33,7 @@ take_follows limits history pass slice column legal allowed =
     allowed.rule
 
 -- an event that claims a column of the slice is a take of it
-pub taken_is : (slice column : ℕ) (e : Event) → taken_in slice e ≡ Some column → (pass : ℕ) × (e ≡ event.Take pass slice column)
+pub taken_is : (slice column : ℕ) (e : Event) → column_taken_in slice e ≡ Some column → (pass : ℕ) × (e ≡ event.Take pass slice column)
 taken_is slice column (event.Take pass taken at) is = by_test (taken == slice) refl is where
   by_test : (b : Bool) → (taken == slice) ≡ b → cond b (Some at) None ≡ Some column → (p : ℕ) × (event.Take pass taken at ≡ event.Take p slice column)
   by_test true same some = let s : taken ≡ slice = eqb-true taken slice same in (pass, cc)
@@ -58,7 +58,7 @@ first_same columns more first is = is ∙ first ∙ ap (λ cs. range_with_len 0 
 
 -- the claimed columns stay the first with an event that is allowed
 first-push : (limits : Limits) (history : List Event) (e : Event) (slice : ℕ) → IsLegal limits history → IsAllowed limits history e → AreFirst history →
-    (opened : Bool) (taken : Option ℕ) → opens slice e ≡ opened → taken_in slice e ≡ taken →
+    (opened : Bool) (taken : Option ℕ) → opens slice e ≡ opened → column_taken_in slice e ≡ taken →
     claimed slice (history ++ e ∷ []) ≡ range_with_len 0 (length (claimed slice (history ++ e ∷ [])))
 first-push limits history e slice legal allowed first true taken opened is = first_same [] (claimed slice (history ++ e ∷ [])) refl (claimed-opens slice history e opened)
 first-push limits history e slice legal allowed first false None opened is =
@@ -72,7 +72,7 @@ first-push limits history e slice legal allowed first false (Some column) opened
 pub claimed_first : (limits : Limits) (slice : ℕ) (history : List Event) → IsLegal limits history →
     claimed slice history ≡ range_with_len 0 (length (claimed slice history))
 claimed_first limits slice history legal =
-    holds_of_legal limits AreFirst (λ s. refl) (λ h e is_legal first allowed s. first-push limits h e s is_legal allowed first (opens s e) (taken_in s e) refl refl)
+    holds_of_legal limits AreFirst (λ s. refl) (λ h e is_legal first allowed s. first-push limits h e s is_legal allowed first (opens s e) (column_taken_in s e) refl refl)
     history legal slice
 
 -- a column is unclaimed where its number is at least their count

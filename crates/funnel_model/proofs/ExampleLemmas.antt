@@ -19,3 +19,6 @@ one_slice f a (suc n) in' = absurd (omega arith)
 -- an add without words sets no bits
 pub no_bits : All (λ (b : Bit). IsInSlice 4 0 b.word) []
 no_bits = All-nil (λ (b : Bit). IsInSlice 4 0 b.word)
+
+pub none_wide : All (λ (b : Bit). b.bit < 64) []
+none_wide = All-nil (λ (b : Bit). b.bit < 64)

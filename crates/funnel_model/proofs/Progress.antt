@@ -187,9 +187,9 @@ module _ (limits : Limits) (history : List Event) (pass : ℕ) (legal : IsLegal 
 
   -- and a pass that took a column adds a document there or drops it
   pub take_ends : (slice column id : ℕ) (text : List ℕ) (bits : List Bit) → last_by pass history ≡ Some (event.Take pass slice column) →
-      All (λ b. IsInSlice limits.slice_words slice b.word) bits →
+      All (λ b. IsInSlice limits.slice_words slice b.word) bits → All (λ (b : Bit). b.bit < 64) bits →
       IsAllowed limits history (event.Add pass id text slice column bits) ⊎ IsAllowed limits history (event.Drop pass id text slice column)
-  take_ends slice column id text bits taken inside = by_live (is_live id history) refl where
+  take_ends slice column id text bits taken inside in_word = by_live (is_live id history) refl where
     drop : (is_live id history ≡ true) ⊎ (is_journal_full limits history ≡ true) → IsAllowed limits history (event.Drop pass id text slice column)
     drop refused = allowed_by limits history (event.Drop pass id text slice column) in' none (record { taken = taken; refused = refused })
 
@@ -199,6 +199,6 @@ module _ (limits : Limits) (history : List Event) (pass : ℕ) (legal : IsLegal 
     by_live false absent =
         ⊎_elim
         (λ room. inl (allowed_by limits history (event.Add pass id text slice column bits) in' none
-        (record { taken = taken; absent = absent; room = room; inside = inside })))
+        (record { taken = taken; absent = absent; room = room; inside = inside; in_word = in_word })))
         (λ full. inr (drop (inr full)))
         (room_or_full limits history legal)

@@ -11,10 +11,12 @@ use Rattle.funnel_model.specs.declared.event.Event.TheVariants as event
 use Rattle.funnel_model.specs.Events.{opens}
 use Rattle.funnel_model.specs.Legal.{GoesOn, HasRoom, IsInSlice, IsLegal}
 use Rattle.funnel_model.specs.RecycleExample.{filled, guarded, high_bit, low_bit, paired, recycled, together, unguarded}
+use Rattle.funnel_model.specs.Blocks.{IsLowestGuard}
 use Rattle.funnel_model.specs.Slices.{AllOver, Deleted, IsRetired, is_claimed}
+use Rattle.funnel_model.specs.Steps.{IsLowestGuarded}
 use Rattle.funnel_model.specs.Tokens.{Guards, IsGuarded}
 use Rattle.funnel_model.proofs.ExampleLemmas.{one_slice, two_columns}
-use Rattle.funnel_model.proofs.Histories.{goes_on_join}
+use Rattle.funnel_model.proofs.Histories.{goes_on_join, legal-push}
 use Rattle.funnel_model.proofs.Retirement.{not_all_over}
 use Rattle.funnel_model.proofs.SpareLemmas.{finds_last, not_over, not_retired, room_by, token_finds_last}
 
@@ -107,6 +109,23 @@ high_guarded = record {
   before = omega arith;
 }
 
+-- and by no pass below
+pub lowest_guard : (slice : ℕ) → Guards 1 guarded slice 1 6 → IsLowestGuard 1 guarded slice 1 6
+lowest_guard slice guards = record {
+  guards = guards;
+  lowest = one_slice _ (λ number other. both_ways (finds_last 0 guarded) refl (token_finds_last guarded 0 number other.token));
+}
+
+-- slice 0 is the lowest that is retired
+pub low_is_lowest : IsLowestGuarded paired guarded 0 1
+low_is_lowest = record {
+  in_range = omega arith;
+  retired = low_guarded.retired;
+  lowest = λ lower in'. absurd (omega arith);
+  number = 6;
+  guard = lowest_guard 0 low_guarded;
+}
+
 -- a find that began and ended is not open
 ended : (b : Bool) → cond b false (cond b true false) ≡ false
 ended true = refl
@@ -131,6 +150,9 @@ no_room history slice taken room =
 one_bit : (slice : ℕ) (b : Bit) → IsInSlice 4 slice b.word → All (λ (x : Bit). IsInSlice 4 slice x.word) (b ∷ [])
 one_bit slice b in' = All-cons (λ (x : Bit). IsInSlice 4 slice x.word) b [] in' (All-nil (λ (x : Bit). IsInSlice 4 slice x.word))
 
+one_narrow : (b : Bit) → b.bit < 64 → All (λ (x : Bit). x.bit < 64) (b ∷ [])
+one_narrow b in' = All-cons (λ (x : Bit). x.bit < 64) b [] in' (All-nil (λ (x : Bit). x.bit < 64))
+
 -- nothing is retired before the first event
 pub nothing_retired : (slice : ℕ) → slice < 2 → IsRetired 1 slice [] → ⊥
 nothing_retired = two_columns _ (not_retired 1 0 0 [] (omega arith) refl refl) (not_retired 1 1 0 [] (omega arith) refl refl)
@@ -141,11 +163,11 @@ filled_goes_on = (
   (
     record { pass = omega arith; at_once = tt; rule = inl (record { idle = refl; in_range = omega arith; room = room_by 1 0 0 _ (omega arith) refl refl refl refl; lowest = λ lower in'. absurd (omega arith); next = refl }) },
     (
-      record { pass = omega arith; at_once = tt; rule = record { taken = refl; absent = refl; room = omega arith; inside = one_bit 0 low_bit (record { from = omega arith; to = omega arith }) } },
+      record { pass = omega arith; at_once = tt; rule = record { taken = refl; absent = refl; room = omega arith; inside = one_bit 0 low_bit (record { from = omega arith; to = omega arith }); in_word = one_narrow low_bit (omega arith) } },
       (
         record { pass = omega arith; at_once = tt; rule = inl (record { idle = refl; in_range = omega arith; room = room_by 1 1 0 _ (omega arith) refl refl refl refl; lowest = one_slice _ (no_room _ 0 refl); next = refl }) },
         (
-          record { pass = omega arith; at_once = tt; rule = record { taken = refl; absent = refl; room = omega arith; inside = one_bit 1 high_bit (record { from = omega arith; to = omega arith }) } },
+          record { pass = omega arith; at_once = tt; rule = record { taken = refl; absent = refl; room = omega arith; inside = one_bit 1 high_bit (record { from = omega arith; to = omega arith }); in_word = one_narrow high_bit (omega arith) } },
           tt,
         ),
       ),
@@ -242,6 +264,12 @@ clearing_is_legal = goes_on_join paired [] recycled (event.Clear 1 1 ∷ []) rec
   tt,
 )
 
+-- pass 1 may begin a find while pass 0 clears slice 0
+pub read_while_clearing : IsLegal paired (unguarded ++ event.Clear 0 0 ∷ event.Find 1 [] ∷ [])
+read_while_clearing =
+    legal-push paired (unguarded ++ event.Clear 0 0 ∷ []) (event.Find 1 [])
+    (goes_on_join paired [] unguarded (event.Clear 0 0 ∷ []) unguarded_is_legal (recycling_goes_on.0, tt)) (record { pass = omega arith; at_once = tt; rule = refl })
+
 pub together_is_legal : IsLegal paired together
 together_is_legal = goes_on_join paired [] clearing (event.Take 0 0 0 ∷ event.Opened 1 1 true ∷ event.Add 0 5 [] 0 0 [] ∷ []) clearing_is_legal (
   record {
@@ -261,7 +289,7 @@ together_is_legal = goes_on_join paired [] clearing (event.Take 0 0 0 ∷ event.
   (
     record { pass = omega arith; at_once = tt; rule = record { cleared = refl } },
     (
-      record { pass = omega arith; at_once = tt; rule = record { taken = refl; absent = refl; room = omega arith; inside = All-nil (λ (x : Bit). IsInSlice 4 0 x.word) } },
+      record { pass = omega arith; at_once = tt; rule = record { taken = refl; absent = refl; room = omega arith; inside = All-nil (λ (x : Bit). IsInSlice 4 0 x.word); in_word = All-nil (λ (x : Bit). x.bit < 64) } },
       tt,
     ),
   ),

@@ -9,7 +9,7 @@ use Rattle.std.specs.Prelude.{◌==◌, ◌⊎◌, option_to_list}
 use Rattle.funnel_model.specs.declared.bit_list.Bit.{Bit}
 use Rattle.funnel_model.specs.declared.event.Event.{Event}
 use Rattle.funnel_model.specs.declared.event.Event.TheVariants as event
-use Rattle.funnel_model.specs.Events.{bits_added_in, clears, fills, opens, taken_in}
+use Rattle.funnel_model.specs.Events.{bits_added_in, clears, fills, opens, column_taken_in}
 use Rattle.funnel_model.specs.History.{IsFrontOf}
 use Rattle.funnel_model.specs.Legal.{Limits, IsAllowed, IsInSlice, IsLegal}
 use Rattle.funnel_model.specs.RowWords.{AreFresh, Covers, IsCommitted, IsSetIn, IsZeroIn}
@@ -110,6 +110,14 @@ committed_in_slice limits history slice b legal is =
     let allowed = subst (IsAllowed limits is.earlier) add.5 (allowed_within limits history is.earlier is.event is.later legal is.whole) in
     All-contains (λ (x : Bit). IsInSlice limits.slice_words slice x.word) add.4 b allowed.rule.inside add.6
 
+-- and its place in the word is one of 64
+pub committed_in_word : (limits : Limits) (history : List Event) (slice : ℕ) (b : Bit) → IsLegal limits history → IsCommitted history slice b →
+    b.bit < 64
+committed_in_word limits history slice b legal is =
+    let add = adds_in slice is.event b is.added in
+    let allowed = subst (IsAllowed limits is.earlier) add.5 (allowed_within limits history is.earlier is.event is.later legal is.whole) in
+    All-contains (λ (x : Bit). x.bit < 64) add.4 b allowed.rule.in_word add.6
+
 -- and the slice isn't being cleared
 abbrev CommittedStay : List Event → Type 0
 CommittedStay history = (slice : ℕ) (b : Bit) → IsCommitted history slice b → is_clearing slice history ≡ false
@@ -172,7 +180,7 @@ empty_front (x ∷ xs) ys is = let none : x ∷ (xs ++ ys) ≡ [] = is in cc
 -- a slice of which no column is claimed after an event that doesn't open it had none claimed before
 unclaimed_before : (slice : ℕ) (history : List Event) (e : Event) → opens slice e ≡ false → claimed slice (history ++ e ∷ []) ≡ [] → claimed slice history ≡ []
 unclaimed_before slice history e stays none =
-    empty_front (claimed slice history) (option_to_list (taken_in slice e)) (sym (claimed-push slice history e stays) ∙ none)
+    empty_front (claimed slice history) (option_to_list (column_taken_in slice e)) (sym (claimed-push slice history e stays) ∙ none)
 
 -- before the first event each slice is fresh, so all words are zero
 pub fresh-start : (limits : Limits) (words : List ℕ) → ((slice : ℕ) → slice < limits.slices → IsZeroIn limits words slice) → AreFresh limits words []

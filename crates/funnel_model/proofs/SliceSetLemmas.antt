@@ -1,13 +1,15 @@
 -- Which slices a set has, and which it has with one more.
-use Rattle.std.proofs.Common.{◌≡◌, ◌≢◌, ◌↔◌, ◌⊎◌, ℕ, ◌+◌, ◌*◌, ◌/◌, ◌%◌, ◌^◌, ◌<◌, ⊎_elim, IsTrue, List, length, filter, get_or, set, sym, ap, ◌∙◌, subst, arith, inl, inr, Contains, bit_and, bit_or, w64}
+use Rattle.std.proofs.Common.{◌≡◌, ◌≢◌, ◌↔◌, ◌⊎◌, ℕ, ◌+◌, ◌*◌, ◌/◌, ◌%◌, ◌^◌, ◌<◌, ◌≤◌, ⊎_elim, IsTrue, Bool, true, false, cond, not, nat_lt, zero, suc, Option, Some, None, List, [], ◌∷◌, length, filter, get_or, set, sym, refl, ap, ◌∙◌, subst, arith, inl, inr, Contains, bit_and, bit_or, w64}
 use Rattle.std.proofs.lemmas.Bool.{cases_eq, eq-eqb, eqb-true}
+use Rattle.std.proofs.lemmas.Bool.Decides.{leb_tells}
+use Rattle.std.proofs.lemmas.List.Quantifiers.{position-Some}
 use Rattle.std.proofs.lemmas.List.{get_or-set_same, get_or-set_other}
 use Rattle.std.proofs.lemmas.List.FromFn.{length-range_with_len, get_or-range_with_len}
-use Rattle.std.proofs.lemmas.Nat.Bits.{bit_at_set_same, bit_at_set_other, shr_and_one}
-use Rattle.std.specs.Int.{bit_at}
-use Rattle.std.specs.List.{range_with_len}
+use Rattle.std.proofs.lemmas.Nat.Bits.{bit_at-trailing_zeros, bit_at-zero, bit_at_clear_same, bit_at_clear_other, bit_at_set_same, bit_at_set_other, shr_and_one}
+use Rattle.std.specs.Int.{bit_at, bit_not, trailing_zeros}
+use Rattle.std.specs.List.{position, position_or_len, range_with_len}
 use Rattle.std.specs.Prelude.{◌==◌}
-use Rattle.funnel_model.specs.SliceSets.{has_slice, slices_of}
+use Rattle.funnel_model.specs.SliceSets.{IsEmpty, IsLowestBit, IsLowestOf, has_slice, slices_of}
 use Rattle.funnel_model.proofs.AnswerLemmas.{Contains-filter, Contains-filtered}
 
 -- the bit of the slice is set
@@ -99,3 +101,138 @@ with_slice-contains words seen slice other is below long = with_slice-seen words
 pub asked-contains : (words seen : List ℕ) (slice : ℕ) → slices_of words ≡ seen → slice < 1024 →
     IsTrue (bit_and (get_or words (slice / 64) 0 / 2 ^ (slice % 64)) 1 == 1) ↔ Contains seen slice
 asked-contains words seen slice is below = asked-seen words seen 1024 slice is below
+
+-- the words without the bit of a slice, as the code clears it
+abbrev pub without_slice : List ℕ → ℕ → List ℕ
+without_slice words slice = set words (slice / 64) (bit_and (get_or words (slice / 64) 0) (bit_not w64 (1 * 2 ^ (slice % 64) % 2 ^ 64)))
+
+without_slice-same : (words : List ℕ) (slice : ℕ) → slice / 64 < length words → bit_at (get_or (without_slice words slice) (slice / 64) 0) (slice % 64) ≡ 0
+without_slice-same words slice within =
+    ap (λ w. bit_at w (slice % 64)) (get_or-set_same words (slice / 64) (bit_and (get_or words (slice / 64) 0) (bit_not w64 (1 * 2 ^ (slice % 64) % 2 ^ 64))) 0 within)
+    ∙ bit_at_clear_same w64 (get_or words (slice / 64) 0) (slice % 64) (omega arith)
+
+without_slice-other : (words : List ℕ) (slice other : ℕ) → slice / 64 < length words → other ≢ slice →
+    bit_at (get_or (without_slice words slice) (other / 64) 0) (other % 64) ≡ bit_at (get_or words (other / 64) 0) (other % 64)
+without_slice-other words slice other within apart =
+    ⊎_elim (λ same.
+    let bit : other % 64 ≢ slice % 64 = omega arith in
+    ap (λ n. bit_at (get_or (without_slice words slice) n 0) (other % 64)) same
+    ∙ ap (λ w. bit_at w (other % 64)) (get_or-set_same words (slice / 64) (bit_and (get_or words (slice / 64) 0) (bit_not w64 (1 * 2 ^ (slice % 64) % 2 ^ 64))) 0 within)
+    ∙ bit_at_clear_other w64 (get_or words (slice / 64) 0) (slice % 64) (omega arith) (other % 64) (omega arith) bit
+    ∙ sym (ap (λ n. bit_at (get_or words n 0) (other % 64)) same))
+    (λ word. ap (λ w. bit_at w (other % 64)) (get_or-set_other words (slice / 64) (other / 64) (bit_and (get_or words (slice / 64) 0) (bit_not w64 (1 * 2 ^ (slice % 64) % 2 ^ 64))) 0 word))
+    (cases_eq (other / 64) (slice / 64))
+
+without_slice-below : (words : List ℕ) (n slice other : ℕ) → slice < n → slice / 64 < length words →
+    Contains (filter (has_slice (without_slice words slice)) (range_with_len 0 n)) other ↔ ((other ≡ slice → ⊥) × Contains (filter (has_slice words) (range_with_len 0 n)) other)
+without_slice-below words n slice other below within = (
+  λ contained.
+      let both = has_below (without_slice words slice) n other contained in
+      let apart : other ≢ slice = λ same. let none = without_slice-same words slice within in let some = subst (HasBit (without_slice words slice)) same both.1 in omega arith in
+      (apart, below_has words n other both.0 (sym (without_slice-other words slice other within apart) ∙ both.1)),
+  λ had.
+      let both = has_below words n other had.1 in
+      below_has (without_slice words slice) n other both.0 (without_slice-other words slice other within had.0 ∙ both.1),
+)
+
+without_slice-seen : (words seen : List ℕ) (n slice other : ℕ) → filter (has_slice words) (range_with_len 0 n) ≡ seen → slice < n → slice / 64 < length words →
+    Contains (filter (has_slice (without_slice words slice)) (range_with_len 0 n)) other ↔ ((other ≡ slice → ⊥) × Contains seen other)
+without_slice-seen words seen n slice other is below within =
+    subst (λ (xs : List ℕ). Contains (filter (has_slice (without_slice words slice)) (range_with_len 0 n)) other ↔ ((other ≡ slice → ⊥) × Contains xs other)) is
+    (without_slice-below words n slice other below within)
+
+-- the set without a slice has the others that it had
+pub without_slice-contains : (words seen : List ℕ) (slice other : ℕ) → slices_of words ≡ seen → slice < 1024 → length words ≡ 16 →
+    Contains (slices_of (without_slice words slice)) other ↔ ((other ≡ slice → ⊥) × Contains seen other)
+without_slice-contains words seen slice other is below long = without_slice-seen words seen 1024 slice other is below (omega arith)
+
+empty_below : (words seen : List ℕ) (n : ℕ) → filter (has_slice words) (range_with_len 0 n) ≡ seen → ((k : ℕ) → k < length words → get_or words k 0 ≡ 0) → n ≤ 64 * length words → IsEmpty seen
+empty_below words seen n is unset fits slice contained =
+    let has = has_below words n slice (subst (λ (xs : List ℕ). Contains xs slice) (sym is) contained) in
+    let none : bit_at (get_or words (slice / 64) 0) (slice % 64) ≡ 0 = ap (λ w. bit_at w (slice % 64)) (unset (slice / 64) (let h = has.0 in omega arith)) ∙ bit_at-zero (slice % 64) in
+    let some = has.1 in
+    absurd (omega arith)
+
+-- where each word is 0 no slice is in the set
+pub slices-empty : (words seen : List ℕ) → slices_of words ≡ seen → length words ≡ 16 → ((k : ℕ) → k < 16 → get_or words k 0 ≡ 0) → IsEmpty seen
+slices-empty words seen is long unset = empty_below words seen 1024 is (λ k below. unset k (omega arith)) (omega arith)
+
+lowest_below : (words seen : List ℕ) (n index bit : ℕ) → filter (has_slice words) (range_with_len 0 n) ≡ seen → index * 64 + bit < n → bit < 64 → bit_at (get_or words index 0) bit ≡ 1 →
+    ((k : ℕ) → k < bit → bit_at (get_or words index 0) k ≡ 0) → ((k : ℕ) → k < index → get_or words k 0 ≡ 0) → IsLowestOf seen (index * 64 + bit)
+lowest_below words seen n index bit is below fits set lower_bits lower_words =
+    let word : (index * 64 + bit) / 64 ≡ index = omega arith in
+    let rest : (index * 64 + bit) % 64 ≡ bit = omega arith in
+    let here : HasBit words (index * 64 + bit) = ap (λ k. bit_at (get_or words k 0) ((index * 64 + bit) % 64)) word ∙ ap (bit_at (get_or words index 0)) rest ∙ set in
+    record {
+      in_set = subst (λ (xs : List ℕ). Contains xs (index * 64 + bit)) is (below_has words n (index * 64 + bit) below here);
+      lowest = λ lower less contained.
+          let has = has_below words n lower (subst (λ (xs : List ℕ). Contains xs lower) (sym is) contained) in
+          let one = has.1 in
+          ⊎_elim
+          (λ (same : lower / 64 ≡ index).
+          let smaller : lower % 64 < bit = omega arith in
+          let none : bit_at (get_or words (lower / 64) 0) (lower % 64) ≡ 0 = ap (λ k. bit_at (get_or words k 0) (lower % 64)) same ∙ lower_bits (lower % 64) smaller in
+          absurd (omega arith))
+          (λ (apart : lower / 64 ≢ index).
+          let none : bit_at (get_or words (lower / 64) 0) (lower % 64) ≡ 0 = ap (λ w. bit_at w (lower % 64)) (lower_words (lower / 64) (omega arith)) ∙ bit_at-zero (lower % 64) in
+          absurd (omega arith))
+          (cases_eq (lower / 64) index);
+    }
+
+-- the lowest bit of the first word that isn't 0 is that of the lowest slice
+pub slices-lowest : (words seen : List ℕ) (index bit : ℕ) → slices_of words ≡ seen → index < 16 → bit < 64 → bit_at (get_or words index 0) bit ≡ 1 →
+    ((k : ℕ) → k < bit → bit_at (get_or words index 0) k ≡ 0) → ((k : ℕ) → k < index → get_or words k 0 ≡ 0) → IsLowestOf seen (index * 64 + bit)
+slices-lowest words seen index bit is within fits set lower_bits lower_words = lowest_below words seen 1024 index bit is (omega arith) fits set lower_bits lower_words
+
+-- where no item passes, each fails
+none_passes : {X : Type 0} (p : X → Bool) (xs : List X) (d : X) → length xs ≤ position_or_len p xs → (k : ℕ) → k < length xs → p (get_or xs k d) ≡ false
+none_passes p [] d long k in' = absurd (omega arith)
+none_passes p (x ∷ xs) d long k in' = first (p x) refl long k in' (λ more j below. none_passes p xs d more j below) where
+  first : (b : Bool) → p x ≡ b → suc (length xs) ≤ cond (not b) (1 + position_or_len p xs) 0 → (k : ℕ) → k < suc (length xs) →
+      (length xs ≤ position_or_len p xs → (j : ℕ) → j < length xs → p (get_or xs j d) ≡ false) → p (get_or (x ∷ xs) k d) ≡ false
+  first true is more k in' rest = absurd (omega arith)
+  first false is more zero in' rest = is
+  first false is more (suc k) in' rest = rest (omega arith) k (omega arith)
+
+pub position-none : {X : Type 0} (p : X → Bool) (xs : List X) (d : X) → position p xs ≡ None → (k : ℕ) → k < length xs → p (get_or xs k d) ≡ false
+position-none p xs d is k in' =
+    ⊎_elim
+    (λ below. absurd (some_none (position_or_len p xs) (sym (chosen (nat_lt (position_or_len p xs) (length xs)) (Some (position_or_len p xs)) None below.0) ∙ is)))
+    (λ above. none_passes p xs d (omega (arith, above.1)) k in')
+    (leb_tells (suc (position_or_len p xs)) (length xs)) where
+      some_none : (n : ℕ) → Some n ≡ None → ⊥
+      some_none n is = cc
+
+      chosen : {X : Type 0} (b : Bool) (x y : X) → b ≡ true → cond b x y ≡ x
+      chosen true x y is = refl
+      chosen false x y is = cc
+
+both : (b : Bool) → b ≡ true → b ≡ false → ⊥
+both b up down = cc
+
+used_tells : (n : ℕ) → nat_lt 0 n ≡ true → 0 < n
+used_tells n is = ⊎_elim (λ yes'. yes'.1) (λ no'. absurd (both (nat_lt 0 n) is no'.0)) (leb_tells 1 n)
+
+unused_tells : (n : ℕ) → nat_lt 0 n ≡ false → n ≡ 0
+unused_tells n is = ⊎_elim (λ yes'. absurd (both (nat_lt 0 n) yes'.0 is)) (λ no'. let h = no'.1 in omega arith) (leb_tells 1 n)
+
+-- where no word is used the set is empty
+pub none_used : (words seen : List ℕ) → slices_of words ≡ seen → length words ≡ 16 → position (λ w. nat_lt 0 w) words ≡ None → IsEmpty seen
+none_used words seen is long none =
+    slices-empty words seen is long (λ k below. unused_tells (get_or words k 0) (position-none (λ w. nat_lt 0 w) words 0 none k (omega arith)))
+
+-- the lowest bit of a word
+pub lowest_bit_is : (word : ℕ) → 0 < word → word < 2 ^ 64 → IsLowestBit word (trailing_zeros w64 word)
+lowest_bit_is word some fits = let bit = bit_at-trailing_zeros w64 word some fits in record { in_range = bit.0; set = bit.1; lowest = bit.2 }
+
+-- the first word that is used is not 0
+pub first_used_is : (words : List ℕ) (index : ℕ) → position (λ w. nat_lt 0 w) words ≡ Some index → (index < length words) × (0 < get_or words index 0)
+first_used_is words index at = let found = position-Some (λ w. nat_lt 0 w) words index 0 at in (found.0, used_tells (get_or words index 0) found.1)
+
+-- the lowest bit of the first word that is used is that of the lowest slice
+pub first_is_lowest : (words seen : List ℕ) (index bit : ℕ) → slices_of words ≡ seen → length words ≡ 16 → position (λ w. nat_lt 0 w) words ≡ Some index →
+    IsLowestBit (get_or words index 0) bit → IsLowestOf seen (index * 64 + bit)
+first_is_lowest words seen index bit is long at lowest =
+    let found = position-Some (λ w. nat_lt 0 w) words index 0 at in
+    slices-lowest words seen index bit is (omega (arith, found.0)) lowest.in_range lowest.set lowest.lowest
+    (λ k below. unused_tells (get_or words k 0) (found.2 k below))

@@ -10,7 +10,7 @@ use Rattle.std.specs.List.{filter_map, list_any}
 use Rattle.std.specs.Prelude.{option_to_list, ◌==◌, ◌&&◌, ◌⊎◌}
 use Rattle.funnel_model.specs.declared.event.Event.{Event}
 use Rattle.funnel_model.specs.declared.event.Event.TheVariants as event
-use Rattle.funnel_model.specs.Events.{pass_of, taken_in, opens}
+use Rattle.funnel_model.specs.Events.{pass_of, column_taken_in, opens}
 use Rattle.funnel_model.specs.History.{last_by}
 use Rattle.funnel_model.specs.Slices.{span, claimed, is_claimed}
 
@@ -51,27 +51,27 @@ one_taken (Some c) f e is = cc
 
 -- the claimed columns with one more event, which doesn't open the slice
 pub claimed-push : (slice : ℕ) (history : List Event) (e : Event) → opens slice e ≡ false →
-    claimed slice (history ++ e ∷ []) ≡ claimed slice history ++ option_to_list (taken_in slice e)
+    claimed slice (history ++ e ∷ []) ≡ claimed slice history ++ option_to_list (column_taken_in slice e)
 claimed-push slice history e stays =
-    ap (filter_map (taken_in slice)) (span-push slice history e ∙ ap (λ b. cond b [] (span slice history ++ e ∷ [])) stays)
-    ∙ filter_map-append (taken_in slice) (span slice history) (e ∷ [])
-    ∙ ap (λ cs. claimed slice history ++ cs) (one_taken (taken_in slice e) (taken_in slice) e refl)
+    ap (filter_map (column_taken_in slice)) (span-push slice history e ∙ ap (λ b. cond b [] (span slice history ++ e ∷ [])) stays)
+    ∙ filter_map-append (column_taken_in slice) (span slice history) (e ∷ [])
+    ∙ ap (λ cs. claimed slice history ++ cs) (one_taken (column_taken_in slice e) (column_taken_in slice) e refl)
 
 -- the claimed columns after an event that claims none in the slice
-pub claimed-other : (slice : ℕ) (history : List Event) (e : Event) → opens slice e ≡ false → taken_in slice e ≡ None →
+pub claimed-other : (slice : ℕ) (history : List Event) (e : Event) → opens slice e ≡ false → column_taken_in slice e ≡ None →
     claimed slice (history ++ e ∷ []) ≡ claimed slice history
 claimed-other slice history e stays none =
     claimed-push slice history e stays ∙ ap (λ o. claimed slice history ++ option_to_list o) none ∙ append-nil (claimed slice history)
 
 -- after one that claims a column in it
-pub claimed-taken : (slice column : ℕ) (history : List Event) (e : Event) → opens slice e ≡ false → taken_in slice e ≡ Some column →
+pub claimed-taken : (slice column : ℕ) (history : List Event) (e : Event) → opens slice e ≡ false → column_taken_in slice e ≡ Some column →
     claimed slice (history ++ e ∷ []) ≡ claimed slice history ++ column ∷ []
 claimed-taken slice column history e stays some =
     claimed-push slice history e stays ∙ ap (λ o. claimed slice history ++ option_to_list o) some
 
 -- and after one that opens it
 pub claimed-opens : (slice : ℕ) (history : List Event) (e : Event) → opens slice e ≡ true → claimed slice (history ++ e ∷ []) ≡ []
-claimed-opens slice history e is = ap (filter_map (taken_in slice)) (span-opened slice history e is)
+claimed-opens slice history e is = ap (filter_map (column_taken_in slice)) (span-opened slice history e is)
 
 -- whether an event claims this column
 abbrev pub claims : ℕ → ℕ → Event → Bool
@@ -84,7 +84,7 @@ one_claimed true at column = or-false (at == column)
 one_claimed false at column = refl
 
 -- an event claims a column exactly where that is the column which it claims in the slice
-claims_taken : (slice column : ℕ) (e : Event) → list_any (λ c. c == column) (option_to_list (taken_in slice e)) ≡ claims slice column e
+claims_taken : (slice column : ℕ) (e : Event) → list_any (λ c. c == column) (option_to_list (column_taken_in slice e)) ≡ claims slice column e
 claims_taken slice column (event.Take pass taken at) = one_claimed (taken == slice) at column
 claims_taken slice column _ = refl
 
@@ -93,7 +93,7 @@ pub is_claimed-push : (slice column : ℕ) (history : List Event) (e : Event) �
     is_claimed slice column (history ++ e ∷ []) ≡ (is_claimed slice column history || claims slice column e)
 is_claimed-push slice column history e stays =
     ap (list_any (λ c. c == column)) (claimed-push slice history e stays)
-    ∙ list_any-append (λ c. c == column) (claimed slice history) (option_to_list (taken_in slice e))
+    ∙ list_any-append (λ c. c == column) (claimed slice history) (option_to_list (column_taken_in slice e))
     ∙ ap (λ b. is_claimed slice column history || b) (claims_taken slice column e)
 
 -- no column is claimed after an event that opens the slice

@@ -1,8 +1,10 @@
-use Rattle.std.specs.Prelude.{◌≡◌, ℕ, ◌^◌, ◌≤◌, List, length, All, Contains}
+-- When a configuration can be used. The limits are constants of the module `config`.
+use Rattle.std.specs.Prelude.{◌≡◌, ℕ, ◌≤◌, List, length, All, Contains}
 use Rattle.funnel_model.specs.Words.{words}
 use Rattle.funnel_model.specs.Listed.{IsInByteOrder}
 use Rattle.funnel_model.specs.Sizes.{columns_of_pool, words_of_pool}
 use Rattle.funnel_model.specs.declared.config.Config.{Config}
+use Rattle.funnel_model.specs.declared.config.TheConstants.{MOST_PASSES, MOST_SLICES, MOST_BLOCKS, MOST_RANK, MOST_COMMITS, LEAST_ONE_IN, MOST_ONE_IN, MOST_SNR, MOST_DOCUMENTS, MOST_TAIL, MOST_MAX_ROWS, MOST_WORDS, MOST_COLUMNS, MOST_ROW_WORDS}
 
 -- the set of the words of a text is that text alone
 pub record IsWord (text : List ℕ) : Type 0 where
@@ -10,26 +12,26 @@ pub record IsWord (text : List ℕ) : Type 0 where
   pub only : All (λ word. word ≡ text) (words text)
 
 -- n is from low to high
-abbrev pub IsWithin : ℕ → ℕ → ℕ → Type 0
-IsWithin low high n = (low ≤ n) × (n ≤ high)
+abbrev pub IsBetween : ℕ → ℕ → ℕ → Type 0
+IsBetween low high n = (low ≤ n) × (n ≤ high)
 
--- at most 65,536 words are listed, each with a count from 1 to the number of documents
+-- not too many words are listed, each with a count from 1 to the number of documents
 pub record CountsWords (config : Config) : Type 0 where
-  pub few : length config.words ≤ 65536
-  pub counted : All (λ entry. IsWithin 1 config.documents entry.1) config.words
+  pub few : length config.words ≤ MOST_WORDS
+  pub counted : All (λ entry. IsBetween 1 config.documents entry.1) config.words
 
 -- every number of the configuration is in its range
 pub record IsInRange (config : Config) : Type 0 where
-  pub passes : IsWithin 1 64 config.passes
-  pub slices : IsWithin 1 1024 config.slices
-  pub blocks : IsWithin 1 64 config.blocks
-  pub max_rank : config.max_rank ≤ 6
-  pub commits : IsWithin 1 16777216 config.commits
-  pub one_in : IsWithin 2 20 config.one_in
-  pub snr : IsWithin 1 1000 config.snr
-  pub documents : IsWithin 1 (2 ^ 32) config.documents
-  pub tail : config.tail ≤ 100000
-  pub max_rows : IsWithin 1 1048576 config.max_rows
+  pub passes : IsBetween 1 MOST_PASSES config.passes
+  pub slices : IsBetween 1 MOST_SLICES config.slices
+  pub blocks : IsBetween 1 MOST_BLOCKS config.blocks
+  pub max_rank : config.max_rank ≤ MOST_RANK
+  pub commits : IsBetween 1 MOST_COMMITS config.commits
+  pub one_in : IsBetween LEAST_ONE_IN MOST_ONE_IN config.one_in
+  pub snr : IsBetween 1 MOST_SNR config.snr
+  pub documents : IsBetween 1 MOST_DOCUMENTS config.documents
+  pub tail : config.tail ≤ MOST_TAIL
+  pub max_rows : IsBetween 1 MOST_MAX_ROWS config.max_rows
   pub words : CountsWords config
 
 -- The configuration can be used: besides, each listed word is one folded word, no word is listed twice, and neither the
@@ -38,5 +40,5 @@ pub record IsValid (config : Config) : Type 0 where
   pub in_range : IsInRange config
   pub in_order : IsInByteOrder config.words
   pub folded : All (λ entry. IsWord entry.0) config.words
-  pub few_columns : columns_of_pool config ≤ 4194304
-  pub small_pool : words_of_pool config ≤ 33554432
+  pub few_columns : columns_of_pool config ≤ MOST_COLUMNS
+  pub small_pool : words_of_pool config ≤ MOST_ROW_WORDS

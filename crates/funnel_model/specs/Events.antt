@@ -48,9 +48,9 @@ call_of (event.Read pass asked) = Some asked
 call_of _ = None
 
 -- the column of the slice that the event claims
-abbrev pub taken_in : ℕ → Event → Option ℕ
-taken_in slice (event.Take pass taken column) = if taken == slice then Some column else None
-taken_in slice _ = None
+abbrev pub column_taken_in : ℕ → Event → Option ℕ
+column_taken_in slice (event.Take pass taken column) = if taken == slice then Some column else None
+column_taken_in slice _ = None
 
 -- whether the event is this pass's claim of the column
 abbrev pub takes : ℕ → ℕ → ℕ → Event → Bool

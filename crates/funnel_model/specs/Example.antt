@@ -1,6 +1,7 @@
 -- Small engines and histories of them. Together the histories have each kind of event, and the refusals Present, Full,
 -- JournalFull and Absent.
 use Rattle.std.specs.Prelude.{◌≡◌, ◌⊎◌, false, List, [], ◌∷◌, ◌++◌, None}
+use Rattle.funnel_model.specs.declared.call.Call.{Call}
 use Rattle.funnel_model.specs.declared.call.Call.TheVariants as call
 use Rattle.funnel_model.specs.declared.event.Event.{Event}
 use Rattle.funnel_model.specs.declared.event.Event.TheVariants as event
@@ -14,10 +15,14 @@ use Rattle.funnel_model.specs.Steps.{IsReply}
 abbrev pub small : Limits
 small = record { passes = 1; slices = 1; columns = 2; slice_words = 4; commits = 8; events = 64 }
 
+-- document 9 is added
+abbrev pub first_added : List Event
+first_added = event.Take 0 0 0 ∷ event.Add 0 9 [] 0 0 [] ∷ []
+
 -- documents 9 and 7 are added; 9 is refused, since it is there; a query without words finds both; 5 is refused, since no column is left
 abbrev pub episode : List Event
 episode =
-    event.Take 0 0 0 ∷ event.Add 0 9 [] 0 0 [] ∷ event.No 0 (call.Add 9 []) ∷ event.Take 0 0 1 ∷ event.Add 0 7 [] 0 1 []
+    first_added ++ event.No 0 (call.Add 9 []) ∷ event.Take 0 0 1 ∷ event.Add 0 7 [] 0 1 []
     ∷ event.Find 0 [] ∷ event.End 0 ∷ event.No 0 (call.Add 5 []) ∷ []
 
 -- the replies to the later events, where the history was these before; an event that answers no call has none
@@ -31,6 +36,10 @@ AreRepliesAfter limits before (e ∷ later) replies =
 -- the replies to the calls of a history, in order
 abbrev pub AreReplies : Limits → List Event → List Reply → Type 0
 AreReplies limits history replies = AreRepliesAfter limits [] history replies
+
+-- the calls of pass 0 that the episode answers
+abbrev pub episode_calls : List Call
+episode_calls = call.Add 9 [] ∷ call.Add 9 [] ∷ call.Add 7 [] ∷ call.Find [] ∷ call.Add 5 [] ∷ []
 
 abbrev pub episode_replies : List Reply
 episode_replies = reply.Added 1 ∷ reply.Present 1 ∷ reply.Added 2 ∷ reply.Found (9 ∷ 7 ∷ []) ∷ reply.Full ∷ []

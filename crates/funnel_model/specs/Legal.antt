@@ -68,12 +68,14 @@ pub record MayTakeOpened (limits : Limits) (history : List Event) (pass slice co
   pub first : column ≡ 0
   pub in_range : column < limits.columns
 
--- a pass may add a document to the column that it just took: its number is not live, the journal has room, and its bits lie in the slice
+-- a pass may add a document to the column that it just took: its number is not live, the journal has room, and its bits are bits of
+-- the slice's words of 64 bits
 pub record MayAdd (limits : Limits) (history : List Event) (pass id slice column : ℕ) (bits : List Bit) : Type 0 where
   pub taken : last_by pass history ≡ Some (event.Take pass slice column)
   pub absent : is_live id history ≡ false
   pub room : HasJournalRoom limits history
   pub inside : All (λ b. IsInSlice limits.slice_words slice b.word) bits
+  pub in_word : All (λ b. b.bit < 64) bits
 
 -- a pass may drop the document for the column that it just took, where it can't be added
 pub record MayDrop (limits : Limits) (history : List Event) (pass id slice column : ℕ) : Type 0 where
@@ -127,15 +129,15 @@ pub record MayRefuse (limits : Limits) (history : List Event) (pass : ℕ) (aske
   pub refused : IsRefused limits history asked
 
 -- the call only reads
-abbrev pub IsRead : Call → Type 0
-IsRead call.Place = Unit {0}
-IsRead (call.Journal from) = Unit {0}
-IsRead _ = ⊥
+abbrev pub OnlyReads : Call → Type 0
+OnlyReads call.Place = Unit {0}
+OnlyReads (call.Journal from) = Unit {0}
+OnlyReads _ = ⊥
 
 -- an idle pass may make a call that only reads
 pub record MayReadOff (history : List Event) (pass : ℕ) (asked : Call) : Type 0 where
   pub idle : IsIdle pass history
-  pub reads : IsRead asked
+  pub reads : OnlyReads asked
 
 -- the event may come next, by its kind
 abbrev pub MayFollow : Limits → List Event → Event → Type 0

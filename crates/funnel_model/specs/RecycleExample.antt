@@ -52,6 +52,14 @@ recycled =
 abbrev pub together : List Event
 together = recycled ++ event.Clear 1 1 ∷ event.Take 0 0 0 ∷ event.Opened 1 1 true ∷ event.Add 0 5 [] 0 0 [] ∷ []
 
+-- pass 0 has added a document in slice 0, and pass 1 has taken the column of slice 1
+abbrev pub held : List Event
+held = event.Take 0 0 0 ∷ event.Add 0 9 [] 0 0 [] ∷ event.Take 1 1 0 ∷ []
+
+-- after the find has ended each pass clears one of the slices
+abbrev pub both_clearing : List Event
+both_clearing = unguarded ++ event.Clear 0 0 ∷ event.Clear 1 1 ∷ []
+
 abbrev pub added : ℕ → Commit
 added id = record { add = true; id = id }
 

@@ -3,7 +3,7 @@ use Rattle.std.specs.Prelude.{ℕ, ◌+◌, ◌<◌, ◌≡◌, ◌==◌, ◌&&�
 use Rattle.std.specs.List.{filter_map, list_any, fold}
 use Rattle.std.specs.Option.{is_some}
 use Rattle.funnel_model.specs.declared.event.Event.{Event}
-use Rattle.funnel_model.specs.Events.{pass_of, taken_in, takes, added_on, drops_on, deletes, clears, opens}
+use Rattle.funnel_model.specs.Events.{pass_of, column_taken_in, takes, added_on, drops_on, deletes, clears, opens}
 use Rattle.funnel_model.specs.History.{Document, place}
 
 -- the events since the slice was last opened, or all of them
@@ -12,7 +12,7 @@ span slice history = fold (λ events e. if opens slice e then [] else events ++ 
 
 -- the columns of the slice that are claimed, in the order in which they were taken
 abbrev pub claimed : ℕ → List Event → List ℕ
-claimed slice history = filter_map (taken_in slice) (span slice history)
+claimed slice history = filter_map (column_taken_in slice) (span slice history)
 
 -- whether a column is claimed
 abbrev pub is_claimed : ℕ → ℕ → List Event → Bool
@@ -74,7 +74,7 @@ IsInState history slice column Dropped = list_any (drops_on slice column) (span 
 IsInState history slice column (Live document) = IsLiveOn history slice column document
 IsInState history slice column (Deleted document deleted_at) = IsDeletedOn history slice column document deleted_at
 
--- the column has no document and gets none until the slice is opened again
+-- the column has no live and no pending document, and gets none until the slice is opened again
 abbrev pub IsOver : ColumnState → Type 0
 IsOver Dropped = Unit {0}
 IsOver (Deleted document deleted_at) = Unit {0}

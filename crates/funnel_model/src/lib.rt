@@ -4,6 +4,7 @@
 
 mod bit_list;
 mod block;
+mod blocked;
 mod call;
 mod candidates;
 mod claim;
@@ -22,17 +23,22 @@ mod word_set;
 
 pub use bit_list::{Bit, BitList};
 pub use block::Block;
+pub use blocked::Blocked;
 pub use call::Call;
 pub use candidates::Candidates;
 pub use claim::{Claim, ClearJob, Token};
 pub use commit::{Commit, Commits};
-pub use config::Config;
+pub use config::{
+    Config, LEAST_ONE_IN, MOST_BLOCKS, MOST_COLUMNS, MOST_COMMITS, MOST_DOCUMENTS, MOST_MAX_ROWS,
+    MOST_ONE_IN, MOST_PASSES, MOST_RANK, MOST_ROW_WORDS, MOST_SLICES, MOST_SNR, MOST_TAIL,
+    MOST_WORDS,
+};
 pub use event::Event;
 pub use ids::Ids;
 pub use listed::Listed;
 pub use memory::Memory;
 pub use reply::Reply;
-pub use slice_set::{MOST_SLICES, SliceSet};
+pub use slice_set::SliceSet;
 pub use text::Text;
 pub use word_set::{WordSet, Words};
 

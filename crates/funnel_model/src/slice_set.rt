@@ -1,11 +1,10 @@
-ghost use Rattle.std.specs.Prelude.{◌≡◌, ◌<◌, ◌↔◌, ◌⊎◌, ℕ, [], Contains, IsTrue};
+ghost use Rattle.std.specs.Prelude.{◌≡◌, ◌<◌, ◌↔◌, ◌⊎◌, ℕ, nat_lt, [], position, Contains, IsTrue, MatchOption};
+ghost use Rattle.funnel_model.specs.SliceSets.{IsEmpty, IsLowestBit, IsLowestOf};
 
+use crate::config::MOST_SLICES;
 use std::marker::Model;
 
-/// How many slices an engine may have.
-pub const MOST_SLICES: u32 = 1024;
-
-/// A set of slices, by their numbers below 1,024. Contracts see these numbers as a rising list.
+/// A set of slices, by their numbers below [`MOST_SLICES`]. Contracts see these numbers as a rising list.
 #[derive(Debug, Drop)]
 pub struct SliceSet {
     words: [u64; 16],
@@ -30,7 +29,7 @@ impl SliceSet {
 
     /// Adds a slice.
     pub fn add(&mut self, slice: u32)
-        requires { slice < 1024 }
+        requires { slice < MOST_SLICES }
         ensures { (other : ℕ) → Contains self.new other ↔ ((other ≡ slice) ⊎ Contains self.old other) }
     {
         self.words[slice as usize / 64] |= 1 << slice % 64;
@@ -38,9 +37,49 @@ impl SliceSet {
 
     /// Whether the slice is in the set.
     pub fn has(&self, slice: u32) -> bool
-        requires { slice < 1024 }
+        requires { slice < MOST_SLICES }
         ensures { IsTrue result ↔ Contains self.now slice }
     {
         self.words[slice as usize / 64] >> slice % 64 & 1 == 1
     }
+
+    /// Takes a slice away, where it is there.
+    pub fn remove(&mut self, slice: u32)
+        requires { slice < MOST_SLICES }
+        ensures { (other : ℕ) → Contains self.new other ↔ ((other ≡ slice → ⊥) × Contains self.old other) }
+    {
+        self.words[slice as usize / 64] &= !(1 << slice % 64);
+    }
+
+    /// The lowest slice of the set. It looks at the set's sixteen words at most.
+    pub fn lowest(&self) -> Option<u32>
+        ensures { MatchOption result (IsEmpty self.now) (IsLowestOf self.now) }
+    {
+        let Some(index) = first_used(&self.words) else {
+            return None;
+        };
+        Some(index as u32 * 64 + lowest_bit(self.words[index]))
+    }
+
+    /// The same set once more.
+    pub fn copy(&self) -> SliceSet
+        ensures { result ≡ self.now }
+    {
+        SliceSet { words: self.words }
+    }
+}
+
+/// The first word that isn't 0.
+fn first_used(words: &[u64]) -> Option<usize>
+    ensures { result ≡ position (λ w. nat_lt 0 w) words.now }
+{
+    words.iter().position(|word| 0 < *word)
+}
+
+/// The place of the lowest bit that is set.
+fn lowest_bit(word: u64) -> u32
+    requires { 0 < word }
+    ensures { IsLowestBit word result }
+{
+    word.trailing_zeros()
 }

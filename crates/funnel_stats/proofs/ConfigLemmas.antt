@@ -2,7 +2,7 @@
 use Rattle.std.proofs.Common.{◌≡◌, ℕ, List, [], refl}
 use Rattle.funnel_model.specs.declared.config.Config.{Config}
 use Rattle.serde_json.specs.Data.{Members}
-use Rattle.funnel_stats.specs.Configurations.{config_of, counted}
+use Rattle.funnel_stats.specs.Configurations.{config_of, word_counts}
 use Rattle.funnel_stats.specs.Values.{number_at, listed_at}
 use Rattle.funnel_stats.specs.declared.key.Key.TheVariants.{Passes, Slices, Blocks, MaxRank, Commits, OneIn, Snr, Documents, Tail, MaxRows}
 
@@ -34,7 +34,7 @@ config_of-numbers object passes slices blocks max_rank commits one_in snr docume
 
 -- that configuration, with the listed words
 pub config_of-words : (object : Members) (config : Config) (words : List (List ℕ × ℕ)) → config ≡ record (config_of object) { words = [] }
-    → words ≡ counted (listed_at object) → record config { words = words } ≡ config_of object
+    → words ≡ word_counts (listed_at object) → record config { words = words } ≡ config_of object
 unfolding config_of
 config_of-words object config words same listed = rw (same, listed) refl
 

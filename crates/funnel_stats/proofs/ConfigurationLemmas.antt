@@ -5,7 +5,7 @@ use Rattle.funnel_model.specs.declared.config.Config.{Config}
 use Rattle.serde_json.specs.Data.{Members}
 use Rattle.funnel_stats.specs.Configurations.{config_of, fault_of, unless, object_of, longest, configuration}
 use Rattle.funnel_stats.specs.Reading.{IsFaultOf}
-use Rattle.funnel_stats.specs.Steps.{IsFault, Gives, IsNoObject, IsFaultOfBytes, IsTakingFault}
+use Rattle.funnel_stats.specs.Steps.{IsFault, GivesOrFaults, IsNoObject, IsFaultOfBytes, IsTakingFault}
 use Rattle.funnel_stats.specs.declared.fault.ConfigFault.{ConfigFault}
 use Rattle.funnel_stats.specs.declared.fault.ConfigFault.TheVariants.{ReadFault, TooLong, NotJson, UnknownKey, BadValue, NotWord, WordCount, TooManyColumns, PoolTooLarge, Memory}
 
@@ -47,14 +47,14 @@ fault_of_object (WordCount word kept) applies config is = rw is
 fault_of_object (TooManyColumns columns) applies config is = rw is
 fault_of_object (PoolTooLarge words) applies config is = rw is
 
-answer_of : (answer : Result Config ConfigFault) (applies : Option ConfigFault) (config : Config) → Gives answer config applies
+answer_of : (answer : Result Config ConfigFault) (applies : Option ConfigFault) (config : Config) → GivesOrFaults answer config applies
     → MatchResult answer (λ value. unless applies config ≡ Ok value) (λ fault. IsFaultOfBytes fault (unless applies config))
 answer_of (Ok value) applies config gives = rw (gives.0, gives.1)
 answer_of (Err fault) applies config gives = fault_of_object fault applies config gives
 
 -- what an object gives
 pub object_answer : (bytes : List ℕ) (object : Members) (answer : Result Config ConfigFault) → length bytes ≤ longest → object_of bytes ≡ Some object
-    → Gives answer (config_of object) (fault_of object)
+    → GivesOrFaults answer (config_of object) (fault_of object)
     → MatchResult answer (λ config. configuration bytes ≡ Ok config) (λ fault. IsFaultOfBytes fault (configuration bytes))
 object_answer bytes object answer few is gives =
     rw (configuration-object bytes object few is) (answer_of answer (fault_of object) (config_of object) gives)

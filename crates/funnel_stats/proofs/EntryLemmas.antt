@@ -11,7 +11,7 @@ use Rattle.serde_json.specs.Data.{Members}
 use Rattle.serde_json.specs.Find.{as_object}
 use Rattle.serde_json.specs.View.{view, members_view}
 use Rattle.serde_json.proofs.Views.{Entry}
-use Rattle.funnel_stats.specs.Configurations.{counted}
+use Rattle.funnel_stats.specs.Configurations.{word_counts}
 use Rattle.funnel_stats.specs.Faults.{unknown_key, is_word, not_word, is_count, word_count}
 use Rattle.funnel_stats.specs.Keys.{is_name}
 use Rattle.funnel_stats.specs.Values.{entries, whole_number, kept, value_at, listed_at}
@@ -68,9 +68,9 @@ pub word_count-other : (documents : ℕ) (e : Entry) (es : List Entry) → is_co
 unfolding word_count
 word_count-other documents e es other = rw other
 
-pub counted-count : (e : Entry) (es : List Entry) (n : ℕ) → whole_number (view e.1) ≡ Some n
-    → counted (entries (members_view (e ∷ es))) ≡ (string_bytes e.0, n) ∷ counted (entries (members_view es))
-counted-count e es n is = rw is
+pub word_counts-count : (e : Entry) (es : List Entry) (n : ℕ) → whole_number (view e.1) ≡ Some n
+    → word_counts (entries (members_view (e ∷ es))) ≡ (string_bytes e.0, n) ∷ word_counts (entries (members_view es))
+word_counts-count e es n is = rw is
 
 -- one more word with its count
 pub listed-push : (done new : List (String Global × ℕ)) (word : String Global) (bytes : List ℕ) (n : ℕ) (rest : List (List ℕ × ℕ))
@@ -81,14 +81,14 @@ listed-push done new word bytes n rest pushed same =
 
 -- the listed words stand in the order of the map
 above_each : (word : String Global) (es : List Entry) → AllByRecursion (λ other. string_cmp word other ≡ Less) (keys_of es)
-    → AllByRecursion (λ other. slice_cmp nat_cmp (string_bytes word) other ≡ Less) (map (λ entry. entry.0) (counted (entries (members_view es))))
+    → AllByRecursion (λ other. slice_cmp nat_cmp (string_bytes word) other ≡ Less) (map (λ entry. entry.0) (word_counts (entries (members_view es))))
 above_each word [] above = above
 above_each word (e ∷ es) above = (above.0, above_each word es above.1)
 
-pub IsInByteOrder-counted : (es : List Entry) → IsStrictlySortedBy string_cmp (keys_of es) → IsInByteOrder (counted (entries (members_view es)))
+pub IsInByteOrder-word_counts : (es : List Entry) → IsStrictlySortedBy string_cmp (keys_of es) → IsInByteOrder (word_counts (entries (members_view es)))
 unfolding IsStrictlySortedBy
-IsInByteOrder-counted [] sorted = sorted
-IsInByteOrder-counted (e ∷ es) sorted = (above_each e.0 es sorted.0, IsInByteOrder-counted es sorted.1)
+IsInByteOrder-word_counts [] sorted = sorted
+IsInByteOrder-word_counts (e ∷ es) sorted = (above_each e.0 es sorted.0, IsInByteOrder-word_counts es sorted.1)
 
 -- the listed words of an object
 pub listed_at-none : (object : Members) → option_and_then as_object (value_at object Words) ≡ None → listed_at object ≡ []

@@ -8,7 +8,8 @@ use Rattle.std.proofs.lemmas.Slice.Eq.{bytes_eq-Decides}
 use Rattle.std.specs.List.{All, list_all}
 use Rattle.std.specs.Option.{option_map_or, option_or}
 use Rattle.std.specs.Str.{bytes_eq}
-use Rattle.funnel_model.specs.Configuration.{IsWithin, IsWord, CountsWords, IsInRange, IsValid}
+use Rattle.funnel_model.specs.declared.config.TheConstants.{MOST_WORDS, MOST_COLUMNS, MOST_ROW_WORDS}
+use Rattle.funnel_model.specs.Configuration.{IsBetween, IsWord, CountsWords, IsInRange, IsValid}
 use Rattle.funnel_model.specs.Listed.{IsInByteOrder}
 use Rattle.funnel_model.specs.Sizes.{columns_of_pool, words_of_pool}
 use Rattle.funnel_model.specs.Words.{has_word, words}
@@ -16,7 +17,7 @@ use Rattle.funnel_model.specs.declared.config.Config.{Config}
 use Rattle.funnel_model.proofs.WordLemmas.{Contains-has}
 use Rattle.serde_json.specs.Data.{Data, Members}
 use Rattle.serde_json.specs.Find.{as_object}
-use Rattle.funnel_stats.specs.Configurations.{counted}
+use Rattle.funnel_stats.specs.Configurations.{word_counts}
 use Rattle.funnel_stats.specs.Faults.{is_word, not_word, is_count, word_count, too_many_columns, pool_too_large}
 use Rattle.funnel_stats.specs.Values.{entries, kept, quantity, whole_number, value_at, number_at, listed_at}
 use Rattle.funnel_stats.specs.declared.key.Key.TheVariants.{Words}
@@ -49,13 +50,13 @@ word_from_test text is =
       only = λ k d below. sym ((bytes_eq-Decides text _).0 (AllPass-from_list_all (bytes_eq text) (words text) parts.1 k d below));
     }
 
-words_from_none : (listed : List (List ℕ × Data)) → find (λ entry. not (is_word entry.0)) listed ≡ None → All (λ entry. IsWord entry.0) (counted listed)
+words_from_none : (listed : List (List ℕ × Data)) → find (λ entry. not (is_word entry.0)) listed ≡ None → All (λ entry. IsWord entry.0) (word_counts listed)
 words_from_none [] none = All-nil _
 words_from_none (entry ∷ listed) none =
     let parts = none_found (is_word entry.0) true (find (λ entry. not (is_word entry.0)) listed) entry none in
-    All-cons (λ entry. IsWord entry.0) _ (counted listed) (word_from_test entry.0 parts.0) (words_from_none listed parts.1)
+    All-cons (λ entry. IsWord entry.0) _ (word_counts listed) (word_from_test entry.0 parts.0) (words_from_none listed parts.1)
 
-pub words-from_not_word : (listed : List (List ℕ × Data)) → not_word listed ≡ None → All (λ entry. IsWord entry.0) (counted listed)
+pub words-from_not_word : (listed : List (List ℕ × Data)) → not_word listed ≡ None → All (λ entry. IsWord entry.0) (word_counts listed)
 unfolding not_word
 words-from_not_word listed none = words_from_none listed (no_entry (find (λ entry. not (is_word entry.0)) listed) none) where
   no_entry : (found : Option (List ℕ × Data)) → option_map (λ entry. NotWord entry.0) found ≡ None → found ≡ None
@@ -63,20 +64,20 @@ words-from_not_word listed none = words_from_none listed (no_entry (find (λ ent
   no_entry (Some entry) none = absurd (let e : Some (NotWord entry.0) ≡ None = none in cc)
 
 -- each count is from 1 to the number of documents
-count_from_test : (documents : ℕ) (count : Option ℕ) → option_map_or (λ count. leb 1 count && leb count documents) count false ≡ true → IsWithin 1 documents (unwrap_or count 0)
+count_from_test : (documents : ℕ) (count : Option ℕ) → option_map_or (λ count. leb 1 count && leb count documents) count false ≡ true → IsBetween 1 documents (unwrap_or count 0)
 count_from_test documents None is = absurd (true≢false (sym is))
 count_from_test documents (Some count) is =
     let parts = and_parts (leb 1 count) (leb count documents) is in (leb-true 1 count parts.0, leb-true count documents parts.1)
 
 counts_from_none : (documents : ℕ) (listed : List (List ℕ × Data)) → find (λ entry. not (is_count documents entry.1)) listed ≡ None
-    → All (λ entry. IsWithin 1 documents entry.1) (counted listed)
+    → All (λ entry. IsBetween 1 documents entry.1) (word_counts listed)
 counts_from_none documents [] none = All-nil _
 counts_from_none documents (entry ∷ listed) none =
     let parts = none_found (is_count documents entry.1) true (find (λ entry. not (is_count documents entry.1)) listed) entry none in
-    All-cons (λ entry. IsWithin 1 documents entry.1) _ (counted listed) (count_from_test documents (whole_number entry.1) parts.0) (counts_from_none documents listed parts.1)
+    All-cons (λ entry. IsBetween 1 documents entry.1) _ (word_counts listed) (count_from_test documents (whole_number entry.1) parts.0) (counts_from_none documents listed parts.1)
 
 pub counts-from_word_count : (documents : ℕ) (listed : List (List ℕ × Data)) → word_count documents listed ≡ None
-    → All (λ entry. IsWithin 1 documents entry.1) (counted listed)
+    → All (λ entry. IsBetween 1 documents entry.1) (word_counts listed)
 unfolding word_count
 counts-from_word_count documents listed none = counts_from_none documents listed (no_entry (find (λ entry. not (is_count documents entry.1)) listed) none) where
   no_entry : (found : Option (List ℕ × Data)) → option_map (λ entry. WordCount entry.0 (kept (whole_number entry.1))) found ≡ None → found ≡ None
@@ -107,14 +108,14 @@ no_faults None (Some fault) none = (refl, none)
 no_faults (Some fault) second none = absurd (let e : Some fault ≡ None = none in cc)
 
 -- the listed words of an object, put into a configuration in range, leave it in range
-pub in_range : (object : Members) (config : Config) (words : List (List ℕ × ℕ)) → IsInRange config → length (listed_at object) ≤ 65536
-    → word_fault object config.documents ≡ None → words ≡ counted (listed_at object) → IsInRange (record config { words = words })
+pub in_range : (object : Members) (config : Config) (words : List (List ℕ × ℕ)) → IsInRange config → length (listed_at object) ≤ MOST_WORDS
+    → word_fault object config.documents ≡ None → words ≡ word_counts (listed_at object) → IsInRange (record config { words = words })
 in_range object config words range few none listed =
     let faults = no_faults (not_word (listed_at object)) (word_count config.documents (listed_at object)) none in
     let length_is = ap length listed ∙ length-map (listed_at object) (λ entry. (entry.0, unwrap_or (whole_number entry.1) 0)) in
     IsInRange-words config words range (record {
       few = omega (arith, length_is);
-      counted = subst (λ words. All (λ (entry : List ℕ × ℕ). IsWithin 1 config.documents entry.1) words) (sym listed) (counts-from_word_count config.documents (listed_at object) faults.1);
+      counted = subst (λ words. All (λ (entry : List ℕ × ℕ). IsBetween 1 config.documents entry.1) words) (sym listed) (counts-from_word_count config.documents (listed_at object) faults.1);
     })
 
 -- a size that is no fault is within its limit
@@ -123,8 +124,8 @@ within_limit limit size true fault is none = absurd (let e : Some fault ≡ None
 within_limit limit size false fault is none = ltb-false limit size is
 
 -- and where the sizes are within their limits it is valid
-pub is_valid : (object : Members) (config : Config) (words : List (List ℕ × ℕ)) → IsInRange config → length (listed_at object) ≤ 65536
-    → word_fault object config.documents ≡ None → words ≡ counted (listed_at object) → IsInByteOrder words
+pub is_valid : (object : Members) (config : Config) (words : List (List ℕ × ℕ)) → IsInRange config → length (listed_at object) ≤ MOST_WORDS
+    → word_fault object config.documents ≡ None → words ≡ word_counts (listed_at object) → IsInByteOrder words
     → size_fault (record config { words = words }) ≡ None → IsValid (record config { words = words })
 is_valid object config words range few none listed ordered sized =
     let faults = no_faults (not_word (listed_at object)) (word_count config.documents (listed_at object)) none in
@@ -133,6 +134,6 @@ is_valid object config words range few none listed ordered sized =
       in_range = in_range object config words range few none listed;
       in_order = ordered;
       folded = subst (λ words. All (λ (entry : List ℕ × ℕ). IsWord entry.0) words) (sym listed) (words-from_not_word (listed_at object) faults.0);
-      few_columns = within_limit 4194304 (columns_of_pool whole) _ _ refl sizes.0;
-      small_pool = within_limit 33554432 (words_of_pool whole) _ _ refl sizes.1;
+      few_columns = within_limit MOST_COLUMNS (columns_of_pool whole) _ _ refl sizes.0;
+      small_pool = within_limit MOST_ROW_WORDS (words_of_pool whole) _ _ refl sizes.1;
     }

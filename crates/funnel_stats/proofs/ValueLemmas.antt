@@ -2,7 +2,7 @@
 use Rattle.std.proofs.Common.{◌≡◌, Some, None, option_map, unwrap_or}
 use Rattle.serde_json.specs.Data.{Data, Members}
 use Rattle.funnel_stats.specs.Faults.{bad_value}
-use Rattle.funnel_stats.specs.Keys.{limits_of}
+use Rattle.funnel_stats.specs.Keys.{range_of}
 use Rattle.funnel_stats.specs.Values.{quantity, misfit_of, value_at, number_at}
 use Rattle.funnel_stats.specs.declared.key.Key.{Key}
 use Rattle.funnel_stats.specs.declared.fault.ConfigFault.TheVariants.{BadValue}
@@ -12,7 +12,7 @@ pub bad_value-absent : (object : Members) (key : Key) → value_at object key �
 unfolding bad_value
 bad_value-absent object key absent = rw absent
 
-pub number_at-absent : (object : Members) (key : Key) → value_at object key ≡ None → number_at object key ≡ (limits_of key).default
+pub number_at-absent : (object : Members) (key : Key) → value_at object key ≡ None → number_at object key ≡ (range_of key).default
 number_at-absent object key absent = rw absent
 
 -- a key with a value

@@ -9,6 +9,7 @@ use Rattle.serde_json.specs.Read.{read}
 use Rattle.funnel_stats.specs.Keys.{keys}
 use Rattle.funnel_stats.specs.Values.{entries, whole_number, number_at, listed_at}
 use Rattle.funnel_stats.specs.Faults.{unknown_key, bad_value, not_word, word_count, too_many_columns, pool_too_large}
+use Rattle.funnel_stats.specs.declared.reading.TheConstants.{LONGEST}
 use Rattle.funnel_stats.specs.declared.key.Key.TheVariants.{Passes, Slices, Blocks, MaxRank, Commits, OneIn, Snr, Documents, Tail, MaxRows}
 use Rattle.funnel_stats.specs.declared.fault.ConfigFault.{ConfigFault}
 use Rattle.funnel_stats.specs.declared.fault.ConfigFault.TheVariants.{TooLong, NotJson}
@@ -19,8 +20,8 @@ first_of [] = None
 first_of (fault ∷ faults) = option_or fault (first_of faults)
 
 -- the listed words with their counts
-abbrev pub counted : List (List ℕ × Data) → List (List ℕ × ℕ)
-counted listed = map (λ entry. (entry.0, unwrap_or (whole_number entry.1) 0)) listed
+abbrev pub word_counts : List (List ℕ × Data) → List (List ℕ × ℕ)
+word_counts listed = map (λ entry. (entry.0, unwrap_or (whole_number entry.1) 0)) listed
 
 -- the configuration that an object gives, if it gives one
 unfoldable pub config_of : Members → Config
@@ -35,7 +36,7 @@ config_of object = record {
   documents = number_at object Documents;
   tail = number_at object Tail;
   max_rows = number_at object MaxRows;
-  words = counted (listed_at object);
+  words = word_counts (listed_at object);
 }
 
 -- the first fault of an object: of its keys, of its values in the order of the table, of its words, of their counts, and
@@ -58,7 +59,7 @@ object_of (byte ∷ bytes) = if is_utf8 (byte ∷ bytes) then option_and_then as
 
 -- the most bytes of a configuration
 abbrev pub longest : ℕ
-longest = 16777216
+longest = LONGEST
 
 -- the configuration of given bytes, or its fault
 unfoldable pub configuration : List ℕ → Result Config ConfigFault

@@ -5,6 +5,7 @@ use Rattle.std.specs.Option.{option_map_or}
 use Rattle.funnel_model.specs.Sizes.{columns_of_pool, words_of_pool}
 use Rattle.funnel_model.specs.Words.{words, has_word}
 use Rattle.funnel_model.specs.declared.config.Config.{Config}
+use Rattle.funnel_model.specs.declared.config.TheConstants.{MOST_COLUMNS, MOST_ROW_WORDS}
 use Rattle.serde_json.specs.Data.{Data, Members}
 use Rattle.funnel_stats.specs.Keys.{is_name}
 use Rattle.funnel_stats.specs.Values.{whole_number, kept, quantity, misfit_of, value_at}
@@ -37,10 +38,10 @@ unfoldable pub word_count : ℕ → List (List ℕ × Data) → Option ConfigFau
 word_count documents listed =
     option_map (λ entry. WordCount entry.0 (kept (whole_number entry.1))) (find (λ entry. not (is_count documents entry.1)) listed)
 
--- all slices together have more than 4,194,304 columns
+-- all slices together have too many columns
 abbrev pub too_many_columns : Config → Option ConfigFault
-too_many_columns config = if nat_lt 4194304 (columns_of_pool config) then Some (TooManyColumns (columns_of_pool config)) else None
+too_many_columns config = if nat_lt MOST_COLUMNS (columns_of_pool config) then Some (TooManyColumns (columns_of_pool config)) else None
 
--- the rows of the pool have more than 33,554,432 words
+-- the rows of the pool have too many words
 abbrev pub pool_too_large : Config → Option ConfigFault
-pool_too_large config = if nat_lt 33554432 (words_of_pool config) then Some (PoolTooLarge (words_of_pool config)) else None
+pool_too_large config = if nat_lt MOST_ROW_WORDS (words_of_pool config) then Some (PoolTooLarge (words_of_pool config)) else None

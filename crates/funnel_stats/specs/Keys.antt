@@ -1,6 +1,8 @@
 -- The keys of a configuration.
 use Rattle.std.specs.Prelude.{ℕ, Bool, List, [], ◌∷◌, codes, bytes_eq}
 use Rattle.std.specs.List.{list_any}
+use Rattle.funnel_model.specs.declared.config.TheConstants.{MOST_PASSES, MOST_SLICES, MOST_BLOCKS, MOST_RANK, MOST_COMMITS, LEAST_ONE_IN, MOST_ONE_IN, MOST_SNR, MOST_DOCUMENTS, MOST_TAIL, MOST_MAX_ROWS, MOST_WORDS}
+use Rattle.funnel_stats.specs.declared.key.TheConstants.{PASSES, SLICES, BLOCKS, MAX_RANK, COMMITS, ONE_IN, SNR, DOCUMENTS, TAIL, MAX_ROWS}
 use Rattle.funnel_stats.specs.declared.key.Key.{Key}
 use Rattle.funnel_stats.specs.declared.key.Key.TheVariants.{Passes, Slices, Blocks, MaxRank, Commits, OneIn, Snr, Documents, Tail, MaxRows, Words}
 use Rattle.funnel_stats.specs.declared.key.Limits.{Limits}
@@ -28,18 +30,18 @@ abbrev pub limits : ℕ → ℕ → ℕ → Limits
 limits least greatest default = record { least = least; greatest = greatest; default = default }
 
 -- the numbers that a key takes; of `words` the number of entries
-abbrev pub limits_of : Key → Limits
-limits_of Passes = limits 1 64 2
-limits_of Slices = limits 1 1024 2
-limits_of Blocks = limits 1 64 1
-limits_of MaxRank = limits 0 6 0
-limits_of Commits = limits 1 16777216 1024
-limits_of OneIn = limits 2 20 10
-limits_of Snr = limits 1 1000 10
-limits_of Documents = limits 1 4294967296 1000
-limits_of Tail = limits 0 100000 10
-limits_of MaxRows = limits 1 1048576 65536
-limits_of Words = limits 0 65536 0
+abbrev pub range_of : Key → Limits
+range_of Passes = limits 1 MOST_PASSES PASSES
+range_of Slices = limits 1 MOST_SLICES SLICES
+range_of Blocks = limits 1 MOST_BLOCKS BLOCKS
+range_of MaxRank = limits 0 MOST_RANK MAX_RANK
+range_of Commits = limits 1 MOST_COMMITS COMMITS
+range_of OneIn = limits LEAST_ONE_IN MOST_ONE_IN ONE_IN
+range_of Snr = limits 1 MOST_SNR SNR
+range_of Documents = limits 1 MOST_DOCUMENTS DOCUMENTS
+range_of Tail = limits 0 MOST_TAIL TAIL
+range_of MaxRows = limits 1 MOST_MAX_ROWS MAX_ROWS
+range_of Words = limits 0 MOST_WORDS 0
 
 -- a key of the table has this name
 abbrev pub is_name : List ℕ → Bool

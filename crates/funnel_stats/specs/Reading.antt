@@ -17,9 +17,9 @@ IsFaultOf (TooLong limit) bytes left = (configuration bytes ≡ Err (TooLong lim
 IsFaultOf fault bytes left = (configuration bytes ≡ Err fault) × IsAtEnd left
 
 -- the fault is that of a read that failed
-abbrev pub is_read_fault : ConfigFault → Bool
-is_read_fault ReadFault = true
-is_read_fault _ = false
+abbrev pub is_failed_read : ConfigFault → Bool
+is_failed_read ReadFault = true
+is_failed_read _ = false
 
 -- bytes were taken from a source, and what they are as a configuration is the answer
 pub record IsConfigRead (answer : Result Config ConfigFault) (before after : Incoming) : Type 0 where

@@ -17,8 +17,8 @@ IsFault (TooLong limit) applies = ⊥
 IsFault fault applies = applies ≡ Some fault
 
 -- the answer is a value where no fault applies to an object, and else that fault
-abbrev pub Gives : {X : Type 0} → Result X ConfigFault → X → Option ConfigFault → Type 0
-Gives answer value applies = MatchResult answer (λ x. (applies ≡ None) × (x ≡ value)) (λ fault. IsFault fault applies)
+abbrev pub GivesOrFaults : {X : Type 0} → Result X ConfigFault → X → Option ConfigFault → Type 0
+GivesOrFaults answer value applies = MatchResult answer (λ x. (applies ≡ None) × (x ≡ value)) (λ fault. IsFault fault applies)
 
 -- the answer is the first fault that applies to an object, where one does
 abbrev pub Checks : Result ⊤ ConfigFault → Option ConfigFault → Type 0

@@ -3,7 +3,7 @@ use Rattle.std.specs.Prelude.{ℕ, ◌&&◌, Bool, false, List, [], ◌∷◌, l
 use Rattle.std.specs.Option.{option_map_or}
 use Rattle.serde_json.specs.Data.{Data, Members, no_members, member}
 use Rattle.serde_json.specs.Find.{get_member, as_number, as_u64, as_object}
-use Rattle.funnel_stats.specs.Keys.{name_of, limits_of}
+use Rattle.funnel_stats.specs.Keys.{name_of, range_of}
 use Rattle.funnel_stats.specs.declared.kept.Kept.{Kept}
 use Rattle.funnel_stats.specs.declared.kept.Kept.TheVariants.{Number, Other}
 use Rattle.funnel_stats.specs.declared.key.Key.{Key}
@@ -30,7 +30,7 @@ quantity _ value = whole_number value
 
 -- the number is one that the key takes
 abbrev pub is_in_limits : Key → ℕ → Bool
-is_in_limits key n = nat_le (limits_of key).least n && nat_le n (limits_of key).greatest
+is_in_limits key n = nat_le (range_of key).least n && nat_le n (range_of key).greatest
 
 -- what is kept of a value that is not of the key's kind, or not in its range
 abbrev pub misfit_of : Key → Option ℕ → Option Kept
@@ -42,7 +42,7 @@ value_at object key = get_member (name_of key) object
 
 -- the number of a key: its default where it is left out
 abbrev pub number_at : Members → Key → ℕ
-number_at object key = option_map_or (λ value. unwrap_or (quantity key value) 0) (value_at object key) (limits_of key).default
+number_at object key = option_map_or (λ value. unwrap_or (quantity key value) 0) (value_at object key) (range_of key).default
 
 -- the listed words with their values
 abbrev pub listed_at : Members → List (List ℕ × Data)

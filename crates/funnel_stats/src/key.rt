@@ -1,5 +1,10 @@
 ghost use Rattle.std.specs.Prelude.{◌≡◌, ◌≤◌, ◌&&◌, nat_le};
-ghost use Rattle.funnel_stats.specs.Keys.{name_of, limits_of, is_name};
+ghost use Rattle.funnel_stats.specs.Keys.{name_of, range_of, is_name};
+
+use funnel_model::{
+    LEAST_ONE_IN, MOST_BLOCKS, MOST_COMMITS, MOST_DOCUMENTS, MOST_MAX_ROWS, MOST_ONE_IN,
+    MOST_PASSES, MOST_RANK, MOST_SLICES, MOST_SNR, MOST_TAIL, MOST_WORDS,
+};
 
 /// A key of a configuration. The order of the variants is that of the table of keys.
 #[derive(Clone, Copy, Debug, PartialEq, Eq, Drop)]
@@ -49,6 +54,27 @@ impl Limits {
     }
 }
 
+// The numbers of the keys that are left out.
+const PASSES: u64 = 2;
+
+const SLICES: u64 = 2;
+
+const BLOCKS: u64 = 1;
+
+const MAX_RANK: u64 = 0;
+
+const COMMITS: u64 = 1_024;
+
+const ONE_IN: u64 = 10;
+
+const SNR: u64 = 10;
+
+const DOCUMENTS: u64 = 1_000;
+
+const TAIL: u64 = 10;
+
+const MAX_ROWS: u64 = 65_536;
+
 /// All keys in the order of the table.
 pub const KEYS: [Key; 11] = [
     Key::Passes,
@@ -86,22 +112,22 @@ impl Key {
 
     /// The numbers that it takes.
     pub fn limits(self) -> Limits
-        ensures value { result ≡ limits_of self }
+        ensures value { result ≡ range_of self }
         ensures low { result.least ≤ result.default }
         ensures high { result.default ≤ result.greatest }
     {
         let (least, greatest, default) = match self {
-            Key::Passes => (1, 64, 2),
-            Key::Slices => (1, 1_024, 2),
-            Key::Blocks => (1, 64, 1),
-            Key::MaxRank => (0, 6, 0),
-            Key::Commits => (1, 16_777_216, 1_024),
-            Key::OneIn => (2, 20, 10),
-            Key::Snr => (1, 1_000, 10),
-            Key::Documents => (1, 4_294_967_296, 1_000),
-            Key::Tail => (0, 100_000, 10),
-            Key::MaxRows => (1, 1_048_576, 65_536),
-            Key::Words => (0, 65_536, 0),
+            Key::Passes => (1, MOST_PASSES as u64, PASSES),
+            Key::Slices => (1, MOST_SLICES as u64, SLICES),
+            Key::Blocks => (1, MOST_BLOCKS as u64, BLOCKS),
+            Key::MaxRank => (0, MOST_RANK as u64, MAX_RANK),
+            Key::Commits => (1, MOST_COMMITS, COMMITS),
+            Key::OneIn => (LEAST_ONE_IN, MOST_ONE_IN, ONE_IN),
+            Key::Snr => (1, MOST_SNR, SNR),
+            Key::Documents => (1, MOST_DOCUMENTS, DOCUMENTS),
+            Key::Tail => (0, MOST_TAIL, TAIL),
+            Key::MaxRows => (1, MOST_MAX_ROWS as u64, MAX_ROWS),
+            Key::Words => (0, MOST_WORDS, 0),
         };
         Limits {
             least,

@@ -3,9 +3,9 @@ ghost use Rattle.funnel_model.specs.Listed.{IsInByteOrder};
 ghost use Rattle.funnel_model.specs.Words.{IsRising};
 ghost use Rattle.serde_json.specs.Find.{as_object};
 ghost use Rattle.serde_json.specs.View.{view, members_view};
-ghost use Rattle.funnel_stats.specs.Configurations.{counted, first_of};
+ghost use Rattle.funnel_stats.specs.Configurations.{word_counts, first_of};
 ghost use Rattle.funnel_stats.specs.Faults.{is_count, is_word, not_word, word_count};
-ghost use Rattle.funnel_stats.specs.Steps.{Checks, Gives};
+ghost use Rattle.funnel_stats.specs.Steps.{Checks, GivesOrFaults};
 ghost use Rattle.funnel_stats.specs.Values.{entries, listed_at, value_at, whole_number};
 ghost use Rattle.funnel_stats.specs.declared.key.Key.TheVariants.{Words};
 
@@ -25,7 +25,7 @@ pub fn list_words(
     documents: u64,
 ) -> Result<Listed, ConfigFault>
     ensures answer { let listed = listed_at (members_view object.now.entries) in
-        Gives result (counted listed) (first_of (not_word listed ∷ word_count documents listed ∷ [])) }
+        GivesOrFaults result (word_counts listed) (first_of (not_word listed ∷ word_count documents listed ∷ [])) }
     ensures ordered { IfOk result IsInByteOrder }
 {
     match listed_in(object) {
@@ -88,7 +88,7 @@ fn count_words(
     documents: u64,
 ) -> Result<Listed, ConfigFault>
     ensures answer { let entries = entries (members_view listed.now.entries) in
-        Gives result (counted entries) (word_count documents entries) }
+        GivesOrFaults result (word_counts entries) (word_count documents entries) }
     ensures ordered { IfOk result IsInByteOrder }
 {
     let mut counts = Vec::new(alloc);

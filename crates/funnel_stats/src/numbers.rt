@@ -3,8 +3,8 @@ ghost use Rattle.funnel_model.specs.Configuration.{IsInRange};
 ghost use Rattle.serde_json.specs.View.{view, members_view};
 ghost use Rattle.funnel_stats.specs.Configurations.{config_of, first_of};
 ghost use Rattle.funnel_stats.specs.Faults.{bad_value};
-ghost use Rattle.funnel_stats.specs.Keys.{keys, limits_of};
-ghost use Rattle.funnel_stats.specs.Steps.{Gives};
+ghost use Rattle.funnel_stats.specs.Keys.{keys, range_of};
+ghost use Rattle.funnel_stats.specs.Steps.{GivesOrFaults};
 ghost use Rattle.funnel_stats.specs.Values.{listed_at, misfit_of, number_at, quantity};
 ghost use Rattle.funnel_stats.specs.declared.fault.ConfigFault.TheVariants.{BadValue};
 
@@ -13,16 +13,16 @@ use crate::kept::Kept;
 use crate::key::Key;
 use crate::listing::no_words;
 use crate::object::value_of;
-use funnel_model::Config;
+use funnel_model::{Config, MOST_WORDS};
 use serde_json::{Map, Value};
 use std::alloc::Global;
 
 /// The configuration with the numbers that an object gives, and with no words yet.
 pub fn read_numbers(alloc: Global, object: &Map<String, Value>) -> Result<Config, ConfigFault>
     ensures answer { let members = members_view object.now.entries in
-        Gives result (record (config_of members) { words = [] }) (first_of (map (bad_value members) keys)) }
+        GivesOrFaults result (record (config_of members) { words = [] }) (first_of (map (bad_value members) keys)) }
     ensures range { IfOk result IsInRange }
-    ensures few { OnOk result (length (listed_at (members_view object.now.entries)) ≤ 65536) }
+    ensures few { OnOk result (length (listed_at (members_view object.now.entries)) ≤ MOST_WORDS) }
 {
     let passes = number_of(object, Key::Passes)? as u32;
     let slices = number_of(object, Key::Slices)? as u32;
@@ -53,9 +53,9 @@ pub fn read_numbers(alloc: Global, object: &Map<String, Value>) -> Result<Config
 /// The number of a key, which is its default where the object leaves it out.
 fn number_of(object: &Map<String, Value>, key: Key) -> Result<u64, ConfigFault>
     ensures answer { let members = members_view object.now.entries in
-        Gives result (number_at members key) (bad_value members key) }
-    ensures low { IfOk result (λ n. (limits_of key).least ≤ n) }
-    ensures high { IfOk result (λ n. n ≤ (limits_of key).greatest) }
+        GivesOrFaults result (number_at members key) (bad_value members key) }
+    ensures low { IfOk result (λ n. (range_of key).least ≤ n) }
+    ensures high { IfOk result (λ n. n ≤ (range_of key).greatest) }
 {
     match value_of(object, key) {
         Some(value) => within_limits(key, quantity_of(key, value)),
@@ -65,10 +65,10 @@ fn number_of(object: &Map<String, Value>, key: Key) -> Result<u64, ConfigFault>
 
 /// The number, where the key takes it.
 fn within_limits(key: Key, number: Option<u64>) -> Result<u64, ConfigFault>
-    ensures answer { Gives result (unwrap_or number 0) (option_map (BadValue key) (misfit_of key number)) }
+    ensures answer { GivesOrFaults result (unwrap_or number 0) (option_map (BadValue key) (misfit_of key number)) }
     ensures number { IfOk result (λ n. number ≡ Some n) }
-    ensures low { IfOk result (λ n. (limits_of key).least ≤ n) }
-    ensures high { IfOk result (λ n. n ≤ (limits_of key).greatest) }
+    ensures low { IfOk result (λ n. (range_of key).least ≤ n) }
+    ensures high { IfOk result (λ n. n ≤ (range_of key).greatest) }
 {
     let limits = key.limits();
     match number {

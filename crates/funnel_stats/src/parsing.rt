@@ -3,22 +3,16 @@ ghost use Rattle.funnel_model.specs.Configuration.{IsValid, IsInRange};
 ghost use Rattle.serde_json.specs.View.{members_view};
 ghost use Rattle.funnel_stats.specs.Configurations.{configuration, config_of, fault_of, first_of, longest};
 ghost use Rattle.funnel_stats.specs.Faults.{too_many_columns, pool_too_large};
-ghost use Rattle.funnel_stats.specs.Steps.{Checks, Gives, IsFaultOfBytes};
+ghost use Rattle.funnel_stats.specs.Steps.{Checks, GivesOrFaults, IsFaultOfBytes};
 
 use crate::fault::ConfigFault;
 use crate::listing::list_words;
 use crate::numbers::read_numbers;
 use crate::object::{check_keys, read_object};
-use funnel_model::Config;
+use funnel_model::{Config, MOST_COLUMNS, MOST_ROW_WORDS};
 use serde_json::{Map, Value};
 use std::alloc::Global;
 use treatment::sizes;
-
-/// The most columns of all slices.
-const MOST_COLUMNS: u64 = 4_194_304;
-
-/// The most words of all rows of the pool.
-const MOST_WORDS: u64 = 33_554_432;
 
 /// What the bytes are as a configuration.
 pub fn parse(alloc: Global, bytes: &[u8]) -> Result<Config, ConfigFault>
@@ -33,7 +27,7 @@ pub fn parse(alloc: Global, bytes: &[u8]) -> Result<Config, ConfigFault>
 
 /// The configuration that an object gives, or its first fault.
 fn config_from(alloc: Global, object: &Map<String, Value>) -> Result<Config, ConfigFault>
-    ensures answer { let members = members_view object.now.entries in Gives result (config_of members) (fault_of members) }
+    ensures answer { let members = members_view object.now.entries in GivesOrFaults result (config_of members) (fault_of members) }
     ensures valid { IfOk result IsValid }
 {
     check_keys(alloc, object)?;
@@ -52,7 +46,7 @@ fn check_sizes(config: &Config) -> Result<(), ConfigFault>
     if sizes.columns > MOST_COLUMNS {
         return Err(ConfigFault::TooManyColumns(sizes.columns));
     }
-    if sizes.pool_words > MOST_WORDS {
+    if sizes.pool_words > MOST_ROW_WORDS {
         return Err(ConfigFault::PoolTooLarge(sizes.pool_words));
     }
     Ok(())

@@ -1,7 +1,7 @@
 ghost use Rattle.std.specs.Prelude.{◌≡◌, IfOk, MatchResult};
 ghost use Rattle.funnel_io.specs.Counts.{counted};
 ghost use Rattle.funnel_model.specs.Configuration.{IsValid};
-ghost use Rattle.funnel_stats.specs.Reading.{IsConfigRead, is_read_fault};
+ghost use Rattle.funnel_stats.specs.Reading.{IsConfigRead, is_failed_read};
 ghost use Rattle.funnel_stats.specs.Steps.{IsTaken};
 
 use crate::fault::ConfigFault;
@@ -24,7 +24,7 @@ pub fn read_config<S: Source>(alloc: Global, source: &mut S) -> Result<Config, C
     ensures answer { IsConfigRead result (S.incoming source.old) (S.incoming source.new) }
     ensures faults { MatchResult result
         (λ _. (S.incoming source.new).faults ≡ (S.incoming source.old).faults)
-        (λ fault. (S.incoming source.new).faults ≡ counted (is_read_fault fault) (S.incoming source.old).faults) }
+        (λ fault. (S.incoming source.new).faults ≡ counted (is_failed_read fault) (S.incoming source.old).faults) }
     ensures valid { IfOk result IsValid }
 {
     let bytes = read_all(alloc, source)?;
@@ -38,7 +38,7 @@ fn read_all<S: Source>(alloc: Global, source: &mut S) -> Result<Vec<u8>, ConfigF
     ensures taken { IsTaken result (S.incoming source.old) (S.incoming source.new) }
     ensures faults { MatchResult result
         (λ _. (S.incoming source.new).faults ≡ (S.incoming source.old).faults)
-        (λ fault. (S.incoming source.new).faults ≡ counted (is_read_fault fault) (S.incoming source.old).faults) }
+        (λ fault. (S.incoming source.new).faults ≡ counted (is_failed_read fault) (S.incoming source.old).faults) }
 {
     let mut bytes = Vec::new(alloc);
     let mut room = [0; PIECE];

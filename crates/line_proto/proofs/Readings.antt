@@ -11,7 +11,7 @@ use Rattle.std.proofs.lemmas.Str.{IsUtf8-append, IsUtf8-from_ascii, IsUtf8-from_
 use Rattle.funnel_model.specs.declared.call.Call.{Call}
 use Rattle.funnel_model.specs.declared.call.Call.TheVariants.{Add, Delete, Find, Place, Journal, Recycle}
 use Rattle.funnel_io.specs.declared.line_reader.TheConstants.{MAX_LINE_LEN}
-use Rattle.line_proto.specs.Forms.{without_return, word_of, rest_of, number_of, add_of, delete_of, journal_of, call_of_word, call_of_text, form_of}
+use Rattle.line_proto.specs.Forms.{without_return, word_of, after_space, number_of, add_of, delete_of, journal_of, call_of_word, call_of_text, form_of}
 use Rattle.line_proto.specs.Grammar.{WritesNumber, EndsWithText, IsForm, DropsReturn, HasForm, IsReadByForms}
 use Rattle.line_proto.proofs.Lines.{form_of-text}
 use Rattle.line_proto.proofs.Numbers.{number_of-writes, number_of-written}
@@ -85,64 +85,64 @@ dropped line bytes d = dropped-by line bytes (ends_with nat_eq line (13 ∷ []))
 -- from a line's call to its form
 
 -- a text with the word `find` is a form of its query
-find-form : (bytes : List ℕ) → IsUtf8 bytes → word_of bytes ≡ codes "find" → IsForm bytes (Find (rest_of bytes))
+find-form : (bytes : List ℕ) → IsUtf8 bytes → word_of bytes ≡ codes "find" → IsForm bytes (Find (after_space bytes))
 find-form bytes u word =
     let split = splits bytes u in
     (split.0, subst (λ (w : List ℕ). bytes ≡ w ++ split.0) word split.1, split.2)
 
 -- the number stands behind a space, since without one nothing does
-add-form-at : (bytes end : List ℕ) (id : ℕ) → bytes ≡ codes "add" ++ end → WritesNumber (word_of (rest_of bytes)) id → EndsWithText end (rest_of bytes) → IsForm bytes (Add id (rest_of (rest_of bytes)))
+add-form-at : (bytes end : List ℕ) (id : ℕ) → bytes ≡ codes "add" ++ end → WritesNumber (word_of (after_space bytes)) id → EndsWithText end (after_space bytes) → IsForm bytes (Add id (after_space (after_space bytes)))
 add-form-at bytes end id whole w (inl e) =
     absurd (omega (arith, w.numeral.0, ap (λ (rest : List ℕ). length (word_of rest)) e.1))
 add-form-at bytes end id whole w (inr e) =
-    let split = splits (rest_of bytes) e.1 in
-    (word_of (rest_of bytes), split.0, whole ∙ ap (λ (x : List ℕ). codes "add" ++ x) e.0 ∙ ap (λ (x : List ℕ). codes "add " ++ x) split.1, w, split.2)
+    let split = splits (after_space bytes) e.1 in
+    (word_of (after_space bytes), split.0, whole ∙ ap (λ (x : List ℕ). codes "add" ++ x) e.0 ∙ ap (λ (x : List ℕ). codes "add " ++ x) split.1, w, split.2)
 
 -- a text with the word `add`, and with a number, is a form of the add
-add-form : (bytes : List ℕ) (call : Call) → IsUtf8 bytes → word_of bytes ≡ codes "add" → add_of (rest_of bytes) ≡ Some call → IsForm bytes call
+add-form : (bytes : List ℕ) (call : Call) → IsUtf8 bytes → word_of bytes ≡ codes "add" → add_of (after_space bytes) ≡ Some call → IsForm bytes call
 unfolding add_of
 add-form bytes call u word h =
     let split = splits bytes u in
-    let read = mapped (λ (id : ℕ). Add id (rest_of (rest_of bytes))) (number_of (word_of (rest_of bytes))) call h in
-    subst (IsForm bytes) read.2 (add-form-at bytes split.0 read.0 (subst (λ (w : List ℕ). bytes ≡ w ++ split.0) word split.1) (number_of-writes (word_of (rest_of bytes)) read.0 read.1) split.2)
+    let read = mapped (λ (id : ℕ). Add id (after_space (after_space bytes))) (number_of (word_of (after_space bytes))) call h in
+    subst (IsForm bytes) read.2 (add-form-at bytes split.0 read.0 (subst (λ (w : List ℕ). bytes ≡ w ++ split.0) word split.1) (number_of-writes (word_of (after_space bytes)) read.0 read.1) split.2)
 
 -- the number stands behind a space here, too
-delete-form-at : (bytes end : List ℕ) (id : ℕ) → bytes ≡ codes "del" ++ end → WritesNumber (rest_of bytes) id → EndsWithText end (rest_of bytes) → IsForm bytes (Delete id)
+delete-form-at : (bytes end : List ℕ) (id : ℕ) → bytes ≡ codes "del" ++ end → WritesNumber (after_space bytes) id → EndsWithText end (after_space bytes) → IsForm bytes (Delete id)
 delete-form-at bytes end id whole w (inl e) = absurd (omega (arith, w.numeral.0, ap length e.1))
-delete-form-at bytes end id whole w (inr e) = (rest_of bytes, whole ∙ ap (λ (x : List ℕ). codes "del" ++ x) e.0, w)
+delete-form-at bytes end id whole w (inr e) = (after_space bytes, whole ∙ ap (λ (x : List ℕ). codes "del" ++ x) e.0, w)
 
 -- a text with the word `del`, and with a number and nothing else, is a form of the delete
-delete-form : (bytes : List ℕ) (call : Call) → IsUtf8 bytes → word_of bytes ≡ codes "del" → delete_of (rest_of bytes) ≡ Some call → IsForm bytes call
+delete-form : (bytes : List ℕ) (call : Call) → IsUtf8 bytes → word_of bytes ≡ codes "del" → delete_of (after_space bytes) ≡ Some call → IsForm bytes call
 unfolding delete_of
 delete-form bytes call u word h =
     let split = splits bytes u in
-    let read = mapped Delete (number_of (rest_of bytes)) call h in
-    subst (IsForm bytes) read.2 (delete-form-at bytes split.0 read.0 (subst (λ (w : List ℕ). bytes ≡ w ++ split.0) word split.1) (number_of-writes (rest_of bytes) read.0 read.1) split.2)
+    let read = mapped Delete (number_of (after_space bytes)) call h in
+    subst (IsForm bytes) read.2 (delete-form-at bytes split.0 read.0 (subst (λ (w : List ℕ). bytes ≡ w ++ split.0) word split.1) (number_of-writes (after_space bytes) read.0 read.1) split.2)
 
 -- and before the number of a journal
-journal-form-at : (bytes end : List ℕ) (from : ℕ) → bytes ≡ codes "journal" ++ end → WritesNumber (rest_of bytes) from → EndsWithText end (rest_of bytes) → IsForm bytes (Journal from)
+journal-form-at : (bytes end : List ℕ) (from : ℕ) → bytes ≡ codes "journal" ++ end → WritesNumber (after_space bytes) from → EndsWithText end (after_space bytes) → IsForm bytes (Journal from)
 journal-form-at bytes end from whole w (inl e) = absurd (omega (arith, w.numeral.0, ap length e.1))
-journal-form-at bytes end from whole w (inr e) = (rest_of bytes, whole ∙ ap (λ (x : List ℕ). codes "journal" ++ x) e.0, w)
+journal-form-at bytes end from whole w (inr e) = (after_space bytes, whole ∙ ap (λ (x : List ℕ). codes "journal" ++ x) e.0, w)
 
 -- a text with the word `journal`, and with a number and nothing else, is a form of the journal
-journal-form : (bytes : List ℕ) (call : Call) → IsUtf8 bytes → word_of bytes ≡ codes "journal" → journal_of (rest_of bytes) ≡ Some call → IsForm bytes call
+journal-form : (bytes : List ℕ) (call : Call) → IsUtf8 bytes → word_of bytes ≡ codes "journal" → journal_of (after_space bytes) ≡ Some call → IsForm bytes call
 unfolding journal_of
 journal-form bytes call u word h =
     let split = splits bytes u in
-    let read = mapped Journal (number_of (rest_of bytes)) call h in
-    subst (IsForm bytes) read.2 (journal-form-at bytes split.0 read.0 (subst (λ (w : List ℕ). bytes ≡ w ++ split.0) word split.1) (number_of-writes (rest_of bytes) read.0 read.1) split.2)
+    let read = mapped Journal (number_of (after_space bytes)) call h in
+    subst (IsForm bytes) read.2 (journal-form-at bytes split.0 read.0 (subst (λ (w : List ℕ). bytes ≡ w ++ split.0) word split.1) (number_of-writes (after_space bytes) read.0 read.1) split.2)
 
 -- the call of a text whose word is not `add`, `del` or `find`
 abbrev journal_or_later : List ℕ → Option Call
-journal_or_later bytes = cond (bytes_eq (word_of bytes) (codes "journal")) (journal_of (rest_of bytes)) (call_of_word bytes)
+journal_or_later bytes = cond (bytes_eq (word_of bytes) (codes "journal")) (journal_of (after_space bytes)) (call_of_word bytes)
 
 -- the call of a text whose word is not `add` or `del`
 abbrev find_or_later : List ℕ → Option Call
-find_or_later bytes = cond (bytes_eq (word_of bytes) (codes "find")) (Some (Find (rest_of bytes))) (journal_or_later bytes)
+find_or_later bytes = cond (bytes_eq (word_of bytes) (codes "find")) (Some (Find (after_space bytes))) (journal_or_later bytes)
 
 -- the call of a text whose word is not `add`
 abbrev delete_or_later : List ℕ → Option Call
-delete_or_later bytes = cond (bytes_eq (word_of bytes) (codes "del")) (delete_of (rest_of bytes)) (find_or_later bytes)
+delete_or_later bytes = cond (bytes_eq (word_of bytes) (codes "del")) (delete_of (after_space bytes)) (find_or_later bytes)
 
 -- a text that is `recycle` is its form
 recycle-form : (bytes : List ℕ) (call : Call) → cond (bytes_eq bytes (codes "recycle")) (Some Recycle) None ≡ Some call → IsForm bytes call
@@ -164,7 +164,7 @@ word-form bytes call h =
 -- a text whose word is not `add`, `del` or `find` is a form of its call
 journal-form-or-later : (bytes : List ℕ) (call : Call) → IsUtf8 bytes → journal_or_later bytes ≡ Some call → IsForm bytes call
 journal-form-or-later bytes call u h =
-    elim (by_word bytes (codes "journal") (journal_of (rest_of bytes)) (call_of_word bytes) call h) [
+    elim (by_word bytes (codes "journal") (journal_of (after_space bytes)) (call_of_word bytes) call h) [
       | inl found ↦ journal-form bytes call u found.0 found.1
       | inr found ↦ word-form bytes call found
     ]
@@ -172,15 +172,15 @@ journal-form-or-later bytes call u h =
 -- so is a text whose word is not `add` or `del`
 find-form-or-later : (bytes : List ℕ) (call : Call) → IsUtf8 bytes → find_or_later bytes ≡ Some call → IsForm bytes call
 find-form-or-later bytes call u h =
-    elim (by_word bytes (codes "find") (Some (Find (rest_of bytes))) (journal_or_later bytes) call h) [
-      | inl found ↦ subst (IsForm bytes) (same_call (Find (rest_of bytes)) call found.1) (find-form bytes u found.0)
+    elim (by_word bytes (codes "find") (Some (Find (after_space bytes))) (journal_or_later bytes) call h) [
+      | inl found ↦ subst (IsForm bytes) (same_call (Find (after_space bytes)) call found.1) (find-form bytes u found.0)
       | inr found ↦ journal-form-or-later bytes call u found
     ]
 
 -- so is a text whose word is not `add`
 delete-form-or-later : (bytes : List ℕ) (call : Call) → IsUtf8 bytes → delete_or_later bytes ≡ Some call → IsForm bytes call
 delete-form-or-later bytes call u h =
-    elim (by_word bytes (codes "del") (delete_of (rest_of bytes)) (find_or_later bytes) call h) [
+    elim (by_word bytes (codes "del") (delete_of (after_space bytes)) (find_or_later bytes) call h) [
       | inl found ↦ delete-form bytes call u found.0 found.1
       | inr found ↦ find-form-or-later bytes call u found
     ]
@@ -189,7 +189,7 @@ delete-form-or-later bytes call u h =
 text-form : (bytes : List ℕ) (call : Call) → IsUtf8 bytes → call_of_text bytes ≡ Some call → IsForm bytes call
 unfolding call_of_text
 text-form bytes call u h =
-    elim (by_word bytes (codes "add") (add_of (rest_of bytes)) (delete_or_later bytes) call h) [
+    elim (by_word bytes (codes "add") (add_of (after_space bytes)) (delete_or_later bytes) call h) [
       | inl found ↦ add-form bytes call u found.0 found.1
       | inr found ↦ delete-form-or-later bytes call u found
     ]

@@ -9,12 +9,12 @@ use Rattle.std.proofs.Math.Seq.{get_or-append_seam}
 use Rattle.std.proofs.lemmas.List.Sums.{split_at_first, passes_at_first, position_or_len_is}
 use Rattle.std.proofs.lemmas.Str.{IsUtf8-drop, IsCharBoundary-after_ascii}
 use Rattle.std.proofs.lemmas.Str.Parse.{digit_at}
-use Rattle.line_proto.specs.Forms.{is_space, word_of, rest_of}
+use Rattle.line_proto.specs.Forms.{is_space, word_of, after_space}
 use Rattle.line_proto.specs.Grammar.{EndsWithText}
 
 -- a text is its first word and an end with the rest
 abbrev pub Splits : List ℕ → Type 0
-Splits bytes = (end : List ℕ) × (bytes ≡ word_of bytes ++ end) × EndsWithText end (rest_of bytes)
+Splits bytes = (end : List ℕ) × (bytes ≡ word_of bytes ++ end) × EndsWithText end (after_space bytes)
 
 -- all of a list stands before a place at or past its end
 all_of : (bytes : List ℕ) (n : ℕ) → length bytes ≤ n → (take n bytes ≡ bytes) × (drop (n + 1) bytes ≡ [])
@@ -25,8 +25,8 @@ splits-at : (bytes : List ℕ) → IsUtf8 bytes → position_or_len is_space byt
 splits-at bytes u h =
     let i = position_or_len is_space bytes in
     let space : get_or bytes i 0 ≡ 32 = (Decides-eqb (get_or bytes i 0) 32).0 (passes_at_first is_space bytes 0 h) in (
-      32 ∷ rest_of bytes,
-      split_at_first is_space bytes 0 h ∙ ap (λ (b : ℕ). word_of bytes ++ (b ∷ rest_of bytes)) space,
+      32 ∷ after_space bytes,
+      split_at_first is_space bytes 0 h ∙ ap (λ (b : ℕ). word_of bytes ++ (b ∷ after_space bytes)) space,
       inr (refl, IsUtf8-drop bytes (i + 1) u (IsCharBoundary-after_ascii bytes i u h (omega arith))),
     )
 
@@ -40,7 +40,7 @@ splits bytes u =
 
 -- the bytes have this first word and this rest
 abbrev pub SplitsInto : List ℕ → List ℕ → List ℕ → Type 0
-SplitsInto bytes word rest = (word_of bytes ≡ word) × (rest_of bytes ≡ rest)
+SplitsInto bytes word rest = (word_of bytes ≡ word) × (after_space bytes ≡ rest)
 
 -- a byte from `0` on is no space
 not_space : (b : ℕ) → 48 ≤ b → is_space b ≡ false

@@ -21,8 +21,8 @@ abbrev pub word_of : List ℕ → List ℕ
 word_of bytes = before_first is_space bytes
 
 -- the bytes after the first space, or none where there is none
-abbrev pub rest_of : List ℕ → List ℕ
-rest_of bytes = after_first is_space bytes
+abbrev pub after_space : List ℕ → List ℕ
+after_space bytes = after_first is_space bytes
 
 -- 1 to 20 ASCII digits that write a number below 2 ^ 64
 abbrev pub is_number : List ℕ → Bool
@@ -34,7 +34,7 @@ number_of word = if is_number word then Some (digits_value 10 word) else None
 
 -- a number and then, after a space, the document's text
 unfoldable pub add_of : List ℕ → Option Call
-add_of bytes = option_map (λ id. Add id (rest_of bytes)) (number_of (word_of bytes))
+add_of bytes = option_map (λ id. Add id (after_space bytes)) (number_of (word_of bytes))
 
 -- a number and nothing else
 unfoldable pub delete_of : List ℕ → Option Call
@@ -53,10 +53,10 @@ call_of_word text =
 -- the call of a text, by its first word; `place` and `recycle` stand alone
 unfoldable pub call_of_text : List ℕ → Option Call
 call_of_text text =
-    if bytes_eq (word_of text) (codes "add") then add_of (rest_of text)
-    else (if bytes_eq (word_of text) (codes "del") then delete_of (rest_of text)
-    else (if bytes_eq (word_of text) (codes "find") then Some (Find (rest_of text))
-    else (if bytes_eq (word_of text) (codes "journal") then journal_of (rest_of text)
+    if bytes_eq (word_of text) (codes "add") then add_of (after_space text)
+    else (if bytes_eq (word_of text) (codes "del") then delete_of (after_space text)
+    else (if bytes_eq (word_of text) (codes "find") then Some (Find (after_space text))
+    else (if bytes_eq (word_of text) (codes "journal") then journal_of (after_space text)
     else call_of_word text)))
 
 -- the call of a line, or none where the line has no form: it is too long, or no text, or of another shape

@@ -5,10 +5,10 @@ use Rattle.line_proto.specs.declared.request.Request.{Request}
 use Rattle.line_proto.specs.declared.request.Request.TheVariants.{Add, Delete, Find, Place, Journal, Recycle}
 
 -- the call that a request stands for, with its text's bytes
-abbrev pub call_of : Request → Call
-call_of (Add id text) = call.Add id text.now
-call_of (Delete id) = call.Delete id
-call_of (Find query) = call.Find query.now
-call_of Place = call.Place
-call_of (Journal from) = call.Journal from
-call_of Recycle = call.Recycle
+abbrev pub call_requested : Request → Call
+call_requested (Add id text) = call.Add id text.now
+call_requested (Delete id) = call.Delete id
+call_requested (Find query) = call.Find query.now
+call_requested Place = call.Place
+call_requested (Journal from) = call.Journal from
+call_requested Recycle = call.Recycle

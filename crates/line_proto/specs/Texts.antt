@@ -9,8 +9,8 @@ abbrev pub spaced : List ℕ → List ℕ
 spaced ids = flat_map (λ id. 32 ∷ decimal id) ids
 
 -- how many numbers there are, and then each of them
-abbrev pub counted : List ℕ → List ℕ
-counted ids = decimal (length ids) ++ spaced ids
+abbrev pub counted_ids : List ℕ → List ℕ
+counted_ids ids = decimal (length ids) ++ spaced ids
 
 -- a commit after a space: a plus for an add or a minus for a delete, and the document's number
 abbrev pub signed : Commit → List ℕ
@@ -28,7 +28,7 @@ message_of Full = codes "refused full"
 message_of JournalFull = codes "refused journal full"
 message_of (Deleted place) = codes "deleted " ++ decimal place
 message_of Absent = codes "refused absent"
-message_of (Found ids) = codes "found " ++ counted ids
+message_of (Found ids) = codes "found " ++ counted_ids ids
 message_of (Place place) = codes "place " ++ decimal place
 message_of (Commits commits) = codes "commits " ++ counted_commits commits
 message_of (Recycled slice) = codes "recycled " ++ decimal slice

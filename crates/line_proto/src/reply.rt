@@ -1,5 +1,5 @@
 ghost use Rattle.std.specs.Prelude.{◌≡◌, ◌+◌, ◌≤◌, ◌<◌, ◌++◌, false, length, decimal, OnOk, OnErr, IsOk, flat_map, vec_len, vec_capacity};
-ghost use Rattle.line_proto.specs.Texts.{text_of, message_of, spaced, counted, counted_commits, signed, is_list};
+ghost use Rattle.line_proto.specs.Texts.{text_of, message_of, spaced, counted_ids, counted_commits, signed, is_list};
 ghost use Rattle.funnel_model.specs.declared.reply.Reply.TheVariants as reply;
 
 use funnel_model::{Commit, Memory, Reply};
@@ -79,8 +79,8 @@ fn push_words_and_number(out: &mut Vec<u8>, words: &[u8], number: u64) -> Result
 
 /// Appends the words, the number of ids, and each of them after a space.
 fn push_words_and_list(out: &mut Vec<u8>, words: &[u8], ids: &[u64]) -> Result<(), AllocError>
-    ensures ok { OnOk result (out.new.items ≡ out.old.items ++ (words.now ++ counted ids.now)) }
-    ensures full { OnErr result (vec_capacity out.old < vec_len out.old + length (words.now ++ counted ids.now)) }
+    ensures ok { OnOk result (out.new.items ≡ out.old.items ++ (words.now ++ counted_ids ids.now)) }
+    ensures full { OnErr result (vec_capacity out.old < vec_len out.old + length (words.now ++ counted_ids ids.now)) }
     ensures capacity { vec_capacity out.old ≤ vec_capacity out.new }
 {
     push_words_and_number(out, words, ids.len() as u64)?;

@@ -1,6 +1,6 @@
 ghost use Rattle.std.specs.Prelude.{◌≡◌, List};
 ghost use Rattle.funnel_model.specs.declared.event.Event.{Event};
-ghost use Rattle.line_proto.specs.Requests.{call_of};
+ghost use Rattle.line_proto.specs.Requests.{call_requested};
 ghost use Rattle.line_proto.specs.Services.{AnswersCall, Caller};
 
 use crate::request::Request;
@@ -17,5 +17,5 @@ pub trait Service {
     /// Answers a request.
     fn call(&mut self, request: &Request<'_>) -> Reply
         ensures caller { caller self.new ≡ caller self.old }
-        ensures answers { AnswersCall (caller self.old) (front self.old) (front self.new) (call_of request.now) result };
+        ensures answers { AnswersCall (caller self.old) (front self.old) (front self.new) (call_requested request.now) result };
 }

@@ -1,7 +1,7 @@
 //! The plans of queries, against numbers from an independent model of the layout.
 
 ghost use Rattle.std.specs.Prelude.{◌≤◌, length, All, IfOk};
-ghost use Rattle.funnel_model.specs.Configuration.{IsWithin, IsInRange};
+ghost use Rattle.funnel_model.specs.Configuration.{IsBetween, IsInRange};
 
 use super::*;
 use funnel_model::{Config, Listed, Memory, WordSet};
@@ -15,7 +15,7 @@ fn config(max_rank: u8, tail: u64, words: Listed) -> Config
     requires rank { max_rank ≤ 6 }
     requires tail { tail ≤ 10 }
     requires few { length words ≤ 65536 }
-    requires counts { All (λ entry. IsWithin 1 1000 entry.1) words }
+    requires counts { All (λ entry. IsBetween 1 1000 entry.1) words }
     ensures { IsInRange result }
 {
     Config {
@@ -36,7 +36,7 @@ fn config(max_rank: u8, tail: u64, words: Listed) -> Config
 /// A rare word, a common one and a very common one.
 fn three_words(alloc: Global) -> Result<Listed, AllocError>
     ensures few { IfOk result (λ words. length words ≤ 65536) }
-    ensures counts { IfOk result (λ words. All (λ entry. IsWithin 1 1000 entry.1) words) }
+    ensures counts { IfOk result (λ words. All (λ entry. IsBetween 1 1000 entry.1) words) }
 {
     let axolotl = String::from_str(alloc, "axolotl")?;
     let cat = String::from_str(alloc, "cat")?;

@@ -13,17 +13,18 @@ use Rattle.rank_matcher.specs.Hits.{hits, is_hit}
 use Rattle.rank_matcher.specs.Laws.{DocumentsWithAllBitsAreHits, HasAllBits, TextsWithAllBitsAreHits, WrittenAddsAreHits, WrittenBitsAreRowBits}
 use Rattle.rank_matcher.proofs.Ranges.{passing-contains}
 use Rattle.row_layout.proofs.BitLemmas.{bits-of_part, bits-of_query}
-use Rattle.row_layout.specs.DocumentBits.{AreDocumentBits, IsDocumentBit, bit_at}
+use Rattle.row_layout.specs.DocumentBits.{AreDocumentBits, IsDocumentBit, bit_of_row}
 use Rattle.row_layout.specs.Sound.{HasItsBits}
 use Rattle.row_layout.specs.Orders.{HasRowsOf}
 use Rattle.row_layout.specs.declared.row.Row.{Row}
-use Rattle.row_read.specs.Bits.{IsSet, is_set}
+use Rattle.funnel_model.specs.RowWords.{IsSetIn}
+use Rattle.row_read.specs.Bits.{is_set}
 
 -- what holds of all bits of some words holds of the bits of each plan with their rows
 pub plan-bits : (P : Bit → Type 0) (config : Config) (query : List (List ℕ)) (slice column : ℕ) → ((bit : Bit) → IsDocumentBit config query slice column bit → P bit)
-    → (plan : List Row) → HasRowsOf config query plan → All (λ row. P (bit_at (words_of_slice config) slice column row)) plan
+    → (plan : List Row) → HasRowsOf config query plan → All (λ row. P (bit_of_row (words_of_slice config) slice column row)) plan
 plan-bits P config query slice column each plan exactly =
-    All-weaker (Contains plan) (λ row. P (bit_at (words_of_slice config) slice column row)) (λ row has. each (bit_at (words_of_slice config) slice column row) (row, (exactly row).0 has, refl)) plan (All-contains_itself plan)
+    All-weaker (Contains plan) (λ row. P (bit_of_row (words_of_slice config) slice column row)) (λ row has. each (bit_of_row (words_of_slice config) slice column row) (row, (exactly row).0 has, refl)) plan (All-contains_itself plan)
 
 all_pass : {A : Type 0} (p : A → Bool) (xs : List A) → All (λ x. p x ≡ true) xs → list_all p xs ≡ true
 all_pass p [] all = refl
@@ -31,10 +32,10 @@ all_pass p (x ∷ xs) all = ap (λ b. b && list_all p xs) (All-head (λ y. p y �
 
 -- a column whose bits are set in all rows of the plan is a hit
 pub hit-contains : (config : Config) (row_words : List ℕ) (plan : List Row) (slice column : ℕ) → column < columns_of_slice config
-    → All (λ row. is_set row_words (bit_at (words_of_slice config) slice column row) ≡ true) plan → Contains (hits config row_words plan slice) column
+    → All (λ row. is_set row_words (bit_of_row (words_of_slice config) slice column row) ≡ true) plan → Contains (hits config row_words plan slice) column
 unfolding hits
 hit-contains config row_words plan slice column low all =
-    passing-contains (is_hit config row_words plan slice) (columns_of_slice config) column low (all_pass (λ row. is_set row_words (bit_at (words_of_slice config) slice column row)) plan all)
+    passing-contains (is_hit config row_words plan slice) (columns_of_slice config) column low (all_pass (λ row. is_set row_words (bit_of_row (words_of_slice config) slice column row)) plan all)
 
 pub document-hits : DocumentsWithAllBitsAreHits
 document-hits config query document more row_words slice column low set plan exactly =
@@ -50,12 +51,12 @@ text-hits config text query meets row_words slice column low set plan exactly =
 
 -- where all listed bits of a document are set, all bits of the document are
 written : (config : Config) (document : List (List ℕ)) (slice column : ℕ) (bits : List Bit) → AreDocumentBits config document slice column bits
-    → (row_words : List ℕ) → All (IsSet row_words) bits → HasAllBits config document slice column row_words
-written config document slice column bits are row_words set bit of_document = All-contains (IsSet row_words) bits bit set ((are.exactly bit).1 of_document)
+    → (row_words : List ℕ) → All (IsSetIn row_words) bits → HasAllBits config document slice column row_words
+written config document slice column bits are row_words set bit of_document = All-contains (IsSetIn row_words) bits bit set ((are.exactly bit).1 of_document)
 
 pub written-rows : WrittenBitsAreRowBits
 written-rows config document slice column bits are row_words set row has =
-    written config document slice column bits are row_words set (bit_at (words_of_slice config) slice column row) (row, has, refl)
+    written config document slice column bits are row_words set (bit_of_row (words_of_slice config) slice column row) (row, has, refl)
 
 pub written-adds : WrittenAddsAreHits
 written-adds config history sound pass id text slice column bits has low row_words set query meets =

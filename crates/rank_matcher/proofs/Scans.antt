@@ -14,13 +14,13 @@ use Rattle.funnel_model.specs.Legal.{IsInSlice}
 use Rattle.funnel_model.specs.Sizes.{columns_of_slice, words_of_pool, words_of_slice}
 use Rattle.funnel_model.specs.declared.bit_list.Bit.{Bit}
 use Rattle.funnel_model.specs.declared.config.Config.{Config}
-use Rattle.rank_matcher.specs.Appended.{IsPrefix, appended, candidates_of}
+use Rattle.rank_matcher.specs.Appended.{IsBeginning, appended, candidates_of}
 use Rattle.rank_matcher.specs.Hits.{hits, is_hit}
 use Rattle.rank_matcher.specs.Reads.{columns_of_word, reads_after, words_of_plan}
 use Rattle.rank_matcher.specs.Walk.{HasFound, HasFoundPart, IsReadable, IsWhole, passing, reads_between, words_between}
 use Rattle.rank_matcher.proofs.Passing.{appended-is, passing-same, passing-split}
 use Rattle.rank_matcher.proofs.Ranges.{front-all, front-rising, passing-all, passing-contains, passing-rising}
-use Rattle.row_layout.specs.DocumentBits.{bit_at, slice_start}
+use Rattle.row_layout.specs.DocumentBits.{bit_of_row, slice_start}
 use Rattle.row_layout.specs.Orders.{rows_below_rank, rows_from_rank}
 use Rattle.row_layout.specs.declared.row.Row.{Row}
 use Rattle.row_layout.proofs.Spans.{IsSpan, slice-within}
@@ -134,9 +134,9 @@ module _ (told : Option (List ℕ)) (least seen : Bit → Type 0) (config : Conf
       subst (All P) (sym (appended-is slice old new f.front f.appended))
       (front-all P f.front f.rest (subst (All P) f.parts (passing-all f.test P 0 (f.n - 0) (λ k low passes. omega (arith, low, f.to)))))
 
-  pub part-seen : Part → All (λ column. All (λ row. seen (bit_at (words_of_slice config) slice column row)) plan) (appended old new)
+  pub part-seen : Part → All (λ column. All (λ row. seen (bit_of_row (words_of_slice config) slice column row)) plan) (appended old new)
   part-seen f =
-      let P = λ (column : ℕ). All (λ row. seen (bit_at (words_of_slice config) slice column row)) plan in
+      let P = λ (column : ℕ). All (λ row. seen (bit_of_row (words_of_slice config) slice column row)) plan in
       subst (All P) (sym (appended-is slice old new f.front f.appended))
       (front-all P f.front f.rest (subst (All P) f.parts (passing-all f.test P 0 (f.n - 0) (λ k low passes. f.is_test.seen_is k (omega arith) (omega (arith, low)) passes))))
 
@@ -146,7 +146,7 @@ module _ (told : Option (List ℕ)) (least seen : Bit → Type 0) (config : Conf
       (front-rising f.front f.rest (subst (IsStrictlySortedBy nat_cmp) f.parts (passing-rising f.test (f.n - 0))))
 
   -- the columns that pass up to n begin the hits
-  pub part-of_hits : (words : List ℕ) → told ≡ Some words → Part → IsPrefix (appended old new) (hits config words plan slice)
+  pub part-of_hits : (words : List ℕ) → told ≡ Some words → Part → IsBeginning (appended old new) (hits config words plan slice)
   unfolding hits
   part-of_hits words is f =
       let hit = is_hit config words plan slice in
@@ -154,7 +154,7 @@ module _ (told : Option (List ℕ)) (least seen : Bit → Type 0) (config : Conf
       let whole : passing hit 0 (columns_of_slice config) ≡ (f.front ++ f.rest) ++ rest =
       passing-split hit 0 f.n (columns_of_slice config) (omega arith) f.to
       ∙ ap (λ (xs : List ℕ). xs ++ rest) (passing-same hit f.test 0 f.n (λ column from to. sym (f.is_test.told_is words is column from to)) ∙ f.parts) in
-      subst (λ (xs : List ℕ). IsPrefix xs (hits config words plan slice)) (sym (appended-is slice old new f.front f.appended))
+      subst (λ (xs : List ℕ). IsBeginning xs (hits config words plan slice)) (sym (appended-is slice old new f.front f.appended))
       (f.rest ++ rest, ap (λ n. filter hit (range_with_len 0 n)) (let e : columns_of_slice config ≡ columns_of_slice config - 0 = omega arith in e) ∙ whole ∙ append_assoc f.front f.rest rest)
 
   pub all-hits : (words : List ℕ) → told ≡ Some words → Whole → appended old new ≡ hits config words plan slice
@@ -164,7 +164,7 @@ module _ (told : Option (List ℕ)) (least seen : Bit → Type 0) (config : Conf
       ∙ passing-same f.test (is_hit config words plan slice) 0 (columns_of_slice config) (f.is_test.told_is words is)
       ∙ ap (λ n. filter (is_hit config words plan slice) (range_with_len 0 n)) (let e : columns_of_slice config - 0 ≡ columns_of_slice config = omega arith in e)
 
-  pub all-covered : Whole → (column : ℕ) → column < columns_of_slice config → All (λ row. least (bit_at (words_of_slice config) slice column row)) plan → Contains (appended old new) column
+  pub all-covered : Whole → (column : ℕ) → column < columns_of_slice config → All (λ row. least (bit_of_row (words_of_slice config) slice column row)) plan → Contains (appended old new) column
   all-covered f column low all =
       subst (λ (xs : List ℕ). Contains xs column) (sym (appended-is slice old new (passing f.test 0 (columns_of_slice config)) f.appended))
       (passing-contains f.test (columns_of_slice config - 0) column (omega (arith, low)) (f.is_test.least_is column (omega arith) low all))

@@ -10,5 +10,5 @@ abbrev pub candidates_of : ℕ → List ℕ → List (ℕ × ℕ)
 candidates_of slice columns = map (λ column. (slice, column)) columns
 
 -- the second list begins with the first
-abbrev pub IsPrefix : List ℕ → List ℕ → Type 0
-IsPrefix front whole = (rest : List ℕ) × (whole ≡ front ++ rest)
+abbrev pub IsBeginning : List ℕ → List ℕ → Type 0
+IsBeginning front whole = (rest : List ℕ) × (whole ≡ front ++ rest)

@@ -6,18 +6,18 @@ use Rattle.funnel_model.specs.declared.bit_list.Bit.{Bit}
 use Rattle.funnel_model.specs.declared.config.Config.{Config}
 use Rattle.funnel_model.specs.declared.event.Event.{Event}
 use Rattle.funnel_model.specs.declared.event.Event.TheVariants as event
-use Rattle.row_layout.specs.DocumentBits.{AreDocumentBits, IsDocumentBit, bit_at}
+use Rattle.row_layout.specs.DocumentBits.{AreDocumentBits, IsDocumentBit, bit_of_row}
 use Rattle.row_layout.specs.Sound.{IsSound}
 use Rattle.row_layout.specs.Orders.{HasRowsOf}
 use Rattle.row_layout.specs.Rows.{rows_of_words}
 use Rattle.row_layout.specs.declared.row.Row.{Row}
-use Rattle.row_read.specs.Bits.{IsSet}
+use Rattle.funnel_model.specs.RowWords.{IsSetIn}
 use Rattle.rank_matcher.specs.Hits.{hits}
 
 -- every bit that a document with these words sets at the column of the slice is set in the row words
 abbrev pub HasAllBits : Config → List (List ℕ) → ℕ → ℕ → List ℕ → Type 0
 HasAllBits config document slice column row_words =
-    (bit : Bit) → IsDocumentBit config document slice column bit → IsSet row_words bit
+    (bit : Bit) → IsDocumentBit config document slice column bit → IsSetIn row_words bit
 
 -- a column that has all bits of a document is a hit of the plan of each query whose words the document has
 abbrev pub DocumentsWithAllBitsAreHits : Type 0
@@ -37,13 +37,13 @@ TextsWithAllBitsAreHits =
 abbrev pub WrittenBitsAreRowBits : Type 0
 WrittenBitsAreRowBits =
     (config : Config) (document : List (List ℕ)) (slice column : ℕ) (bits : List Bit) → AreDocumentBits config document slice column bits
-    → (row_words : List ℕ) → All (IsSet row_words) bits
-    → (row : Row) → Contains (rows_of_words config document) row → IsSet row_words (bit_at (words_of_slice config) slice column row)
+    → (row_words : List ℕ) → All (IsSetIn row_words) bits
+    → (row : Row) → Contains (rows_of_words config document) row → IsSetIn row_words (bit_of_row (words_of_slice config) slice column row)
 
 -- where all bits of an add are set, its column is a hit for each query that its text meets
 abbrev pub WrittenAddsAreHits : Type 0
 WrittenAddsAreHits =
     (config : Config) (history : List Event) → IsSound config history
     → (pass id : ℕ) (text : List ℕ) (slice column : ℕ) (bits : List Bit) → Contains history (event.Add pass id text slice column bits) → column < columns_of_slice config
-    → (row_words : List ℕ) → All (IsSet row_words) bits
+    → (row_words : List ℕ) → All (IsSetIn row_words) bits
     → (query : List ℕ) → meets text query ≡ true → (plan : List Row) → HasRowsOf config (words query) plan → Contains (hits config row_words plan slice) column

@@ -1,7 +1,7 @@
 //! Scans of slices whose row words are written out.
 
 ghost use Rattle.std.specs.Prelude.{◌≡◌, ◌+◌, ◌*◌, ◌<◌, ◌≤◌, length, map, All, IfOk};
-ghost use Rattle.funnel_model.specs.Configuration.{IsWithin, IsInRange};
+ghost use Rattle.funnel_model.specs.Configuration.{IsBetween, IsInRange};
 ghost use Rattle.funnel_model.specs.Sizes.{words_of_slice};
 ghost use Rattle.rank_matcher.specs.Hits.{hits};
 ghost use Rattle.row_layout.specs.Rows.{IsRowOf};
@@ -18,7 +18,7 @@ use treatment::sizes;
 /// One listed word, of which one document in sixteen has it, so that it has a row of rank 1 and two of rank 0.
 fn otter(alloc: Global) -> Result<Listed, AllocError>
     ensures few { IfOk result (λ words. length words ≤ 65536) }
-    ensures counts { IfOk result (λ words. All (λ entry. IsWithin 1 1000 entry.1) words) }
+    ensures counts { IfOk result (λ words. All (λ entry. IsBetween 1 1000 entry.1) words) }
 {
     let otter = String::from_str(alloc, "otter")?;
     Ok(Listed::new(vec![in alloc; (otter, 62)]?))
@@ -26,10 +26,10 @@ fn otter(alloc: Global) -> Result<Listed, AllocError>
 
 /// Two slices, with as many rows as this word wants.
 fn config(blocks: u32, max_rank: u8, words: Listed) -> Config
-    requires blocks { IsWithin 1 2 blocks }
+    requires blocks { IsBetween 1 2 blocks }
     requires max_rank { max_rank ≤ 6 }
     requires few { length words ≤ 65536 }
-    requires counts { All (λ entry. IsWithin 1 1000 entry.1) words }
+    requires counts { All (λ entry. IsBetween 1 1000 entry.1) words }
     ensures in_range { IsInRange result }
     ensures slices { result.slices ≡ 2 }
 {
@@ -49,7 +49,7 @@ fn config(blocks: u32, max_rank: u8, words: Listed) -> Config
 }
 
 fn layout(alloc: Global, blocks: u32, max_rank: u8) -> Result<Layout, Memory>
-    requires blocks { IsWithin 1 2 blocks }
+    requires blocks { IsBetween 1 2 blocks }
     requires max_rank { max_rank ≤ 6 }
     ensures { IfOk result (λ layout. layout.slices ≡ 2) }
 {
@@ -216,13 +216,13 @@ struct Changing<'a> {
 impl<'a> Rows for Changing<'a> {
     ghost use Rattle.std.specs.Prelude.{⊤};
     ghost use Rattle.std.specs.declared.option.Option.TheVariants.{None};
-    ghost use Rattle.row_read.specs.Bits.{IsSet};
+    ghost use Rattle.funnel_model.specs.RowWords.{IsSetIn};
 
     ghost Kept = { ⊤ };
 
     ghost reach = { λ rows word. word < length rows.words.now };
 
-    ghost least = { λ rows bit. IsSet rows.words.now bit };
+    ghost least = { λ rows bit. IsSetIn rows.words.now bit };
 
     ghost seen = { λ _ _. ⊤ };
 

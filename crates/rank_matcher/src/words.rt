@@ -1,7 +1,7 @@
 //! Candidates of words, each of which stands for 64 columns.
 
 ghost use Rattle.std.specs.Prelude.{◌≡◌, ℕ, ◌+◌, ◌*◌, ◌<◌, ◌≤◌, ◌^◌, ◌++◌, map, List, OnOk};
-ghost use Rattle.rank_matcher.specs.Appended.{IsPrefix, candidates_of};
+ghost use Rattle.rank_matcher.specs.Appended.{IsBeginning, candidates_of};
 ghost use Rattle.rank_matcher.specs.SetBits.{set_bits};
 ghost use Rattle.rank_matcher.specs.Walk.{has_column, passing};
 
@@ -18,7 +18,7 @@ pub(crate) fn push_words(
     requires span { from ≤ to }
     requires few { 64 * to < 2 ^ 32 }
     ensures all { OnOk result (out.new ≡ out.old ++ candidates_of slice (passing (has_column running) (64 * from) (64 * to))) }
-    ensures part { (front : List ℕ) × IsPrefix front (passing (has_column running) (64 * from) (64 * to)) × (out.new ≡ out.old ++ candidates_of slice front) }
+    ensures part { (front : List ℕ) × IsBeginning front (passing (has_column running) (64 * from) (64 * to)) × (out.new ≡ out.old ++ candidates_of slice front) }
 {
     for word in from..to {
         push_columns(out, slice, 64 * word, running)?;
@@ -30,7 +30,7 @@ pub(crate) fn push_words(
 fn push_columns(out: &mut Candidates, slice: u32, first: u32, word: u64) -> Result<(), Memory>
     requires fits { first + 64 ≤ 2 ^ 32 }
     ensures all { OnOk result (out.new ≡ out.old ++ candidates_of slice (map (λ bit. first + bit) (set_bits word))) }
-    ensures part { (front : List ℕ) × IsPrefix front (set_bits word) × (out.new ≡ out.old ++ candidates_of slice (map (λ bit. first + bit) front)) }
+    ensures part { (front : List ℕ) × IsBeginning front (set_bits word) × (out.new ≡ out.old ++ candidates_of slice (map (λ bit. first + bit) front)) }
 {
     let mut left = word;
     while left != 0 {

@@ -19,7 +19,7 @@ use Rattle.funnel_model.specs.Sizes.{columns_of_slice, words_of_pool, words_of_s
 use Rattle.funnel_model.specs.Words.{words}
 use Rattle.funnel_model.specs.declared.bit_list.Bit.{Bit}
 use Rattle.funnel_model.specs.declared.config.Config.{Config}
-use Rattle.row_layout.specs.DocumentBits.{CanPlace, AreDocumentBits, bit_at, bit_cmp, slice_start}
+use Rattle.row_layout.specs.DocumentBits.{CanPlace, AreDocumentBits, bit_of_row, bit_cmp, slice_start}
 use Rattle.row_layout.specs.Laws.{DocumentsHaveBitsOfParts, TextsHaveBitsOfQueries}
 use Rattle.row_layout.specs.Orders.{HasRowsOf, IsRisingByStart, start_cmp}
 use Rattle.row_layout.specs.Rows.{IsRowOf, rows_of_word, rows_of_words}
@@ -43,25 +43,25 @@ bits-of_query config text query meets =
     (λ word has. (Contains-has word (words text)).1 (All-contains (λ w. list_any (bytes_eq w) (words text) ≡ true) (words query) word passes has))
 
 -- the bit of a row that stands before another is below the other's
-less_by_start : (config : Config) → IsInRange config → (slice column : ℕ) → column < columns_of_slice config → (a b : Row) → IsRowOf config a → IsRowOf config b → start_cmp a b ≡ Less → bit_cmp (bit_at (words_of_slice config) slice column a) (bit_at (words_of_slice config) slice column b) ≡ Less
+less_by_start : (config : Config) → IsInRange config → (slice column : ℕ) → column < columns_of_slice config → (a b : Row) → IsRowOf config a → IsRowOf config b → start_cmp a b ≡ Less → bit_cmp (bit_of_row (words_of_slice config) slice column a) (bit_of_row (words_of_slice config) slice column b) ≡ Less
 less_by_start config range slice column in_slice a b laid laid' less =
     let below : a.start < b.start = ranked a.start b.start Less (sym less) in
     let span = row-span config a laid in
     let offset = offset-below config a.rank column span.rank in_slice in
-    let word : (bit_at (words_of_slice config) slice column a).word < (bit_at (words_of_slice config) slice column b).word =
+    let word : (bit_of_row (words_of_slice config) slice column a).word < (bit_of_row (words_of_slice config) slice column b).word =
     ⊎_elim
     (λ (same : a ≡ b). absurd (let s = ap (λ row. row.start) same in omega arith))
     (λ (before : a.start + a.width ≤ b.start). omega (arith, span.width))
     (rows_apart config range a b laid laid' (omega arith)) in
-    ap (λ r. ordering_then r (nat_cmp (column % 64) (column % 64))) (sym (nat_cmp_is (bit_at (words_of_slice config) slice column a).word (bit_at (words_of_slice config) slice column b).word Less word))
+    ap (λ r. ordering_then r (nat_cmp (column % 64) (column % 64))) (sym (nat_cmp_is (bit_of_row (words_of_slice config) slice column a).word (bit_of_row (words_of_slice config) slice column b).word Less word))
 
-rising_bits : (config : Config) → IsInRange config → (slice column : ℕ) → column < columns_of_slice config → (rows : List Row) → All (IsRowOf config) rows → IsRisingByStart rows → IsStrictlySortedBy bit_cmp (map (bit_at (words_of_slice config) slice column) rows)
+rising_bits : (config : Config) → IsInRange config → (slice column : ℕ) → column < columns_of_slice config → (rows : List Row) → All (IsRowOf config) rows → IsRisingByStart rows → IsStrictlySortedBy bit_cmp (map (bit_of_row (words_of_slice config) slice column) rows)
 unfolding IsStrictlySortedBy
 rising_bits config range slice column in_slice [] laid rising = tt
 rising_bits config range slice column in_slice (x ∷ xs) laid rising =
     (above xs (All-tail (IsRowOf config) x xs laid) rising.0, rising_bits config range slice column in_slice xs (All-tail (IsRowOf config) x xs laid) rising.1)
   where
-    above : (ys : List Row) → All (IsRowOf config) ys → AllByRecursion (λ y. start_cmp x y ≡ Less) ys → AllByRecursion (λ b. bit_cmp (bit_at (words_of_slice config) slice column x) b ≡ Less) (map (bit_at (words_of_slice config) slice column) ys)
+    above : (ys : List Row) → All (IsRowOf config) ys → AllByRecursion (λ y. start_cmp x y ≡ Less) ys → AllByRecursion (λ b. bit_cmp (bit_of_row (words_of_slice config) slice column x) b ≡ Less) (map (bit_of_row (words_of_slice config) slice column) ys)
     above [] laid' all = tt
     above (y ∷ ys) laid' all = (
       less_by_start config range slice column in_slice x y (All-head (IsRowOf config) x xs laid) (All-head (IsRowOf config) y ys laid') all.0,
@@ -69,34 +69,34 @@ rising_bits config range slice column in_slice (x ∷ xs) laid rising =
     )
 
 -- the bits of exactly the rows of some words are the bits of a document with these words
-pub bits_of_rows : (config : Config) → IsInRange config → (slice column : ℕ) → column < columns_of_slice config → (rows : List Row) → CanPlace config rows → (set : List (List ℕ)) → HasRowsOf config set rows → AreDocumentBits config set slice column (map (bit_at (words_of_slice config) slice column) rows)
+pub bits_of_rows : (config : Config) → IsInRange config → (slice column : ℕ) → column < columns_of_slice config → (rows : List Row) → CanPlace config rows → (set : List (List ℕ)) → HasRowsOf config set rows → AreDocumentBits config set slice column (map (bit_of_row (words_of_slice config) slice column) rows)
 bits_of_rows config range slice column in_slice rows can set exactly = record {
   rising = rising_bits config range slice column in_slice rows can.laid can.rising;
   exactly = λ bit. (
     λ has.
-        let r = Contains-from_map (bit_at (words_of_slice config) slice column) rows bit has in
+        let r = Contains-from_map (bit_of_row (words_of_slice config) slice column) rows bit has in
         (r.0, (exactly r.0).0 r.1, r.2),
     λ of_document.
-        subst (Contains (map (bit_at (words_of_slice config) slice column) rows)) (sym of_document.2)
-        (Contains-map (bit_at (words_of_slice config) slice column) rows of_document.0 ((exactly of_document.0).1 of_document.1)),
+        subst (Contains (map (bit_of_row (words_of_slice config) slice column) rows)) (sym of_document.2)
+        (Contains-map (bit_of_row (words_of_slice config) slice column) rows of_document.0 ((exactly of_document.0).1 of_document.1)),
   );
 }
 
 -- the bit of a row lies in the slice
-pub bit-in_slice : (config : Config) → (slice column : ℕ) → column < columns_of_slice config → (row : Row) → IsRowOf config row → IsInSlice (words_of_slice config) slice (bit_at (words_of_slice config) slice column row).word
+pub bit-in_slice : (config : Config) → (slice column : ℕ) → column < columns_of_slice config → (row : Row) → IsRowOf config row → IsInSlice (words_of_slice config) slice (bit_of_row (words_of_slice config) slice column row).word
 bit-in_slice config slice column in_slice row laid =
     let span = row-span config row laid in
     let offset = offset-below config row.rank column span.rank in_slice in
     record { from = omega arith; to = omega (arith, span.width, span.within) }
 
-pub bits-in_slice : (config : Config) → (slice column : ℕ) → column < columns_of_slice config → (rows : List Row) → All (IsRowOf config) rows → All (λ (b : Bit). IsInSlice (words_of_slice config) slice b.word) (map (bit_at (words_of_slice config) slice column) rows)
+pub bits-in_slice : (config : Config) → (slice column : ℕ) → column < columns_of_slice config → (rows : List Row) → All (IsRowOf config) rows → All (λ (b : Bit). IsInSlice (words_of_slice config) slice b.word) (map (bit_of_row (words_of_slice config) slice column) rows)
 bits-in_slice config slice column in_slice rows laid =
-    All-map (λ (b : Bit). IsInSlice (words_of_slice config) slice b.word) (bit_at (words_of_slice config) slice column) rows
-    (All-weaker (IsRowOf config) (λ row. IsInSlice (words_of_slice config) slice (bit_at (words_of_slice config) slice column row).word) (bit-in_slice config slice column in_slice) rows laid)
+    All-map (λ (b : Bit). IsInSlice (words_of_slice config) slice b.word) (bit_of_row (words_of_slice config) slice column) rows
+    (All-weaker (IsRowOf config) (λ row. IsInSlice (words_of_slice config) slice (bit_of_row (words_of_slice config) slice column row).word) (bit-in_slice config slice column in_slice) rows laid)
 
-pub bits-of_words : (config : Config) → (slice column : ℕ) → (rows : List Row) → All (IsRowOf config) rows → All (λ (b : Bit). b.bit < 64) (map (bit_at (words_of_slice config) slice column) rows)
+pub bits-of_words : (config : Config) → (slice column : ℕ) → (rows : List Row) → All (IsRowOf config) rows → All (λ (b : Bit). b.bit < 64) (map (bit_of_row (words_of_slice config) slice column) rows)
 bits-of_words config slice column rows laid =
-    All-map (λ (b : Bit). b.bit < 64) (bit_at (words_of_slice config) slice column) rows
+    All-map (λ (b : Bit). b.bit < 64) (bit_of_row (words_of_slice config) slice column) rows
     (All-weaker (IsRowOf config) (λ _. column % 64 < 64) (λ _ _. omega arith) rows laid)
 
 -- the bit of a row, from the first word of its slice on, fits its word
@@ -114,20 +114,20 @@ columns-positive config range =
     omega (arith, mul-le 64 1 (64 * 2 ^ config.max_rank) config.blocks (let h : 64 ≤ 64 * 2 ^ config.max_rank = omega (arith, pow_pos config.max_rank) in h) range.blocks.0)
 
 -- the bit that is made from the first word of the slice
-pub bit-is : (config : Config) (slice column first : ℕ) (row : Row) (bit : Bit) → first ≡ slice_start (words_of_slice config) slice → bit ≡ record { word = first + row.start + column / (64 * 2 ^ row.rank); bit = column % 64 } → bit ≡ bit_at (words_of_slice config) slice column row
+pub bit-is : (config : Config) (slice column first : ℕ) (row : Row) (bit : Bit) → first ≡ slice_start (words_of_slice config) slice → bit ≡ record { word = first + row.start + column / (64 * 2 ^ row.rank); bit = column % 64 } → bit ≡ bit_of_row (words_of_slice config) slice column row
 bit-is config slice column first row bit is made =
     let at : ℕ → Bit = λ f. record { word = f + row.start + column / (64 * 2 ^ row.rank); bit = column % 64 } in
     made ∙ ap at is
 
 -- one more bit
-pub bits_more : (config : Config) (slice column : ℕ) (rows : List Row) (i : ℕ) (row : Row) (bits : List Bit) (bit : Bit) → i < length rows → get_or rows i row ≡ row → bits ≡ map (bit_at (words_of_slice config) slice column) (take i rows) → bit ≡ bit_at (words_of_slice config) slice column row → bits ++ bit ∷ [] ≡ map (bit_at (words_of_slice config) slice column) (take (i + 1) rows)
+pub bits_more : (config : Config) (slice column : ℕ) (rows : List Row) (i : ℕ) (row : Row) (bits : List Bit) (bit : Bit) → i < length rows → get_or rows i row ≡ row → bits ≡ map (bit_of_row (words_of_slice config) slice column) (take i rows) → bit ≡ bit_of_row (words_of_slice config) slice column row → bits ++ bit ∷ [] ≡ map (bit_of_row (words_of_slice config) slice column) (take (i + 1) rows)
 bits_more config slice column rows i row bits bit within at before is =
     ap (λ (xs : List Bit). xs ++ bit ∷ []) before
-    ∙ ap (λ (x : Bit). map (bit_at (words_of_slice config) slice column) (take i rows) ++ x ∷ []) (is ∙ ap (bit_at (words_of_slice config) slice column) (sym at))
-    ∙ sym (map-append (bit_at (words_of_slice config) slice column) (take i rows) (get_or rows i row ∷ []))
-    ∙ ap (map (bit_at (words_of_slice config) slice column)) (sym (take_more rows i row within))
+    ∙ ap (λ (x : Bit). map (bit_of_row (words_of_slice config) slice column) (take i rows) ++ x ∷ []) (is ∙ ap (bit_of_row (words_of_slice config) slice column) (sym at))
+    ∙ sym (map-append (bit_of_row (words_of_slice config) slice column) (take i rows) (get_or rows i row ∷ []))
+    ∙ ap (map (bit_of_row (words_of_slice config) slice column)) (sym (take_more rows i row within))
 
 -- all bits
-pub all_bits : (config : Config) (slice column i : ℕ) (rows : List Row) (bits : List Bit) → length rows ≤ i → length bits ≤ i → take i bits ≡ map (bit_at (words_of_slice config) slice column) (take i rows) → bits ≡ map (bit_at (words_of_slice config) slice column) rows
+pub all_bits : (config : Config) (slice column i : ℕ) (rows : List Row) (bits : List Bit) → length rows ≤ i → length bits ≤ i → take i bits ≡ map (bit_of_row (words_of_slice config) slice column) (take i rows) → bits ≡ map (bit_of_row (words_of_slice config) slice column) rows
 all_bits config slice column i rows bits rows_end bits_end are =
-    sym (take_all i bits bits_end) ∙ are ∙ ap (map (bit_at (words_of_slice config) slice column)) (take_all i rows rows_end)
+    sym (take_all i bits bits_end) ∙ are ∙ ap (map (bit_of_row (words_of_slice config) slice column)) (take_all i rows rows_end)

@@ -19,13 +19,13 @@ abbrev pub bit_from : ℕ → ℕ → Row → Bit
 bit_from first column row = record { word = first + row.start + column / (64 * 2 ^ row.rank); bit = column % 64 }
 
 -- the bit of a row at a column of a slice, where each slice has this many words
-abbrev pub bit_at : ℕ → ℕ → ℕ → Row → Bit
-bit_at slice_words slice column row = bit_from (slice_start slice_words slice) column row
+abbrev pub bit_of_row : ℕ → ℕ → ℕ → Row → Bit
+bit_of_row slice_words slice column row = bit_from (slice_start slice_words slice) column row
 
 -- the bit is one that a document with these words sets at the column of the slice
 abbrev pub IsDocumentBit : Config → List (List ℕ) → ℕ → ℕ → Bit → Type 0
 IsDocumentBit config words slice column bit =
-    (row : Row) × Contains (rows_of_words config words) row × (bit ≡ bit_at (words_of_slice config) slice column row)
+    (row : Row) × Contains (rows_of_words config words) row × (bit ≡ bit_of_row (words_of_slice config) slice column row)
 
 -- by word, and then by bit
 abbrev pub bit_cmp : Bit → Bit → Ordering

@@ -2,6 +2,7 @@
 use Rattle.std.specs.Prelude.{◌≡◌, ℕ, ◌<◌, ◌≤◌, nat_lt, List, [], map, slice_index, slice_index_or, if◌then◌else◌}
 use Rattle.funnel_model.specs.Sizes.{class_of_word, shared_rows, base_of_rank, words_of_slice, words_of_pool}
 use Rattle.funnel_model.specs.Configuration.{IsInRange}
+use Rattle.funnel_model.specs.declared.config.TheConstants.{MOST_ROW_WORDS}
 use Rattle.funnel_model.specs.declared.config.Config.{Config}
 use Rattle.funnel_model.specs.Treatment.{row_count_of_class}
 use Rattle.row_layout.specs.Rows.{private_number, rank_in_class}
@@ -26,7 +27,7 @@ pub record IsClassTable (config : Config) (table : ClassTable) : Type 0 where
 -- words of a slice, the rows of each class, and the rows of each listed word
 pub record IsLaidOut (config : Config) (rows bases : List ℕ) (slice_words : ℕ) (classes : ClassTable) (listed : List WordRows) : Type 0 where
   pub in_range : IsInRange config
-  pub small_pool : words_of_pool config ≤ 33554432
+  pub small_pool : words_of_pool config ≤ MOST_ROW_WORDS
   pub rows_are : (rank : ℕ) → rank ≤ config.max_rank → slice_index rows rank ≡ shared_rows config rank
   pub bases_are : (rank : ℕ) → rank ≤ config.max_rank → slice_index bases rank ≡ base_of_rank config rank
   pub slice_words_are : slice_words ≡ words_of_slice config

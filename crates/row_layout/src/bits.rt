@@ -1,7 +1,7 @@
 ghost use Rattle.std.specs.Prelude.{◌≡◌, ℕ, ◌<◌, List, IfOk, map, All};
 ghost use Rattle.funnel_model.specs.Legal.{IsInSlice};
 ghost use Rattle.funnel_model.specs.Sizes.{columns_of_slice, words_of_slice};
-ghost use Rattle.row_layout.specs.DocumentBits.{CanPlace, AreDocumentBits, bit_at};
+ghost use Rattle.row_layout.specs.DocumentBits.{CanPlace, AreDocumentBits, bit_of_row};
 ghost use Rattle.row_layout.specs.Orders.{HasRowsOf};
 
 use crate::layout::Layout;
@@ -43,7 +43,7 @@ impl Bits {
         requires slice { slice < layout.now.slices }
         requires column { column < columns_of_slice layout.now }
         ensures rows { self.new.rows ≡ self.old.rows }
-        ensures bits { self.new.bits ≡ map (bit_at (words_of_slice layout.now) slice column) self.old.rows }
+        ensures bits { self.new.bits ≡ map (bit_of_row (words_of_slice layout.now) slice column) self.old.rows }
         ensures inside { All (λ b. IsInSlice (words_of_slice layout.now) slice b.word) self.new.bits }
         ensures of_words { All (λ b. b.bit < 64) self.new.bits }
         ensures document_bits { (words : List (List ℕ)) → HasRowsOf layout.now words self.old.rows → AreDocumentBits layout.now words slice column self.new.bits }

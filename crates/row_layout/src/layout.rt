@@ -1,4 +1,5 @@
 ghost use Rattle.std.specs.Prelude.{◌≡◌, ℕ, List, ◌+◌, ◌<◌, ◌≤◌, ◌++◌, All, IfOk, OnOk, length};
+ghost use Rattle.funnel_model.specs.declared.config.TheConstants.{MOST_ROW_WORDS};
 ghost use Rattle.funnel_model.specs.Configuration.{IsInRange};
 ghost use Rattle.funnel_model.specs.Sizes.{columns_of_slice, private_words, words_of_pool, words_of_slice};
 ghost use Rattle.funnel_model.specs.Treatment.{row_count_of_class};
@@ -48,7 +49,7 @@ impl Layout {
     /// Lays out the rows of a configuration, of which it keeps a copy.
     pub fn new(alloc: Global, config: &Config) -> Result<Layout, Memory>
         requires in_range { IsInRange config.now }
-        requires small_pool { words_of_pool config.now ≤ 33554432 }
+        requires small_pool { words_of_pool config.now ≤ MOST_ROW_WORDS }
         ensures { IfOk result (λ layout. layout ≡ config.now) }
     {
         let config = copy_of(alloc, config)?;
@@ -96,7 +97,7 @@ impl Layout {
         ensures first { result.0 ≡ slice_start (words_of_slice self.now) slice }
         ensures words { result.1 ≡ words_of_slice self.now }
         ensures within { result.0 + result.1 ≤ words_of_pool self.now }
-        ensures small_pool { words_of_pool self.now ≤ 33554432 }
+        ensures small_pool { words_of_pool self.now ≤ MOST_ROW_WORDS }
         ensures in_range { IsInRange self.now }
     {
         (slice * self.slice_words, self.slice_words)

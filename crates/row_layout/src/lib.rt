@@ -16,7 +16,7 @@ mod rows;
 mod word_rows;
 
 pub use bits::{Bits, bits_of};
-pub use laws::documents_have_bits_of_parts;
+pub use laws::{documents_have_bits_of_parts, each_row_has_its_bit};
 pub use layout::Layout;
 pub use plan::Plan;
 pub use row::Row;

@@ -1,6 +1,7 @@
 //! What a layout takes from its configuration once.
 
 ghost use Rattle.std.specs.Prelude.{◌≡◌, ℕ, ◌≤◌, ◌^◌, length, map, IfOk, slice_index};
+ghost use Rattle.funnel_model.specs.declared.config.TheConstants.{MOST_ROW_WORDS};
 ghost use Rattle.funnel_model.specs.Configuration.{IsInRange};
 ghost use Rattle.funnel_model.specs.Sizes.{private_words, base_of_rank, row_table, width_of_rank, words_of_slice};
 ghost use Rattle.row_layout.specs.Layouts.{word_rows};
@@ -63,7 +64,7 @@ pub(crate) fn rows_of_listed(alloc: Global, config: &Config) -> Result<Vec<WordR
 /// Where the rows of each rank begin in a slice.
 pub(crate) fn bases_of(config: &Config, sizes: &Sizes) -> [u32; 7]
     requires in_range { IsInRange config.now }
-    requires small { words_of_slice config.now ≤ 33554432 }
+    requires small { words_of_slice config.now ≤ MOST_ROW_WORDS }
     requires private { sizes.now.private ≡ length (private_words config.now) }
     requires rows { sizes.now.rows ≡ row_table config.now }
     ensures { (rank : ℕ) → rank ≤ config.now.max_rank → slice_index result rank ≡ base_of_rank config.now rank }

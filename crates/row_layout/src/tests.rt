@@ -1,7 +1,7 @@
 //! The rows of words and their bits, against numbers from an independent model of the layout.
 
 ghost use Rattle.std.specs.Prelude.{◌≡◌, ◌≤◌, length, All, IfOk};
-ghost use Rattle.funnel_model.specs.Configuration.{IsWithin, IsInRange};
+ghost use Rattle.funnel_model.specs.Configuration.{IsBetween, IsInRange};
 ghost use Rattle.funnel_model.specs.Sizes.{columns_of_slice};
 
 use super::*;
@@ -13,11 +13,11 @@ use treatment::sizes;
 /// The default configuration but for these numbers and words.
 fn config(max_rank: u8, one_in: u64, snr: u64, tail: u64, words: Listed) -> Config
     requires rank { max_rank ≤ 6 }
-    requires one_in { IsWithin 2 20 one_in }
-    requires snr { IsWithin 1 1000 snr }
+    requires one_in { IsBetween 2 20 one_in }
+    requires snr { IsBetween 1 1000 snr }
     requires tail { tail ≤ 10 }
     requires few { length words ≤ 65536 }
-    requires counts { All (λ entry. IsWithin 1 1000 entry.1) words }
+    requires counts { All (λ entry. IsBetween 1 1000 entry.1) words }
     ensures in_range { IsInRange result }
     ensures slices { result.slices ≡ 2 }
     ensures blocks { result.blocks ≡ 1 }
@@ -41,7 +41,7 @@ fn config(max_rank: u8, one_in: u64, snr: u64, tail: u64, words: Listed) -> Conf
 /// A rare word, a common one and a very common one.
 fn three_words(alloc: Global) -> Result<Listed, AllocError>
     ensures few { IfOk result (λ words. length words ≤ 65536) }
-    ensures counts { IfOk result (λ words. All (λ entry. IsWithin 1 1000 entry.1) words) }
+    ensures counts { IfOk result (λ words. All (λ entry. IsBetween 1 1000 entry.1) words) }
 {
     let axolotl = String::from_str(alloc, "axolotl")?;
     let cat = String::from_str(alloc, "cat")?;

@@ -1,10 +1,6 @@
--- Bits of words: `IsBitSet` of the Prelude says that a bit of a word is set.
-use Rattle.std.specs.Prelude.{ℕ, ◌^◌, Bool, not, nat_eq, bit_and, IsBitSet, List, slice_index}
+-- Bits of words as tests: `IsBitSet` of the Prelude says that a bit of a word is set, and `IsSetIn` of the model that one of the row words is.
+use Rattle.std.specs.Prelude.{ℕ, ◌^◌, Bool, not, nat_eq, bit_and, List, slice_index}
 use Rattle.funnel_model.specs.declared.bit_list.Bit.{Bit}
-
--- the bit is set in the words
-abbrev pub IsSet : List ℕ → Bit → Type 0
-IsSet words bit = IsBitSet (slice_index words bit.word) bit.bit
 
 -- whether bit i of a word is set
 abbrev pub has_bit : ℕ → ℕ → Bool

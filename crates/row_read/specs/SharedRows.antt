@@ -31,11 +31,12 @@ IsCommittedUnder shared b = (slice : ℕ) × Contains shared.token.now.slices sl
 abbrev pub WasReadSet : Shared → Bit → Type 0
 WasReadSet shared b = (value : ℕ) × Contains shared.seat.now.own (fact.WordRead shared.token.now.opened_at b.word value) × IsBitSet value b.bit
 
--- what no read changes: the pool, the token, which seat is borrowed, and the pass's number, front and asked events
+-- what no read changes: the pool, the token, which seat is borrowed, and the pass's own pool, its number, front and asked events
 pub record SharedKept : Type 0 where
   pub pool : PoolId
   pub token : Token
   pub borrow : ℕ
+  pub seat_pool : PoolId
   pub number : ℕ
   pub front : List Event
   pub asked : List Event
@@ -45,6 +46,7 @@ kept_of shared = record {
   pool = shared.pool.now;
   token = shared.token.now;
   borrow = shared.seat.ghost_name;
+  seat_pool = shared.seat.now.pool;
   number = shared.seat.now.number;
   front = shared.seat.now.front;
   asked = shared.seat.now.asked;

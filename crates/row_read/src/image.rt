@@ -1,7 +1,7 @@
 ghost use Rattle.std.specs.Prelude.{◌≡◌, ℕ, ◌<◌, ◌↔◌, length};
 ghost use Rattle.std.specs.declared.option.Option.TheVariants.{Some};
 ghost use Rattle.funnel_model.specs.declared.bit_list.Bit.{Bit};
-ghost use Rattle.row_read.specs.Bits.{IsSet};
+ghost use Rattle.funnel_model.specs.RowWords.{IsSetIn};
 
 use crate::rows::Rows;
 use std::marker::Model;
@@ -27,8 +27,8 @@ impl Image<'_> {
         ensures words { result.words ≡ words.now }
         ensures reads { result.reads ≡ 0 }
         ensures told { ⟦<Image<'static> as Rows>⟧.told result ≡ Some words.now }
-        ensures least { (bit : Bit) → ⟦<Image<'static> as Rows>⟧.least result bit ↔ IsSet words.now bit }
-        ensures seen { (bit : Bit) → ⟦<Image<'static> as Rows>⟧.seen result bit ↔ IsSet words.now bit }
+        ensures least { (bit : Bit) → ⟦<Image<'static> as Rows>⟧.least result bit ↔ IsSetIn words.now bit }
+        ensures seen { (bit : Bit) → ⟦<Image<'static> as Rows>⟧.seen result bit ↔ IsSetIn words.now bit }
         ensures reach { (word : ℕ) → ⟦<Image<'static> as Rows>⟧.reach result word ↔ (word < length words.now) }
     {
         Image { words, reads: 0 }
@@ -42,9 +42,9 @@ impl<'a> Rows for Image<'a> {
 
     ghost reach = { λ image word. word < length image.words };
 
-    ghost least = { λ image bit. IsSet image.words bit };
+    ghost least = { λ image bit. IsSetIn image.words bit };
 
-    ghost seen = { λ image bit. IsSet image.words bit };
+    ghost seen = { λ image bit. IsSetIn image.words bit };
 
     ghost told = { λ image. Some image.words };
 

@@ -1,7 +1,7 @@
 -- A session's progress, line by line, and its ends.
 use Rattle.std.proofs.Common.{◌≡◌, ℕ, ◌<◌, Bool, true, false, List, [], ◌∷◌, ◌++◌, length, take, sym, refl, ap, ◌∙◌, subst, inl, inr, arith, append-nil, length-append}
 use Rattle.std.proofs.lemmas.Bool.{true≢false}
-use Rattle.std.proofs.lemmas.List.{map-append}
+use Rattle.std.proofs.lemmas.List.{length-map, map-append}
 use Rattle.std.proofs.lemmas.List.Concat.{flat_map-append}
 use Rattle.std.proofs.KnownBytes.{Appends-nil, Appends-trans}
 use Rattle.funnel_io.proofs.LineLaws.{given_first, given_first_or_end}
@@ -54,6 +54,15 @@ rendered caller before after (Asks asked) given room text answers (inr wanting) 
 )
 rendered caller before after Malformed given room text answers (inr wanting) = absurd (not_long given reply.Line answers.0 refl wanting.0)
 rendered caller before after TooLong given room text answers (inr wanting) = absurd (not_long given reply.Long answers.0 refl wanting.0)
+
+-- the source's end ended the last line, where more were given than newlines ended
+last_ended : (reader : ReaderState) (taken : List ℕ) (given : List (List ℕ)) → HasGiven reader taken given
+    → length (lines taken false) < length given → reader.ended ≡ true
+last_ended reader taken given has_given more =
+    elim (given_first_or_end reader taken given has_given) [
+      | inl first ↦ absurd (omega (arith, more, ap length first.1, length-append given first.0))
+      | inr at_end ↦ at_end
+    ]
 
 -- nothing was done yet
 pub served_none : (caller : Caller) (limit : ℕ) (old : Stand) → HasGiven unused [] [] → HasServed caller limit limit unused old old
@@ -120,10 +129,10 @@ module _ (caller : Caller) (limit may may' : ℕ) (reader reader' : ReaderState)
       written_now : List ℕ
       written_now = texts p.replies ++ take part.count text
 
-      some_of : (ended : Bool) (others : List (List ℕ)) → lines (p.taken ++ a.bytes) ended ≡ lines_now ++ others
-          → AnswersSome caller old.front front' (items (p.taken ++ a.bytes) ended) written_now
+      some_of : (others : List (List ℕ)) → lines (p.taken ++ a.bytes) true ≡ lines_now ++ others
+          → AnswersSome caller old.front front' (items (p.taken ++ a.bytes) true) written_now
       unfolding written_now
-      some_of ended others all = record {
+      some_of others all = record {
         first = items_of lines_now;
         others = items_of others;
         asked_are = ap items_of all ∙ map-append item_of lines_now others;
@@ -142,7 +151,7 @@ module _ (caller : Caller) (limit may may' : ℕ) (reader reader' : ReaderState)
       -- so the session is over
       pub serves_part : outgoing'.faults ≡ raised now.outgoing.faults
           → Serves caller limit old (record { front = front'; incoming = incoming'; outgoing = outgoing' }) end_of.WriteFault
-      unfolding written_now
+      unfolding written_now lines_now some_of
       serves_part rose =
           let all = given_first reader' (p.taken ++ a.bytes) lines_now has_given_now in
           record {
@@ -150,14 +159,10 @@ module _ (caller : Caller) (limit may may' : ℕ) (reader reader' : ReaderState)
             takes = takes_all;
             written = written_now;
             writes = Appends-trans old.outgoing.written now.outgoing.written outgoing'.written (texts p.replies) (take part.count text) p.writes part.writes;
-            session = some_of true all.0 all.1;
+            session = some_of all.0 all.1;
             faults = record { reads = a.faults ∙ p.reads_stay; writes = rose ∙ ap raised p.writes_stay };
             within = omega (arith, p.count, a.count, length-append p.taken a.bytes);
-            leaves =
-                elim (given_first_or_end reader' (p.taken ++ a.bytes) lines_now has_given_now) [
-                  | inl first ↦ inl (some_of false first.0 first.1)
-                  | inr at_end ↦ inr (a.knows_end p.knows_end at_end).0
-                ];
+            leaves = λ more. (a.knows_end p.knows_end (last_ended reader' (p.taken ++ a.bytes) lines_now has_given_now (subst (λ n. length (lines (p.taken ++ a.bytes) false) < n) (length-map lines_now item_of) more))).0;
           }
 
   -- no further line was given, and all that was taken holds no other
@@ -174,8 +179,8 @@ module _ (caller : Caller) (limit may may' : ℕ) (reader reader' : ReaderState)
   IsOver end = Serves caller limit old (record { front = front'; incoming = incoming'; outgoing = now.outgoing }) end
 
   over : (end : End) (e : EndsNext limit reader reader' now.incoming incoming' may may' now.front front' end) → is_write_fault end ≡ false
-      → Session caller old.front front' (p.taken ++ e.bytes) (texts p.replies) end → IsWithin limit (length (p.taken ++ e.bytes)) end
-      → LeavesNothing caller old (record { front = front'; incoming = incoming'; outgoing = now.outgoing }) (p.taken ++ e.bytes) (texts p.replies) end
+      → (session : Session caller old.front front' (p.taken ++ e.bytes) (texts p.replies) end) → IsWithin limit (length (p.taken ++ e.bytes)) end
+      → LeavesNothing caller old (record { front = front'; incoming = incoming'; outgoing = now.outgoing }) (p.taken ++ e.bytes) (texts p.replies) end session
       → IsOver end
   over end e no_write session within leaves = record {
     taken = p.taken ++ e.bytes;

@@ -1,9 +1,10 @@
 -- Laws of sessions.
-use Rattle.std.proofs.Common.{◌≡◌, ℕ, ◌≤◌, ◌⊎◌, false, List, [], ◌∷◌, ◌++◌, length, take, drop, sym, refl, ap, ◌∙◌, subst, inl, inr, arith, append_assoc, length-append, length-drop, take-append-drop}
+use Rattle.std.proofs.Common.{◌≡◌, ◌≢◌, ℕ, ◌<◌, ◌≤◌, ◌⊎◌, true, false, List, [], ◌∷◌, ◌++◌, length, take, drop, sym, refl, ap, ◌∙◌, subst, inl, inr, arith, append_assoc, length-append, length-drop, take-append-drop}
 use Rattle.std.specs.Io.KnownBytes.{IsAtEnd}
 use Rattle.std.specs.List.{AllByRecursion}
+use Rattle.std.proofs.lemmas.List.{length-map}
 use Rattle.std.proofs.lemmas.List.Elements.{All-from_recursion}
-use Rattle.funnel_io.specs.Lines.{lines}
+use Rattle.funnel_io.specs.Lines.{last_line, lines, rest_of, whole_lines}
 use Rattle.funnel_io.specs.declared.end.End.{End}
 use Rattle.funnel_io.specs.declared.end.End.TheVariants as end_of
 use Rattle.funnel_model.proofs.LastEvents.{token_is_last}
@@ -15,7 +16,7 @@ use Rattle.funnel_model.specs.declared.reply.Reply.{Reply}
 use Rattle.funnel_model.specs.declared.reply.Reply.TheVariants as reply
 use Rattle.funnel_model.specs.History.{own}
 use Rattle.funnel_model.specs.Steps.{AddsCall, AddsNone, IsMade, IsSpent, LacksMemory, Linear}
-use Rattle.line_proto.specs.Forms.{Item, Asks, Malformed, TooLong, items, items_of}
+use Rattle.line_proto.specs.Forms.{Item, Asks, Malformed, TooLong, item_of}
 use Rattle.line_proto.specs.Services.{AnswersCall, Caller, IsNotTaken}
 use Rattle.line_proto.specs.Texts.{text_of, texts}
 use Rattle.session.proofs.Progress.{texts-push}
@@ -90,22 +91,25 @@ proper_front replies written cuts = record {
   some = omega (arith, cuts.proper, length-drop cuts.count (text_of cuts.last));
 }
 
--- a reply was given only to an item
-none_of_none : (caller : Caller) (before after : List Event) (first others : List Item) (replies : List Reply) (written : List ℕ)
-    → [] ≡ first ++ others → Answers caller before first replies after → CutsLast replies written → ⊥
-none_of_none caller before after [] others [] written is run cuts =
-    absurd (omega (arith, ap length cuts.replies_are, length-append cuts.first (cuts.last ∷ [])))
-none_of_none caller before after [] others (given ∷ replies) written is run cuts = absurd run
-none_of_none caller before after (item ∷ first) others replies written is run cuts = cc
+-- a rest that is a line is one more than those that newlines ended
+one_more : (taken : List ℕ) → rest_of taken ≢ [] → length (lines taken false) < length (lines taken true)
+one_more taken some =
+    omega (arith, length-append (whole_lines taken) (last_line (rest_of taken) false), length-append (whole_lines taken) (last_line (rest_of taken) true), one (rest_of taken) some) where
+      one : (rest : List ℕ) → rest ≢ [] → length (last_line rest true) ≡ 1
+      one [] some = absurd (some refl)
+      one (byte ∷ bytes) some = refl
 
-pub last_line : (caller : Caller) (limit : ℕ) (old new : Stand) (served : Serves caller limit old new end_of.WriteFault)
-    → lines served.taken false ≡ [] → IsAtEnd new.incoming.left
-last_line caller limit old new served none =
-    elim served.leaves [
-      | inl some ↦ absurd (none_of_none caller old.front new.front some.first some.others some.replies served.written
-          (sym (ap items_of none) ∙ some.asked_are) some.answers some.text)
-      | inr at_end ↦ at_end
-    ]
+pub last_line_answered : (caller : Caller) (limit : ℕ) (old new : Stand) (served : Serves caller limit old new end_of.WriteFault)
+    → served.session.others ≡ [] → rest_of served.taken ≢ [] → IsAtEnd new.incoming.left
+last_line_answered caller limit old new served all some =
+    served.leaves (omega (
+      arith,
+      one_more served.taken some,
+      length-map (lines served.taken true) item_of,
+      ap length served.session.asked_are,
+      length-append served.session.first served.session.others,
+      ap length all,
+    ))
 
 pub by_count : (caller : Caller) (limit : ℕ) (old new : Stand) (end : End) (served : Serves caller limit old new end)
     → EndsByCount caller limit old new end served

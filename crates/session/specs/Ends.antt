@@ -1,14 +1,14 @@
 -- How a session on a connection ends.
-use Rattle.std.specs.Prelude.{◌≡◌, ◌<◌, ◌≤◌, ◌⊎◌, ⊤, ℕ, Bool, true, false, List, length}
+use Rattle.std.specs.Prelude.{◌≡◌, ◌<◌, ◌≤◌, ⊤, ℕ, Bool, true, false, List, length}
 use Rattle.std.specs.Io.KnownBytes.{IsAtEnd}
 use Rattle.funnel_io.specs.Counts.{counted}
+use Rattle.funnel_io.specs.Lines.{lines}
 use Rattle.funnel_io.specs.Streams.{Incoming, Outgoing, Takes, Writes}
 use Rattle.funnel_io.specs.declared.end.End.{End}
 use Rattle.funnel_io.specs.declared.end.End.TheVariants as end_of
 use Rattle.funnel_model.specs.declared.event.Event.{Event}
-use Rattle.line_proto.specs.Forms.{items}
 use Rattle.line_proto.specs.Services.{Caller}
-use Rattle.session.specs.Sessions.{AnswersSome, Session}
+use Rattle.session.specs.Sessions.{Session}
 
 -- where a session stands: the front of its pass, and the two sides of its connection
 pub record Stand : Type 0 where
@@ -39,13 +39,12 @@ IsWithin limit count end_of.WriteFault = count ≤ limit
 IsWithin limit count (end_of.ByteLimit told) = (told ≡ limit) × (count ≡ limit)
 IsWithin limit count end_of.Memory = ⊤
 
--- nothing is left to be read at the end of the input; so it is where a write failed, unless a newline ended the last
--- line that was answered
-abbrev pub LeavesNothing : Caller → Stand → Stand → List ℕ → List ℕ → End → Type 0
-LeavesNothing caller old new taken written end_of.Done = IsAtEnd new.incoming.left
-LeavesNothing caller old new taken written end_of.WriteFault =
-    AnswersSome caller old.front new.front (items taken false) written ⊎ IsAtEnd new.incoming.left
-LeavesNothing caller old new taken written _ = ⊤
+-- nothing is left to be read at the end of the input; so it is where a write failed, if more lines were answered than
+-- newlines ended: the last of them ended at the end of the input
+abbrev pub LeavesNothing : (caller : Caller) (old new : Stand) (taken written : List ℕ) (end : End) → Session caller old.front new.front taken written end → Type 0
+LeavesNothing caller old new taken written end_of.Done session = IsAtEnd new.incoming.left
+LeavesNothing caller old new taken written end_of.WriteFault session = length (lines taken false) < length session.first → IsAtEnd new.incoming.left
+LeavesNothing caller old new taken written _ session = ⊤
 
 -- a session took and wrote some bytes, and this is how it went and ended
 pub record Serves (caller : Caller) (limit : ℕ) (old new : Stand) (end : End) : Type 0 where
@@ -56,4 +55,4 @@ pub record Serves (caller : Caller) (limit : ℕ) (old new : Stand) (end : End) 
   pub session : Session caller old.front new.front taken written end
   pub faults : CountsFaults old new end
   pub within : IsWithin limit (length taken) end
-  pub leaves : LeavesNothing caller old new taken written end
+  pub leaves : LeavesNothing caller old new taken written end session

@@ -1,4 +1,5 @@
 pub mod Sessions
 pub mod Ends
+pub mod Turns
 pub mod Steps
 pub mod Laws

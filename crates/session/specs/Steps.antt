@@ -1,7 +1,8 @@
 -- How far a session has come, for the clauses of functions that are not public.
-use Rattle.std.specs.Prelude.{◌≡◌, ◌+◌, ◌<◌, ◌⊎◌, ℕ, true, false, List, ◌++◌, length}
+use Rattle.std.specs.Prelude.{◌≡◌, ◌+◌, ◌<◌, ◌⊎◌, ⊤, ℕ, Bool, true, false, List, [], ◌∷◌, ◌++◌, length, MatchBool}
+use Rattle.funnel_io.specs.Calls.{Read, Write, Leads, bytes_read}
 use Rattle.funnel_io.specs.Counts.{counted}
-use Rattle.funnel_io.specs.LineReading.{ReaderState, HasGiven, GivesLine, KnowsEnd}
+use Rattle.funnel_io.specs.LineReading.{ReaderState, AreNeeded, HasGiven, GivesLine, KnowsEnd}
 use Rattle.funnel_io.specs.Streams.{Incoming, Takes, Writes}
 use Rattle.funnel_io.specs.Lines.{lines}
 use Rattle.funnel_io.specs.declared.end.End.{End}
@@ -14,6 +15,7 @@ use Rattle.line_proto.specs.Services.{Caller}
 use Rattle.line_proto.specs.Texts.{is_list, text_of, texts}
 use Rattle.session.specs.Sessions.{Answers, AnswersItem}
 use Rattle.session.specs.Ends.{Stand, is_read_fault}
+use Rattle.session.specs.Turns.{Turn, GoesBy, AreTurns, IsWritten, bytes_taken}
 
 -- the text is the reply's, or that of a want of memory, for a list whose text has more bytes than there was room for
 abbrev pub IsRendered : Reply → ℕ → List ℕ → Type 0
@@ -61,3 +63,21 @@ pub record EndsNext (limit : ℕ) (old_reader reader : ReaderState) (before afte
   pub same : front' ≡ front
   pub knows_end : KnowsEnd old_reader before may → KnowsEnd reader after may'
   pub ends : (taken : List ℕ) (given : List (List ℕ)) → HasGiven old_reader taken given → EndsAfter end (taken ++ bytes) given reader may' limit
+
+-- every line that was given had its turn, and every reply was written whole
+pub record HasGone {S : Type 0} (read_gives : S → Read → S → Type 0) (write_gives : S → Write → S → Type 0) (before now : S) (reader : ReaderState) : Type 0 where
+  pub turns : List Turn
+  pub turn_by_turn : Leads (GoesBy read_gives write_gives) before turns now
+  pub are : AreTurns turns
+  pub written : IsWritten turns
+  pub given : List (List ℕ)
+  pub has_given : HasGiven reader (bytes_taken turns) given
+  pub count : length given ≡ length turns
+
+-- the reads of which a next line came, or none
+pub record ReadsOn {S : Type 0} (read_gives : S → Read → S → Type 0) (before after : S) (old new : ReaderState) (may : ℕ) (more : Bool) : Type 0 where
+  pub reads : List Read
+  pub lead : Leads read_gives before reads after
+  pub needed : AreNeeded old may reads
+  pub next : (taken : List ℕ) (given : List (List ℕ)) → HasGiven old taken given →
+      MatchBool more ((line : List ℕ) × HasGiven new (taken ++ bytes_read reads) (given ++ line ∷ [])) ⊤

@@ -1,7 +1,7 @@
 //! Laws of sessions, over their definitions alone. Each is the contract of a function that does nothing.
-ghost use Rattle.std.specs.Prelude.{◌≡◌, ◌≤◌, ℕ, false, List, [], length};
+ghost use Rattle.std.specs.Prelude.{◌≡◌, ◌≢◌, ◌≤◌, ℕ, List, [], length};
 ghost use Rattle.std.specs.Io.KnownBytes.{IsAtEnd};
-ghost use Rattle.funnel_io.specs.Lines.{lines};
+ghost use Rattle.funnel_io.specs.Lines.{rest_of};
 ghost use Rattle.funnel_io.specs.declared.end.End.{End};
 ghost use Rattle.funnel_model.specs.declared.call.Call.TheVariants as call;
 ghost use Rattle.funnel_model.specs.declared.event.Event.{Event};
@@ -34,10 +34,10 @@ pub fn failed_writes_cut_the_text()
     ensures { (replies : List Reply) (written : List ℕ) → CutsLast replies written → IsProperFront written (texts replies) }
 {}
 
-/// Where a write failed and no newline was among the bytes taken, nothing is left to be read.
+/// Where a write failed and the last line that was answered is one that no newline ended, nothing is left to be read.
 pub fn a_last_line_leaves_nothing()
     ensures { (caller : Caller) (limit : ℕ) (old new : Stand) (served : Serves caller limit old new End.WriteFault) →
-        lines served.taken false ≡ [] → IsAtEnd new.incoming.left }
+        served.session.others ≡ [] → rest_of served.taken ≢ [] → IsAtEnd new.incoming.left }
 {}
 
 /// Without a fault a session ends with Done exactly where it took fewer bytes than the limit, but for want of memory.

@@ -1,7 +1,8 @@
-ghost use Rattle.std.specs.Prelude.{◌≡◌, ◌<◌, ◌≤◌, ◌+◌, ◌^◌, OnOk, IfOk, IfErr, MatchOption, MatchResult, IfNone, vec_capacity};
+ghost use Rattle.std.specs.Prelude.{◌≡◌, ◌<◌, ◌≤◌, ◌+◌, ◌^◌, OnOk, IfOk, IfErr, MatchOption, MatchResult, IfNone, is_ok, vec_capacity};
 ghost use Rattle.funnel_io.specs.LineReading.{most_lines, unused};
 ghost use Rattle.session.specs.Ends.{Serves, Stand, is_read_fault, is_write_fault};
-ghost use Rattle.session.specs.Steps.{AnswersNext, EndsNext, HasServed};
+ghost use Rattle.session.specs.Steps.{AnswersNext, EndsNext, HasGone, HasServed, ReadsOn};
+ghost use Rattle.session.specs.Turns.{GoesInTurns};
 
 use crate::answering::{TEXT_ROOM, answer, render};
 use funnel_io::{Connection, End, Line, LineReader, write_all};
@@ -27,6 +28,9 @@ pub fn serve_session<S: Service, C: Connection>(
         record { front = S.front service.old; incoming = C.incoming conn.old; outgoing = C.outgoing conn.old }
         record { front = S.front service.new; incoming = C.incoming conn.new; outgoing = C.outgoing conn.new }
         result }
+
+    // Every line that ended has its reply written whole, at one go, before anything more is read.
+    ensures in_turns { GoesInTurns C.read_gives C.write_gives conn.old conn.new }
     ensures untouched { result ≡ End.Memory → (conn.new ≡ conn.old) × (service.new ≡ service.old) }
 {
     let Ok(reader) = LineReader::new(alloc) else {
@@ -75,6 +79,9 @@ impl Server {
             record { front = S.front service.new; incoming = C.incoming conn.new; outgoing = C.outgoing conn.new })
             (Serves (S.caller service.old) limit old
             record { front = S.front service.new; incoming = C.incoming conn.new; outgoing = C.outgoing conn.new }) }
+        ensures in_turns { (first : C) → HasGone C.read_gives C.write_gives first conn.old self.old.reader →
+            MatchOption result (HasGone C.read_gives C.write_gives first conn.new self.new.reader)
+            (λ _. GoesInTurns C.read_gives C.write_gives first conn.new) }
         ensures started { result ≡ Some End.Memory → ⊥ }
         ensures fewer { IfNone result (most_lines self.new.reader.held self.new.reader.long + self.new.left
             < most_lines self.old.reader.held self.old.reader.long + self.old.left) }
@@ -105,6 +112,7 @@ impl Server {
             (C.incoming conn.old) (C.incoming conn.new) self.old.left self.new.left (S.front service.old) (S.front service.new)) }
         ensures ends { IfErr result (EndsNext limit self.old.reader self.new.reader
             (C.incoming conn.old) (C.incoming conn.new) self.old.left self.new.left (S.front service.old) (S.front service.new)) }
+        ensures reads { ReadsOn C.read_gives conn.old conn.new self.old.reader self.new.reader self.old.left (is_ok result) }
         ensures started { result ≡ Err End.Memory → ⊥ }
         ensures fewer { OnOk result (most_lines self.new.reader.held self.new.reader.long + self.new.left
             < most_lines self.old.reader.held self.old.reader.long + self.old.left) }

@@ -2,9 +2,10 @@ ghost use Rattle.std.specs.Prelude.{◌≡◌, IfOk};
 
 use crate::serve_session;
 use funnel_io::{End, Got, MemConn, MemSink, MemSource, Source};
-use funnel_model::Reply;
+use funnel_model::{Call, Event, Reply};
 use line_proto::{Request, Service};
 use std::alloc::{AllocError, Global};
+use std::marker::Model;
 use std::process::Abort;
 use std::test::Fail;
 
@@ -24,6 +25,60 @@ impl Service for SpentPass {
 
     fn call(&mut self, _request: &Request<'_>) -> Reply {
         Reply::Spent
+    }
+}
+
+// A pass of an engine without slices, which takes one event.
+#[derive(Drop)]
+struct OneEvent {
+    made: Option<Event>,
+}
+
+impl Model for OneEvent {
+    ghost use Rattle.std.specs.Prelude.{List};
+    ghost use Rattle.std.specs.Option.{option_to_list};
+    ghost use Rattle.funnel_model.specs.declared.event.Event.{Event};
+    ghost use Rattle.funnel_model.specs.Legal.{IsIdle, IsLegal};
+
+    ghost Value = { List Event };
+
+    ghost view = { λ p. option_to_list p.made };
+
+    ghost invariant = { λ p. IsIdle 0 (option_to_list p.made) × IsLegal
+        (record { passes = 1; slices = 0; columns = 1; slice_words = 1; commits = 1; events = 1 })
+        (option_to_list p.made) };
+}
+
+impl Service for OneEvent {
+    ghost caller = { λ _. record {
+      limits = record { passes = 1; slices = 0; columns = 1; slice_words = 1; commits = 1; events = 1 };
+      pass = 0;
+    } };
+
+    ghost front = { λ history. history };
+
+    fn call(&mut self, request: &Request<'_>) -> Reply {
+        if self.made.is_some() {
+            return Reply::Spent;
+        }
+        match request {
+            Request::Add { .. } | Request::Find { .. } | Request::Journal { .. } => Reply::Memory,
+            Request::Delete { id } => {
+                let call = Call::Delete { id: *id };
+                self.made = Some(Event::No { pass: 0, call });
+                Reply::Absent
+            }
+            Request::Recycle => {
+                let call = Call::Recycle;
+                self.made = Some(Event::No { pass: 0, call });
+                Reply::NothingRetired
+            }
+            Request::Place => {
+                let call = Call::Place;
+                self.made = Some(Event::Read { pass: 0, call });
+                Reply::Place(0)
+            }
+        }
     }
 }
 
@@ -97,6 +152,18 @@ fn a_session_ends_at_its_limit(rt: HostRuntime) -> Result<(), Fail> {
         End::ByteLimit(11),
         "refused spent\n",
     );
+    Ok(())
+}
+
+#[test]
+fn a_line_that_the_limit_cuts_is_not_answered(rt: HostRuntime) -> Result<(), Fail> {
+    let mut pass = OneEvent { made: None };
+    let mut conn = conn_of(rt.alloc(), &[b"place\nplace\n"], &[], &[])?;
+    assert_eq!(rt;
+        serve_session(rt.alloc(), &mut pass, &mut conn, 8),
+        End::ByteLimit(8)
+    );
+    assert_eq!(rt; conn.sink.bytes(), b"place 0\n".as_slice());
     Ok(())
 }
 

@@ -35,7 +35,7 @@ use Rattle.slice_rule.specs.Views.{with_event}
 use Rattle.slice_rule.specs.Worlds.{LacksAtMostOne, World, made_by}
 use Rattle.slice_rule.proofs.Numbering.{home_at}
 use Rattle.slice_rule.proofs.Prefixes.{made_by-other, made_by-own, prefix_more, prefix_self, prefix_trans}
-use Rattle.slice_rule.proofs.Seating.{each-set}
+use Rattle.slice_rule.proofs.Seating.{each-set, seat-set}
 
 -- the world after the event
 abbrev pub longer_world : World → Event → World
@@ -182,6 +182,7 @@ module _ (limits : Limits) where
             (covers_next limits r.world.history (row_words limits s.words) r.events.legal r.world refl v.told mine.told e next_allowed next_backed r.covers);
         fresh = subst (λ (ws : List ℕ). AreFresh limits ws (r.world.history ++ e ∷ [])) (sym rows)
             (fresh_next limits r.world.history (row_words limits s.words) r.events.legal r.world refl v.told mine.told e next_allowed next_backed r.fresh);
+        passes = seat-set r.world s.views id v (with_event v e) at (λ p is. is) r.passes;
         seats = each-set (Fits limits world (set s.words 0 n)) s.views id (with_event v e)
             (record {
               sizes = mine.sizes;
@@ -195,6 +196,8 @@ module _ (limits : Limits) where
                     whole = ap (λ (h : List Event). h ++ e ∷ []) whole;
                     counts = get_or-set_other s.words 0 1 n 0 (λ e. omega arith) ∙ home.counts;
                     seated = home.seated;
+                    no_more = home.no_more;
+                    all_but_last = home.all_but_last;
                   });
             })
             (λ j w apart there. let theirs = r.seats j w there in record {

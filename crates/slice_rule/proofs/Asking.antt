@@ -21,7 +21,7 @@ use Rattle.std.proofs.lemmas.List.{drop-set-lt}
 use Rattle.std.specs.List.{All}
 use Rattle.funnel_model.specs.RowWords.{AreFresh, Covers}
 use Rattle.slice_rule.proofs.Facts.{all_of_more}
-use Rattle.slice_rule.proofs.Seating.{each-set}
+use Rattle.slice_rule.proofs.Seating.{each-set, seat-set}
 
 -- the world after the pass asked one more event
 abbrev pub asked_world : World → ℕ → Event → World
@@ -56,6 +56,8 @@ module _ (limits : Limits) where
     whole = fits.whole;
     counts = get_or-set_other words (ask_word pass) 1 n 0 (λ e. omega arith) ∙ fits.counts;
     seated = fits.seated;
+    no_more = fits.no_more;
+    all_but_last = fits.all_but_last;
   }
   other_role world words pass id n j e front asked one apart (role.Pass other) fits =
       let same = asked_other world pass e other (λ is. apart (fits.one ∙ ap world.seat is ∙ sym one)) in
@@ -120,6 +122,7 @@ module _ (limits : Limits) where
           };
           covers = subst (λ (ws : List ℕ). Covers ws r.world.history) (sym rows) r.covers;
           fresh = subst (λ (ws : List ℕ). AreFresh limits ws r.world.history) (sym rows) r.fresh;
+          passes = seat-set r.world s.views id v (with_asked v e) at (λ p is. is) r.passes;
           seats = each-set (Fits limits world (set s.words (ask_word pass) n)) s.views id (with_asked v e)
               (record {
                 sizes = seat.sizes;

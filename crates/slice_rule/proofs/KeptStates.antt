@@ -1,23 +1,22 @@
 -- Each legal history can be that of a pool.
-use Rattle.std.proofs.Common.{◌≡◌, ℕ, zero, suc, ◌+◌, ◌*◌, ◌<◌, ◌≤◌, ◌==◌, ⊎_elim, Bool, true, false, cond, List, [], ◌∷◌, ◌++◌, map, length, get_or, drop, refl, ap, sym, ◌∙◌, subst, arith, length-append}
+use Rattle.std.proofs.Common.{◌≡◌, ℕ, zero, suc, ◌+◌, ◌<◌, ◌≤◌, ◌==◌, Bool, true, false, cond, List, [], ◌∷◌, ◌++◌, map, length, get_or, drop, refl, ap, sym, ◌∙◌, subst, arith, length-append}
 use Rattle.std.proofs.lemmas.Bool.{ne_eqb}
-use Rattle.std.proofs.lemmas.List.{append-nil, get_or_append_left}
+use Rattle.std.proofs.lemmas.List.{get_or_append_left}
 use Rattle.std.proofs.lemmas.List.Elements.{All-head, All-nil, All-tail}
 use Rattle.std.proofs.lemmas.List.FromFn.{get_or-map-range_with_len, length-map-range_with_len}
 use Rattle.std.proofs.Math.Seq.{drop-append_seam}
 use Rattle.std.specs.List.{All, range_with_len}
 use mathlib.Core.Option.{some, some-injective, some-ne-none}
-use mathlib.Core.List.{IsPrefix}
 use lib.ListN.{get_elem?}
 use Rattle.funnel_model.specs.declared.event.Event.{Event}
 use Rattle.funnel_model.specs.Events.{pass_of}
-use Rattle.funnel_model.specs.Legal.{Limits, IsLegal}
+use Rattle.funnel_model.specs.Legal.{Limits}
 use Rattle.funnel_model.specs.RowWords.{AreFresh, Covers}
 use Rattle.funnel_model.proofs.Invariants.{passes_in_range}
 use Rattle.slice_rule.specs.declared.view.View.{View}
 use Rattle.slice_rule.specs.Kept.{CanBeKept, EachCanBeKept, home_after, pass_after, pool_after}
 use Rattle.slice_rule.specs.Pools.{ask_word, first_row, row_words}
-use Rattle.slice_rule.specs.Rule.{Fits, IsKept, IsTrueFact}
+use Rattle.slice_rule.specs.Rule.{EachHasSeat, Fits, IsKept, IsTrueFact}
 use Rattle.slice_rule.specs.Worlds.{LacksAtMostOne, World, made_by}
 use Rattle.slice_rule.proofs.Prefixes.{prefix_self}
 
@@ -42,6 +41,13 @@ at_map_range f a (suc n) (suc j) x is =
     let small = rest.0 in
     let e : a + 1 + j ≡ a + suc j = omega arith in
     (omega arith, rest.1 ∙ ap f e)
+
+map_range_at : {A : Type 0} (f : ℕ → A) (a n j : ℕ) → j < n → get_elem? (map f (range_with_len a n)) j ≡ some (f (a + j))
+map_range_at f a zero j small = absurd (omega arith)
+map_range_at f a (suc n) zero small = let e : a ≡ a + 0 = omega arith in ap (λ k. some (f k)) e
+map_range_at f a (suc n) (suc j) small =
+    let e : a + 1 + j ≡ a + suc j = omega arith in
+    map_range_at f (a + 1) n j (omega arith) ∙ ap (λ k. some (f k)) e
 
 lacks_none : (xs : List Event) → LacksAtMostOne xs xs
 lacks_none xs = record { begins = prefix_self xs; few = omega arith }
@@ -86,7 +92,7 @@ module _ (limits : Limits) (history : List Event) (rows : List ℕ) (can : CanBe
     met = (history, refl);
     own = All-nil (IsTrueFact limits world (row_words limits words));
     told = All-nil (IsTrueFact limits world (row_words limits words));
-    role = record { one = refl; whole = refl; counts = refl; seated = refl };
+    role = record { one = refl; whole = refl; counts = refl; seated = refl; no_more = omega arith; all_but_last = omega arith };
   }
 
   seat_fits : (id : ℕ) (v : View) → get_elem? (home_after limits history ∷ map (pass_after limits history) (range_with_len 0 limits.passes)) id ≡ some v → Fits limits world words id v
@@ -96,6 +102,17 @@ module _ (limits : Limits) (history : List Event) (rows : List ℕ) (can : CanBe
       let small : j < limits.passes = is.0 in
       let e : 0 + j ≡ j = omega arith in
       subst (Fits limits world words (suc j)) (sym (is.1 ∙ ap (pass_after limits history) e)) (pass_fits (suc j) j small (omega arith))
+
+  has_seat : EachHasSeat world (home_after limits history ∷ map (pass_after limits history) (range_with_len 0 limits.passes))
+  has_seat pass small =
+      let e : 0 + pass ≡ pass = omega arith in
+      let next : pass + 1 ≡ suc pass = omega arith in
+      record {
+        view = pass_after limits history pass;
+        at = ap (get_elem? (home_after limits history ∷ map (pass_after limits history) (range_with_len 0 limits.passes))) next
+            ∙ map_range_at (pass_after limits history) 0 limits.passes pass small ∙ ap (λ p. some (pass_after limits history p)) e;
+        role = refl;
+      }
 
   kept : IsKept limits (pool_after limits history rows)
   kept = record {
@@ -109,6 +126,7 @@ module _ (limits : Limits) (history : List Event) (rows : List ℕ) (can : CanBe
     };
     covers = subst (λ (ws : List ℕ). Covers ws history) (sym rows_are) can.covers;
     fresh = subst (λ (ws : List ℕ). AreFresh limits ws history) (sym rows_are) can.fresh;
+    passes = has_seat;
     seats = seat_fits;
   }
 

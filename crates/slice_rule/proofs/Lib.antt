@@ -14,3 +14,6 @@ pub mod Reading
 pub mod OwnSteps
 pub mod KeptStates
 pub mod Opening
+mod Told
+pub mod TestHistories
+pub mod Sharing

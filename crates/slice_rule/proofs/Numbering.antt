@@ -1,6 +1,6 @@
 -- The home numbers a pass, and gives it its seat.
-use Rattle.std.proofs.Common.{◌≡◌, ℕ, ◌+◌, ◌%◌, ◌^◌, ◌<◌, ◌==◌, if◌then◌else◌, Bool, cond, List, [], length, get_or, set, refl, ap, sym, ◌∙◌, subst, arith, length-set, get_or-set_same, get_or-set_other}
-use Rattle.std.proofs.lemmas.Bool.{eq-eqb, ne_eqb}
+use Rattle.std.proofs.Common.{◌≡◌, ℕ, ◌+◌, ◌%◌, ◌^◌, ◌<◌, ◌==◌, if◌then◌else◌, Bool, cond, ⊎_elim, List, [], ◌∷◌, ◌++◌, length, get_or, set, refl, ap, sym, ◌∙◌, subst, arith, length-set, get_or-set_same, get_or-set_other}
+use Rattle.std.proofs.lemmas.Bool.{cases_eq, eq-eqb, ne_eqb}
 use Rattle.std.proofs.lemmas.List.Elements.{All-nil}
 use mathlib.Core.Option.{none, some}
 use lib.ListN.{get_elem?}
@@ -11,7 +11,8 @@ use Rattle.slice_rule.specs.declared.view.Role.{Role}
 use Rattle.slice_rule.specs.declared.view.Role.TheVariants as role
 use Rattle.slice_rule.specs.declared.view.View.{View}
 use Rattle.slice_rule.specs.Pools.{ask_word, first_row, row_words}
-use Rattle.slice_rule.specs.Rule.{Fits, FitsRole, HasSizes, IsHome, IsKept, IsTrueFact}
+use Rattle.atomic_table.proofs.Lists.{at_last}
+use Rattle.slice_rule.specs.Rule.{EachHasSeat, Fits, FitsRole, HasSizes, IsHome, IsKept, IsTrueFact}
 use Rattle.slice_rule.specs.Tells.{Numbers, Seated}
 use Rattle.slice_rule.specs.Views.{new_pass, new_role, numbered, numbered_role, seated, seated_role}
 use Rattle.slice_rule.specs.Worlds.{LacksAtMostOne, World}
@@ -21,7 +22,7 @@ use Rattle.funnel_model.specs.RowWords.{AreFresh, Covers}
 use Rattle.slice_rule.specs.declared.view.Fact.{Fact}
 use Rattle.slice_rule.proofs.Facts.{all_of_more}
 use Rattle.slice_rule.proofs.Prefixes.{prefix_self}
-use Rattle.slice_rule.proofs.Seating.{each-set, each-snoc}
+use Rattle.slice_rule.proofs.Seating.{each-set, each-snoc, home_is_none, seat-set, seat-snoc}
 
 module _ (limits : Limits) where
   -- what the home's seat knows
@@ -37,9 +38,9 @@ module _ (limits : Limits) where
   other_role world words id n j front asked home apart role.Note fits = tt
   other_role world words id n j front asked home apart role.Spent fits = tt
 
-  numbers_at : (s : State (Unit {0}) View) (r : IsKept limits s) (id : ℕ) (v : View) (made seats n : ℕ) → get_elem? s.views id ≡ some v → v.role ≡ role.Home made seats → n ≡ made + 1
+  numbers_at : (s : State (Unit {0}) View) (r : IsKept limits s) (id : ℕ) (v : View) (made seats n : ℕ) → get_elem? s.views id ≡ some v → v.role ≡ role.Home made seats → made ≡ seats → n ≡ made + 1
       → IsKept limits (record { words = set s.words 1 n; homes = s.homes; views = set s.views id (numbered v) })
-  numbers_at s r id v made seats n at is next =
+  numbers_at s r id v made seats n at is all next =
       let mine = r.seats id v at in
       let home = home_at s r id v made seats at is in
       let sizes : v.limits ≡ limits = subst (HasSizes limits v.limits) is mine.sizes in
@@ -62,6 +63,7 @@ module _ (limits : Limits) where
         };
         covers = subst (λ (ws : List ℕ). Covers ws r.world.history) (sym rows) r.covers;
         fresh = subst (λ (ws : List ℕ). AreFresh limits ws r.world.history) (sym rows) r.fresh;
+        passes = seat-set r.world s.views id v (numbered v) at (home_is_none v (numbered v) made seats is) r.passes;
         seats = each-set (Fits limits r.world (set s.words 1 n)) s.views id (numbered v)
             (record {
               sizes = subst (λ (x : Role). HasSizes limits v.limits (numbered_role x)) (sym is) sizes;
@@ -70,7 +72,7 @@ module _ (limits : Limits) where
               own = keeps v.own mine.own;
               told = keeps v.told mine.told;
               role = subst (λ (x : Role). FitsRole r.world (set s.words 1 n) id v.front v.asked (numbered_role x)) (sym is)
-                  (record { one = home.one; whole = home.whole; counts = get_or-set_same s.words 1 n 0 at_one ∙ next; seated = home.seated });
+                  (record { one = home.one; whole = home.whole; counts = get_or-set_same s.words 1 n 0 at_one ∙ next; seated = home.seated; no_more = omega arith; all_but_last = omega arith });
             })
             (λ j w apart there. let theirs = r.seats j w there in record {
               sizes = theirs.sizes;
@@ -82,13 +84,13 @@ module _ (limits : Limits) where
             });
       }
 
-  pub numbers : (slots id : ℕ) (me : Seated) (made seats : ℕ) → me.0.role ≡ role.Home made seats → made < 2 ^ 32
+  pub numbers : (slots id : ℕ) (me : Seated) (made seats : ℕ) → me.0.role ≡ role.Home made seats → made ≡ seats → made < 2 ^ 32
       → Allows (IsKept limits) slots id me 1 (λ n. (n + 1) % 2 ^ 64) (Numbers (step slots 1 1 0 none) me)
-  numbers slots id me made seats is fits s r homes at small =
+  numbers slots id me made seats is all fits s r homes at small =
       let home = home_at s r id me.0 made seats at is in
       let counts = home.counts in
       let next : (get_or s.words 1 0 + 1) % 2 ^ 64 ≡ made + 1 = omega arith in
-      (numbered me.0, keeps, tt, numbers_at s r id me.0 made seats ((get_or s.words 1 0 + 1) % 2 ^ 64) at is next, refl)
+      (numbered me.0, keeps, tt, numbers_at s r id me.0 made seats ((get_or s.words 1 0 + 1) % 2 ^ 64) at is all next, refl)
 
   -- the world after one more pass has its seat
   seated_world : World → ℕ → World
@@ -110,9 +112,32 @@ module _ (limits : Limits) where
   unseated_role world words id new j front asked home apart role.Note fits = tt
   unseated_role world words id new j front asked home apart role.Spent fits = tt
 
-  pub splits_pass : (id : ℕ) (v : View) (made seats : ℕ) → v.role ≡ role.Home made seats → Splits (IsKept limits) id v (seated v) (new_pass v)
+  -- each pass has its seat, with the new one
+  each_has_seat : (s : State (Unit {0}) View) (r : IsKept limits s) (id : ℕ) (v : View) (made seats : ℕ) → get_elem? s.views id ≡ some v → v.role ≡ role.Home made seats
+      → EachHasSeat (seated_world r.world (length (set s.views id (seated v)))) (set s.views id (seated v) ++ new_pass v ∷ [])
   unfolding seated_world
-  splits_pass id v made seats is s r at =
+  each_has_seat s r id v made seats at is pass small =
+      let views = set s.views id (seated v) in
+      let new = length views in
+      let home = home_at s r id v made seats at is in
+      ⊎_elim
+      (λ (last : pass ≡ r.world.seated). record {
+        view = new_pass v;
+        at = at_last views (new_pass v) (cond (pass == r.world.seated) new (r.world.seat pass)) (sym (ap (λ (b : Bool). cond b new (r.world.seat pass)) (eq-eqb pass r.world.seated last)));
+        role = ap new_role is ∙ ap role.Pass (home.seated ∙ sym last);
+      })
+      (λ (other : pass ≡ r.world.seated → ⊥).
+      let has = seat-snoc r.world views (new_pass v) (seat-set r.world s.views id v (seated v) at (home_is_none v (seated v) made seats is) r.passes) pass (omega arith) in
+      record {
+        view = has.view;
+        at = ap (λ (b : Bool). get_elem? (views ++ new_pass v ∷ []) (cond b new (r.world.seat pass))) (ne_eqb pass r.world.seated other) ∙ has.at;
+        role = has.role;
+      })
+      (cases_eq pass r.world.seated)
+
+  pub splits_pass : (id : ℕ) (v : View) (made seats : ℕ) → v.role ≡ role.Home made seats → made ≡ seats + 1 → Splits (IsKept limits) id v (seated v) (new_pass v)
+  unfolding seated_world
+  splits_pass id v made seats is next s r at =
       let mine = r.seats id v at in
       let home = home_at s r id v made seats at is in
       let sizes : v.limits ≡ limits = subst (HasSizes limits v.limits) is mine.sizes in
@@ -127,6 +152,7 @@ module _ (limits : Limits) where
         asked = record { count = r.asked.count; made = r.asked.made; none = λ pass above. r.asked.none pass (omega arith) };
         covers = r.covers;
         fresh = r.fresh;
+        passes = each_has_seat s r id v made seats at is;
         seats = each-snoc (Fits limits world s.words) (set s.views id (seated v)) (new_pass v)
             (each-set (Fits limits world s.words) s.views id (seated v)
             (record {
@@ -136,7 +162,7 @@ module _ (limits : Limits) where
               own = keeps v.own mine.own;
               told = keeps v.told mine.told;
               role = subst (λ (x : Role). FitsRole world s.words id v.front v.asked (seated_role x)) (sym is)
-                  (record { one = home.one; whole = home.whole; counts = home.counts; seated = ap (λ (n : ℕ). n + 1) home.seated });
+                  (record { one = home.one; whole = home.whole; counts = home.counts; seated = ap (λ (n : ℕ). n + 1) home.seated; no_more = omega arith; all_but_last = omega arith });
             })
             (λ j w apart there. let theirs = r.seats j w there in record {
               sizes = theirs.sizes;

@@ -10,6 +10,7 @@ use Rattle.slice_rule.specs.Pools.{PoolId, ask_word, first_row, pool_words, row_
 use Rattle.slice_rule.specs.Seats.{new_pass_state}
 use mathlib.Core.Option.{some-ne-none}
 use Rattle.atomic_table.specs.Table.{opening}
+use Rattle.funnel_model.specs.declared.config.Config.{Config}
 use Rattle.funnel_model.specs.Legal.{Limits}
 use Rattle.slice_rule.specs.Rule.{Fits, IsKept, IsTrueFact}
 use Rattle.slice_rule.specs.Views.{home_at_start}
@@ -24,8 +25,8 @@ zeros n i = ⊎_elim
     (λ (past : n ≤ i). let z : ℕ = 0 in get_or_past (replicate n z) i z (let l = length-replicate n z in omega arith))
     (cases_lt i n)
 
-pub opens : (limits : Limits) → IsKept limits (opening (replicate (pool_words limits) 0) [] (home_at_start limits))
-opens limits =
+pub opens : (limits : Limits) (config : Config) → IsKept limits (opening (replicate (pool_words limits) 0) [] (home_at_start limits config))
+opens limits config =
     let n = pool_words limits in
     record {
       world = new_world;
@@ -38,14 +39,15 @@ opens limits =
       };
       covers = covers-start (row_words limits (replicate n 0));
       fresh = fresh-start limits (row_words limits (replicate n 0)) (λ slice small word inside. get_or-drop (first_row limits) (replicate n 0) word 0 ∙ zeros n (first_row limits + word));
-      seats = each-snoc (Fits limits new_world (replicate n 0)) [] (home_at_start limits) (λ id v at. absurd (some-ne-none v (sym at)))
+      passes = λ pass none. absurd (omega arith);
+      seats = each-snoc (Fits limits new_world (replicate n 0)) [] (home_at_start limits config) (λ id v at. absurd (some-ne-none v (sym at)))
           (record {
             sizes = refl;
             front = ([], refl);
             met = ([], refl);
             own = All-nil (IsTrueFact limits new_world (row_words limits (replicate n 0)));
             told = All-nil (IsTrueFact limits new_world (row_words limits (replicate n 0)));
-            role = record { one = refl; whole = refl; counts = zeros n 1; seated = refl };
+            role = record { one = refl; whole = refl; counts = zeros n 1; seated = refl; no_more = omega arith; all_but_last = omega arith };
           });
     }
 

@@ -8,7 +8,7 @@ use Rattle.funnel_model.specs.declared.claim.ClearJob.{ClearJob}
 use Rattle.funnel_model.specs.declared.claim.Token.{Token}
 use Rattle.funnel_model.specs.declared.event.Event.TheVariants as event
 use Rattle.funnel_model.specs.History.{last_by}
-use Rattle.funnel_model.specs.Legal.{Limits, IsInSlice}
+use Rattle.funnel_model.specs.Legal.{IsInSlice}
 use Rattle.funnel_model.specs.Tokens.{MayRead}
 use Rattle.funnel_model.proofs.Clears.{pending_in_range}
 use Rattle.funnel_model.proofs.Columns.{last_is_pending}
@@ -29,21 +29,21 @@ pub record HasWord (row_base word words : ℕ) : Type 0 where
   pub within : row_base + word < words
   pub fits : row_base + word < 2 ^ 32
 
-pub has_word : (row_base : ℕ) (table : TableId) (limits : Limits) (slice word : ℕ) → IsPool row_base table limits → slice < limits.slices → IsInSlice limits.slice_words slice word
-    → HasWord row_base word table.words
-has_word row_base table limits slice word pool in_range inside =
+pub has_word : {pool : PoolId} (row_base slice word : ℕ) → IsPool row_base pool → slice < pool.limits.slices → IsInSlice pool.limits.slice_words slice word
+    → HasWord row_base word pool.table.words
+has_word {pool = the_pool} row_base slice word pool in_range inside =
     let at = pool.row in
     let n = pool.words in
     let few = pool.few in
-    let within = in_pool limits slice word in_range inside in
+    let within = in_pool the_pool.limits slice word in_range inside in
     record { within = omega arith; fits = omega arith }
 
 module _ (number asked : ℕ) (table : TableId) (me : Seated) (seat : IsPassSeat number asked me) (old : PassState) (is : pass_state number table me.0 ≡ old) where
   pub all_seen : HasNoneOutstanding old → me.0.asked ≡ made_by number me.0.front
   all_seen none_out = subst HasNoneOutstanding (sym is) none_out
 
-  pub sizes_are : (id : TableId) (limits : Limits) (pool : PoolId) → record { table = id; limits = limits } ≡ pool → old.pool ≡ pool → me.0.limits ≡ limits
-  sizes_are id limits pool here same = ap (λ (p : PoolId). p.limits) (ap (λ (s : PassState). s.pool) is ∙ same ∙ sym here)
+  pub sizes_are : {here : PoolId} (pool : PoolId) → here ≡ pool → old.pool ≡ pool → me.0.limits ≡ here.limits
+  sizes_are pool here same = ap (λ (p : PoolId). p.limits) (ap (λ (s : PassState). s.pool) is ∙ same ∙ sym here)
 
   pub last_is : last_of me.0 ≡ last_number old.number old.front
   last_is = ap (λ p. last_number p me.0.front) (ap number_of seat.role) ∙ ap (λ (s : PassState). last_number s.number s.front) is

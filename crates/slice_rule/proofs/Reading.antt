@@ -39,7 +39,7 @@ module _ (limits : Limits) where
       let mine = r.seats id me.0 at in
       let f = fact.WordRead (last_of me.0) word found in
       let rows = ap (λ (l : Limits). first_row l) sizes in
-      let now = viewed limits s r id (with_own me.0 f) (record {
+      let now = viewed limits s r id me.0 (with_own me.0 f) at (λ i. me.0.role) (record {
         sizes = mine.sizes;
         front = mine.front;
         met = mine.met;

@@ -22,7 +22,7 @@ use Rattle.slice_rule.specs.Worlds.{World, made_by}
 use Rattle.slice_rule.proofs.Asking.{pass_at}
 use Rattle.slice_rule.proofs.Facts.{KeepsFacts, all_in}
 use Rattle.slice_rule.proofs.Prefixes.{front_is, none_since}
-use Rattle.slice_rule.proofs.Seating.{each-set}
+use Rattle.slice_rule.proofs.Seating.{each-set, seat-set}
 
 -- what a seat knows by its role doesn't speak of row words
 role_kept : (world : World) (words : List ℕ) (i n j : ℕ) (front asked : List Event) → 2 ≤ i → (role : Role) → FitsRole world words j front asked role
@@ -32,6 +32,8 @@ role_kept world words i n j front asked row (role.Home made seats) fits = record
   whole = fits.whole;
   counts = get_or-set_other words i 1 n 0 (λ e. omega arith) ∙ fits.counts;
   seated = fits.seated;
+  no_more = fits.no_more;
+  all_but_last = fits.all_but_last;
 }
 role_kept world words i n j front asked row (role.Pass pass) fits = fits
 role_kept world words i n j front asked row role.Note fits = tt
@@ -75,6 +77,7 @@ module _ (limits : Limits) where
         };
         covers = subst (λ (ws : List ℕ). Covers ws r.world.history) (sym rows) covers;
         fresh = subst (λ (ws : List ℕ). AreFresh limits ws r.world.history) (sym rows) fresh;
+        passes = seat-set r.world s.views id v (with_own v f) at (λ pass is. is) r.passes;
         seats = each-set (Fits limits r.world (set s.words i n)) s.views id (with_own v f)
             (record {
               sizes = mine.sizes;

@@ -1,21 +1,58 @@
 -- What holds of each seat, through moves that change no word.
-use Rattle.std.proofs.Common.{◌≡◌, ℕ, zero, suc, List, [], ◌∷◌, ◌++◌, length, set, refl, sym, subst, arith, ⊎_elim, ◌⊎◌, inl, inr}
+use Rattle.std.proofs.Common.{◌≡◌, ℕ, zero, suc, List, [], ◌∷◌, ◌++◌, length, set, ◌<◌, refl, ap, sym, ◌∙◌, subst, arith, ⊎_elim, ◌⊎◌, inl, inr}
+use Rattle.std.proofs.lemmas.Bool.{cases_eq}
 use Rattle.std.proofs.lemmas.List.Elements.{All-append, All-cons, All-nil}
 use mathlib.Core.Option.{some, some-injective, some-ne-none}
 use mathlib.Core.List.{IsPrefix}
 use lib.ListN.{get_elem?}
 use Rattle.atomic_table.specs.Table.{State, Splits, Joins}
-use Rattle.atomic_table.proofs.Lists.{at_set}
+use Rattle.atomic_table.proofs.Lists.{at_longer, at_set, set_else, set_here}
 use Rattle.funnel_model.specs.Legal.{Limits}
 use Rattle.slice_rule.specs.declared.view.View.{View}
-use Rattle.slice_rule.specs.Rule.{Fits, FitsRole, HasSizes, IsKept, IsTrueFact}
+use Rattle.slice_rule.specs.Rule.{EachHasSeat, Fits, FitsRole, HasSizes, IsKept, IsTrueFact}
 use Rattle.slice_rule.specs.declared.view.Role.{Role}
 use Rattle.slice_rule.specs.declared.view.Role.TheVariants as role
 use Rattle.slice_rule.specs.declared.view.Fact.TheVariants as fact
 use Rattle.slice_rule.specs.Pools.{row_words}
 use Rattle.slice_rule.specs.Views.{facts_of, note_of, spent, taken_in}
+use Rattle.slice_rule.specs.Worlds.{World}
 use Rattle.slice_rule.proofs.Prefixes.{prefix_self}
 use Rattle.std.specs.List.{All}
+
+-- a place where something stands is one of the list
+there_is : {A : Type 0} (l : List A) (i : ℕ) (a : A) → get_elem? l i ≡ some a → i < length l
+there_is [] i a e = absurd (some-ne-none a (sym e))
+there_is (x ∷ xs) zero a e = omega arith
+there_is (x ∷ xs) (suc i) a e = let n = there_is xs i a e in omega arith
+
+-- each pass has its seat still where a seat gets a view of the same number
+pub seat-set : (world : World) (views : List View) (id : ℕ) (v w : View) → get_elem? views id ≡ some v → ((pass : ℕ) → v.role ≡ role.Pass pass → w.role ≡ role.Pass pass)
+    → EachHasSeat world views → EachHasSeat world (set views id w)
+seat-set world views id v w at keeps each pass small =
+    let has = each pass small in
+    ⊎_elim
+    (λ (here : world.seat pass ≡ id).
+    let same : has.view ≡ v = some-injective has.view v (sym has.at ∙ ap (get_elem? views) here ∙ at) in
+    record {
+      view = w;
+      at = ap (get_elem? (set views id w)) here ∙ set_here views id w (there_is views id v at);
+      role = keeps pass (ap (λ (x : View). x.role) (sym same) ∙ has.role);
+    })
+    (λ (other : world.seat pass ≡ id → ⊥). record { view = has.view; at = set_else views id (world.seat pass) w other ∙ has.at; role = has.role })
+    (cases_eq (world.seat pass) id)
+
+-- and where there is a new seat
+pub seat-snoc : (world : World) (views : List View) (w : View) → EachHasSeat world views → EachHasSeat world (views ++ w ∷ [])
+seat-snoc world views w each pass small =
+    let has = each pass small in
+    record { view = has.view; at = at_longer views (w ∷ []) (world.seat pass) has.view has.at; role = has.role }
+
+-- a home and a note are no pass
+pub home_is_none : (v w : View) (made seats : ℕ) → v.role ≡ role.Home made seats → (pass : ℕ) → v.role ≡ role.Pass pass → w.role ≡ role.Pass pass
+home_is_none v w made seats is pass other = absurd (let both = sym is ∙ other in cc)
+
+pub note_is_none : (v w : View) → v.role ≡ role.Note → (pass : ℕ) → v.role ≡ role.Pass pass → w.role ≡ role.Pass pass
+note_is_none v w is pass other = absurd (let both = sym is ∙ other in cc)
 
 abbrev pub EachSeat : (ℕ → View → Type 0) → List View → Type 0
 EachSeat P views = (id : ℕ) (v : View) → get_elem? views id ≡ some v → P id v
@@ -52,16 +89,17 @@ live_sizes limits known role.Spent live sizes = absurd live
 
 module _ (limits : Limits) where
   -- one seat has a new view, and no word changes
-  pub viewed : (s : State (Unit {0}) View) (r : IsKept limits s) (id : ℕ) (w : View) → Fits limits r.world s.words id w
+  pub viewed : (s : State (Unit {0}) View) (r : IsKept limits s) (id : ℕ) (v w : View) → get_elem? s.views id ≡ some v → w.role ≡ v.role → Fits limits r.world s.words id w
       → IsKept limits (record { words = s.words; homes = s.homes; views = set s.views id w })
-  viewed s r id w fits = record {
+  viewed s r id v w at same fits = record {
     world = r.world;
     laid = r.laid;
     events = r.events;
     asked = r.asked;
     covers = r.covers;
     fresh = r.fresh;
-    seats = each-set (Fits limits r.world s.words) s.views id w fits (λ j v _. r.seats j v);
+    passes = seat-set r.world s.views id v w at (λ pass is. same ∙ is) r.passes;
+    seats = each-set (Fits limits r.world s.words) s.views id w fits (λ j x _. r.seats j x);
   }
 
   -- all that a seat can tell is true
@@ -94,13 +132,14 @@ module _ (limits : Limits) where
     asked = r.asked;
     covers = r.covers;
     fresh = r.fresh;
+    passes = seat-snoc r.world (set s.views id v) (note_of v) (seat-set r.world s.views id v v at (λ pass is. is) r.passes);
     seats = each-snoc (Fits limits r.world s.words) (set s.views id v) (note_of v)
         (each-set (Fits limits r.world s.words) s.views id v (r.seats id v at) (λ j w _. r.seats j w))
         (note_fits s r id v (length (set s.views id v)) live (r.seats id v at));
   }
 
-  pub joins_note : (id : ℕ) (v : View) (other : ℕ) (w : View) → Joins (IsKept limits) id v other w (taken_in v w) spent
-  joins_note id v other w s r at apart there =
+  pub joins_note : (id : ℕ) (v : View) (other : ℕ) (w : View) → w.role ≡ role.Note → Joins (IsKept limits) id v other w (taken_in v w) spent
+  joins_note id v other w is_note s r at apart there =
       let mine = r.seats id v at in
       let others : EachSeat (Fits limits r.world s.words) (set s.views id v) = each-set (Fits limits r.world s.words) s.views id v mine (λ j x _. r.seats j x) in
       let note : Fits limits r.world s.words other w =
@@ -120,6 +159,8 @@ module _ (limits : Limits) where
         asked = r.asked;
         covers = r.covers;
         fresh = r.fresh;
+        passes = seat-set r.world (set s.views id (taken_in v w)) other w spent there (note_is_none w spent is_note)
+            (seat-set r.world s.views id v (taken_in v w) at (λ pass is. is) r.passes);
         seats = each-set (Fits limits r.world s.words) (set s.views id (taken_in v w)) other spent
             (record { sizes = tt; front = (r.world.history, refl); met = (r.world.history, refl); own = All-nil (IsTrueFact limits r.world (row_words limits s.words)); told = All-nil (IsTrueFact limits r.world (row_words limits s.words)); role = tt })
             (λ j x _ here. each-set (Fits limits r.world s.words) s.views id (taken_in v w) both (λ k y _. r.seats k y) j x here);

@@ -33,7 +33,7 @@ module _ (limits : Limits) where
       let m = prefix_length before front begins in
       let l : length before ≡ length r.world.history = ap length fits.whole in
       let e : front ≡ r.world.history = prefix_whole front r.world.history within (omega arith) in
-      (record { one = fits.one; whole = e; counts = fits.counts; seated = fits.seated }, e ∙ sym fits.whole)
+      (record { one = fits.one; whole = e; counts = fits.counts; seated = fits.seated; no_more = fits.no_more; all_but_last = fits.all_but_last }, e ∙ sym fits.whole)
   role_fits s r id before asked front begins within (role.Pass pass) fits =
       let lacks = lacks_between (made_by pass before) (made_by pass front) (r.world.asked pass) fits.seen
       (made_by-prefix pass before front begins)
@@ -68,6 +68,6 @@ module _ (limits : Limits) where
         tt,
         subst (λ (words : List ℕ). IsKept limits (record { words = words; homes = s.homes; views = set s.views id (settled me.0) }))
             (sym (set-get_or s.words 0 0))
-            (viewed limits s r id (settled me.0) (record { sizes = mine.sizes; front = l.whole; met = mine.met; own = mine.own; told = mine.told; role = role.0 })),
+            (viewed limits s r id me.0 (settled me.0) at refl (record { sizes = mine.sizes; front = l.whole; met = mine.met; own = mine.own; told = mine.told; role = role.0 })),
         record { view = refl; own = l.this; met = l.that; few = omega arith; legal = sound s r me.0.limits (longer me.0.front me.0.met) l.whole me.0.role mine.sizes; role = role.1 },
       )

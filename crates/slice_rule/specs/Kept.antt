@@ -8,15 +8,15 @@ use Rattle.funnel_model.specs.RowWords.{AreFresh, Covers}
 use Rattle.slice_rule.specs.declared.view.Role.TheVariants as role
 use Rattle.slice_rule.specs.declared.view.View.{View}
 use Rattle.slice_rule.specs.Rule.{IsKept}
-use Rattle.slice_rule.specs.Views.{view_at_start}
+use Rattle.slice_rule.specs.Views.{no_config, view_at_start}
 use Rattle.slice_rule.specs.Worlds.{made_by}
 
 -- the home and a pass, after the history
 abbrev pub home_after : Limits → List Event → View
-home_after limits history = record (view_at_start limits (role.Home limits.passes limits.passes)) { front = history }
+home_after limits history = record (view_at_start limits no_config (role.Home limits.passes limits.passes)) { front = history }
 
 abbrev pub pass_after : Limits → List Event → ℕ → View
-pass_after limits history pass = record (view_at_start limits (role.Pass pass)) { front = history; asked = made_by pass history }
+pass_after limits history pass = record (view_at_start limits no_config (role.Pass pass)) { front = history; asked = made_by pass history }
 
 -- the pool after the history, with these row words
 abbrev pub pool_after : Limits → List Event → List ℕ → State (Unit {0}) View

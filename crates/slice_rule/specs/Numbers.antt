@@ -3,7 +3,7 @@ use Rattle.std.specs.Prelude.{◌≡◌, ℕ, Bool, ◌+◌, ◌-◌, ◌==◌, 
 use Rattle.std.specs.List.{fold}
 use Rattle.funnel_model.specs.declared.event.Event.{Event}
 use Rattle.std.specs.Option.{is_some}
-use Rattle.funnel_model.specs.Events.{pass_of, taken_in}
+use Rattle.funnel_model.specs.Events.{pass_of, column_taken_in}
 
 -- the event with this number
 pub record HasEvent (history : List Event) (number : ℕ) (event : Event) : Type 0 where
@@ -22,4 +22,4 @@ last_number pass history = length history - length (since pass history)
 
 -- whether the event claims a column of the slice
 abbrev pub takes_in : ℕ → Event → Bool
-takes_in slice e = is_some (taken_in slice e)
+takes_in slice e = is_some (column_taken_in slice e)

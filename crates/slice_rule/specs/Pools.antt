@@ -5,10 +5,11 @@ use Rattle.funnel_model.specs.declared.config.Config.{Config}
 use Rattle.funnel_model.specs.Legal.{Limits}
 use Rattle.funnel_model.specs.Sizes.{columns_of_slice}
 
--- a pool: its table of words, and the sizes that it was made with
+-- a pool: its table of words, the sizes that it was made with, and the configuration that these are of
 pub record PoolId : Type 0 where
   pub table : TableId
   pub limits : Limits
+  pub config : Config
 
 -- the sizes of an engine with this configuration whose slices have so many row words; from 2^62 events on it takes no call
 abbrev pub limits_of : Config → ℕ → Limits
@@ -38,8 +39,8 @@ abbrev pub row_words : Limits → List ℕ → List ℕ
 row_words limits words = drop (first_row limits) words
 
 -- the pool's words lie in the table, and can be counted
-pub record IsPool (row_base : ℕ) (table : TableId) (limits : Limits) : Type 0 where
-  pub row : row_base ≡ first_row limits
-  pub words : table.words ≡ pool_words limits
-  pub slots : table.slots ≡ 0
-  pub few : pool_words limits < 2 ^ 32
+pub record IsPool (row_base : ℕ) (pool : PoolId) : Type 0 where
+  pub row : row_base ≡ first_row pool.limits
+  pub words : pool.table.words ≡ pool_words pool.limits
+  pub slots : pool.table.slots ≡ 0
+  pub few : pool_words pool.limits < 2 ^ 32

@@ -1,5 +1,5 @@
 -- The rule of the pool: what holds of its words and of all seats' views between any two steps.
-use Rattle.std.specs.Prelude.{◌≡◌, ℕ, ◌^◌, ◌<◌, ◌≤◌, ◌⊎◌, true, List, [], length, slice_index, All}
+use Rattle.std.specs.Prelude.{◌≡◌, ℕ, ◌+◌, ◌^◌, ◌<◌, ◌≤◌, ◌⊎◌, true, List, [], length, slice_index, All}
 use Rattle.std.specs.List.{list_any}
 use mathlib.Core.Option.{some}
 use mathlib.Core.List.{IsPrefix}
@@ -57,12 +57,15 @@ IsTrueFact limits world rows (fact.BitSet number b) = IsKnownSet limits world.hi
 IsTrueFact limits world rows (fact.WordZero number word) = IsKnownZero limits world.history rows number word
 IsTrueFact limits world rows (fact.WordRead number word value) = Unit {0}
 
--- the home is one seat, it has seen the whole history, and word 1 counts the passes that it has numbered
+-- the home is one seat, it has seen the whole history, and word 1 counts the passes that it has numbered; each of these has its
+-- seat, but for the last of them, which may be about to get it
 pub record IsHome (world : World) (words : List ℕ) (id made seats : ℕ) (front : List Event) : Type 0 where
   pub one : id ≡ world.home
   pub whole : front ≡ world.history
   pub counts : slice_index words 1 ≡ made
   pub seated : seats ≡ world.seated
+  pub no_more : seats ≤ made
+  pub all_but_last : made ≤ seats + 1
 
 -- the number of a pass belongs to one seat, which knows what the pass asked; its front lacks at most the last of it
 pub record IsPassOf (world : World) (id pass : ℕ) (front asked : List Event) : Type 0 where
@@ -91,6 +94,16 @@ pub record Fits (limits : Limits) (world : World) (words : List ℕ) (id : ℕ) 
   pub told : All (IsTrueFact limits world (row_words limits words)) v.told
   pub role : FitsRole world words id v.front v.asked v.role
 
+-- the seat with this id is that of the pass
+pub record IsSeatOf (views : List View) (id pass : ℕ) : Type 0 where
+  pub view : View
+  pub at : get_elem? views id ≡ some view
+  pub role : view.role ≡ role.Pass pass
+
+-- each pass that was given a seat has it
+abbrev pub EachHasSeat : World → List View → Type 0
+EachHasSeat world views = (pass : ℕ) → pass < world.seated → IsSeatOf views (world.seat pass) pass
+
 -- the rule: beside the counts and what the seats know, the row words have each bit that the history has committed, and the words
 -- of a slice without a claimed column are zero
 pub record IsKept (limits : Limits) (s : State (Unit {0}) View) : Type 0 where
@@ -100,4 +113,5 @@ pub record IsKept (limits : Limits) (s : State (Unit {0}) View) : Type 0 where
   pub asked : CountsAsked limits world s.words
   pub covers : Covers (row_words limits s.words) world.history
   pub fresh : AreFresh limits (row_words limits s.words) world.history
+  pub passes : EachHasSeat world s.views
   pub seats : (id : ℕ) (v : View) → get_elem? s.views id ≡ some v → Fits limits world s.words id v

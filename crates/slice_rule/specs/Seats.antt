@@ -50,7 +50,7 @@ pub record EndedState : Type 0 where
   pub history : List Event
 
 abbrev pub pool_of : TableId → View → PoolId
-pool_of table v = record { table = table; limits = v.limits }
+pool_of table v = record { table = table; limits = v.limits; config = v.config }
 
 abbrev pub pass_state : ℕ → TableId → View → PassState
 pass_state number table v = record { pool = pool_of table v; number = number; front = v.front; asked = v.asked; own = v.own; told = v.told }
@@ -164,25 +164,32 @@ pub record HasEnded (history : List Event) (pass : PassState) : Type 0 where
   pub seen : IsPrefix pass.front history
   pub made : made_by pass.number history ≡ pass.asked
 
+-- nothing that a seat was told is lost, and it may have been told more
+abbrev pub KeepsTold : List Fact → List Fact → Type 0
+KeepsTold before after = (more : List Fact) × (after ≡ more ++ before)
+
 -- the pass is the same, and it asked and did nothing in between; what it has seen and was told may be more
 pub record IsSamePass (before after : PassState) : Type 0 where
   pub pool : after.pool ≡ before.pool
   pub number : after.number ≡ before.number
   pub asked : after.asked ≡ before.asked
   pub own : after.own ≡ before.own
+  pub told : KeepsTold before.told after.told
 
 -- the home is the same, and the history too; what it was told may be more
 pub record IsSameHome (before after : HomeState) : Type 0 where
   pub pool : after.pool ≡ before.pool
   pub history : after.history ≡ before.history
+  pub told : KeepsTold before.told after.told
 
--- the pass made the event: it asked it and has seen it, and did nothing else
+-- the pass made the event: it asked it and has seen it, and did nothing else; what it was told may be more
 pub record HasMade (e : Event) (before after : PassState) : Type 0 where
   pub pool : after.pool ≡ before.pool
   pub number : after.number ≡ before.number
   pub front : after.front ≡ before.front ++ e ∷ []
   pub asked : after.asked ≡ before.asked ++ e ∷ []
   pub own : after.own ≡ before.own
+  pub told : KeepsTold before.told after.told
 
 -- the pass is not in the middle of a call, and it asked nothing that it hasn't seen
 pub record IsAtRest (pass : PassState) : Type 0 where

@@ -1,5 +1,6 @@
 -- What the moves of seats make of their views.
 use Rattle.std.specs.Prelude.{ℕ, ◌+◌, nat_lt, List, [], ◌∷◌, ◌++◌, length, if◌then◌else◌}
+use Rattle.funnel_model.specs.declared.config.Config.{Config}
 use Rattle.funnel_model.specs.declared.event.Event.{Event}
 use Rattle.funnel_model.specs.Legal.{Limits}
 use Rattle.slice_rule.specs.Numbers.{last_number}
@@ -9,13 +10,17 @@ use Rattle.slice_rule.specs.declared.view.Fact.{Fact}
 use Rattle.slice_rule.specs.declared.view.Fact.TheVariants as fact
 use Rattle.slice_rule.specs.declared.view.View.{View}
 
+-- the configuration of a seat that is spent
+abbrev pub no_config : Config
+no_config = record { passes = 0; slices = 0; blocks = 0; max_rank = 0; commits = 0; one_in = 0; snr = 0; documents = 0; tail = 0; max_rows = 0; words = [] }
+
 -- a seat that has seen nothing
-abbrev pub view_at_start : Limits → Role → View
-view_at_start limits role = record { limits = limits; role = role; front = []; met = []; asked = []; own = []; told = [] }
+abbrev pub view_at_start : Limits → Config → Role → View
+view_at_start limits config role = record { limits = limits; config = config; role = role; front = []; met = []; asked = []; own = []; told = [] }
 
 -- the first seat is the home, and no pass is numbered
-abbrev pub home_at_start : Limits → View
-home_at_start limits = view_at_start limits (role.Home 0 0)
+abbrev pub home_at_start : Limits → Config → View
+home_at_start limits config = view_at_start limits config (role.Home 0 0)
 
 -- the role of the home after one more pass is numbered
 abbrev pub numbered_role : Role → Role
@@ -40,7 +45,7 @@ seated v = record v { role = seated_role v.role }
 
 -- the seat of a new pass
 abbrev pub new_pass : View → View
-new_pass v = view_at_start v.limits (new_role v.role)
+new_pass v = view_at_start v.limits v.config (new_role v.role)
 
 -- what a seat can tell: what its pass asked, what it did itself, and what it was told
 abbrev pub facts_of : Role → View → List Fact
@@ -49,7 +54,7 @@ facts_of _ v = v.told
 
 -- a note has the front of the seat that it is split from and all that the seat can tell, and no number
 abbrev pub note_of : View → View
-note_of v = record (view_at_start v.limits role.Note) { front = v.front; told = facts_of v.role v }
+note_of v = record (view_at_start v.limits v.config role.Note) { front = v.front; told = facts_of v.role v }
 
 -- a seat that a note told what it knows; the note's front waits
 abbrev pub taken_in : View → View → View
@@ -57,7 +62,7 @@ taken_in v note = record v { met = note.front; told = note.told ++ v.told }
 
 -- a seat that knows nothing any more
 abbrev pub spent : View
-spent = view_at_start (record { passes = 0; slices = 0; columns = 0; slice_words = 0; commits = 0; events = 0 }) role.Spent
+spent = view_at_start (record { passes = 0; slices = 0; columns = 0; slice_words = 0; commits = 0; events = 0 }) no_config role.Spent
 
 -- the longer of two lists
 abbrev pub longer : List Event → List Event → List Event

@@ -1,6 +1,6 @@
 ghost use Rattle.std.specs.Prelude.{◌≡◌, ℕ, ◌<◌, length, map, All, Contains};
 ghost use Rattle.funnel_model.specs.Legal.{IsLegal};
-ghost use Rattle.slice_rule.specs.Seats.{CanEnd, HasEnded, IsSameHome, PassState};
+ghost use Rattle.slice_rule.specs.Seats.{CanEnd, HasEnded, PassState};
 
 use crate::pool::Pool;
 use crate::seats::{Home, Note, PassSeat};
@@ -49,7 +49,8 @@ impl Pool {
     fn end_passes(&self, home: &mut Home, mut seats: Vec<PassSeat>)
         requires home { home.old.pool ≡ self.now }
         requires ready { All (CanEnd self.now) seats.items }
-        ensures home { IsSameHome home.old home.new }
+        ensures pool { home.new.pool ≡ home.old.pool }
+        ensures history { home.new.history ≡ home.old.history }
         ensures passes { All (HasEnded home.old.history) seats.items }
     {
         while let Some(seat) = seats.pop() {
@@ -60,7 +61,8 @@ impl Pool {
     fn end_pass(&self, home: &mut Home, mut seat: PassSeat)
         requires home { home.old.pool ≡ self.now }
         requires ready { CanEnd self.now seat }
-        ensures home { IsSameHome home.old home.new }
+        ensures pool { home.new.pool ≡ home.old.pool }
+        ensures history { home.new.history ≡ home.old.history }
         ensures pass { HasEnded home.old.history seat }
     {
         self.catch_up(home, &mut seat);

@@ -11,6 +11,7 @@ mod close;
 mod entry;
 mod events;
 pub mod laws;
+mod made;
 mod plays;
 mod pool;
 mod rows;

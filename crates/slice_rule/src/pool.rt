@@ -3,9 +3,10 @@ ghost use Rattle.std.specs.List.{range_with_len};
 ghost use Rattle.funnel_model.specs.Configuration.{IsInRange};
 ghost use Rattle.slice_rule.specs.Pools.{limits_of};
 ghost use Rattle.slice_rule.specs.Seats.{new_home_state, new_pass_state};
-ghost use Rattle.slice_rule.specs.Views.{home_at_start, view_at_start};
+ghost use Rattle.slice_rule.specs.Views.{view_at_start};
 ghost use Rattle.slice_rule.specs.declared.view.Role.TheVariants as role;
 
+use crate::made::Made;
 use crate::plays::{Number, ToPass};
 use crate::rule::PoolRule;
 use crate::seats::{Home, PassSeat};
@@ -17,10 +18,10 @@ use std::alloc::Global;
 use std::marker::{Brand, Model};
 
 /// The words that threads share: the count of events, the count of passes, a word for each pass, and the row words.
-/// Contracts see which pool it is, and its sizes.
+/// Contracts see which pool it is, its sizes, and the configuration that it was made with.
 #[derive(Drop)]
 pub struct Pool {
-    pub(crate) table: Table<(), View, Sizes, PoolRule, Global>,
+    pub(crate) table: Table<(), View, Made, PoolRule, Global>,
     pub(crate) row_base: usize,
 }
 
@@ -29,12 +30,12 @@ impl Model for Pool {
 
     ghost Value = { PoolId };
 
-    ghost view = { λ p. record { table = p.table.shared.table_id; limits = p.table.shared.key } };
+    ghost view = { λ p. record { table = p.table.shared.table_id; limits = p.table.shared.key.sizes; config = p.table.shared.key.config.shared.key } };
 
-    ghost invariant = { λ p. IsPool p.row_base p.table.shared.table_id p.table.shared.key };
+    ghost invariant = { λ p. IsPool p.row_base (record { table = p.table.shared.table_id; limits = p.table.shared.key.sizes; config = p.table.shared.key.config.shared.key }) };
 }
 
-/// A pool and its sizes, named by a type. All types that have to agree on a pool have it as a parameter.
+/// A pool and its configuration, named by a type. All types that have to agree on a pool have it as a parameter.
 pub trait PoolName {
     ghost use Rattle.slice_rule.specs.Pools.{PoolId};
 
@@ -43,10 +44,12 @@ pub trait PoolName {
 
 impl PoolName for Brand {
     ghost use Rattle.std.specs.Prelude.{[]};
+    ghost use Rattle.slice_rule.specs.Views.{no_config};
 
     ghost pool = { record {
       table = record { words = 0; slots = 0; views_name = 0; atom = 0; block = 0; offset = 0; slot_names = [] };
       limits = record { passes = 0; slices = 0; columns = 0; slice_words = 0; commits = 0; events = 0 };
+      config = no_config;
     } };
 }
 
@@ -61,29 +64,33 @@ impl Pool {
         requires config { IsInRange config.now }
         requires rows { 1 ≤ config.now.slices * slice_words }
         requires few { config.now.slices * slice_words ≤ 33554432 }
+        ensures config { IfOk result (λ made. made.0.config ≡ config.now) }
         ensures sizes { IfOk result (λ made. made.0.limits ≡ limits_of config.now slice_words) }
         ensures home { IfOk result (λ made. made.1 ≡ new_home_state made.0) }
         ensures passes { IfOk result (λ made. made.2.items ≡ map (new_pass_state made.0) (range_with_len 0 config.now.passes)) }
     {
-        Pool::of_sizes(alloc, &Sizes::of(config, slice_words))
+        Pool::of_sizes(alloc, config, Sizes::of(config, slice_words))
     }
 
     pub(crate) fn of_sizes(
         alloc: Global,
-        sizes: &Sizes,
+        config: &Config,
+        sizes: Sizes,
     ) -> Result<(Pool, Home, Vec<PassSeat>), Memory>
-        requires passes { sizes.now.passes ≤ 64 }
-        requires rows { sizes.now.slices ≤ 1024 }
-        requires few { sizes.now.slices * sizes.now.slice_words ≤ 33554432 }
-        ensures sizes { IfOk result (λ made. made.0.limits ≡ sizes.now) }
+        requires passes { sizes.passes ≤ 64 }
+        requires rows { sizes.slices ≤ 1024 }
+        requires few { sizes.slices * sizes.slice_words ≤ 33554432 }
+        ensures config { IfOk result (λ made. made.0.config ≡ config.now) }
+        ensures sizes { IfOk result (λ made. made.0.limits ≡ sizes) }
         ensures home { IfOk result (λ made. made.1 ≡ new_home_state made.0) }
-        ensures passes { IfOk result (λ made. made.2.items ≡ map (new_pass_state made.0) (range_with_len 0 sizes.now.passes)) }
+        ensures passes { IfOk result (λ made. made.2.items ≡ map (new_pass_state made.0) (range_with_len 0 sizes.passes)) }
     {
         let count = sizes.passes as u32;
         let row_base = 2 + count as usize;
         let row_words = sizes.slices as usize * sizes.slice_words as usize;
         let words = zeros(alloc, row_base + row_words)?;
-        let (table, mut seat) = Table::of_words(alloc, words.as_slice(), sizes)?;
+        let made = Made::with(alloc, config, sizes)?;
+        let (table, mut seat) = Table::of_words(alloc, words.as_slice(), &made)?;
         let pool = Pool { table, row_base };
         let passes = pool.seat_passes(alloc, &mut seat, count)?;
         Ok((pool, Home { seat }, passes))
@@ -98,10 +105,10 @@ impl Pool {
         count: u32,
     ) -> Result<Vec<PassSeat>, Memory>
         requires table { home.old.table_id ≡ self.now.table }
-        requires home { home.old.me ≡ (home_at_start self.now.limits, []) }
+        requires home { home.old.me ≡ (view_at_start self.now.limits self.now.config (role.Home 0 0), []) }
         requires in_range { count ≤ self.now.limits.passes }
         ensures table { home.new.table_id ≡ home.old.table_id }
-        ensures home { OnOk result (home.new.me ≡ (view_at_start self.now.limits (role.Home count count), [])) }
+        ensures home { OnOk result (home.new.me ≡ (view_at_start self.now.limits self.now.config (role.Home count count), [])) }
         ensures passes { IfOk result (λ passes. passes.items ≡ map (new_pass_state self.now) (range_with_len 0 count)) }
     {
         let mut passes = Vec::with_capacity(alloc, count as usize)?;
@@ -114,10 +121,10 @@ impl Pool {
     // The home numbers one more pass and gives it its seat.
     fn number_pass(&self, home: &mut Seat<(), View>, number: u32) -> PassSeat
         requires table { home.old.table_id ≡ self.now.table }
-        requires home { home.old.me ≡ (view_at_start self.now.limits (role.Home number number), []) }
+        requires home { home.old.me ≡ (view_at_start self.now.limits self.now.config (role.Home number number), []) }
         requires in_range { number < self.now.limits.passes }
         ensures table { home.new.table_id ≡ home.old.table_id }
-        ensures home { home.new.me ≡ (view_at_start self.now.limits (role.Home (number + 1) (number + 1)), []) }
+        ensures home { home.new.me ≡ (view_at_start self.now.limits self.now.config (role.Home (number + 1) (number + 1)), []) }
         ensures pass { result ≡ new_pass_state self.now number }
     {
         self.table.shared.fetch_add::<Number>(home, 1, 1);

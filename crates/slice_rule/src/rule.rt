@@ -1,15 +1,15 @@
 //! The rule of the pool.
-use crate::sizes::Sizes;
+use crate::made::Made;
 use crate::view::View;
 use atomic_table::TableRule;
 
 pub struct PoolRule;
 
-impl TableRule<(), View, Sizes> for PoolRule {
+impl TableRule<(), View, Made> for PoolRule {
     ghost use Rattle.slice_rule.specs.Rule.{IsKept};
     ghost use Rattle.slice_rule.specs.Views.{home_at_start};
 
-    ghost holds = { IsKept };
+    ghost holds = { λ made. IsKept made.sizes };
 
-    ghost first = { home_at_start };
+    ghost first = { λ made. home_at_start made.sizes made.config.shared.key };
 }

@@ -4,6 +4,8 @@ ghost use Rattle.funnel_model.specs.Configuration.{IsInRange};
 ghost use Rattle.funnel_model.specs.Legal.{awaited};
 ghost use Rattle.slice_rule.specs.Seats.{CanEnd, IsAtRest};
 
+mod clearing;
+
 use super::*;
 use funnel_model::{Call, Config, Event, Listed};
 use std::alloc::Global;
@@ -38,20 +40,19 @@ fn config(alloc: Global, passes: u32) -> Config
     }
 }
 
-fn moves<T: Send>(_value: &T) {}
-
 fn is_shared<T: Send + Sync>(_value: &T) {}
 
-/// Threads share a pool, and seats and notes move from one to another.
+/// A pool, its seats and its notes may move to other threads, and be shared with them.
 #[test]
 fn seats_cross_threads(rt: HostRuntime) -> Result<(), Fail> {
     let config = config(rt.alloc(), 1);
-    let (pool, mut home, passes) = Pool::new(rt.alloc(), &config, 4)?;
+    let (pool, mut home, mut passes) = Pool::new(rt.alloc(), &config, 4)?;
+    let seat = passes.pop().ok_or("one pass")?;
     is_shared(&pool);
-    moves(&passes);
+    is_shared(&seat);
     let note = pool.split_home(&mut home);
-    moves(&note);
-    moves(&home);
+    is_shared(&note);
+    is_shared(&home);
     Ok(())
 }
 

@@ -1,6 +1,6 @@
 //! What a seat knows of the pool. No value of these types is made: they exist for the proofs alone.
 use crate::sizes::Sizes;
-use funnel_model::{Bit, Event};
+use funnel_model::{Bit, Config, Event};
 use std::collections::LinkedList;
 
 /// What a seat is.
@@ -30,6 +30,8 @@ pub enum Fact {
 /// What a seat knows.
 pub struct View {
     pub limits: Sizes,
+    /// The configuration that the pool was made with.
+    pub config: Config,
     pub role: Role,
     /// The part of the history that it has seen.
     pub front: LinkedList<Event>,

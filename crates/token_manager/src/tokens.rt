@@ -1,5 +1,5 @@
 ghost use Rattle.std.specs.Prelude.{◌≡◌, ◌<◌, length, Option, Some, None, replicate, slice_index_or, slice_set, MatchOption, IfOk, IsSome};
-ghost use Rattle.token_manager.specs.Guarding.{HasOpened, IsLowestBefore, NoneBefore};
+ghost use Rattle.token_manager.specs.Guarding.{IsLowestBefore, IsOldest, NoneBefore, NoneOpen, older};
 
 use funnel_model::Memory;
 use std::alloc::Global;
@@ -66,5 +66,27 @@ impl Tokens {
             }
         }
         None
+    }
+
+    /// The number of the oldest open token, where one is open. It walks over the passes.
+    pub fn oldest(&self) -> Option<u64>
+        ensures { MatchOption result (NoneOpen self.now) (IsOldest self.now) }
+    {
+        let mut oldest = None;
+        for token in self.open.iter() {
+            oldest = older(oldest, *token);
+        }
+        oldest
+    }
+}
+
+// The older of two tokens, where there are such.
+fn older(oldest: Option<u64>, token: Option<u64>) -> Option<u64>
+    ensures { result ≡ older oldest token }
+{
+    match (oldest, token) {
+        (Some(first), Some(second)) => Some(first.min(second)),
+        (Some(first), None) => Some(first),
+        (None, other) => other,
     }
 }

@@ -1,7 +1,8 @@
 //! Classes of words, and the row counts of classes.
 
 ghost use Rattle.std.specs.Prelude.{◌≡◌, ◌<◌, ◌≤◌, ◌^◌, IfSome, Contains};
-ghost use Rattle.funnel_model.specs.Configuration.{IsWithin, IsInRange};
+ghost use Rattle.funnel_model.specs.declared.config.TheConstants.{LEAST_ONE_IN, MOST_ONE_IN, MOST_SNR, MOST_DOCUMENTS};
+ghost use Rattle.funnel_model.specs.Configuration.{IsBetween, IsInRange};
 ghost use Rattle.funnel_model.specs.Listed.{listed_count};
 ghost use Rattle.funnel_model.specs.Sizes.{class_of_word};
 ghost use Rattle.funnel_model.specs.Treatment.{IsClass, IsRowCount, class_of_count, row_count_of_class};
@@ -16,7 +17,7 @@ pub const LAST_CLASS: u8 = 15;
 pub fn class(f: u64, n: u64) -> u8
     requires positive { 1 ≤ f }
     requires held { f ≤ n }
-    requires small { n ≤ 2 ^ 32 }
+    requires small { n ≤ MOST_DOCUMENTS }
     ensures greatest { IsClass f n result }
     ensures value { result ≡ class_of_count f n }
 {
@@ -33,8 +34,8 @@ pub fn class(f: u64, n: u64) -> u8
 /// signal to noise.
 pub fn row_count(class: u8, one_in: u64, snr: u64) -> u8
     requires class { class ≤ 15 }
-    requires one_in { IsWithin 2 20 one_in }
-    requires snr { IsWithin 1 1000 snr }
+    requires one_in { IsBetween LEAST_ONE_IN MOST_ONE_IN one_in }
+    requires snr { IsBetween 1 MOST_SNR snr }
     ensures least { IsRowCount one_in snr class result }
     ensures value { result ≡ row_count_of_class one_in snr class }
     ensures small { result ≤ 26 }

@@ -1,6 +1,7 @@
 //! What the listed words ask of the pool.
 
 ghost use Rattle.std.specs.Prelude.{◌≡◌, ℕ, ◌+◌, ◌*◌, ◌<◌, ◌≤◌, ◌^◌, min, length, slice_index};
+ghost use Rattle.funnel_model.specs.declared.config.TheConstants.{MOST_DOCUMENTS};
 ghost use Rattle.funnel_model.specs.Configuration.{IsInRange};
 ghost use Rattle.funnel_model.specs.Sizes.{private_words, bits_at_rank, ranked_rows};
 
@@ -41,7 +42,7 @@ fn add_bits(config: &Config, class: u8, count: u64, bits: &mut [u64; 7])
     requires range { IsInRange config.now }
     requires shared { 3 ≤ class }
     requires class { class ≤ 15 }
-    requires count { count ≤ 2 ^ 32 }
+    requires count { count ≤ MOST_DOCUMENTS }
     requires room { (r : ℕ) → r < 7 → slice_index bits.old r ≤ 2 ^ 60 }
     ensures { (r : ℕ) → r < 7
         → slice_index bits.new r

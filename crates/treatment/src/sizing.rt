@@ -1,6 +1,7 @@
 //! The sizes of a configuration.
 
 ghost use Rattle.std.specs.Prelude.{◌≡◌, ℕ, ◌+◌, ◌*◌, ◌<◌, ◌≤◌, ◌^◌, length};
+ghost use Rattle.funnel_model.specs.declared.config.TheConstants.{MOST_MAX_ROWS};
 ghost use Rattle.funnel_model.specs.Configuration.{IsInRange};
 ghost use Rattle.funnel_model.specs.Sizes.{private_words, row_table, shared_rows, bits_at_rank, width_of_rank, words_of_slice, words_of_pool, columns_of_pool};
 
@@ -42,7 +43,7 @@ fn rows_of_rank(config: &Config, rank: u8, bits: u64) -> u32
     requires rank { rank ≤ 6 }
     requires bits { bits ≡ bits_at_rank config.now rank }
     ensures value { result ≡ shared_rows config.now rank }
-    ensures bound { result ≤ 2 ^ 20 }
+    ensures bound { result ≤ MOST_MAX_ROWS }
 {
     let listed = (config.one_in * bits).div_ceil(config.documents);
     let rows = rows_at(

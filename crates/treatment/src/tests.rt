@@ -1,7 +1,7 @@
 //! The tables of classes, ranks and sizes.
 
 ghost use Rattle.std.specs.Prelude.{◌≡◌, ◌<◌, ◌≤◌, length, All, IfOk};
-ghost use Rattle.funnel_model.specs.Configuration.{IsWithin, IsInRange};
+ghost use Rattle.funnel_model.specs.Configuration.{IsBetween, IsInRange};
 
 use super::*;
 use funnel_model::{Config, Listed};
@@ -11,10 +11,10 @@ use std::test::Fail;
 /// The default configuration but for these numbers and words.
 fn config(max_rank: u8, documents: u64, tail: u64, words: Listed) -> Config
     requires rank { max_rank ≤ 6 }
-    requires documents { IsWithin 1 20000 documents }
+    requires documents { IsBetween 1 20000 documents }
     requires tail { tail ≤ 80 }
     requires few { length words ≤ 65536 }
-    requires counts { All (λ entry. IsWithin 1 documents entry.1) words }
+    requires counts { All (λ entry. IsBetween 1 documents entry.1) words }
     ensures { IsInRange result }
 {
     Config {
@@ -41,7 +41,7 @@ fn no_words(alloc: Global) -> Listed
 /// A rare word, a common one and a very common one.
 fn three_words(alloc: Global) -> Result<Listed, AllocError>
     ensures few { IfOk result (λ words. length words ≤ 65536) }
-    ensures counts { IfOk result (λ words. All (λ entry. IsWithin 1 1000 entry.1) words) }
+    ensures counts { IfOk result (λ words. All (λ entry. IsBetween 1 1000 entry.1) words) }
 {
     let axolotl = String::from_str(alloc, "axolotl")?;
     let cat = String::from_str(alloc, "cat")?;

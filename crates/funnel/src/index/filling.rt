@@ -1,12 +1,13 @@
 ghost use Rattle.std.specs.Prelude.{◌≡◌, ◌≤◌, ◌<◌, ◌+◌, ◌==◌, ◌⊎◌, ℕ, nat_lt, false, Some, length, position, slice_index, IfNone, IfSome};
 ghost use Rattle.std.specs.List.{All};
+ghost use Rattle.funnel_model.specs.declared.config.TheConstants.{MOST_SLICES};
 ghost use Rattle.funnel_model.specs.declared.event.Event.TheVariants as event;
 ghost use Rattle.funnel_model.specs.History.{is_live, last_by, place};
 ghost use Rattle.funnel_model.specs.Legal.{IsFull, IsIdle, IsInSlice, IsLegal, MayClear, MayFollow};
 ghost use Rattle.funnel_model.specs.Slices.{claimed};
 ghost use Rattle.funnel_model.specs.Words.{AreWordsOf, words};
 ghost use Rattle.funnel.specs.Foot.{HasBit, IsFoot, IsListed, slice_rows};
-ghost use Rattle.funnel.specs.Kept.{AllSet, HasColumn, IsRoom, IsZero, State, WithEvent, column_of_room, limits_of, slice_of};
+ghost use Rattle.funnel.specs.Kept.{AllSet, HasColumn, IsRoom, IsZero, State, WithEvent, column_of_room, program_limits, slice_of};
 
 use crate::index::{Counts, EVENT_ROOM, Index, NO_COUNTS, PASS, SLICE_COLUMNS};
 use crate::rows::{SLICE_ROWS, clear_rows, set_bits};
@@ -47,9 +48,9 @@ impl Index {
     /// that no pass has claimed.
     pub fn room(&self) -> Option<Room>
         requires idle { IsIdle 0 self.now.history }
-        ensures full { IfNone result (IsFull (limits_of self.now.slices) self.now.history) }
+        ensures full { IfNone result (IsFull (program_limits self.now.slices) self.now.history) }
         ensures room { IfSome result (IsRoom self.now) }
-        ensures in_range { IfSome result (λ room. (slice_of room < 1024) × (column_of_room room < 64)) }
+        ensures in_range { IfSome result (λ room. (slice_of room < MOST_SLICES) × (column_of_room room < SLICE_COLUMNS)) }
     {
         let _ = &self.events;
         if let Some(slice) = lowest_unfilled(self.counts.as_slice()) {
@@ -70,11 +71,11 @@ impl Index {
     pub fn take(&mut self, slice: u32) -> Claim
         requires room { length self.old.history < EVENT_ROOM }
         requires slice { slice < self.old.slices }
-        requires some_left { length (claimed slice self.old.history) < 64 }
-        requires may { MayFollow (limits_of self.old.slices) self.old.history (event.Take 0 slice (length (claimed slice self.old.history))) }
+        requires some_left { length (claimed slice self.old.history) < SLICE_COLUMNS }
+        requires may { MayFollow (program_limits self.old.slices) self.old.history (event.Take 0 slice (length (claimed slice self.old.history))) }
         ensures slice { result.slice ≡ slice }
         ensures column { result.column ≡ length (claimed slice self.old.history) }
-        ensures legal { IsLegal (limits_of self.new.slices) self.new.history }
+        ensures legal { IsLegal (program_limits self.new.slices) self.new.history }
         ensures event { self.new ≡ WithEvent self.old (event.Take 0 slice result.column) }
     {
         let column = self.counts[slice as usize].claimed;
@@ -91,9 +92,9 @@ impl Index {
     /// Begins to clear a slice whose documents are all gone.
     pub fn start_clear(&mut self, slice: u32) -> ClearJob
         requires room { length self.old.history < EVENT_ROOM }
-        requires may { MayClear (limits_of self.old.slices) self.old.history 0 slice }
+        requires may { MayClear (program_limits self.old.slices) self.old.history 0 slice }
         ensures slice { result.slice ≡ slice }
-        ensures legal { IsLegal (limits_of self.new.slices) self.new.history }
+        ensures legal { IsLegal (program_limits self.new.slices) self.new.history }
         ensures event { self.new ≡ WithEvent self.old (event.Clear 0 slice) }
     {
         self.events
@@ -119,7 +120,7 @@ impl Index {
         requires slice { job.slice < self.old.slices }
         requires begun { last_by 0 self.old.history ≡ Some (event.Clear 0 job.slice) }
         requires zero { IsZero job.slice self.old.rows }
-        ensures legal { IsLegal (limits_of self.new.slices) self.new.history }
+        ensures legal { IsLegal (program_limits self.new.slices) self.new.history }
         ensures event { self.new ≡ WithEvent self.old (event.Opened 0 job.slice false) }
     {
         let ClearJob { slice } = job;
@@ -151,14 +152,14 @@ impl Index {
         requires room { length self.old.history < EVENT_ROOM }
         requires claimed { HasColumn self.old claim }
         requires absent { is_live doc.id self.old.history ≡ false }
-        requires journal { place self.old.history < (limits_of self.old.slices).commits }
+        requires journal { place self.old.history < (program_limits self.old.slices).commits }
         requires words { AreWordsOf doc.words doc.text }
         requires same_text { text ≡ doc.text }
         requires foot { IsFoot (words doc.text) claim.slice claim.column bits }
         requires inside { All (λ b. IsInSlice slice_rows claim.slice b.word) bits }
         requires set { AllSet bits self.old.rows }
         ensures place { result ≡ place self.old.history + 1 }
-        ensures legal { IsLegal (limits_of self.new.slices) self.new.history }
+        ensures legal { IsLegal (program_limits self.new.slices) self.new.history }
         ensures event { self.new ≡ WithEvent self.old (event.Add 0 doc.id text claim.slice claim.column bits) }
     {
         let Claim { slice, column } = claim;
@@ -181,7 +182,7 @@ impl Index {
 
 /// The lowest slice with a column that no pass has claimed.
 fn lowest_unfilled(counts: &[Counts]) -> Option<usize>
-    ensures { result ≡ position (λ c. nat_lt c.claimed 64) counts.now }
+    ensures { result ≡ position (λ c. nat_lt c.claimed SLICE_COLUMNS) counts.now }
 {
     counts
         .iter()
@@ -190,7 +191,7 @@ fn lowest_unfilled(counts: &[Counts]) -> Option<usize>
 
 /// The lowest slice whose columns are all deleted or dropped.
 fn lowest_over(counts: &[Counts]) -> Option<usize>
-    ensures { result ≡ position (λ c. c.over == 64) counts.now }
+    ensures { result ≡ position (λ c. c.over == SLICE_COLUMNS) counts.now }
 {
     counts
         .iter()

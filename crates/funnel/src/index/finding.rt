@@ -1,12 +1,13 @@
 ghost use Rattle.std.specs.Prelude.{◌≡◌, ◌≤◌, ◌<◌, ◌+◌, ◌++◌, ◌↔◌, ℕ, List, [], length, map, slice_index_or, Contains, IfOk, OnOk};
 ghost use Rattle.std.specs.List.{All};
+ghost use Rattle.funnel_model.specs.declared.config.TheConstants.{MOST_SLICES};
 ghost use Rattle.funnel_model.specs.declared.event.Event.TheVariants as event;
 ghost use Rattle.funnel_model.specs.History.{answer};
 ghost use Rattle.funnel_model.specs.Legal.{IsIdle, IsLegal};
 ghost use Rattle.funnel_model.specs.Words.{AreWordsOf};
 ghost use Rattle.funnel.specs.Foot.{slice_rows};
 ghost use Rattle.funnel.specs.Hits.{AreHits, IsScanned, set_columns};
-ghost use Rattle.funnel.specs.Kept.{IsOpenFind, WithEvent, limits_of, no_counts};
+ghost use Rattle.funnel.specs.Kept.{IsOpenFind, WithEvent, program_limits, no_counts};
 
 use crate::index::{Counts, EVENT_ROOM, Index, PASS, SLICE_COLUMNS};
 use crate::rows::{SLICE_ROWS, columns_in_all};
@@ -21,7 +22,7 @@ impl Index {
         requires idle { IsIdle 0 self.old.history }
         ensures opened_at { result.opened_at ≡ length self.old.history + 1 }
         ensures open { IsOpenFind self.new result }
-        ensures legal { IsLegal (limits_of self.new.slices) self.new.history }
+        ensures legal { IsLegal (program_limits self.new.slices) self.new.history }
         ensures event { self.new ≡ WithEvent self.old (event.Find 0 query) }
     {
         let token = Token {
@@ -65,7 +66,7 @@ impl Index {
         requires enough { length candidates.now ≤ out.old.room }
         ensures found { (query : List ℕ) → AreWordsOf words.now query → map (λ f. f.1) out.new.found ≡ answer self.old.history query }
         ensures count { length out.new.found ≤ length candidates.now }
-        ensures legal { IsLegal (limits_of self.new.slices) self.new.history }
+        ensures legal { IsLegal (program_limits self.new.slices) self.new.history }
         ensures event { self.new ≡ WithEvent self.old (event.End 0) }
     {
         let Token {
@@ -81,7 +82,7 @@ impl Index {
     pub fn drop_find(&mut self, token: Token)
         requires room { length self.old.history < EVENT_ROOM }
         requires open { IsOpenFind self.old token }
-        ensures legal { IsLegal (limits_of self.new.slices) self.new.history }
+        ensures legal { IsLegal (program_limits self.new.slices) self.new.history }
         ensures event { self.new ≡ WithEvent self.old (event.End 0) }
     {
         let Token {
@@ -95,7 +96,7 @@ impl Index {
 
 /// The slices of which some column is neither deleted nor dropped.
 fn slices_in_use(counts: &[Counts]) -> SliceSet
-    requires { length counts.now ≤ 1024 }
+    requires { length counts.now ≤ MOST_SLICES }
     ensures { (slice : ℕ) → Contains result slice ↔ ((slice < length counts.now) × ((slice_index_or counts.now slice no_counts).over < 64)) }
 {
     let mut slices = SliceSet::new();

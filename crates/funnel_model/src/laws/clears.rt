@@ -64,10 +64,12 @@ pub fn slices_stay_as_they_are_under_a_reader()
         (goes : IsFrontOf pass front history) → MayRead limits.columns front pass slice → list_any (opens slice) goes.later ≡ false }
 {}
 
-/// A bit that is committed lies in its slice, which isn't being cleared. It stays so while a find that may read the slice runs.
+/// A bit that is committed is one of the 64 of a word of its slice, which isn't being cleared. It stays so while a find that may read the slice runs.
 pub fn committed_bits_stay_under_a_reader()
     ensures in_slice { (limits : Limits) (history : List Event) (slice : ℕ) (b : Bit) → IsLegal limits history →
         IsCommitted history slice b → IsInSlice limits.slice_words slice b.word }
+    ensures in_word { (limits : Limits) (history : List Event) (slice : ℕ) (b : Bit) → IsLegal limits history →
+        IsCommitted history slice b → b.bit < 64 }
     ensures not_clearing { (limits : Limits) (history : List Event) (slice : ℕ) (b : Bit) → IsLegal limits history →
         IsCommitted history slice b → is_clearing slice history ≡ false }
     ensures stays { (limits : Limits) (front history : List Event) (pass slice : ℕ) (b : Bit) → IsLegal limits history →

@@ -7,38 +7,65 @@ ghost use Rattle.funnel_model.specs.declared.event.Event.{Event};
 ghost use Rattle.funnel_model.specs.declared.event.Event.TheVariants as event;
 ghost use Rattle.funnel_model.specs.declared.reply.Reply.{Reply};
 ghost use Rattle.funnel_model.specs.declared.reply.Reply.TheVariants as reply;
+ghost use Rattle.funnel_model.specs.Example.{first_added, small};
 ghost use Rattle.funnel_model.specs.Legal.{IsIdle, IsLegal, Limits};
-ghost use Rattle.funnel_model.specs.RecycleExample.{guarded, paired, unguarded};
+ghost use Rattle.funnel_model.specs.RecycleExample.{filled, guarded, paired, unguarded};
 ghost use Rattle.funnel_model.specs.Steps.{AddsNone, AnswersLast, FindsNoMemory, IsReply, Step};
+ghost use Rattle.funnel_model.specs.Tokens.{MayRead};
 
 /// Not legal are a take of slice 1 while slice 0 has an unclaimed column, the clear of slice 1 while slice 0 can be cleared,
-/// that of a slice under a token that may read it, a refused recycle while a retired slice is unguarded, and an opening of a
-/// slice that wasn't cleared.
+/// that of a slice that isn't retired, that of one under a token that may read it, a refused recycle while a retired slice is
+/// unguarded, and an opening of a slice that wasn't cleared.
 pub fn slices_out_of_turn()
     ensures take { IsLegal paired (event.Take 0 1 0 ∷ []) → ⊥ }
     ensures clear { IsLegal paired (unguarded ++ event.Clear 0 1 ∷ []) → ⊥ }
+    ensures live { IsLegal paired (filled ++ event.Clear 0 0 ∷ []) → ⊥ }
     ensures reader { IsLegal paired (guarded ++ event.Clear 0 0 ∷ []) → ⊥ }
     ensures recycle { IsLegal paired (unguarded ++ event.No 0 call.Recycle ∷ []) → ⊥ }
     ensures opened { IsLegal paired (event.Opened 0 0 true ∷ []) → ⊥ }
 {}
 
-/// Not legal are an event of a pass that isn't there, a take after the pass's own take, one in the middle of its find, and an
-/// event of another pass between an opening for an add and its take.
+/// Not legal are an event of a pass that isn't there, a take after the pass's own take, one in the middle of its find, an end
+/// without a find and one of another pass's find, and an event of another pass between an opening for an add and its take.
 pub fn passes_out_of_turn()
     ensures unknown { IsLegal paired (event.Find 2 [] ∷ []) → ⊥ }
     ensures twice { IsLegal paired (event.Take 0 0 0 ∷ event.Take 0 1 0 ∷ []) → ⊥ }
     ensures finding { IsLegal paired (event.Find 0 [] ∷ event.Take 0 0 0 ∷ []) → ⊥ }
+    ensures unbegun { IsLegal paired (event.End 0 ∷ []) → ⊥ }
+    ensures other_end { IsLegal paired (event.Find 1 [] ∷ event.End 0 ∷ []) → ⊥ }
     ensures between { IsLegal paired (unguarded ++ event.Clear 0 0 ∷ event.Opened 0 0 false ∷ event.Find 1 [] ∷ []) → ⊥ }
 {}
 
-/// Not legal are an add of bits outside its slice, of a number that is live, and on another column than the one that was taken,
-/// and a delete of a number that isn't live.
+/// Not legal are an add of bits outside its slice or past the 64 of a word, of a number that is live, and on another column than
+/// the one that was taken, a drop of a document that can be added, and a delete of a number that isn't live.
 pub fn adds_out_of_place()
     ensures bits { IsLegal paired (event.Take 0 0 0 ∷ event.Add 0 9 [] 0 0 (record { word = 4; bit = 0 } ∷ []) ∷ []) → ⊥ }
     ensures below { IsLegal paired (event.Take 0 0 0 ∷ event.Add 0 9 [] 0 0 [] ∷ event.Take 0 1 0 ∷ event.Add 0 7 [] 1 0 (record { word = 3; bit = 0 } ∷ []) ∷ []) → ⊥ }
+    ensures wide { IsLegal paired (event.Take 0 0 0 ∷ event.Add 0 9 [] 0 0 (record { word = 0; bit = 64 } ∷ []) ∷ []) → ⊥ }
     ensures live { IsLegal paired (event.Take 0 0 0 ∷ event.Add 0 9 [] 0 0 [] ∷ event.Take 0 1 0 ∷ event.Add 0 9 [] 1 0 [] ∷ []) → ⊥ }
     ensures column { IsLegal paired (event.Take 0 0 0 ∷ event.Add 0 9 [] 1 0 [] ∷ []) → ⊥ }
+    ensures dropped { IsLegal paired (event.Take 0 0 0 ∷ event.Drop 0 9 [] 0 0 ∷ []) → ⊥ }
     ensures absent { IsLegal paired (event.Take 0 0 0 ∷ event.Add 0 9 [] 0 0 [] ∷ event.Del 0 7 ∷ []) → ⊥ }
+{}
+
+/// Not legal are an add and a delete that would be one commit more than the journal holds.
+pub fn full_journals_take_no_commit()
+    ensures add { IsLegal (record paired { commits = 1 }) (event.Take 0 0 0 ∷ event.Add 0 9 [] 0 0 [] ∷ event.Take 0 1 0 ∷ event.Add 0 7 [] 1 0 [] ∷ []) → ⊥ }
+    ensures delete { IsLegal (record paired { commits = 1 }) (event.Take 0 0 0 ∷ event.Add 0 9 [] 0 0 [] ∷ event.Del 0 9 ∷ []) → ⊥ }
+{}
+
+/// Not legal are a refusal of an add that has room, of a delete of a live number while the journal has room, and of a call that
+/// only reads, and the reading of a call that doesn't.
+pub fn calls_refused_for_no_cause()
+    ensures add { IsLegal paired (event.No 0 (call.Add 9 []) ∷ []) → ⊥ }
+    ensures delete { IsLegal paired (event.Take 0 0 0 ∷ event.Add 0 9 [] 0 0 [] ∷ event.No 0 (call.Delete 9) ∷ []) → ⊥ }
+    ensures place { IsLegal paired (event.No 0 call.Place ∷ []) → ⊥ }
+    ensures read { IsLegal paired (event.Read 0 (call.Delete 9) ∷ []) → ⊥ }
+{}
+
+/// A find may not read a slice that was being cleared when it began.
+pub fn slices_being_cleared_are_not_read()
+    ensures { MayRead paired.columns (unguarded ++ event.Clear 0 0 ∷ event.Find 1 [] ∷ []) 1 0 → ⊥ }
 {}
 
 /// A recycle that is refused while both slices are guarded is answered by the lower one alone.
@@ -55,7 +82,8 @@ pub fn steps_answer_their_call()
 {}
 
 /// A step is made between calls of the pass. Only a history with so many events is answered Spent, and then the call isn't made;
-/// and only an add, which isn't made then, a find and a journal are answered by want of memory.
+/// and only an add, which isn't made then, a find and a journal are answered by want of memory. The second add of a number is
+/// not answered by the reply to the first.
 pub fn steps_have_their_cause()
     ensures spent { (limits : Limits) (pass : ℕ) (before after : List Event) (asked : Call) → Step limits pass before after asked reply.Spent →
         (limits.events ≤ length after) × AddsNone pass before after }
@@ -69,5 +97,7 @@ pub fn steps_have_their_cause()
     ensures place { (limits : Limits) (pass : ℕ) (before after : List Event) → Step limits pass before after call.Place reply.Memory → ⊥ }
     ensures recycle { (limits : Limits) (pass : ℕ) (before after : List Event) → Step limits pass before after call.Recycle reply.Memory → ⊥ }
     ensures unread { (limits : Limits) (pass : ℕ) (before after : List Event) (asked : Call) → Step limits pass before after asked reply.Line ⊎ Step limits pass before after asked reply.Long → ⊥ }
+    ensures read { (before : List Event) → IsReply paired before (event.Read 0 call.Place) reply.Spent → ⊥ }
+    ensures older { Step small 0 first_added (first_added ++ event.No 0 (call.Add 9 []) ∷ []) (call.Add 9 []) (reply.Added 1) → ⊥ }
     ensures empty { (asked : Call) → Step paired 0 [] [] asked reply.Spent → ⊥ }
 {}

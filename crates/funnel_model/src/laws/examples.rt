@@ -1,19 +1,25 @@
-//! Histories that are legal, and their replies; and what is not legal, no reply or no step.
-ghost use Rattle.std.specs.Prelude.{◌≡◌, false, [], ◌∷◌, ◌++◌};
+//! Histories that are legal, and their replies, steps and blocks. What is not legal, no reply and no step stands in
+//! `counter_examples`.
+ghost use Rattle.std.specs.Prelude.{◌≡◌, true, false, [], ◌∷◌, ◌++◌};
+ghost use Rattle.funnel_model.specs.Blocks.{AreBlocks};
+ghost use Rattle.funnel_model.specs.declared.block.Block.TheVariants as block;
 ghost use Rattle.funnel_model.specs.declared.call.Call.TheVariants as call;
 ghost use Rattle.funnel_model.specs.declared.event.Event.TheVariants as event;
-ghost use Rattle.funnel_model.specs.Example.{AreReplies, episode, episode_replies, filling_and_deleting, reuse, reuse_replies, same_number, same_number_replies, shared, small};
+ghost use Rattle.funnel_model.specs.Example.{AreReplies, episode, episode_calls, episode_replies, filling_and_deleting, reuse, reuse_replies, same_number, same_number_replies, shared, small};
 ghost use Rattle.funnel_model.specs.History.{own};
-ghost use Rattle.funnel_model.specs.Legal.{IsLegal};
-ghost use Rattle.funnel_model.specs.RecycleExample.{covering, guarded, low_bit, not_covering, paired, together, together_replies, unguarded};
+ghost use Rattle.funnel_model.specs.Legal.{IsFull, IsLegal};
+ghost use Rattle.funnel_model.specs.RecycleExample.{both_clearing, covering, guarded, held, low_bit, not_covering, paired, recycled, together, together_replies, unguarded};
 ghost use Rattle.funnel_model.specs.RowWords.{AreFresh, Covers, IsCommitted};
+ghost use Rattle.funnel_model.specs.declared.reply.Reply.TheVariants as reply;
+ghost use Rattle.funnel_model.specs.Steps.{Linear, Step};
 ghost use Rattle.funnel_model.specs.Tokens.{MayRead};
 
 /// There is a legal history with two adds, a find, a refused add of a number that is live and a refused add where no column is
-/// left, and these are its replies.
+/// left, and these are its replies. The calls lead to it from the empty history, one step for each.
 pub fn example()
     ensures legal { IsLegal small episode }
     ensures replies { AreReplies small episode episode_replies }
+    ensures steps { Linear small 0 [] episode episode_calls episode_replies }
 {}
 
 /// There is a legal history that fills a slice, retires it under an open token, clears it, opens it and uses it again. It has
@@ -35,10 +41,28 @@ pub fn drop_example()
 
 /// There is a legal history of two slices with a recycle that is refused where nothing is retired, one that is refused with its
 /// guard, two that are made, and journals from the first commit on, from the second and after the last; in its last events both
-/// passes are inside calls at once. These are its replies.
+/// passes are inside calls at once. These are its replies. Each of the two calls in the last events is a step, with an event of
+/// the other in its midst.
 pub fn recycle_example()
     ensures legal { IsLegal paired together }
     ensures replies { AreReplies paired together together_replies }
+    ensures recycles { Step paired 1 recycled (recycled ++ event.Clear 1 1 ∷ event.Take 0 0 0 ∷ event.Opened 1 1 true ∷ []) call.Recycle (reply.Recycled 1) }
+    ensures adds { Step paired 0 (recycled ++ event.Clear 1 1 ∷ []) together (call.Add 5 []) (reply.Added 5) }
+{}
+
+/// A call that finds no memory, or comes to a history with so many events, is a step that makes no event.
+pub fn steps_without_events()
+    ensures memory { Step small 0 [] [] (call.Add 9 []) reply.Memory }
+    ensures spent { Step (record small { events = 0 }) 0 [] [] call.Place reply.Spent }
+{}
+
+/// These are the blocks of full engines: a live and a pending column, the lower of two live ones, two slices under the token of
+/// pass 1, and two that are being cleared.
+pub fn blocks_example()
+    ensures held { IsFull paired held × AreBlocks paired held (block.Live 0 ∷ block.Pending 0 1 ∷ []) }
+    ensures lowest { AreBlocks small episode (block.Live 0 ∷ []) }
+    ensures guarded { IsFull paired guarded × AreBlocks paired guarded (block.Guarded 1 6 ∷ block.Guarded 1 6 ∷ []) }
+    ensures clearing { IsFull paired both_clearing × AreBlocks paired both_clearing (block.Clearing 0 ∷ block.Clearing 1 ∷ []) }
 {}
 
 /// Row words cover the history where both documents' bits are set, deleted or not, and not with another bit in place of one.

@@ -2,12 +2,13 @@
 ghost use Rattle.std.specs.Prelude.{◌≡◌, ◌==◌, ◌<◌, ◌⊎◌, ℕ, Bool, true, false, List, [], ◌∷◌, ◌++◌, length, None, Some};
 ghost use Rattle.std.specs.List.{All, list_any, range_with_len};
 ghost use Rattle.funnel_model.specs.declared.bit_list.Bit.{Bit};
+ghost use Rattle.funnel_model.specs.declared.call.Call.{Call};
 ghost use Rattle.funnel_model.specs.declared.call.Call.TheVariants as call;
 ghost use Rattle.funnel_model.specs.declared.event.Event.{Event};
 ghost use Rattle.funnel_model.specs.declared.event.Event.TheVariants as event;
 ghost use Rattle.funnel_model.specs.Events.{pass_of};
 ghost use Rattle.funnel_model.specs.History.{last_by};
-ghost use Rattle.funnel_model.specs.Legal.{IsAllowed, IsIdle, IsInSlice, IsLegal, Limits, awaited};
+ghost use Rattle.funnel_model.specs.Legal.{IsAllowed, IsIdle, IsInSlice, IsLegal, Limits, OnlyReads, awaited};
 ghost use Rattle.funnel_model.specs.Slices.{Pending, IsFilled, IsInState, IsRetired, IsRetiredAt, claimed, is_claimed, is_clearing, is_clearing_by};
 ghost use Rattle.funnel_model.specs.Tokens.{HasToken};
 
@@ -85,8 +86,10 @@ pub fn slices_retire_by_a_delete_or_a_drop()
         ⊎ ((pass : ℕ) × (id : ℕ) × (text : List ℕ) × (column : ℕ) × (at.event ≡ event.Drop pass id text slice column)) }
 {}
 
-/// In a legal history in which nothing is awaited, each call of an idle pass can go on: its add takes a column, clears a slice or
-/// is refused, its delete commits or is refused, its recycle clears a slice or is refused, and after a take it adds or drops.
+/// In a legal history in which nothing is awaited, each call of an idle pass can begin: its add takes a column, clears a slice or
+/// is refused, its delete commits or is refused, its recycle clears a slice or is refused, its find begins, and a place or a
+/// journal is read. Each call that began can go on: after a take the pass adds or drops, after a clear it opens the slice for
+/// an add or by itself, and after a find it ends. The take that an opening awaits can follow, where slices have columns.
 pub fn calls_can_go_on()
     ensures add { (limits : Limits) (history : List Event) (pass id : ℕ) (text : List ℕ) → IsLegal limits history →
         pass < limits.passes → awaited history ≡ None → IsIdle pass history →
@@ -102,5 +105,15 @@ pub fn calls_can_go_on()
     ensures taken { (limits : Limits) (history : List Event) (pass slice column id : ℕ) (text : List ℕ) (bits : List Bit) →
         IsLegal limits history → pass < limits.passes → awaited history ≡ None →
         last_by pass history ≡ Some (event.Take pass slice column) → All (λ b. IsInSlice limits.slice_words slice b.word) bits →
-        IsAllowed limits history (event.Add pass id text slice column bits) ⊎ IsAllowed limits history (event.Drop pass id text slice column) }
+        All (λ (b : Bit). b.bit < 64) bits → IsAllowed limits history (event.Add pass id text slice column bits) ⊎ IsAllowed limits history (event.Drop pass id text slice column) }
+    ensures find { (limits : Limits) (history : List Event) (pass : ℕ) (query : List ℕ) → pass < limits.passes → awaited history ≡ None →
+        IsIdle pass history → IsAllowed limits history (event.Find pass query) }
+    ensures read { (limits : Limits) (history : List Event) (pass : ℕ) (asked : Call) → pass < limits.passes → awaited history ≡ None →
+        IsIdle pass history → OnlyReads asked → IsAllowed limits history (event.Read pass asked) }
+    ensures cleared { (limits : Limits) (history : List Event) (pass slice : ℕ) (alone : Bool) → pass < limits.passes → awaited history ≡ None →
+        last_by pass history ≡ Some (event.Clear pass slice) → IsAllowed limits history (event.Opened pass slice alone) }
+    ensures opened { (limits : Limits) (history : List Event) (pass slice : ℕ) → pass < limits.passes → 0 < limits.columns →
+        IsAllowed limits (history ++ event.Opened pass slice false ∷ []) (event.Take pass slice 0) }
+    ensures found { (limits : Limits) (history : List Event) (pass : ℕ) (query : List ℕ) → pass < limits.passes → awaited history ≡ None →
+        last_by pass history ≡ Some (event.Find pass query) → IsAllowed limits history (event.End pass) }
 {}

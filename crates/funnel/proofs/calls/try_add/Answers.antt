@@ -3,7 +3,7 @@ use Rattle.funnel_model.specs.declared.call.Call.TheVariants as call
 use Rattle.funnel_model.specs.declared.event.Event.{Event}
 use Rattle.funnel_model.specs.declared.event.Event.TheVariants as event
 use Rattle.funnel_model.specs.History.{Document, is_live, live, place}
-use Rattle.funnel.specs.Kept.{limits_of}
+use Rattle.funnel.specs.Kept.{program_limits}
 use Rattle.std.proofs.lemmas.List.Elements.{All-weaker}
 use Rattle.std.specs.List.{list_any}
 use Rattle.std.specs.Prelude.{◌==◌}
@@ -76,7 +76,7 @@ returns-in_ok-bits-in-Ok-clause-ok c =
     ∙ ap (λ n. ((i.history ++ clearing_of at) ++ event.Take 0 (slice_of at) (column_of_room at) ∷ []) ++ event.Add 0 c.args.id c.args.text.now (slice_of at) n c.in_ok-bits-in-Ok.bits ∷ []) column in
     let at_place : c.commit.result ≡ place i.history + 1 = let same = ap place before ∙ place_taken i.history at (slice_of at) (column_of_room at) in omega (arith, c.commit.ensures.place) in
     call_added i after c.requires.idle (early c.is_spent.result (length i.history) c.is_spent.ensures.spent c.if-is_spent.false) slices at c.args.id c.args.text.now c.in_ok-bits-in-Ok.bits c.commit.result c.in-Ok.ensures.room at_place whole
-    (subst (λ n. IsLegal (limits_of n) after.history) slices c.commit.ensures.legal)
+    (subst (λ n. IsLegal (program_limits n) after.history) slices c.commit.ensures.legal)
 
 pub returns-in-Err-clause-ok : goal.returns-in-Err-clause-ok
 returns-in-Err-clause-ok c =

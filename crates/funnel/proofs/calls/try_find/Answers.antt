@@ -5,7 +5,7 @@ use Rattle.funnel_model.specs.declared.event.Event.TheVariants as event
 use Rattle.funnel_model.specs.declared.reply.Reply.TheVariants as reply
 use Rattle.funnel_model.specs.History.{answer}
 use Rattle.funnel_model.specs.Legal.{IsLegal}
-use Rattle.funnel.specs.Kept.{limits_of}
+use Rattle.funnel.specs.Kept.{program_limits}
 use Rattle.funnel_model.proofs.LiveLemmas.{answer-silent}
 use Rattle.funnel_model.specs.Words.{AreWordsOf}
 use Rattle.funnel.specs.Calls.{IsCall}
@@ -37,7 +37,7 @@ returns-in-Ok-clause-ok c =
     ∙ ap (λ (ids : List ℕ). reply.Found ids) (answer-silent i.history (event.Find 0 query) query (λ id. refl) refl) in
     subst (IsCall i after (call.Find query)) (sym given)
     (call_found i after c.requires.idle (early c.is_spent.result (length i.history) c.is_spent.ensures.spent c.if-is_spent.false) (second.slices ∙ first.slices) query (answer i.history query) refl whole
-    (subst (λ n. IsLegal (limits_of n) after.history) first.slices second.legal))
+    (subst (λ n. IsLegal (program_limits n) after.history) first.slices second.legal))
 
 pub returns-clause-ok : goal.returns-clause-ok
 returns-clause-ok c =
@@ -50,4 +50,4 @@ returns-clause-ok c =
     let begun : middle.history ≡ i.history ++ event.Find 0 query ∷ [] = first.history ∙ ap (λ (t : List ℕ). i.history ++ event.Find 0 t ∷ []) c.in_ok-draft.ensures.text in
     let whole : after.history ≡ (i.history ++ event.Find 0 query ∷ []) ++ event.End 0 ∷ [] = second.history ∙ ap (λ (h : List Event). h ++ event.End 0 ∷ []) begun in
     call_without_room i after c.requires.idle (early c.is_spent.result (length i.history) c.is_spent.ensures.spent c.if-is_spent.false) (second.slices ∙ first.slices) query whole
-    (subst (λ n. IsLegal (limits_of n) after.history) first.slices second.legal)
+    (subst (λ n. IsLegal (program_limits n) after.history) first.slices second.legal)

@@ -1,8 +1,8 @@
 -- The word lies between the end before, or the start, and its own end.
-use Rattle.std.proofs.Common.{◌≡◌, ◌<◌, ◌≤◌, ◌+◌, ◌-◌, ℕ, List, zero, suc, length, get_or, arith, sym, ap, ◌∙◌, subst}
+use Rattle.std.proofs.Common.{◌≡◌, ◌<◌, ◌≤◌, ◌-◌, ℕ, List, zero, suc, length, get_or, arith, sym, ap, ◌∙◌, subst}
 use Rattle.std.specs.List.{slice_range}
 use Rattle.funnel_model.specs.WordSets.{pieces, EndAt}
-use Rattle.funnel_model.proofs.WordSetLemmas.{end_within, next_from, first_piece, next_piece}
+use Rattle.funnel_model.proofs.WordSetLemmas.{end_within, next_from, next_piece}
 use Rattle.funnel_model.proofs.word_set.word_at.Goals as goal
 
 -- the end before an index that isn't 0 is not behind the end there

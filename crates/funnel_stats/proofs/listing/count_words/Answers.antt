@@ -3,11 +3,11 @@ use Rattle.std.proofs.Common.{◌≡◌, ◌∙◌, ◌++◌, List, Some, map, s
 use Rattle.serde_json.specs.View.{members_view}
 use Rattle.serde_json.proofs.Views.{Entry}
 use Rattle.funnel_model.specs.Listed.{listed_pair, IsInByteOrder}
-use Rattle.funnel_stats.specs.Configurations.{counted}
+use Rattle.funnel_stats.specs.Configurations.{word_counts}
 use Rattle.funnel_stats.specs.Faults.{word_count}
 use Rattle.funnel_stats.specs.Values.{entries, kept}
 use Rattle.funnel_stats.specs.declared.fault.ConfigFault.TheVariants.{WordCount}
-use Rattle.funnel_stats.proofs.EntryLemmas.{word_count-none, word_count-count, word_count-other, counted-count, listed-push, IsInByteOrder-counted}
+use Rattle.funnel_stats.proofs.EntryLemmas.{word_count-none, word_count-count, word_count-other, word_counts-count, listed-push, IsInByteOrder-word_counts}
 use Rattle.funnel_stats.proofs.listing.count_words.Goals as goal
 
 pub loop-word-preserved : goal.loop-word-preserved
@@ -21,9 +21,9 @@ loop-word-preserved c =
           ∙ word_count-count c.args.documents e left is.0;
       words =
           c.loop-word.invariant.words
-          ∙ ap (λ (es : List Entry). map listed_pair c.loop-word.counts.items ++ counted (entries (members_view es))) c.in-Some.ensures.steps
-          ∙ ap (λ rest. map listed_pair c.loop-word.counts.items ++ rest) (counted-count e left c.in-Some-count_of.count is.1)
-          ∙ listed-push _ c.push.new.self.items c.in_ok-clone-2.field-0 _ c.in-Some-count_of.count (counted (entries (members_view left)))
+          ∙ ap (λ (es : List Entry). map listed_pair c.loop-word.counts.items ++ word_counts (entries (members_view es))) c.in-Some.ensures.steps
+          ∙ ap (λ rest. map listed_pair c.loop-word.counts.items ++ rest) (word_counts-count e left c.in-Some-count_of.count is.1)
+          ∙ listed-push _ c.push.new.self.items c.in_ok-clone-2.field-0 _ c.in-Some-count_of.count (word_counts (entries (members_view left)))
           c.in_ok-push.ensures.items c.in_ok-clone-2.ensures.cases;
     }
 
@@ -38,11 +38,11 @@ returns-in_default-clause-answer c =
 
 pub new-requires-2 : goal.new-requires-2
 new-requires-2 c =
-    let all : counted (entries (members_view c.args.listed.now.entries)) ≡ map listed_pair c.loop-word.counts.items =
+    let all : word_counts (entries (members_view c.args.listed.now.entries)) ≡ map listed_pair c.loop-word.counts.items =
     c.loop-word.invariant.words
-    ∙ ap (λ (es : List Entry). map listed_pair c.loop-word.counts.items ++ counted (entries (members_view es))) c.in-None.ensures.steps.0
+    ∙ ap (λ (es : List Entry). map listed_pair c.loop-word.counts.items ++ word_counts (entries (members_view es))) c.in-None.ensures.steps.0
     ∙ append-nil (map listed_pair c.loop-word.counts.items) in
-    subst IsInByteOrder all (IsInByteOrder-counted c.args.listed.now.entries c.into_iter-word-iterator.ensures.into_iter_gives.5)
+    subst IsInByteOrder all (IsInByteOrder-word_counts c.args.listed.now.entries c.into_iter-word-iterator.ensures.into_iter_gives.5)
 
 pub returns-clause-answer : goal.returns-clause-answer
 returns-clause-answer c = (
@@ -51,6 +51,6 @@ returns-clause-answer c = (
       ∙ word_count-none c.args.documents,
   c.new-2.ensures
       ∙ sym (c.loop-word.invariant.words
-      ∙ ap (λ (es : List Entry). map listed_pair c.loop-word.counts.items ++ counted (entries (members_view es))) c.in-None.ensures.steps.0
+      ∙ ap (λ (es : List Entry). map listed_pair c.loop-word.counts.items ++ word_counts (entries (members_view es))) c.in-None.ensures.steps.0
       ∙ append-nil (map listed_pair c.loop-word.counts.items)),
 )

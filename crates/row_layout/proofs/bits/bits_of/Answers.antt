@@ -4,7 +4,7 @@ use Rattle.std.proofs.lemmas.List.{take_all}
 use Rattle.funnel_model.specs.Legal.{IsInSlice}
 use Rattle.funnel_model.specs.Sizes.{words_of_slice}
 use Rattle.funnel_model.specs.declared.bit_list.Bit.{Bit}
-use Rattle.row_layout.specs.DocumentBits.{AreDocumentBits, bit_at}
+use Rattle.row_layout.specs.DocumentBits.{AreDocumentBits, bit_of_row}
 use Rattle.row_layout.specs.Rows.{IsRowOf}
 use Rattle.row_layout.specs.declared.row.Row.{Row}
 use Rattle.row_layout.proofs.BitLemmas.{bit-fits, bits-in_slice, bits-of_words, columns-positive, bits_of_rows, rank-small}
@@ -27,10 +27,10 @@ bit-requires-clause-fits c =
     (omega (arith, c.slice_range-first.ensures.in_range.slices.0)) (columns-positive c.args.layout.now c.slice_range-first.ensures.in_range) c.slice_range-first.ensures.first _ (laid_at c _)
 
 -- the list is the bits of the rows
-bits_are : (c : After-new) → c.new.result ≡ map (bit_at (words_of_slice c.args.layout.now) 0 0) c.in_ok-rows.rows.items
+bits_are : (c : After-new) → c.new.result ≡ map (bit_of_row (words_of_slice c.args.layout.now) 0 0) c.in_ok-rows.rows.items
 bits_are c =
     c.new.ensures ∙ c.loop-row.invariant
-    ∙ ap (map (bit_at (words_of_slice c.args.layout.now) 0 0)) (take_all c.loop-row.row-index c.deref-row-items.result.now (omega arith) ∙ c.deref-row-items.ensures.value)
+    ∙ ap (map (bit_of_row (words_of_slice c.args.layout.now) 0 0)) (take_all c.loop-row.row-index c.deref-row-items.result.now (omega arith) ∙ c.deref-row-items.ensures.value)
 
 pub returns-clause-document_bits : goal.returns-clause-document_bits
 returns-clause-document_bits c =

@@ -1,39 +1,44 @@
-use Rattle.std.proofs.Common.{◌≡◌, Some, None, cond, eqb, sym, ap, ◌∙◌, subst, arith}
-use Rattle.std.proofs.lemmas.Bool.{cond-true}
-use Rattle.std.specs.List.{insert}
-use Rattle.std.specs.Result.{is_ok}
-use Rattle.document_store.specs.Entries.{Entries, RiseByNumber, column_of}
-use Rattle.document_store.specs.declared.live_list.Entry.{Entry}
-use Rattle.document_store.proofs.EntryLemmas.{column_of-insert, place-same, present, rise-insert}
+use Rattle.std.proofs.Common.{◌≡◌, ◌*◌, ◌+◌, ◌<◌, true, cond, eqb, length, set, Some, sym, ap, ◌∙◌, subst, arith, rules}
+use Rattle.std.proofs.lemmas.List.{get_or_default}
+use Rattle.document_store.specs.Chains.{IsTable, bucket_of, end, head_of}
+use Rattle.document_store.specs.Entries.{column_of}
+use Rattle.document_store.proofs.ColumnLemmas.{add-columns, add-keeps, view}
 use Rattle.document_store.proofs.live_list.LiveList.add.Goals as goal
 
--- the entry was put at its place
-put : (c : goal.After-insert) →
-    c.insert.new.self.items ≡ insert c.self.inside.entries.items c.in-Err.index (record { id = c.args.id; slice = c.args.slice; column = c.args.column })
-put c =
-    c.insert.ensures.items
-    ∙ cond-true (is_ok c.insert.result) _ c.self.inside.entries.items
-    (c.insert.ensures.succeeds (omega (arith, c.requires.room, ap (λ (l : Entries). l.room) c.self.view_is)))
+size : (c : goal.After-self-2-1) → c.len.result ≡ length c.self.inside.heads.items
+size c = c.len.ensures ∙ search rules
+
+inside : (c : goal.After-self-2-1) → c.bucket_of-bucket.result < length c.self.inside.heads.items
+inside c = let n = size c in let within = c.bucket_of-bucket.ensures.within in omega (arith, n, within)
+
+bucket_is : (c : goal.After-self-2-1) → c.bucket_of-bucket.result ≡ bucket_of (length c.self.inside.heads.items) c.args.id
+bucket_is c = c.bucket_of-bucket.ensures.bucket ∙ ap (λ n. bucket_of n c.args.id) (size c)
+
+next_is : (c : goal.After-self-2-1) → c.index-next.result.now ≡ head_of c.self.inside.heads.items c.bucket_of-bucket.result
+next_is c = c.index-next.ensures ∙ get_or_default c.self.inside.heads.items c.bucket_of-bucket.result c.index-next.result.now end (inside c)
 
 pub invariant_of-self : goal.invariant_of-self
 invariant_of-self c =
-    let e : Entry = record { id = c.args.id; slice = c.args.slice; column = c.args.column } in
-    subst RiseByNumber (sym (put c))
-    (rise-insert c.self.inside.entries.items c.in-Err.index e c.self.invariant (place-same _ _ c.args.id _ _ c.deref.ensures.value c.in-Err.is c.place_of.ensures))
+    let i = c.self.inside in
+    subst (λ next. IsTable i.slices i.columns (set i.heads.items c.bucket_of-bucket.result (c.args.slice * i.columns + c.args.column))
+    (set i.entries.items (c.args.slice * i.columns + c.args.column) (record { id = c.args.id; next = next; live = true })))
+    (sym (next_is c))
+    (add-keeps i.slices i.columns i.heads.items i.entries.items c.self.invariant c.args.id c.args.slice c.args.column c.bucket_of-bucket.result
+    (bucket_is c) (inside c)
+    (subst (λ l. c.args.slice < l.slices) (sym c.self.view_is) c.requires.slice)
+    (subst (λ l. c.args.column < l.columns) (sym c.self.view_is) c.requires.column)
+    (λ other there. c.requires.free other (sym (ap (λ l. column_of l other) c.self.view_is) ∙ there))
+    (ap (λ l. column_of l c.args.id) c.self.view_is ∙ c.requires.absent))
 
 pub returns-clause-columns : goal.returns-clause-columns
 returns-clause-columns c other =
-    let live : Entries = record { entries = c.self.inside.entries.items; room = c.args.self.now.room } in
-    let left : Entries = record { entries = c.insert.new.self.items; room = c.args.self.now.room } in
-    let none : column_of live c.args.id ≡ None = ap (λ (l : Entries). column_of l c.args.id) c.self.view_is ∙ c.requires.absent in
-    column_of-insert live left c.in-Err.index c.args.id c.args.slice c.args.column (put c) none other
-    ∙ ap (λ (l : Entries). cond (eqb other c.args.id) (Some (c.args.slice, c.args.column)) (column_of l other)) c.self.view_is
-
--- the number isn't there
-pub unreachable-requires : goal.unreachable-requires
-unreachable-requires c =
-    let live : Entries = record { entries = c.self.inside.entries.items; room = c.args.self.now.room } in
-    let none : column_of live c.args.id ≡ None = ap (λ (l : Entries). column_of l c.args.id) c.self.view_is ∙ c.requires.absent in
-    let e : Entry = record { id = c.args.id; slice = c.args.slice; column = c.args.column } in
-    let there = present live c.args.id c.in_default.field-0 e c.self.invariant (place-same _ _ c.args.id _ _ c.deref.ensures.value c.in_default.is c.place_of.ensures) in
-    cc
+    let i = c.self.inside in
+    ap (λ next. column_of (view i.slices i.columns (set i.entries.items (c.args.slice * i.columns + c.args.column) (record { id = c.args.id; next = next; live = true }))) other)
+    (next_is c)
+    ∙ add-columns i.slices i.columns i.heads.items i.entries.items c.self.invariant c.args.id c.args.slice c.args.column c.bucket_of-bucket.result
+    (bucket_is c) (inside c)
+    (subst (λ l. c.args.slice < l.slices) (sym c.self.view_is) c.requires.slice)
+    (subst (λ l. c.args.column < l.columns) (sym c.self.view_is) c.requires.column)
+    (λ other there. c.requires.free other (sym (ap (λ l. column_of l other) c.self.view_is) ∙ there))
+    (ap (λ l. column_of l c.args.id) c.self.view_is ∙ c.requires.absent) other
+    ∙ ap (λ l. cond (eqb other c.args.id) (Some (c.args.slice, c.args.column)) (column_of l other)) c.self.view_is

@@ -4,7 +4,7 @@ use Rattle.funnel_model.specs.declared.event.Event.TheVariants as event
 use Rattle.funnel_model.specs.History.{last_by}
 use Rattle.funnel_model.proofs.LastEvents.{last_is_clearing}
 use Rattle.funnel.specs.Foot.{slice_rows}
-use Rattle.funnel.specs.Kept.{State, limits_of}
+use Rattle.funnel.specs.Kept.{State, program_limits}
 use Rattle.funnel.proofs.KeptEvents.{kept-as, kept-zero}
 use Rattle.funnel.proofs.RowLemmas.{written_back}
 use Rattle.funnel.proofs.index.Index.clear_slice.Goals as goal
@@ -28,7 +28,7 @@ invariant_of-self c =
     let begun : last_by 0 i.events.items ≡ Some (event.Clear 0 s) = subst (λ (x : State). last_by 0 x.history ≡ Some (event.Clear 0 s)) (sym c.self.view_is) c.requires.begun in
     kept-as i.slices _ _ _ _ _ _ _ _ _ _ _ _ _ _ _ _ refl refl refl refl refl (rows_are c) refl refl
     (kept-zero i.slices i.events.items i.journal.items i.records i.live i.counts.items i.rows.items (vec_capacity i.events) (vec_capacity i.journal) c.self.invariant s c.clear_rows.new.words in'
-    (last_is_clearing (limits_of i.slices) i.events.items 0 s c.self.invariant.legal begun)
+    (last_is_clearing (program_limits i.slices) i.events.items 0 s c.self.invariant.legal begun)
     (c.clear_rows.ensures.length ∙ ap length c.deref_mut.ensures.value) c.clear_rows.ensures.zero
     (λ slice row ne within. c.clear_rows.ensures.others (slice * slice_rows + row) (outside slice s row ne within) ∙ ap (λ (ws : List ℕ). get_or ws (slice * slice_rows + row) 0) c.deref_mut.ensures.value))
 

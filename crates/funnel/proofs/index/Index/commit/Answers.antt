@@ -8,6 +8,7 @@ use Rattle.funnel_model.specs.History.{is_live, last_by, place}
 use Rattle.funnel_model.specs.Words.{words}
 use Rattle.funnel.specs.Foot.{IsFoot}
 use Rattle.funnel.specs.Kept.{AllSet, State}
+use Rattle.funnel.proofs.FootLemmas.{foot_in_word}
 use Rattle.funnel.proofs.IndexFacts.{allowed_after, no_entry}
 use Rattle.funnel.proofs.KeptEvents.{kept-add, kept-as, taken_is_pending}
 use Rattle.funnel.proofs.index.Index.commit.Goals as goal
@@ -18,6 +19,29 @@ live-requires-clause-pending c =
     let in' : c.args.claim.slice < i.slices = let h = ap (λ (s : State). s.slices) c.self.view_is in let k = c.requires.claimed.slice_in_range in omega arith in
     let taken = subst (λ (s : State). last_by 0 s.history ≡ Some (event.Take 0 c.args.claim.slice c.args.claim.column)) (sym c.self.view_is) c.requires.claimed.taken in
     (0, taken_is_pending i.slices i.events.items i.journal.items i.records i.live i.counts.items i.rows.items (vec_capacity i.events) (vec_capacity i.journal) c.self.invariant c.args.claim.slice c.args.claim.column in' c.requires.claimed.column_in_range taken)
+
+pub add-requires-clause-slice : goal.add-requires-clause-slice
+add-requires-clause-slice c =
+    let here = c.requires.claimed.slice_in_range in
+    omega (arith, here, ap (λ (s : State). s.slices) c.self.view_is, c.self.invariant.listed.slices_are, c.self.invariant.recorded.slices_are)
+
+pub add-requires-clause-column : goal.add-requires-clause-column
+add-requires-clause-column c =
+    let here = c.requires.claimed.column_in_range in
+    omega (arith, here, c.self.invariant.listed.columns_are, c.self.invariant.recorded.columns_are)
+
+pending_not_live : (added : ℕ) → became.Pending 0 ≡ became.Live added → ⊥
+pending_not_live added is = cc
+
+-- the column that was claimed is pending, so it has no live document
+pub add-requires-clause-free : goal.add-requires-clause-free
+add-requires-clause-free c other found =
+    let i = c.self.inside in
+    let in' : c.args.claim.slice < i.slices = let h = ap (λ (s : State). s.slices) c.self.view_is in let k = c.requires.claimed.slice_in_range in omega arith in
+    let taken = subst (λ (s : State). last_by 0 s.history ≡ Some (event.Take 0 c.args.claim.slice c.args.claim.column)) (sym c.self.view_is) c.requires.claimed.taken in
+    let pending = taken_is_pending i.slices i.events.items i.journal.items i.records i.live i.counts.items i.rows.items (vec_capacity i.events) (vec_capacity i.journal) c.self.invariant c.args.claim.slice c.args.claim.column in' c.requires.claimed.column_in_range taken in
+    let live = (c.self.invariant.listed.listed other c.args.claim.slice c.args.claim.column found).live in
+    pending_not_live live.added (sym pending ∙ live.column)
 
 pub add-requires-clause-absent : goal.add-requires-clause-absent
 add-requires-clause-absent c =
@@ -48,10 +72,10 @@ invariant_of-self c =
     refl refl refl c.push_reserved-2.ensures.capacity c.push_reserved.ensures.capacity
     (kept-add i.slices i.events.items i.journal.items i.records i.live i.counts.items i.rows.items (vec_capacity i.events) (vec_capacity i.journal) c.self.invariant s k doc c.args.bits c.add.new.self in' c.requires.claimed.column_in_range taken
     (allowed_after i.slices i.events.items i.journal.items i.records i.live i.counts.items i.rows.items (vec_capacity i.events) (vec_capacity i.journal) c.self.invariant (event.Add 0 doc.id doc.text s k c.args.bits) (event.Take 0 s k) refl taken refl
-    (record { taken = taken; absent = absent; room = room; inside = c.requires.inside }))
+    (record { taken = taken; absent = absent; room = room; inside = c.requires.inside; in_word = foot_in_word (words doc.text) s k c.args.bits foot c.requires.claimed.column_in_range }))
     c.requires.words foot all_set room none
     (λ other. c.add.ensures.columns other ∙ ap (λ n. cond (other == n) (Some (s, k)) (column_of i.live other)) id)
-    c.add.ensures.room c.add.ensures.count)
+    c.add.ensures.slices c.add.ensures.slice_columns)
 
 pub returns-clause-legal : goal.returns-clause-legal
 returns-clause-legal c = (invariant_of-self c).legal

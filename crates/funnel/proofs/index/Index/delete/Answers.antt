@@ -7,7 +7,7 @@ use Rattle.funnel_model.specs.declared.event.Event.TheVariants as event
 use Rattle.funnel_model.specs.History.{place}
 use Rattle.funnel_model.specs.Legal.{MayDelete}
 use Rattle.funnel.specs.declared.index.Counts.{Counts}
-use Rattle.funnel.specs.Kept.{State, limits_of, no_counts}
+use Rattle.funnel.specs.Kept.{State, program_limits, no_counts}
 use Rattle.funnel.proofs.IndexFacts.{allowed_idle, counts_read, live_entry}
 use Rattle.funnel.proofs.InUse.{few_over}
 use Rattle.funnel.proofs.KeptEvents.{kept-as, kept-delete}
@@ -19,7 +19,7 @@ none_some x is = cc
 pub unreachable-requires : goal.unreachable-requires
 unreachable-requires c =
     let i = c.self.inside in
-    let may : MayDelete (limits_of i.slices) i.events.items 0 c.args.id = subst (λ (s : State). MayDelete (limits_of s.slices) s.history 0 c.args.id) (sym c.self.view_is) c.requires.may in
+    let may : MayDelete (program_limits i.slices) i.events.items 0 c.args.id = subst (λ (s : State). MayDelete (program_limits s.slices) s.history 0 c.args.id) (sym c.self.view_is) c.requires.may in
     let e = live_entry i.slices i.events.items i.journal.items i.records i.live i.counts.items i.rows.items (vec_capacity i.events) (vec_capacity i.journal) c.self.invariant c.args.id may.present in
     none_some (e.slice, e.column) (sym e.entry ∙ sym c.remove.ensures.was ∙ c.in_default.is)
 
@@ -59,7 +59,7 @@ invariant_of-self c =
     let e = c.self.invariant.listed.listed c.args.id s k (sym c.in-Some.ensures.was) in
     let in' : s < i.slices = let below = e.in_table.slice_in_range in let slices = c.self.invariant.recorded.slices_are in omega arith in
     let below : k < 64 = let h = e.in_table.column_in_range in let columns = c.self.invariant.recorded.columns_are in omega arith in
-    let may : MayDelete (limits_of i.slices) i.events.items 0 c.args.id = subst (λ (x : State). MayDelete (limits_of x.slices) x.history 0 c.args.id) (sym c.self.view_is) c.requires.may in
+    let may : MayDelete (program_limits i.slices) i.events.items 0 c.args.id = subst (λ (x : State). MayDelete (program_limits x.slices) x.history 0 c.args.id) (sym c.self.view_is) c.requires.may in
     let long : vec_len i.journal ≡ length i.journal.items = search rules in
     let place_is : c.len.result + 1 ≡ place i.events.items + 1 = omega (arith, c.len.ensures, ap length c.self.invariant.journal_is) in
     let read = counts_read i.slices i.events.items i.journal.items i.records i.live i.counts.items i.rows.items (vec_capacity i.events) (vec_capacity i.journal) c.self.invariant s c.index_mut.result.now in' c.index_mut.ensures.value in
@@ -72,10 +72,10 @@ invariant_of-self c =
     refl (ap (λ (x : Counts). set i.counts.items s (record { claimed = x.claimed; over = x.over + 1 })) read) refl c.push_reserved-2.ensures.capacity c.push_reserved.ensures.capacity
     (kept-delete i.slices i.events.items i.journal.items i.records i.live i.counts.items i.rows.items (vec_capacity i.events) (vec_capacity i.journal) c.self.invariant s k e.doc e.live c.remove.new.self in' below
     (allowed_idle i.slices i.events.items i.journal.items i.records i.live i.counts.items i.rows.items (vec_capacity i.events) (vec_capacity i.journal) c.self.invariant (event.Del 0 e.doc.id) refl may.idle
-    (subst (MayDelete (limits_of i.slices) i.events.items 0) (sym e.number) may))
+    (subst (MayDelete (program_limits i.slices) i.events.items 0) (sym e.number) may))
     may.room
     (λ other. c.in-Some.ensures.columns other ∙ ap (λ n. cond (other == n) None (column_of i.live other)) (sym e.number))
-    c.in-Some.ensures.room c.in-Some.ensures.count)
+    c.in-Some.ensures.slices c.in-Some.ensures.slice_columns)
 
 pub returns-clause-legal : goal.returns-clause-legal
 returns-clause-legal c = (invariant_of-self c).legal

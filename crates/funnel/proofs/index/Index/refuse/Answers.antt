@@ -1,7 +1,7 @@
 use Rattle.std.proofs.Common.{sym, refl, subst, vec_capacity}
 use Rattle.funnel_model.specs.declared.event.Event.TheVariants as event
 use Rattle.funnel_model.specs.Legal.{IsIdle, IsRefused}
-use Rattle.funnel.specs.Kept.{State, limits_of}
+use Rattle.funnel.specs.Kept.{State, program_limits}
 use Rattle.funnel.proofs.IndexFacts.{kept-idle}
 use Rattle.funnel.proofs.KeptEvents.{kept-as, silent_no}
 use Rattle.funnel.proofs.index.Index.refuse.Goals as goal
@@ -14,7 +14,7 @@ invariant_of-self c =
     (subst (λ (s : State). IsIdle 0 s.history) (sym c.self.view_is) c.requires.idle)
     (record {
       idle = subst (λ (s : State). IsIdle 0 s.history) (sym c.self.view_is) c.requires.idle;
-      refused = subst (λ (s : State). IsRefused (limits_of s.slices) s.history c.args.asked) (sym c.self.view_is) c.requires.refused;
+      refused = subst (λ (s : State). IsRefused (program_limits s.slices) s.history c.args.asked) (sym c.self.view_is) c.requires.refused;
     })
     (silent_no 0 c.args.asked))
 

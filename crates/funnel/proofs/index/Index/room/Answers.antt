@@ -6,9 +6,10 @@ use Rattle.std.specs.List.{position}
 use Rattle.std.specs.Prelude.{◌==◌}
 use Rattle.funnel_model.specs.Legal.{IsFull, IsIdle, MayTake}
 use Rattle.funnel.specs.declared.index.Counts.{Counts}
-use Rattle.funnel.specs.Kept.{MayReuse, State, limits_of, no_counts}
+use Rattle.funnel.specs.Kept.{MayReuse, State, program_limits, no_counts}
 use Rattle.funnel.proofs.IndexFacts.{counts_read}
-use Rattle.funnel.proofs.RoomFacts.{full_by, may_clear, may_reuse, may_take, position-none}
+use Rattle.funnel_model.proofs.SliceSetLemmas.{position-none}
+use Rattle.funnel.proofs.RoomFacts.{full_by, may_clear, may_reuse, may_take}
 use Rattle.funnel.proofs.index.Index.room.Goals as goal
 
 both : (b : Bool) → b ≡ true → b ≡ false → ⊥
@@ -32,8 +33,8 @@ returns-in-Some-clause-room c =
     let read = counts_read i.slices i.events.items i.journal.items i.records i.live i.counts.items i.rows.items (vec_capacity i.events) (vec_capacity i.journal) c.self.invariant s c.index.result.now in' c.index.ensures in
     let may = may_take i.slices i.events.items i.journal.items i.records i.live i.counts.items i.rows.items (vec_capacity i.events) (vec_capacity i.journal) c.self.invariant idle s in'
     (below_tells (get_or i.counts.items s no_counts).claimed found.1) (λ lower less. above_tells (get_or i.counts.items lower no_counts).claimed (found.2 lower less)) in
-    subst (λ (x : State). MayTake (limits_of x.slices) x.history 0 s c.index.result.now.claimed) c.self.view_is
-    (subst (λ (x : Counts). MayTake (limits_of i.slices) i.events.items 0 s x.claimed) (sym read) may)
+    subst (λ (x : State). MayTake (program_limits x.slices) x.history 0 s c.index.result.now.claimed) c.self.view_is
+    (subst (λ (x : Counts). MayTake (program_limits i.slices) i.events.items 0 s x.claimed) (sym read) may)
 
 pub returns-in-Some-clause-in_range : goal.returns-in-Some-clause-in_range
 returns-in-Some-clause-in_range c =
@@ -70,7 +71,7 @@ returns-in-None-clause-full c =
     let filled : position (λ (x : Counts). nat_lt x.claimed 64) i.counts.items ≡ None = ap (position (λ (x : Counts). nat_lt x.claimed 64)) (sym c.as_slice.ensures.value) ∙ sym c.lowest_unfilled.ensures ∙ c.in_default.is in
     let not_over : position (λ (x : Counts). x.over == 64) i.counts.items ≡ None = ap (position (λ (x : Counts). x.over == 64)) (sym c.as_slice-2.ensures.value) ∙ sym c.in-None.ensures in
     let size = c.self.invariant.counted.size in
-    subst (λ (x : State). IsFull (limits_of x.slices) x.history) c.self.view_is
+    subst (λ (x : State). IsFull (program_limits x.slices) x.history) c.self.view_is
     (full_by i.slices i.events.items i.journal.items i.records i.live i.counts.items i.rows.items (vec_capacity i.events) (vec_capacity i.journal) c.self.invariant idle
     (λ slice below. above_tells (get_or i.counts.items slice no_counts).claimed (position-none (λ (x : Counts). nat_lt x.claimed 64) i.counts.items no_counts filled slice (omega arith)))
     (λ slice below. eqb-false (get_or i.counts.items slice no_counts).over 64 (position-none (λ (x : Counts). x.over == 64) i.counts.items no_counts not_over slice (omega arith))))

@@ -5,7 +5,7 @@ use Rattle.funnel_model.specs.declared.event.Event.TheVariants as event
 use Rattle.funnel_model.specs.Legal.{MayFollow}
 use Rattle.funnel_model.specs.Slices.{claimed}
 use Rattle.funnel.specs.declared.index.Counts.{Counts}
-use Rattle.funnel.specs.Kept.{State, limits_of, no_counts}
+use Rattle.funnel.specs.Kept.{State, program_limits, no_counts}
 use Rattle.funnel.proofs.IndexFacts.{NextColumn, next_column, take_allowed}
 use Rattle.funnel.proofs.KeptEvents.{kept-as, kept-take}
 use Rattle.funnel.proofs.index.Index.take.Goals as goal
@@ -42,8 +42,8 @@ invariant_of-self c =
     let second = next_column i.slices i.events.items i.journal.items i.records i.live i.counts.items i.rows.items (vec_capacity i.events) (vec_capacity i.journal) c.self.invariant c.args.slice c.index_mut.result.now in' c.index_mut.ensures.value left in
     let k = (get_or i.counts.items c.args.slice no_counts).claimed in
     let column : c.index.result.now.claimed ≡ k = ap (λ (x : Counts). x.claimed) first.same in
-    let may : MayFollow (limits_of i.slices) i.events.items (event.Take 0 c.args.slice (length (claimed c.args.slice i.events.items))) =
-    subst (λ (s : State). MayFollow (limits_of s.slices) s.history (event.Take 0 c.args.slice (length (claimed c.args.slice s.history)))) (sym c.self.view_is) c.requires.may in
+    let may : MayFollow (program_limits i.slices) i.events.items (event.Take 0 c.args.slice (length (claimed c.args.slice i.events.items))) =
+    subst (λ (s : State). MayFollow (program_limits s.slices) s.history (event.Take 0 c.args.slice (length (claimed c.args.slice s.history)))) (sym c.self.view_is) c.requires.may in
     kept-as i.slices _ c.push_reserved.new.self.items _ _ _ c.claim.new.self _ _ _ _ _ _ _ _ _ _
     (c.push_reserved.ensures.items ∙ ap (λ n. i.events.items ++ event.Take 0 c.args.slice n ∷ []) column) refl
     (c.claim.ensures ∙ ap (λ n. with_slot i.records c.args.slice n (record { column = became.Pending 0; doc = None })) column) refl

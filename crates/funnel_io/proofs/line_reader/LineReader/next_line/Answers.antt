@@ -1,7 +1,21 @@
-use Rattle.std.proofs.Common.{sym, ◌∙◌, arith}
+use Rattle.std.proofs.Common.{refl, sym, ◌∙◌, arith}
 use Rattle.funnel_io.specs.LineReading.{IsDecided}
-use Rattle.funnel_io.proofs.LineLaws.{reads_twice, next_after, undecided, stopped}
+use Rattle.funnel_io.proofs.LineLaws.{undecided, stopped}
+use Rattle.funnel_io.proofs.ReadingLaws.{answered, answered_then, has_read_on, read_none}
 use Rattle.funnel_io.proofs.line_reader.LineReader.next_line.Goals as goal
+
+pub loop-line-init : goal.loop-line-init
+loop-line-init g c = record {
+  has_read = read_none g.C.Source.incoming g.C.Source.read_gives c.args.conn.now c.args.self.now c.args.left.now;
+  ended = refl;
+  no_more = omega arith;
+  faults = refl;
+  borrowed = refl;
+  beside = refl;
+  unmoved = λ decided. refl;
+  untouched = λ decided. refl;
+  uncounted = λ decided. refl;
+}
 
 pub loop-line-preserved : goal.loop-line-preserved
 loop-line-preserved g c =
@@ -9,8 +23,9 @@ loop-line-preserved g c =
     undecided c.held_line.new.self c.loop-line.left c.in_default.ensures.undecided.0 c.in_default.ensures.undecided.1 (omega arith)
     (rw (c.in_default.ensures.line, c.loop-line.invariant.unmoved decided, c.loop-line.invariant.uncounted decided) decided) in
     record {
-      reads_on = reads_twice _ c.loop-line.self _ _ (g.C.Source.incoming c.loop-line.conn) _ _ _ _ c.loop-line.invariant.reads_on
-          (rw c.in_default.ensures.line at c.in-Bytes.ensures.reads_on);
+      has_read = has_read_on g.C.Source.incoming g.C.Source.read_gives c.args.conn.now c.loop-line.conn c.args.self.now c.loop-line.self c.args.left.now c.loop-line.left c.loop-line.invariant.has_read
+          c.read_more.new.conn c.read_more.new.self _ c.read_more.new.left (rw c.in_default.ensures.line at c.in-Bytes.ensures.next)
+          (rw c.in_default.ensures.line at c.in_default.ensures.undecided.0) (rw c.in_default.ensures.line at c.in_default.ensures.undecided.1) (omega arith) c.in-Bytes.field-0 refl;
       ended = c.in-Bytes.ensures.ended
           ∙ (sym c.in_default.ensures.undecided.1 ∙ (c.in_default.ensures.ended ∙ c.loop-line.invariant.ended));
       no_more = omega (arith, c.loop-line.invariant.no_more, rw c.in_default.ensures.line at c.in-Bytes.ensures.no_more);
@@ -22,22 +37,29 @@ loop-line-preserved g c =
       uncounted = λ decided. absurd (impossible decided);
     }
 
+pub returns-in-Some-clause-next : goal.returns-in-Some-clause-next
+returns-in-Some-clause-next g c =
+    answered g.C.Source.incoming g.C.Source.read_gives c.args.conn.now c.loop-line.conn c.args.self.now c.loop-line.self c.args.left.now c.loop-line.left c.loop-line.invariant.has_read
+    c.held_line.new.self c.in-Some.line c.held_line.ensures.ended c.in-Some.ensures.line
+
 pub returns-then-left-eq0-clause-next : goal.returns-then-left-eq0-clause-next
 returns-then-left-eq0-clause-next g c =
-    next_after _ c.loop-line.self _ _ _ (g.C.Source.incoming c.loop-line.conn) _ _ c.loop-line.invariant.reads_on
+    answered g.C.Source.incoming g.C.Source.read_gives c.args.conn.now c.loop-line.conn c.args.self.now c.loop-line.self c.args.left.now c.loop-line.left c.loop-line.invariant.has_read
+    c.held_line.new.self _ c.held_line.ensures.ended
     (rw (← c.in_default.ensures.line)
     (λ taken given so_far. (stopped c.held_line.new.self c.in_default.ensures.undecided.0 c.in_default.ensures.undecided.1 taken given so_far, so_far)))
 
 pub returns-in-End-clause-next : goal.returns-in-End-clause-next
 returns-in-End-clause-next g c =
-    next_after _ c.read_more.new.self _ _ _ (g.C.Source.incoming c.read_more.new.conn) _ _
-    (reads_twice _ c.loop-line.self _ _ (g.C.Source.incoming c.loop-line.conn) _ _ _ _ c.loop-line.invariant.reads_on
-    (rw c.in_default.ensures.line at c.in-End.ensures.reads_on))
-    c.last_line.ensures.line
+    answered_then g.C.Source.incoming g.C.Source.read_gives c.args.conn.now c.loop-line.conn c.args.self.now c.loop-line.self c.args.left.now c.loop-line.left c.loop-line.invariant.has_read
+    c.read_more.new.conn c.read_more.new.self _ c.read_more.new.left (rw c.in_default.ensures.line at c.in-End.ensures.next)
+    (rw c.in_default.ensures.line at c.in_default.ensures.undecided.0) (rw c.in_default.ensures.line at c.in_default.ensures.undecided.1) (omega arith)
+    c.last_line.new.self _ (c.last_line.ensures.ended ∙ sym c.in-End.ensures.ended) c.last_line.ensures.line
 
 pub returns-in-Failed-clause-next : goal.returns-in-Failed-clause-next
 returns-in-Failed-clause-next g c =
-    next_after _ c.read_more.new.self _ _ _ (g.C.Source.incoming c.read_more.new.conn) _ _
-    (reads_twice _ c.loop-line.self _ _ (g.C.Source.incoming c.loop-line.conn) _ _ _ _ c.loop-line.invariant.reads_on
-    (rw c.in_default.ensures.line at c.in-Failed.ensures.reads_on))
+    answered_then g.C.Source.incoming g.C.Source.read_gives c.args.conn.now c.loop-line.conn c.args.self.now c.loop-line.self c.args.left.now c.loop-line.left c.loop-line.invariant.has_read
+    c.read_more.new.conn c.read_more.new.self _ c.read_more.new.left (rw c.in_default.ensures.line at c.in-Failed.ensures.next)
+    (rw c.in_default.ensures.line at c.in_default.ensures.undecided.0) (rw c.in_default.ensures.line at c.in_default.ensures.undecided.1) (omega arith)
+    c.read_more.new.self _ refl
     (λ taken given so_far. (stopped c.read_more.new.self c.in-Failed.ensures.clean c.in-Failed.ensures.ended taken given so_far, so_far))

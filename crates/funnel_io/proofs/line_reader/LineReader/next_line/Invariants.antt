@@ -1,11 +1,11 @@
 use Rattle.std.proofs.Common.{◌≡◌, ◌≤◌, ◌+◌}
 use Rattle.funnel_io.specs.LineReading.{IsDecided, most_lines}
-use Rattle.funnel_io.specs.LineSteps.{ReadsOn}
+use Rattle.funnel_io.proofs.ReadingLaws.{HasRead}
 use Rattle.funnel_io.proofs.line_reader.LineReader.next_line.Given as goal
 
 abbrev pub invariant-loop-line : goal.invariant-loop-line
 invariant-loop-line g l = record {
-  reads_on : ReadsOn l.fn.self l.self (g.C.Source.incoming l.fn.conn) (g.C.Source.incoming l.conn) l.fn.left l.left;
+  has_read : HasRead g.C.Source.incoming g.C.Source.read_gives l.fn.conn l.conn l.fn.self l.self l.fn.left l.left;
   ended : l.self.ended ≡ l.fn.self.ended;
   no_more : most_lines l.self.held l.self.long + l.left ≤ most_lines l.fn.self.held l.fn.self.long + l.fn.left;
   faults : (g.C.Source.incoming l.conn).faults ≡ (g.C.Source.incoming l.fn.conn).faults;

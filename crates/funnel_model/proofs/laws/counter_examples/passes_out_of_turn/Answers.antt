@@ -25,6 +25,15 @@ returns-clause-finding c legal =
     (λ r. let other = r.opened in cc)
     (allowed_within paired (before ++ event.Take 0 0 0 ∷ []) before (event.Take 0 0 0) [] legal refl).rule
 
+pub returns-clause-unbegun : goal.returns-clause-unbegun
+returns-clause-unbegun c legal =
+    let none = (allowed_within paired (event.End 0 ∷ []) [] (event.End 0) [] legal refl).rule.begun in cc
+
+pub returns-clause-other_end : goal.returns-clause-other_end
+returns-clause-other_end c legal =
+    let before = event.Find 1 [] ∷ [] in
+    let none = (allowed_within paired (before ++ event.End 0 ∷ []) before (event.End 0) [] legal refl).rule.begun in cc
+
 pub returns-clause-between : goal.returns-clause-between
 returns-clause-between c legal =
     let before = unguarded ++ event.Clear 0 0 ∷ event.Opened 0 0 false ∷ [] in

@@ -2,10 +2,10 @@ use Rattle.std.proofs.Common.{true, [], ◌∷◌, ◌++◌, ⊎_elim, refl, ari
 use Rattle.funnel_model.specs.declared.call.Call.TheVariants as call
 use Rattle.funnel_model.specs.declared.event.Event.TheVariants as event
 use Rattle.funnel_model.specs.Legal.{CanClear}
-use Rattle.funnel_model.specs.RecycleExample.{guarded, paired, unguarded}
+use Rattle.funnel_model.specs.RecycleExample.{filled, guarded, paired, unguarded}
 use Rattle.funnel_model.proofs.Histories.{allowed_within}
 use Rattle.funnel_model.proofs.RecycleFacts.{low_guarded, low_over, low_unguarded}
-use Rattle.funnel_model.proofs.SpareLemmas.{room_by}
+use Rattle.funnel_model.proofs.SpareLemmas.{not_retired, room_by}
 use Rattle.funnel_model.proofs.laws.counter_examples.slices_out_of_turn.Goals as goal
 
 pub returns-clause-take : goal.returns-clause-take
@@ -25,6 +25,11 @@ can = record {
 pub returns-clause-clear : goal.returns-clause-clear
 returns-clause-clear c legal =
     (allowed_within paired (unguarded ++ event.Clear 0 1 ∷ []) unguarded (event.Clear 0 1) [] legal refl).rule.lowest 0 (omega arith) can
+
+pub returns-clause-live : goal.returns-clause-live
+returns-clause-live c legal =
+    not_retired 1 0 0 filled (omega arith) refl refl
+    (allowed_within paired (filled ++ event.Clear 0 0 ∷ []) filled (event.Clear 0 0) [] legal refl).rule.can_clear.retired
 
 pub returns-clause-reader : goal.returns-clause-reader
 returns-clause-reader c legal =

@@ -1,7 +1,11 @@
-use Rattle.std.proofs.Common.{[], ⊎_elim, refl, arith}
+use Rattle.std.proofs.Common.{[], ◌∷◌, ◌++◌, ⊎_elim, refl, arith}
+use Rattle.funnel_model.specs.declared.call.Call.TheVariants as call
+use Rattle.funnel_model.specs.declared.event.Event.TheVariants as event
 use Rattle.funnel_model.specs.declared.reply.Reply.TheVariants as reply
+use Rattle.funnel_model.specs.Example.{first_added, small}
 use Rattle.funnel_model.specs.RecycleExample.{paired}
-use Rattle.funnel_model.proofs.StepCauses.{memory_cause, never_unread, spent_cause}
+use Rattle.funnel_model.specs.Steps.{AnswersLast}
+use Rattle.funnel_model.proofs.StepCauses.{memory_cause, never_unread, one_answer, spent_cause}
 use Rattle.funnel_model.proofs.laws.counter_examples.steps_have_their_cause.Goals as goal
 
 pub returns-clause-spent : goal.returns-clause-spent
@@ -28,6 +32,20 @@ returns-clause-recycle c limits pass before after step = memory_cause limits pas
 pub returns-clause-unread : goal.returns-clause-unread
 returns-clause-unread c limits pass before after asked step =
     ⊎_elim (λ line. never_unread limits pass before after asked reply.Line refl line) (λ long. never_unread limits pass before after asked reply.Long refl long) step
+
+pub returns-clause-read : goal.returns-clause-read
+returns-clause-read c before is = cc
+
+-- the second add is answered that the number is present
+refused : AnswersLast small 0 (first_added ++ event.No 0 (call.Add 9 []) ∷ []) (call.Add 9 []) (reply.Present 1)
+refused = record { earlier = first_added; event = event.No 0 (call.Add 9 []); later = []; whole = refl; call = refl; last = refl; reply = refl }
+
+pub returns-clause-older : goal.returns-clause-older
+returns-clause-older c step =
+    ⊎_elim
+    (λ made. let same = one_answer small 0 (first_added ++ event.No 0 (call.Add 9 []) ∷ []) (call.Add 9 []) (call.Add 9 []) (reply.Added 1) (reply.Present 1) made.answered refused in cc)
+    (λ rest. ⊎_elim (λ lacks. let other = lacks.reply in cc) (λ spent. let other = spent.reply in cc) rest)
+    step.outcome
 
 pub returns-clause-empty : goal.returns-clause-empty
 returns-clause-empty c asked step = let many = (spent_cause paired 0 [] [] asked step).0 in omega arith

@@ -3,7 +3,7 @@ use Rattle.unicode_segmentation.proofs.Computing.{unicode_segmentation}
 use Rattle.funnel_model.specs.declared.event.Event.TheVariants as event
 use Rattle.funnel_model.specs.Example.{shared}
 use Rattle.funnel_model.specs.Legal.{MayFollow}
-use Rattle.funnel_model.proofs.ExampleLemmas.{no_bits}
+use Rattle.funnel_model.proofs.ExampleLemmas.{no_bits, none_wide}
 use Rattle.funnel_model.proofs.SpareLemmas.{room_by}
 use Rattle.funnel_model.proofs.laws.examples.drop_example.Goals as goal
 
@@ -32,7 +32,7 @@ returns-clause-legal c = (
   (
     record { pass = omega arith; at_once = tt; rule = second },
     (
-      record { pass = omega arith; at_once = tt; rule = record { taken = refl; absent = refl; room = omega arith; inside = no_bits } },
+      record { pass = omega arith; at_once = tt; rule = record { taken = refl; absent = refl; room = omega arith; inside = no_bits; in_word = none_wide } },
       (
         record { pass = omega arith; at_once = tt; rule = record { taken = refl; refused = inl refl } },
         tt,

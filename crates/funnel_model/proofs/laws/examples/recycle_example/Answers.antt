@@ -1,30 +1,29 @@
-use Rattle.std.proofs.Common.{refl, arith, inl, inr}
+use Rattle.std.proofs.Common.{true, [], ◌∷◌, ◌++◌, refl, inl, inr}
 use Rattle.caseless.proofs.Computing.{caseless}
 use Rattle.unicode_segmentation.proofs.Computing.{unicode_segmentation}
-use Rattle.funnel_model.specs.RecycleExample.{guarded, paired}
-use Rattle.funnel_model.specs.Steps.{IsLowestGuarded}
-use Rattle.funnel_model.proofs.ExampleLemmas.{one_slice}
-use Rattle.funnel_model.proofs.RecycleFacts.{low_guarded, nothing_retired, together_is_legal}
-use Rattle.funnel_model.proofs.SpareLemmas.{finds_last, token_finds_last}
-use Rattle.std.proofs.lemmas.Bool.{both_ways}
+use Rattle.funnel_model.specs.declared.call.Call.TheVariants as call
+use Rattle.funnel_model.specs.declared.event.Event.TheVariants as event
+use Rattle.funnel_model.specs.declared.reply.Reply.TheVariants as reply
+use Rattle.funnel_model.specs.RecycleExample.{paired, recycled}
+use Rattle.funnel_model.proofs.Histories.{legal_before}
+use Rattle.funnel_model.proofs.RecycleFacts.{low_is_lowest, nothing_retired, together_is_legal}
+use Rattle.funnel_model.proofs.StepLemmas.{step_made}
 use Rattle.funnel_model.proofs.laws.examples.recycle_example.Goals as goal
 
 pub returns-clause-legal : goal.returns-clause-legal
 returns-clause-legal c = together_is_legal
 
--- slice 0 is the lowest that is retired, and pass 1 guards it and pass 0 doesn't
-lowest : IsLowestGuarded paired guarded 0 1
-lowest = record {
-  in_range = omega arith;
-  retired = low_guarded.retired;
-  lowest = λ lower in'. absurd (omega arith);
-  number = 6;
-  guard = record {
-    guards = low_guarded;
-    lowest = one_slice _ (λ number guards. both_ways (finds_last 0 guarded) refl (token_finds_last guarded 0 number guards.token));
-  };
-}
-
 pub returns-clause-replies : goal.returns-clause-replies
 unfolding unicode_segmentation caseless
-returns-clause-replies c = inr (_, _, refl, nothing_retired, inl (refl, inr (_, _, refl, refl, inl (refl, inr (_, _, refl, refl, inr (_, _, refl, refl, inr (_, _, refl, refl, inr (_, _, refl, refl, inr (_, _, refl, lowest, inl (refl, inl (refl, inr (_, _, refl, (refl, refl), inr (_, _, refl, refl, inr (_, _, refl, refl, inr (_, _, refl, refl, inl (refl, inl (refl, inr (_, _, refl, (refl, refl), inr (_, _, refl, refl, refl)))))))))))))))))))
+returns-clause-replies c = inr (_, _, refl, nothing_retired, inl (refl, inr (_, _, refl, refl, inl (refl, inr (_, _, refl, refl, inr (_, _, refl, refl, inr (_, _, refl, refl, inr (_, _, refl, refl, inr (_, _, refl, low_is_lowest, inl (refl, inl (refl, inr (_, _, refl, (refl, refl), inr (_, _, refl, refl, inr (_, _, refl, refl, inr (_, _, refl, refl, inl (refl, inl (refl, inr (_, _, refl, (refl, refl), inr (_, _, refl, refl, refl)))))))))))))))))))
+
+pub returns-clause-recycles : goal.returns-clause-recycles
+returns-clause-recycles c =
+    let front = recycled ++ event.Clear 1 1 ∷ event.Take 0 0 0 ∷ event.Opened 1 1 true ∷ [] in
+    step_made paired 1 recycled (event.Clear 1 1 ∷ event.Take 0 0 0 ∷ []) (event.Opened 1 1 true) [] call.Recycle (reply.Recycled 1) refl refl refl refl
+    (refl, refl) (legal_before paired front (event.Add 0 5 [] 0 0 [] ∷ []) together_is_legal) refl
+
+pub returns-clause-adds : goal.returns-clause-adds
+returns-clause-adds c =
+    step_made paired 0 (recycled ++ event.Clear 1 1 ∷ []) (event.Take 0 0 0 ∷ event.Opened 1 1 true ∷ []) (event.Add 0 5 [] 0 0 []) [] (call.Add 5 []) (reply.Added 5)
+    refl refl refl refl refl together_is_legal refl

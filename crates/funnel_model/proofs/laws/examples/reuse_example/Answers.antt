@@ -10,7 +10,7 @@ use Rattle.funnel_model.specs.Example.{shared}
 use Rattle.funnel_model.specs.Legal.{GoesOn}
 use Rattle.funnel_model.specs.Slices.{AllOver, Deleted}
 use Rattle.funnel_model.specs.Tokens.{IsGuarded}
-use Rattle.funnel_model.proofs.ExampleLemmas.{one_slice, two_columns, no_bits}
+use Rattle.funnel_model.proofs.ExampleLemmas.{one_slice, two_columns, no_bits, none_wide}
 use Rattle.funnel_model.proofs.Histories.{goes_on_join}
 use Rattle.funnel_model.proofs.SpareLemmas.{not_over, not_retired, room_by, token_finds_last}
 use Rattle.funnel_model.proofs.laws.examples.reuse_example.Goals as goal
@@ -106,11 +106,11 @@ filling_is_legal : GoesOn shared [] filling
 filling_is_legal = (
   record { pass = omega arith; at_once = tt; rule = inl (record { idle = tt; in_range = omega arith; room = room_by 2 0 0 _ (omega arith) refl refl refl refl; lowest = λ lower in'. absurd (omega arith); next = refl }) },
   (
-    record { pass = omega arith; at_once = tt; rule = record { taken = refl; absent = refl; room = omega arith; inside = no_bits } },
+    record { pass = omega arith; at_once = tt; rule = record { taken = refl; absent = refl; room = omega arith; inside = no_bits; in_word = none_wide } },
     (
       record { pass = omega arith; at_once = tt; rule = inl (record { idle = refl; in_range = omega arith; room = room_by 2 0 1 _ (omega arith) refl refl refl refl; lowest = λ lower in'. absurd (omega arith); next = refl }) },
       (
-        record { pass = omega arith; at_once = tt; rule = record { taken = refl; absent = refl; room = omega arith; inside = no_bits } },
+        record { pass = omega arith; at_once = tt; rule = record { taken = refl; absent = refl; room = omega arith; inside = no_bits; in_word = none_wide } },
         tt,
       ),
     ),
@@ -149,7 +149,7 @@ clearing_is_legal = (
     (
       record { pass = omega arith; at_once = refl; rule = inr (record { opened = refl; first = refl; in_range = omega arith }) },
       (
-        record { pass = omega arith; at_once = tt; rule = record { taken = refl; absent = refl; room = omega arith; inside = no_bits } },
+        record { pass = omega arith; at_once = tt; rule = record { taken = refl; absent = refl; room = omega arith; inside = no_bits; in_word = none_wide } },
         tt,
       ),
     ),

@@ -1,5 +1,5 @@
 -- The next word ends within the buffer.
-use Rattle.std.proofs.Common.{rules, ◌≡◌, ◌∷◌, ◌≤◌, length, subst}
+use Rattle.std.proofs.Common.{rules, ◌≡◌, ◌∷◌, length, subst}
 use Rattle.funnel_model.specs.WordSets.{EndAt}
 use Rattle.funnel_model.proofs.WordSetLemmas.{start_within}
 use Rattle.funnel_model.proofs.word_set.WordsIterator.next.Goals as goal

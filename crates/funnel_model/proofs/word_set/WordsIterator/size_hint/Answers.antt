@@ -1,5 +1,5 @@
 -- There is a word for each end that is left.
-use Rattle.std.proofs.Common.{◌≡◌, ◌≤◌, length, ap, sym, ◌∙◌, List, ℕ, arith}
+use Rattle.std.proofs.Common.{◌≡◌, length, ap, sym, ◌∙◌, List, ℕ, arith}
 use Rattle.funnel_model.proofs.WordSetLemmas.{length-pieces}
 use Rattle.funnel_model.proofs.word_set.WordsIterator.size_hint.Goals as goal
 

@@ -2,6 +2,7 @@ use Rattle.std.proofs.Common.{◌≡◌, ◌<◌, ℕ, List, length, refl, ap}
 use Rattle.std.proofs.lemmas.Bool.{lt-ltb}
 use Rattle.line_proto.specs.Forms.{TooLong, form_of, item_from, item_of}
 use Rattle.std.specs.Prelude.{if◌then◌else◌}
+use Rattle.funnel_io.specs.Calls.{bytes_read}
 use Rattle.session.proofs.serving.Server.next_reply.Goals as goal
 
 -- a line that is too long is no other item
@@ -10,7 +11,7 @@ too_long line long = ap (λ b. if b then TooLong else item_from (form_of line)) 
 
 pub returns-in-Whole-clause-answers : goal.returns-in-Whole-clause-answers
 returns-in-Whole-clause-answers g c = record {
-  bytes = c.in-Whole.ensures.next.bytes;
+  bytes = bytes_read c.in-Whole.ensures.next.reads;
   takes = c.in-Whole.ensures.next.takes;
   count = c.in-Whole.ensures.next.count;
   faults = c.in-Whole.ensures.faults;
@@ -24,7 +25,7 @@ returns-in-Whole-clause-answers g c = record {
 
 pub returns-in-Long-clause-answers : goal.returns-in-Long-clause-answers
 returns-in-Long-clause-answers g c = record {
-  bytes = c.in-Long.ensures.next.bytes;
+  bytes = bytes_read c.in-Long.ensures.next.reads;
   takes = c.in-Long.ensures.next.takes;
   count = c.in-Long.ensures.next.count;
   faults = c.in-Long.ensures.faults;
@@ -39,7 +40,7 @@ returns-in-Long-clause-answers g c = record {
 
 pub returns-in-Failed-clause-ends : goal.returns-in-Failed-clause-ends
 returns-in-Failed-clause-ends g c = record {
-  bytes = c.in-Failed.ensures.next.bytes;
+  bytes = bytes_read c.in-Failed.ensures.next.reads;
   takes = c.in-Failed.ensures.next.takes;
   count = c.in-Failed.ensures.next.count;
   faults = c.in-Failed.ensures.faults;
@@ -50,7 +51,7 @@ returns-in-Failed-clause-ends g c = record {
 
 pub returns-in-Limit-clause-ends : goal.returns-in-Limit-clause-ends
 returns-in-Limit-clause-ends g c = record {
-  bytes = c.in-Limit.ensures.next.bytes;
+  bytes = bytes_read c.in-Limit.ensures.next.reads;
   takes = c.in-Limit.ensures.next.takes;
   count = c.in-Limit.ensures.next.count;
   faults = c.in-Limit.ensures.faults;
@@ -61,11 +62,51 @@ returns-in-Limit-clause-ends g c = record {
 
 pub returns-in-Finished-clause-ends : goal.returns-in-Finished-clause-ends
 returns-in-Finished-clause-ends g c = record {
-  bytes = c.in-Finished.ensures.next.bytes;
+  bytes = bytes_read c.in-Finished.ensures.next.reads;
   takes = c.in-Finished.ensures.next.takes;
   count = c.in-Finished.ensures.next.count;
   faults = c.in-Finished.ensures.faults;
   same = refl;
   knows_end = c.in-Finished.ensures.at_end;
   ends = λ taken given has_given. let gives = c.in-Finished.ensures.next.gives taken given has_given in (gives.0, gives.1);
+}
+
+pub returns-in-Whole-clause-reads : goal.returns-in-Whole-clause-reads
+returns-in-Whole-clause-reads g c = record {
+  reads = c.in-Whole.ensures.next.reads;
+  lead = c.in-Whole.ensures.next.lead;
+  needed = c.in-Whole.ensures.next.needed;
+  next = λ taken given has_given. (c.next_line.new.self.line, c.in-Whole.ensures.next.gives taken given has_given);
+}
+
+pub returns-in-Long-clause-reads : goal.returns-in-Long-clause-reads
+returns-in-Long-clause-reads g c = record {
+  reads = c.in-Long.ensures.next.reads;
+  lead = c.in-Long.ensures.next.lead;
+  needed = c.in-Long.ensures.next.needed;
+  next = λ taken given has_given. let gives = c.in-Long.ensures.next.gives taken given has_given in (gives.0, gives.2);
+}
+
+pub returns-in-Finished-clause-reads : goal.returns-in-Finished-clause-reads
+returns-in-Finished-clause-reads g c = record {
+  reads = c.in-Finished.ensures.next.reads;
+  lead = c.in-Finished.ensures.next.lead;
+  needed = c.in-Finished.ensures.next.needed;
+  next = λ taken given has_given. tt;
+}
+
+pub returns-in-Failed-clause-reads : goal.returns-in-Failed-clause-reads
+returns-in-Failed-clause-reads g c = record {
+  reads = c.in-Failed.ensures.next.reads;
+  lead = c.in-Failed.ensures.next.lead;
+  needed = c.in-Failed.ensures.next.needed;
+  next = λ taken given has_given. tt;
+}
+
+pub returns-in-Limit-clause-reads : goal.returns-in-Limit-clause-reads
+returns-in-Limit-clause-reads g c = record {
+  reads = c.in-Limit.ensures.next.reads;
+  lead = c.in-Limit.ensures.next.lead;
+  needed = c.in-Limit.ensures.next.needed;
+  next = λ taken given has_given. tt;
 }

@@ -8,7 +8,7 @@ use Rattle.slice_rule.proofs.pool.Pool.append_named.Goals as goal
 
 pub fetch_add-requires : goal.fetch_add-requires
 fetch_add-requires g c =
-    let key = c.self.inside.table.shared.key in
+    let key = c.self.inside.table.shared.key.sizes in
     let me = c.home.inside.seat.me in
     let home : HomeState = home_state c.home.inside.seat.table_id me.0 in
     let e = g.E.Entry.event c.args.entry.now in

@@ -14,7 +14,7 @@ overflow_add-seat g c =
 
 pub store-requires : goal.store-requires
 store-requires g c =
-    let key = c.self.inside.table.shared.key in
+    let key = c.self.inside.table.shared.key.sizes in
     let me = c.seat.inside.seat.me in
     let pool = ap (λ (s : PassState). s.pool) c.seat.view_is ∙ c.requires.pool ∙ sym c.self.view_is in
     let within : c.seat.inside.number < key.passes = subst (λ (p : PoolId). c.seat.inside.number < p.limits.passes) pool c.seat.invariant.in_range in

@@ -1,10 +1,16 @@
 use Rattle.std.proofs.Common.{◌≡◌, ℕ, ap, sym, ◌∙◌, subst}
 use mathlib.Core.List.{IsPrefix}
 use Rattle.funnel_model.specs.History.{IsFrontOf}
-use Rattle.slice_rule.specs.Seats.{HomeState, PassState, HasNoneOutstanding}
+use Rattle.slice_rule.specs.Seats.{HomeState, PassState, HasNoneOutstanding, IsSameHome, facts_of_pass}
 use Rattle.slice_rule.specs.Worlds.{made_by}
 use Rattle.slice_rule.proofs.Prefixes.{front_is, none_since, prefix_both}
+use Rattle.slice_rule.proofs.Told.{told_more}
 use Rattle.slice_rule.proofs.pool.Pool.catch_up.Goals as goal
+
+pub returns-clause-home : goal.returns-clause-home
+returns-clause-home c =
+    subst (λ (h : HomeState). IsSameHome h c.tell_home.new.home) c.tell_pass.ensures.home
+    (told_more c.tell_pass.new.home c.tell_home.new.home (facts_of_pass c.tell_pass.new.seat) c.tell_home.ensures.home)
 
 pub returns-clause-front : goal.returns-clause-front
 returns-clause-front c =

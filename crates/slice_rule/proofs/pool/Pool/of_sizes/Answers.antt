@@ -11,13 +11,16 @@ use Rattle.slice_rule.proofs.pool.Pool.of_sizes.Goals as goal
 
 pub of_words-requires : goal.of_words-requires
 of_words-requires c =
-    let limits = c.args.sizes.now in
-    let words : c.as_slice.result.now ≡ replicate (pool_words limits) 0 = c.as_slice.ensures.value ∙ c.in_ok-words.ensures ∙ ap (λ (l : Limits). replicate (pool_words l) 0) c.sizes.view_is in
-    subst (λ (ws : List ℕ). IsKept limits (opening ws [] (home_at_start limits))) (sym words) (opens limits)
+    let made = c.in_ok-made.made in
+    let same : c.args.sizes ≡ made.sizes = search rules in
+    let config = made.config.shared.key in
+    let words : c.as_slice.result.now ≡ replicate (pool_words made.sizes) 0 =
+    c.as_slice.ensures.value ∙ c.in_ok-words.ensures ∙ ap (λ (l : Limits). replicate (pool_words l) 0) (c.sizes.view_is ∙ same) in
+    subst (λ (ws : List ℕ). IsKept made.sizes (opening ws [] (home_at_start made.sizes config))) (sym words) (opens made.sizes config)
 
 pub invariant_of-result : goal.invariant_of-result
 invariant_of-result c =
-    let key : c.in_ok-table.table.shared.key ≡ c.args.sizes.now = search rules in
-    let all : c.sizes.inside.passes ≡ c.in_ok-table.table.shared.key.passes =
+    let key : c.in_ok-table.table.shared.key.sizes ≡ c.args.sizes = search rules in
+    let all : c.sizes.inside.passes ≡ c.in_ok-table.table.shared.key.sizes.passes =
     ap (λ (l : Limits). l.passes) c.sizes.view_is ∙ ap (λ (l : Limits). l.passes) (sym key) in
     subst IsHomeSeat (sym c.in_ok-passes.ensures.home) (record { alone = refl; role = ap (λ (n : ℕ). role.Home n n) all })

@@ -12,35 +12,35 @@ use Rattle.slice_rule.proofs.pool.Pool.read_word.Goals as goal
 
 pub overflow_add-self-inside : goal.overflow_add-self-inside
 overflow_add-self-inside c =
-    let key = c.self.inside.table.shared.key in
+    let key = c.self.inside.table.shared.key.sizes in
     let id = c.self.inside.table.shared.table_id in
     let number = c.seat.inside.number in
     let me = c.seat.inside.seat.me in
     let table = c.seat.inside.seat.table_id in
     let old = c.args.seat.now in
-    let sizes = steps.sizes_are number c.seat.inside.asked table me c.seat.invariant old c.seat.view_is id key c.args.self.now c.self.view_is c.requires.pool in
+    let sizes = steps.sizes_are number c.seat.inside.asked table me c.seat.invariant old c.seat.view_is c.args.self.now c.self.view_is c.requires.pool in
     let slice = c.requires.inside.0 in
     let inside = subst (λ (p : PoolId). IsInSlice p.limits.slice_words slice c.args.word) (sym c.self.view_is) c.requires.inside.2 in
     let may = steps.token_reads number c.seat.inside.asked table me c.seat.invariant old c.seat.view_is c.args.token.now c.requires.token slice c.requires.inside.1 in
     let range = subst (λ (l : Limits). slice < l.slices) sizes may.0 in
-    let has = steps.has_word c.self.inside.row_base id key slice c.args.word c.self.invariant range inside in
+    let has = steps.has_word c.self.inside.row_base slice c.args.word c.self.invariant range inside in
     let fits = has.fits in
     omega arith
 
 pub load-requires : goal.load-requires
 load-requires c =
-    let key = c.self.inside.table.shared.key in
+    let key = c.self.inside.table.shared.key.sizes in
     let id = c.self.inside.table.shared.table_id in
     let number = c.seat.inside.number in
     let me = c.seat.inside.seat.me in
     let table = c.seat.inside.seat.table_id in
     let old = c.args.seat.now in
-    let sizes = steps.sizes_are number c.seat.inside.asked table me c.seat.invariant old c.seat.view_is id key c.args.self.now c.self.view_is c.requires.pool in
+    let sizes = steps.sizes_are number c.seat.inside.asked table me c.seat.invariant old c.seat.view_is c.args.self.now c.self.view_is c.requires.pool in
     let slice = c.requires.inside.0 in
     let inside = subst (λ (p : PoolId). IsInSlice p.limits.slice_words slice c.args.word) (sym c.self.view_is) c.requires.inside.2 in
     let may = steps.token_reads number c.seat.inside.asked table me c.seat.invariant old c.seat.view_is c.args.token.now c.requires.token slice c.requires.inside.1 in
     let range = subst (λ (l : Limits). slice < l.slices) sizes may.0 in
-    let has = steps.has_word c.self.inside.row_base id key slice c.args.word c.self.invariant range inside in
+    let has = steps.has_word c.self.inside.row_base slice c.args.word c.self.invariant range inside in
     let all = steps.all_seen number c.seat.inside.asked table me c.seat.invariant old c.seat.view_is c.requires.none_outstanding in
     let row = c.self.invariant.row in (
       search rules,
@@ -50,13 +50,13 @@ load-requires c =
 
 pub invariant_of-seat : goal.invariant_of-seat
 invariant_of-seat c =
-    let key = c.self.inside.table.shared.key in
+    let key = c.self.inside.table.shared.key.sizes in
     let id = c.self.inside.table.shared.table_id in
     let number = c.seat.inside.number in
     let me = c.seat.inside.seat.me in
     let table = c.seat.inside.seat.table_id in
     let old = c.args.seat.now in
-    let sizes = steps.sizes_are number c.seat.inside.asked table me c.seat.invariant old c.seat.view_is id key c.args.self.now c.self.view_is c.requires.pool in
+    let sizes = steps.sizes_are number c.seat.inside.asked table me c.seat.invariant old c.seat.view_is c.args.self.now c.self.view_is c.requires.pool in
     let there : c.self.inside.row_base + c.args.word ≡ first_row me.0.limits + c.args.word =
     ap (λ n. n + c.args.word) (c.self.invariant.row ∙ ap (λ (l : Limits). first_row l) (sym sizes)) in
     let after = c.load.new.seat.me in
@@ -66,13 +66,13 @@ invariant_of-seat c =
 
 pub returns-clause-seat : goal.returns-clause-seat
 returns-clause-seat c =
-    let key = c.self.inside.table.shared.key in
+    let key = c.self.inside.table.shared.key.sizes in
     let id = c.self.inside.table.shared.table_id in
     let number = c.seat.inside.number in
     let me = c.seat.inside.seat.me in
     let table = c.seat.inside.seat.table_id in
     let old = c.args.seat.now in
-    let sizes = steps.sizes_are number c.seat.inside.asked table me c.seat.invariant old c.seat.view_is id key c.args.self.now c.self.view_is c.requires.pool in
+    let sizes = steps.sizes_are number c.seat.inside.asked table me c.seat.invariant old c.seat.view_is c.args.self.now c.self.view_is c.requires.pool in
     let there : c.self.inside.row_base + c.args.word ≡ first_row me.0.limits + c.args.word =
     ap (λ n. n + c.args.word) (c.self.invariant.row ∙ ap (λ (l : Limits). first_row l) (sym sizes)) in
     let after = c.load.new.seat.me in
@@ -82,13 +82,13 @@ returns-clause-seat c =
 
 pub returns-clause-least : goal.returns-clause-least
 returns-clause-least c =
-    let key = c.self.inside.table.shared.key in
+    let key = c.self.inside.table.shared.key.sizes in
     let id = c.self.inside.table.shared.table_id in
     let number = c.seat.inside.number in
     let me = c.seat.inside.seat.me in
     let table = c.seat.inside.seat.table_id in
     let old = c.args.seat.now in
-    let sizes = steps.sizes_are number c.seat.inside.asked table me c.seat.invariant old c.seat.view_is id key c.args.self.now c.self.view_is c.requires.pool in
+    let sizes = steps.sizes_are number c.seat.inside.asked table me c.seat.invariant old c.seat.view_is c.args.self.now c.self.view_is c.requires.pool in
     let there : c.self.inside.row_base + c.args.word ≡ first_row me.0.limits + c.args.word =
     ap (λ n. n + c.args.word) (c.self.invariant.row ∙ ap (λ (l : Limits). first_row l) (sym sizes)) in
     λ slice bit has committed.

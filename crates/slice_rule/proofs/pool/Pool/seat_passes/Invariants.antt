@@ -9,6 +9,6 @@ use Rattle.slice_rule.proofs.pool.Pool.seat_passes.Given as goal
 abbrev pub invariant-loop-number : goal.invariant-loop-number
 invariant-loop-number l = record {
   table : l.home.table_id ≡ l.self.table;
-  home : l.home.me ≡ (view_at_start l.self.limits (role.Home l.number l.number), []);
+  home : l.home.me ≡ (view_at_start l.self.limits l.self.config (role.Home l.number l.number), []);
   passes : l.passes.items ≡ map (new_pass_state l.self) (range_with_len 0 l.number);
 }

@@ -10,31 +10,31 @@ use Rattle.slice_rule.proofs.pool.Pool.set_bit.Goals as goal
 
 pub overflow_add-self-inside : goal.overflow_add-self-inside
 overflow_add-self-inside c =
-    let key = c.self.inside.table.shared.key in
+    let key = c.self.inside.table.shared.key.sizes in
     let id = c.self.inside.table.shared.table_id in
     let number = c.seat.inside.number in
     let me = c.seat.inside.seat.me in
     let table = c.seat.inside.seat.table_id in
     let old = c.args.seat.now in
-    let sizes = steps.sizes_are number c.seat.inside.asked table me c.seat.invariant old c.seat.view_is id key c.args.self.now c.self.view_is c.requires.pool in
+    let sizes = steps.sizes_are number c.seat.inside.asked table me c.seat.invariant old c.seat.view_is c.args.self.now c.self.view_is c.requires.pool in
     let inside = subst (λ (p : PoolId). IsInSlice p.limits.slice_words c.args.claim.now.slice c.args.word) (sym c.self.view_is) c.requires.inside in
     let range = subst (λ (l : Limits). c.args.claim.now.slice < l.slices) sizes (steps.claim_in_range number c.seat.inside.asked table me c.seat.invariant old c.seat.view_is c.args.claim.now c.requires.claim) in
-    let has = steps.has_word c.self.inside.row_base id key c.args.claim.now.slice c.args.word c.self.invariant range inside in
+    let has = steps.has_word c.self.inside.row_base c.args.claim.now.slice c.args.word c.self.invariant range inside in
     let fits = has.fits in
     omega arith
 
 pub fetch_or-requires : goal.fetch_or-requires
 fetch_or-requires c =
-    let key = c.self.inside.table.shared.key in
+    let key = c.self.inside.table.shared.key.sizes in
     let id = c.self.inside.table.shared.table_id in
     let number = c.seat.inside.number in
     let me = c.seat.inside.seat.me in
     let table = c.seat.inside.seat.table_id in
     let old = c.args.seat.now in
-    let sizes = steps.sizes_are number c.seat.inside.asked table me c.seat.invariant old c.seat.view_is id key c.args.self.now c.self.view_is c.requires.pool in
+    let sizes = steps.sizes_are number c.seat.inside.asked table me c.seat.invariant old c.seat.view_is c.args.self.now c.self.view_is c.requires.pool in
     let inside = subst (λ (p : PoolId). IsInSlice p.limits.slice_words c.args.claim.now.slice c.args.word) (sym c.self.view_is) c.requires.inside in
     let range = subst (λ (l : Limits). c.args.claim.now.slice < l.slices) sizes (steps.claim_in_range number c.seat.inside.asked table me c.seat.invariant old c.seat.view_is c.args.claim.now c.requires.claim) in
-    let has = steps.has_word c.self.inside.row_base id key c.args.claim.now.slice c.args.word c.self.invariant range inside in
+    let has = steps.has_word c.self.inside.row_base c.args.claim.now.slice c.args.word c.self.invariant range inside in
     let last = steps.claim_is number c.seat.inside.asked table me c.seat.invariant old c.seat.view_is c.args.claim.now c.requires.claim in
     let all = steps.all_seen number c.seat.inside.asked table me c.seat.invariant old c.seat.view_is c.requires.none_outstanding in
     let row = c.self.invariant.row in
@@ -46,13 +46,13 @@ fetch_or-requires c =
 
 pub invariant_of-seat : goal.invariant_of-seat
 invariant_of-seat c =
-    let key = c.self.inside.table.shared.key in
+    let key = c.self.inside.table.shared.key.sizes in
     let id = c.self.inside.table.shared.table_id in
     let number = c.seat.inside.number in
     let me = c.seat.inside.seat.me in
     let table = c.seat.inside.seat.table_id in
     let old = c.args.seat.now in
-    let sizes = steps.sizes_are number c.seat.inside.asked table me c.seat.invariant old c.seat.view_is id key c.args.self.now c.self.view_is c.requires.pool in
+    let sizes = steps.sizes_are number c.seat.inside.asked table me c.seat.invariant old c.seat.view_is c.args.self.now c.self.view_is c.requires.pool in
     let there : c.self.inside.row_base + c.args.word ≡ first_row me.0.limits + c.args.word =
     ap (λ n. n + c.args.word) (c.self.invariant.row ∙ ap (λ (l : Limits). first_row l) (sym sizes)) in
     let after = c.fetch_or.new.seat.me in
@@ -62,13 +62,13 @@ invariant_of-seat c =
 
 pub returns : goal.returns
 returns c =
-    let key = c.self.inside.table.shared.key in
+    let key = c.self.inside.table.shared.key.sizes in
     let id = c.self.inside.table.shared.table_id in
     let number = c.seat.inside.number in
     let me = c.seat.inside.seat.me in
     let table = c.seat.inside.seat.table_id in
     let old = c.args.seat.now in
-    let sizes = steps.sizes_are number c.seat.inside.asked table me c.seat.invariant old c.seat.view_is id key c.args.self.now c.self.view_is c.requires.pool in
+    let sizes = steps.sizes_are number c.seat.inside.asked table me c.seat.invariant old c.seat.view_is c.args.self.now c.self.view_is c.requires.pool in
     let there : c.self.inside.row_base + c.args.word ≡ first_row me.0.limits + c.args.word =
     ap (λ n. n + c.args.word) (c.self.invariant.row ∙ ap (λ (l : Limits). first_row l) (sym sizes)) in
     let after = c.fetch_or.new.seat.me in

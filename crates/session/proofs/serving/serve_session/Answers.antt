@@ -1,0 +1,19 @@
+use Rattle.std.proofs.Common.{refl, arith}
+use Rattle.session.proofs.Progress.{served_none}
+use Rattle.session.proofs.TurnLaws.{goes_nowhere, gone_none}
+use Rattle.session.proofs.serving.serve_session.Goals as goal
+
+pub returns-in_default-clause-in_turns : goal.returns-in_default-clause-in_turns
+returns-in_default-clause-in_turns g c = goes_nowhere g.C.Source.read_gives g.C.Sink.write_gives c.args.conn.now
+
+pub returns-in_default-with_capacity-clause-in_turns : goal.returns-in_default-with_capacity-clause-in_turns
+returns-in_default-with_capacity-clause-in_turns g c = goes_nowhere g.C.Source.read_gives g.C.Sink.write_gives c.args.conn.now
+
+pub loop-end-init : goal.loop-end-init
+loop-end-init g c = record {
+  caller = refl;
+  borrowed = refl;
+  room = omega (arith, c.in-Ok-with_capacity.ensures.capacity);
+  gone = rw c.in-Ok.ensures.unused (gone_none g.C.Source.read_gives g.C.Sink.write_gives c.args.conn.now (rw c.in-Ok.ensures.unused at c.in-Ok.ensures.nothing_given));
+  served = rw c.in-Ok.ensures.unused (served_none _ _ _ (rw c.in-Ok.ensures.unused at c.in-Ok.ensures.nothing_given));
+}

@@ -1,0 +1,63 @@
+-- What is kept of each slice, and the sets that it makes.
+use Rattle.std.specs.Prelude.{ℕ, ◌+◌, ◌<◌, ◌≤◌, ◌≡◌, ◌==◌, ◌↔◌, Bool, false, nat_lt, List, length, map, count_by, slice_index_or, slice_set, if◌then◌else◌, Contains}
+use Rattle.std.specs.List.{AllPairs}
+use Rattle.slice_stages.specs.declared.stage.Stage.{Stage}
+use Rattle.slice_stages.specs.declared.stage.Stage.TheVariants as stage
+
+-- the columns of a slice, how far each slice is, and the mark: the slices that retired up to the event with this number can be
+-- cleared, and those that retired later wait
+pub record StageTable : Type 0 where
+  pub columns : ℕ
+  pub stages : List Stage
+  pub mark : ℕ
+
+-- a slice of which no column is claimed
+abbrev pub empty_stage : Stage
+empty_stage = stage.InUse 0 0
+
+-- how far the slice is
+abbrev pub stage_of : StageTable → ℕ → Stage
+stage_of table slice = slice_index_or table.stages slice empty_stage
+
+-- the table with another stage for one slice
+abbrev pub with_stage : StageTable → ℕ → Stage → StageTable
+with_stage table slice next = record table { stages = slice_set table.stages slice next }
+
+-- it may be filled and read
+abbrev pub IsUsed : Stage → Type 0
+IsUsed (stage.InUse claimed over) = Unit {0}
+IsUsed _ = ⊥
+
+-- some of its columns is left
+abbrev pub HasLeft : ℕ → Stage → Type 0
+HasLeft columns (stage.InUse claimed over) = claimed < columns
+HasLeft columns _ = ⊥
+
+-- it retired up to the event with this number
+abbrev pub IsRetiredBy : ℕ → Stage → Type 0
+IsRetiredBy mark (stage.Retired at) = at ≤ mark
+IsRetiredBy mark _ = ⊥
+
+-- it retired before the event with this number, where it is retired
+abbrev pub RetiredBefore : ℕ → Stage → Type 0
+RetiredBefore event (stage.Retired at) = at < event
+RetiredBefore event _ = Unit {0}
+
+-- it retired after the first of these events, and up to the second
+abbrev pub RetiredIn : ℕ → ℕ → Stage → Type 0
+RetiredIn after mark (stage.Retired at) = (after < at) × (at ≤ mark)
+RetiredIn after mark _ = ⊥
+
+-- the slice is the lowest of which this holds
+pub record IsLowest (holds : Stage → Type 0) (table : StageTable) (slice : ℕ) : Type 0 where
+  pub in_range : slice < length table.stages
+  pub is : holds (stage_of table slice)
+  pub lowest : (lower : ℕ) → lower < slice → holds (stage_of table lower) → ⊥
+
+-- it holds of no slice
+abbrev pub HoldsOfNone : (Stage → Type 0) → StageTable → Type 0
+HoldsOfNone holds table = (slice : ℕ) → slice < length table.stages → holds (stage_of table slice) → ⊥
+
+-- the stage after one more of its columns is deleted or dropped, by the event with this number
+abbrev pub after_end : ℕ → ℕ → ℕ → ℕ → Stage
+after_end columns event claimed over = if over + 1 == columns then stage.Retired event else stage.InUse claimed (over + 1)
