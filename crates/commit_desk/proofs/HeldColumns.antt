@@ -1,0 +1,58 @@
+-- Columns that are live or pending, by their records.
+use Rattle.std.proofs.Common.{◌≡◌, ⊎_elim, ℕ, ◌+◌, ◌<◌, ◌≤◌, true, false, List, Option, ap, subst, arith, refl}
+use Rattle.std.proofs.lemmas.Bool.{both_ways, cases_lt}
+use Rattle.document_store.specs.Documents.{Parts}
+use Rattle.document_store.specs.Slots.{FitsColumn, Table, slot_at}
+use Rattle.document_store.specs.declared.column.Column.{Column}
+use Rattle.document_store.specs.declared.column.Column.TheVariants as became
+use Rattle.funnel_model.specs.Blocks.{IsHeld}
+use Rattle.funnel_model.specs.declared.event.Event.{Event}
+use Rattle.funnel_model.specs.Legal.{IsLegal, Limits}
+use Rattle.funnel_model.specs.Slices.{ColumnState, Unclaimed, Pending, Dropped, Live, Deleted, IsFilled, IsInState, IsOver, IsRetired, is_claimed, is_clearing}
+use Rattle.funnel_model.proofs.Columns.{one_state, some_state}
+use Rattle.commit_desk.specs.Records.{AreRecorded, state_in, state_of}
+use Rattle.commit_desk.proofs.StageFacts.{in_table}
+
+-- no column of the slice below this one is live or pending
+abbrev pub NoneHeldBelow : List Event → ℕ → ℕ → Type 0
+NoneHeldBelow history slice column = (lower : ℕ) → lower < column → (other : ColumnState) → IsInState history slice lower other → IsHeld other → ⊥
+
+-- a column is recorded as live or pending where its state is that
+held_in : (c : Column) (doc : Option Parts) → FitsColumn c doc → ((added : ℕ) → c ≡ became.Live added → ⊥) → ((pass : ℕ) → c ≡ became.Pending pass → ⊥) → IsHeld (state_in c doc) → ⊥
+held_in became.Free doc fits not_live not_pending held = held
+held_in (became.Pending pass) doc fits not_live not_pending held = not_pending pass refl
+held_in (became.Live added) doc fits not_live not_pending held = not_live added refl
+held_in (became.Deleted added deleted) doc fits not_live not_pending held = subst IsHeld (ap (state_in (became.Deleted added deleted)) fits.1) held
+held_in became.Dropped doc fits not_live not_pending held = held
+
+-- one more column that isn't recorded as live or pending
+pub none_held-next : (limits : Limits) (history : List Event) (table : Table) (slice column : ℕ) → IsLegal limits history → AreRecorded limits history table → slice < limits.slices →
+    column < limits.columns → ((added : ℕ) → (slot_at table slice column).column ≡ became.Live added → ⊥) → ((pass : ℕ) → (slot_at table slice column).column ≡ became.Pending pass → ⊥) →
+    NoneHeldBelow history slice column → NoneHeldBelow history slice (column + 1)
+none_held-next limits history table slice column legal recorded in' below not_live not_pending before lower low other is held =
+    ⊎_elim
+    (λ (less : lower < column). before lower less other is held)
+    (λ (high : column ≤ lower).
+    let same : lower ≡ column = omega arith in
+    let slot = slot_at table slice column in
+    let at = recorded.each slice column (in_table limits history table legal recorded slice column in' below) in
+    let here : IsInState history slice column other = subst (λ k. IsInState history slice k other) same is in
+    held_in slot.column slot.doc at.fits not_live not_pending (subst IsHeld (one_state limits history slice column other (state_of slot) legal here at.state) held))
+    (cases_lt lower column)
+
+-- a claimed column that isn't held is over
+over_unless_held : (history : List Event) (slice column : ℕ) (x : ColumnState) → is_claimed slice column history ≡ true → IsInState history slice column x → (IsHeld x → ⊥) → IsOver x
+over_unless_held history slice column Unclaimed claimed is not_held = absurd (both_ways (is_claimed slice column history) is claimed)
+over_unless_held history slice column (Pending pass) claimed is not_held = absurd (not_held tt)
+over_unless_held history slice column Dropped claimed is not_held = tt
+over_unless_held history slice column (Live d) claimed is not_held = absurd (not_held tt)
+over_unless_held history slice column (Deleted d at) claimed is not_held = tt
+
+-- a filled slice without a column that is held is retired, unless it is being cleared
+pub retired_unless_held : (columns slice : ℕ) (history : List Event) → IsFilled columns slice history → is_clearing slice history ≡ false → NoneHeldBelow history slice columns →
+    IsRetired columns slice history
+retired_unless_held columns slice history filled not_clearing none = record {
+  over = λ column below.
+      let is = some_state history slice column in (is.0, is.1, over_unless_held history slice column is.0 (filled column below) is.1 (none column below is.0 is.1));
+  not_clearing = not_clearing;
+}

@@ -1,0 +1,186 @@
+-- The mark up to which retired slices can be cleared: each running find began at it or after it.
+use Rattle.std.proofs.Common.{◌≡◌, ◌⊎◌, ⊎_elim, inl, inr, ℕ, ◌+◌, ◌<◌, ◌≤◌, ◌≢◌, List, [], ◌∷◌, ◌++◌, length, set, Option, Some, None, sym, ap, ◌∙◌, subst, arith, MatchOption}
+use Rattle.std.proofs.lemmas.Bool.{cases_eq}
+use Rattle.std.proofs.lemmas.Bool.Decides.{leb_tells}
+use Rattle.std.proofs.lemmas.List.{get_or-set_other, get_or-set_same, length-append}
+use Rattle.document_store.specs.Slots.{Table}
+use Rattle.funnel_model.specs.declared.event.Event.{Event}
+use Rattle.funnel_model.specs.declared.event.Event.TheVariants as event
+use Rattle.funnel_model.specs.Legal.{CanClear, Limits, IsLegal, NoneCanClear}
+use Rattle.funnel_model.specs.Slices.{IsRetired, IsRetiredAt}
+use Rattle.funnel_model.specs.Tokens.{IsGuarded}
+use Rattle.funnel_model.proofs.Retirement.{retires_once}
+use Rattle.slice_stages.specs.Stages.{HoldsOfNone, IsLowest, IsRetiredBy, StageTable, stage_of}
+use Rattle.slice_stages.specs.declared.stage.Stage.{Stage}
+use Rattle.slice_stages.specs.declared.stage.Stage.TheVariants as stage
+use Rattle.token_manager.specs.Guarding.{HasOpened, IsOldest, NoneOpen}
+use Rattle.commit_desk.specs.Answers.{IsLowestClearable}
+use Rattle.slice_rule.specs.Pools.{PoolId}
+use Rattle.commit_desk.specs.Kept.{AreStages, Books, IsDesk, AreTokens, IsAtStage}
+use Rattle.commit_desk.specs.Records.{AreRecorded}
+use Rattle.commit_desk.proofs.StageFacts.{retired_since, retired_stage}
+
+-- each running find began at the mark or after it
+abbrev pub NoneBeforeMark : List (Option ℕ) → ℕ → Type 0
+NoneBeforeMark tokens mark = (pass number : ℕ) → HasOpened tokens pass number → mark ≤ number
+
+-- an event leaves the mark within the history
+pub mark-same : (history : List Event) (e : Event) (mark : ℕ) → mark ≤ length history → mark ≤ length (history ++ e ∷ [])
+mark-same history e mark within = omega (arith, length-append history (e ∷ []))
+
+some_same : (x y : ℕ) → Some x ≡ Some y → x ≡ y
+some_same x y is = cc
+
+none_some : (x : ℕ) → None ≡ Some x → ⊥
+none_some x is = cc
+
+-- a find that begins now is the newest
+pub mark-find : (tokens : List (Option ℕ)) (pass mark events : ℕ) → pass < length tokens → mark ≤ events → NoneBeforeMark tokens mark →
+    NoneBeforeMark (set tokens pass (Some (events + 1))) mark
+mark-find tokens pass mark events in' within none other number opened =
+    ⊎_elim
+    (λ (same : other ≡ pass).
+    let is = some_same (events + 1) number (sym (get_or-set_same tokens pass (Some (events + 1)) None in') ∙ subst (λ p. HasOpened (set tokens pass (Some (events + 1))) p number) same opened) in
+    omega arith)
+    (λ (apart : other ≢ pass). none other number (sym (get_or-set_other tokens pass other (Some (events + 1)) None apart) ∙ opened))
+    (cases_eq other pass)
+
+-- a find that ends leaves the others
+pub mark-end : (tokens : List (Option ℕ)) (pass mark : ℕ) → pass < length tokens → NoneBeforeMark tokens mark → NoneBeforeMark (set tokens pass None) mark
+mark-end tokens pass mark in' none other number opened =
+    ⊎_elim
+    (λ (same : other ≡ pass).
+    absurd (none_some number (sym (get_or-set_same tokens pass None None in') ∙ subst (λ p. HasOpened (set tokens pass None) p number) same opened)))
+    (λ (apart : other ≢ pass). none other number (sym (get_or-set_other tokens pass other None None apart) ∙ opened))
+    (cases_eq other pass)
+
+-- where the mark moves to: the oldest running find, or, where none runs, the last event of the history
+abbrev pub IsNextMark : List Event → List (Option ℕ) → ℕ → Type 0
+IsNextMark history tokens mark = IsOldest tokens mark ⊎ (NoneOpen tokens × (mark ≡ length history))
+
+-- each running find began there or later
+pub next_mark_before : (history : List Event) (tokens : List (Option ℕ)) (mark : ℕ) → IsNextMark history tokens mark → NoneBeforeMark tokens mark
+next_mark_before history tokens mark next pass number opened =
+    ⊎_elim (λ (is : IsOldest tokens mark). is.oldest pass number opened) (λ (past : NoneOpen tokens × (mark ≡ length history)). absurd (past.0 pass number opened)) next
+
+-- and it is within the history
+next_mark_within : (limits : Limits) (history : List Event) (tokens : List (Option ℕ)) (mark : ℕ) → AreTokens limits history tokens → IsNextMark history tokens mark → mark ≤ length history
+next_mark_within limits history tokens mark are next =
+    ⊎_elim
+    (λ (is : IsOldest tokens mark).
+    let token = (are.each is.pass mark).0 is.opened in
+    let count = token.count in
+    omega (arith, ap length token.whole, length-append token.earlier (event.Find is.pass token.query ∷ token.later)))
+    (λ (past : NoneOpen tokens × (mark ≡ length history)). omega (arith, past.1))
+    next
+
+-- the stages with another mark
+pub mark-look : (limits : Limits) (history : List Event) (table : Table) (tokens : List (Option ℕ)) (stages : StageTable) (mark : ℕ) → mark ≤ length history →
+    NoneBeforeMark tokens mark → AreStages limits history table tokens stages → AreStages limits history table tokens (record stages { mark = mark })
+mark-look limits history table tokens stages mark within none are = record {
+  count = are.count;
+  columns_are = are.columns_are;
+  each = are.each;
+  mark_within = within;
+  none_before = none;
+}
+
+le_or_lt : (a b : ℕ) → (a ≤ b) ⊎ (b < a)
+le_or_lt a b = ⊎_elim (λ is. inl is.1) (λ not. inr (let h = not.1 in omega arith)) (leb_tells a b)
+
+-- a slice didn't retire after the history
+retired_within : (columns slice number : ℕ) (history : List Event) → IsRetiredAt columns slice history number → number ≤ length history
+retired_within columns slice number history at =
+    let count = at.count in omega (arith, ap length at.whole, length-append at.earlier (at.event ∷ at.later))
+
+module _ (limits : Limits) (history : List Event) (table : Table) (tokens : List (Option ℕ)) (stages : StageTable) (legal : IsLegal limits history) (recorded : AreRecorded limits history table) (tokens_are : AreTokens limits history tokens) (staged : AreStages limits history table tokens stages) where
+  -- a slice that retired up to the mark can be cleared
+  by_mark : (slice : ℕ) (s : Stage) → IsAtStage limits.columns history table slice s → IsRetiredBy stages.mark s → CanClear limits.columns history slice
+  by_mark slice (stage.InUse first over) at by = absurd by
+  by_mark slice (stage.Clearing pass) at by = absurd by
+  by_mark slice (stage.Retired number) at by = record {
+    retired = retired_since limits.columns slice number history at;
+    unguarded = λ guarded.
+        let guards = guarded.2 in
+        let same = retires_once limits.columns slice guards.retired_at number history guards.at_event at.retired in
+        let began = staged.none_before guarded.0 guarded.1 ((tokens_are.each guarded.0 guarded.1).1 guards.token) in
+        let before = guards.before in
+        absurd (omega arith);
+  }
+
+  -- one that retired later is guarded by the oldest find
+  after_mark : (slice number : ℕ) → IsNextMark history tokens stages.mark → IsRetired limits.columns slice history → IsRetiredAt limits.columns slice history number → stages.mark < number →
+      IsGuarded limits.columns history slice
+  after_mark slice number next retired at less =
+      ⊎_elim
+      (λ (is : IsOldest tokens stages.mark). (
+        is.pass,
+        stages.mark,
+        record {
+          token = (tokens_are.each is.pass stages.mark).0 is.opened;
+          retired = retired;
+          retired_at = number;
+          at_event = at;
+          before = less;
+        },
+      ))
+      (λ (past : NoneOpen tokens × (stages.mark ≡ length history)). let within = retired_within limits.columns slice number history at in absurd (omega (arith, past.1)))
+      next
+
+  -- a retired slice retired up to the mark, or is guarded
+  by_mark_or_guarded : (slice : ℕ) → slice < limits.slices → IsNextMark history tokens stages.mark → IsRetired limits.columns slice history →
+      IsRetiredBy stages.mark (stage_of stages slice) ⊎ IsGuarded limits.columns history slice
+  by_mark_or_guarded slice in' next retired =
+      let s = retired_stage limits history table legal recorded slice in' (stage_of stages slice) (staged.each slice in') retired in
+      ⊎_elim
+      (λ (up : s.0 ≤ stages.mark). inl (subst (IsRetiredBy stages.mark) (sym s.1) up))
+      (λ (late : stages.mark < s.0). inr (after_mark slice s.0 next retired s.2 late))
+      (le_or_lt s.0 stages.mark)
+
+  -- the lowest slice that retired up to the mark is the lowest that can be cleared
+  pub lowest_clearable : IsNextMark history tokens stages.mark → (lowest : Option ℕ) →
+      MatchOption lowest (HoldsOfNone (IsRetiredBy stages.mark) stages) (IsLowest (IsRetiredBy stages.mark) stages) →
+      MatchOption lowest (NoneCanClear limits history) (IsLowestClearable limits history)
+  lowest_clearable next None none = λ slice in' retired.
+      ⊎_elim
+      (λ (up : IsRetiredBy stages.mark (stage_of stages slice)). absurd (none slice (let c = staged.count in omega arith) up))
+      (λ (guarded : IsGuarded limits.columns history slice). guarded)
+      (by_mark_or_guarded slice in' next retired)
+  lowest_clearable next (Some slice) is =
+      let below : slice < limits.slices = let c = staged.count in let h = is.in_range in omega arith in record {
+        in_range = below;
+        can_clear = by_mark slice (stage_of stages slice) (staged.each slice below) is.is;
+        lowest = λ lower less can.
+            ⊎_elim
+            (λ (up : IsRetiredBy stages.mark (stage_of stages lower)). is.lowest lower less up)
+            (λ (guarded : IsGuarded limits.columns history lower). can.unguarded guarded)
+            (by_mark_or_guarded lower (omega (arith, less)) next can.retired);
+      }
+
+-- a desk with another mark
+pub desk-look : (pool : PoolId) (most most_commits : ℕ) (history : List Event) (books : Books) (mark : ℕ) → IsDesk pool most most_commits history books →
+    IsNextMark history books.tokens mark → IsDesk pool most most_commits history (record books { stages = record books.stages { mark = mark } })
+desk-look pool most most_commits history books mark is next =
+    let kept = is.kept in record {
+      in_range = is.in_range;
+      sizes = is.sizes;
+      some = is.some;
+      bounded = is.bounded;
+      commits_are = is.commits_are;
+      none_awaited = is.none_awaited;
+      kept = record {
+        few = kept.few;
+        legal = kept.legal;
+        sound = kept.sound;
+        slices_are = kept.slices_are;
+        columns_are = kept.columns_are;
+        events_are = kept.events_are;
+        journal_is = kept.journal_is;
+        journal_fits = kept.journal_fits;
+        recorded = kept.recorded;
+        listed = kept.listed;
+        tokens_are = kept.tokens_are;
+        staged = mark-look pool.limits history books.table books.tokens books.stages mark
+            (next_mark_within pool.limits history books.tokens mark kept.tokens_are next) (next_mark_before history books.tokens mark next) kept.staged;
+      };
+    }

@@ -1,0 +1,33 @@
+use Rattle.std.proofs.Common.{◌≡◌, ◌+◌, ◌<◌, sym, ap, ◌∙◌, subst, arith}
+use Rattle.commit_desk.specs.Desks.{DeskState}
+use Rattle.commit_desk.proofs.HeldColumns.{NoneHeldBelow, none_held-next, retired_unless_held}
+use Rattle.commit_desk.proofs.desk.Desk.lowest_held.Goals as goal
+
+pub loop-column-preserved : goal.loop-column-preserved
+loop-column-preserved c =
+    let i = c.self.inside in
+    let kept = c.self.invariant.kept in
+    let slice = c.args.slice in
+    let column = c.loop-column.column in
+    let below = c.loop-column-test.true in
+    let columns_are = kept.columns_are in
+    subst (λ (d : DeskState). NoneHeldBelow d.history slice (column + 1)) c.self.view_is
+    (none_held-next i.home.pool.limits i.home.history i.records slice column kept.legal kept.recorded
+    (subst (λ (d : DeskState). slice < d.pool.limits.slices) (sym c.self.view_is) c.requires.in_range) (omega arith)
+    (λ added is. c.in_default.not-Live added (c.state.ensures.state ∙ is))
+    (λ pass is. c.in_default.not-Pending pass (c.state.ensures.state ∙ is))
+    (subst (λ (d : DeskState). NoneHeldBelow d.history slice column) (sym c.self.view_is) c.loop-column.invariant))
+
+pub unreachable-requires : goal.unreachable-requires
+unreachable-requires c =
+    let i = c.self.inside in
+    let kept = c.self.invariant.kept in
+    let slice = c.args.slice in
+    let column = c.loop-column.column in
+    let columns : i.columns ≡ c.args.self.now.pool.limits.columns = kept.columns_are ∙ ap (λ (d : DeskState). d.pool.limits.columns) c.self.view_is in
+    let end = c.loop-column.auto.column-end in
+    let done = c.loop-column-test.false in
+    let same : column ≡ c.args.self.now.pool.limits.columns = omega arith in
+    c.requires.not_retired
+    (retired_unless_held c.args.self.now.pool.limits.columns slice c.args.self.now.history c.requires.filled c.requires.not_clearing
+    (subst (NoneHeldBelow c.args.self.now.history slice) same c.loop-column.invariant))

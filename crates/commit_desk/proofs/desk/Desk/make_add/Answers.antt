@@ -1,0 +1,161 @@
+use Rattle.std.proofs.Common.{◌≡◌, false, true, ◌+◌, ◌<◌, List, [], ◌∷◌, ◌++◌, Some, length, All, cond, refl, sym, ap, ◌∙◌, subst, arith, rules, vec_capacity, vec_len, Contains, ◌↔◌}
+use Rattle.std.proofs.lemmas.List.{length-append}
+use Rattle.std.specs.Prelude.{◌==◌}
+use Rattle.document_store.specs.Entries.{column_of}
+use Rattle.document_store.specs.Slots.{IsColumn, with_slot}
+use Rattle.document_store.specs.declared.column.Column.TheVariants as became
+use Rattle.funnel_model.specs.declared.bit_list.Bit.{Bit}
+use Rattle.funnel_model.specs.declared.event.Event.{Event}
+use Rattle.funnel_model.specs.declared.event.Event.TheVariants as event
+use Rattle.funnel_model.specs.History.{is_live, last_by, place}
+use Rattle.funnel_model.specs.Legal.{HasJournalRoom, IsAllowed, IsInSlice}
+use Rattle.funnel_model.proofs.Progress.{allowed_by}
+use Rattle.row_layout.specs.DocumentBits.{AreDocumentBits}
+use Rattle.slice_rule.specs.declared.view.Fact.TheVariants as fact
+use Rattle.slice_rule.specs.Numbers.{last_number}
+use Rattle.slice_rule.specs.Pools.{PoolId}
+use Rattle.commit_desk.specs.Desks.{DeskState, IsCaughtUp, Makes}
+use Rattle.commit_desk.specs.Kept.{Books}
+use Rattle.commit_desk.proofs.DocumentEvents.{desk-add, desk-as, taken_column}
+use Rattle.commit_desk.proofs.RecordFacts.{no_entry, none_live_in_pending, taken_is_pending}
+use Rattle.commit_desk.proofs.Turns.{makes_one}
+use Rattle.commit_desk.proofs.desk.Desk.make_add.Goals as goal
+
+pub make_event-self-inside-requires-clause-ready : goal.make_event-self-inside-requires-clause-ready
+make_event-self-inside-requires-clause-ready c =
+    subst (λ n. (b : Bit) → Contains c.list.result.now b ↔ Contains c.args.seat.now.own (fact.BitSet (last_number n c.args.seat.now.front) b)) (sym c.number-pass.ensures.number)
+    (subst (λ (bits : List Bit). (b : Bit) → Contains bits b ↔ Contains c.args.seat.now.own (fact.BitSet (last_number c.args.seat.now.number c.args.seat.now.front) b)) (sym c.list.ensures) c.requires.set)
+
+abbrev books : goal.After-live-arg-1 → Books
+books c =
+    let i = c.self.inside in record {
+      slices = i.slices;
+      columns = i.columns;
+      events = i.events;
+      journal = i.journal.items;
+      room = vec_capacity i.journal;
+      table = i.records;
+      live = i.live;
+      tokens = i.tokens;
+      stages = i.stages;
+    }
+
+-- the pass's last event is its claim of the column
+taken_now : (c : goal.After-live-arg-1) → last_by c.number-pass.result c.self.inside.home.history ≡ Some (event.Take c.number-pass.result c.args.claim.slice c.args.claim.column)
+taken_now c =
+    let history = c.self.inside.home.history in
+    let front : c.args.seat.now.front ≡ history = c.requires.caught_up.front ∙ sym (ap (λ (d : DeskState). d.history) c.self.view_is) in
+    subst (λ n. last_by n history ≡ Some (event.Take n c.args.claim.slice c.args.claim.column)) (sym c.number-pass.ensures.number)
+    (subst (λ (h : List Event). last_by c.args.seat.now.number h ≡ Some (event.Take c.args.seat.now.number c.args.claim.slice c.args.claim.column)) front c.requires.claim)
+
+column_now : (c : goal.After-live-arg-1) → IsColumn c.self.inside.records c.args.claim.slice c.args.claim.column
+column_now c =
+    let i = c.self.inside in
+    taken_column i.home.pool i.events_limit i.most_commits i.home.history (books c) c.self.invariant c.number-pass.result c.args.claim.slice c.args.claim.column (taken_now c)
+
+absent_now : (c : goal.After-live-arg-1) → is_live c.args.doc.id c.self.inside.home.history ≡ false
+absent_now c = subst (λ (d : DeskState). is_live c.args.doc.id d.history ≡ false) (sym c.self.view_is) c.requires.may.0
+
+pub live-requires-clause-in_range : goal.live-requires-clause-in_range
+live-requires-clause-in_range c = column_now c
+
+pub live-requires-clause-pending : goal.live-requires-clause-pending
+live-requires-clause-pending c =
+    let i = c.self.inside in
+    let kept = c.self.invariant.kept in
+    (c.number-pass.result, taken_is_pending i.home.pool.limits i.home.history i.records kept.legal kept.recorded c.number-pass.result c.args.claim.slice c.args.claim.column (taken_now c) (column_now c))
+
+pub add-requires-clause-slice : goal.add-requires-clause-slice
+add-requires-clause-slice c = let here = (column_now c.before.before).slice_in_range in omega (arith, here, c.self.invariant.kept.listed.slices_are)
+
+pub add-requires-clause-column : goal.add-requires-clause-column
+add-requires-clause-column c = let here = (column_now c.before.before).column_in_range in omega (arith, here, c.self.invariant.kept.listed.columns_are)
+
+-- the column that was claimed is pending, so it has no live document
+pub add-requires-clause-free : goal.add-requires-clause-free
+add-requires-clause-free c other found =
+    let i = c.self.inside in
+    let kept = c.self.invariant.kept in
+    let entry = kept.listed.listed other c.args.claim.slice c.args.claim.column found in
+    none_live_in_pending i.home.pool.limits i.home.history i.records kept.legal kept.recorded c.number-pass.result c.args.claim.slice c.args.claim.column
+    (taken_now c.before.before) (column_now c.before.before) entry.doc entry.live
+
+pub add-requires-clause-absent : goal.add-requires-clause-absent
+add-requires-clause-absent c =
+    let i = c.self.inside in
+    let kept = c.self.invariant.kept in
+    ap (column_of i.live) c.id-id.ensures ∙ no_entry i.home.pool.limits i.home.history i.records kept.legal kept.recorded i.live kept.listed c.args.doc.id (absent_now c.before.before)
+
+allowed_now : (c : goal.After-live-arg-1) → IsAllowed c.self.inside.home.pool.limits c.self.inside.home.history
+    (event.Add c.number-pass.result c.args.doc.id c.args.doc.text c.args.claim.slice c.args.claim.column c.args.bits.now.bits)
+allowed_now c =
+    let i = c.self.inside in
+    let pool : c.args.seat.now.pool ≡ i.home.pool = c.requires.caught_up.seat_of.pool ∙ sym (ap (λ (d : DeskState). d.pool) c.self.view_is) in
+    allowed_by i.home.pool.limits i.home.history (event.Add c.number-pass.result c.args.doc.id c.args.doc.text c.args.claim.slice c.args.claim.column c.args.bits.now.bits)
+    (subst (λ (p : PoolId). c.number-pass.result < p.limits.passes) pool c.number-pass.ensures.in_range) c.self.invariant.none_awaited
+    (record {
+      taken = taken_now c;
+      absent = absent_now c;
+      room = subst (λ (d : DeskState). HasJournalRoom d.pool.limits d.history) (sym c.self.view_is) c.requires.may.1;
+      inside = subst (λ (d : DeskState). All (λ (b : Bit). IsInSlice d.pool.limits.slice_words c.args.claim.slice b.word) c.args.bits.now.bits) (sym c.self.view_is) c.requires.inside;
+      in_word = c.requires.of_words;
+    })
+
+place_now : (c : goal.After-live-arg-1) → c.len.result + 1 ≡ place c.self.inside.home.history + 1
+place_now c =
+    let i = c.self.inside in
+    let long : vec_len i.journal ≡ length i.journal.items = search rules in
+    omega (arith, long, c.len.ensures, ap length c.self.invariant.kept.journal_is)
+
+pub invariant_of-self : goal.invariant_of-self
+invariant_of-self c =
+    let i = c.self.inside in
+    let made = c.make_event-self-inside.ensures in
+    let home = c.make_event-self-inside.new.home in
+    let pass = c.number-pass.result in
+    let doc = c.args.doc in
+    let s = c.args.claim.slice in
+    let k = c.args.claim.column in
+    let bits = c.args.bits.now.bits in
+    let earlier = c.before.before.before.before.before in
+    let id : c.id-id.result ≡ doc.id = c.id-id.ensures in
+    desk-as i.home.pool home.pool i.events_limit i.most_commits (i.home.history ++ event.Add pass doc.id doc.text s k bits ∷ []) home.history
+    (record {
+      slices = i.slices;
+      columns = i.columns;
+      events = length i.home.history + 1;
+      journal = i.journal.items ++ (record { add = true; id = doc.id }) ∷ [];
+      room = vec_capacity i.journal;
+      table = with_slot i.records s k (record { column = became.Live (place i.home.history + 1); doc = Some doc });
+      live = c.add.new.self;
+      tokens = i.tokens;
+      stages = i.stages;
+    })
+    c.make_event-self-inside.result c.push_reserved.new.self.items (vec_capacity c.push_reserved.new.self) c.live.new.self c.add.new.self i.stages
+    (desk-add i.home.pool i.events_limit i.most_commits i.home.history (books earlier) c.self.invariant pass s k doc bits c.add.new.self (allowed_now earlier) c.words.ensures.of_text
+    (subst (λ (d : DeskState). AreDocumentBits d.pool.config doc.words s k bits) (sym c.self.view_is) c.requires.bits)
+    (λ other. c.add.ensures.columns other ∙ ap (λ n. cond (other == n) (Some (s, k)) (column_of i.live other)) id)
+    c.add.ensures.slices c.add.ensures.slice_columns)
+    made.home.pool (made.home.history ∙ ap (λ (bs : List Bit). i.home.history ++ event.Add pass doc.id doc.text s k bs ∷ []) c.list.ensures)
+    (made.number ∙ ap length made.home.history ∙ length-append i.home.history (event.Add pass doc.id doc.text s k c.list.result.now ∷ []))
+    (c.push_reserved.ensures.items ∙ ap (λ n. i.journal.items ++ (record { add = true; id = n }) ∷ []) id)
+    c.push_reserved.ensures.capacity
+    (c.live.ensures ∙ ap (λ n. with_slot i.records s k (record { column = became.Live n; doc = Some doc })) (place_now earlier))
+    refl refl
+
+pub returns-clause-made : goal.returns-clause-made
+returns-clause-made c =
+    let i = c.self.inside in
+    let made = c.make_event-self-inside.ensures in
+    let home = c.make_event-self-inside.new.home in
+    let seat = c.make_event-self-inside.new.seat in
+    let doc = c.args.doc in
+    let s = c.args.claim.slice in
+    let k = c.args.claim.column in
+    let now : DeskState = record { pool = i.home.pool; events_limit = i.events_limit; history = i.home.history } in
+    let next : DeskState = record { pool = home.pool; events_limit = i.events_limit; history = home.history } in
+    subst (λ (bits : List Bit). Makes (event.Add c.args.seat.now.number doc.id doc.text s k bits ∷ []) c.args.self.now next c.args.seat.now seat) c.list.ensures
+    (subst (λ n. Makes (event.Add n doc.id doc.text s k c.list.result.now ∷ []) c.args.self.now next c.args.seat.now seat) c.number-pass.ensures.number
+    (subst (λ (d : DeskState). Makes (event.Add c.number-pass.result doc.id doc.text s k c.list.result.now ∷ []) d next c.args.seat.now seat) c.self.view_is
+    (makes_one now next c.args.seat.now seat (event.Add c.number-pass.result doc.id doc.text s k c.list.result.now)
+    (subst (λ (d : DeskState). IsCaughtUp d c.args.seat.now) (sym c.self.view_is) c.requires.caught_up) made.home.pool refl made.home.history (invariant_of-self c).kept.legal made.seat)))

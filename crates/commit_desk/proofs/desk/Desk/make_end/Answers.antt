@@ -1,0 +1,66 @@
+use Rattle.std.proofs.Common.{◌≡◌, ℕ, ◌<◌, List, [], ◌∷◌, None, refl, sym, ap, ◌∙◌, subst}
+use Rattle.funnel_model.specs.declared.event.Event.{Event}
+use Rattle.funnel_model.specs.declared.event.Event.TheVariants as event
+use Rattle.funnel_model.specs.Legal.{IsAllowed, IsLegal, awaited}
+use Rattle.funnel_model.specs.Tokens.{HasToken}
+use Rattle.slice_rule.specs.Pools.{PoolId}
+use Rattle.slice_rule.specs.Seats.{PassState}
+use Rattle.commit_desk.specs.Desks.{DeskState, IsCaughtUp, Makes}
+use Rattle.commit_desk.proofs.FindEvents.{desk-end, end_allowed}
+use Rattle.commit_desk.proofs.Inside.{books_of, desk_of}
+use Rattle.commit_desk.proofs.Turns.{makes_one}
+use Rattle.commit_desk.proofs.TokenEvents.{token_is_kept}
+use Rattle.commit_desk.proofs.desk.Desk.make_end.Goals as goal
+
+begun_at : (desk now : DeskState) (seat : PassState) (pass number : ℕ) → desk ≡ now → pass ≡ seat.number → IsCaughtUp now seat → HasToken seat.front seat.number number → HasToken desk.history pass number
+begun_at desk now seat pass number view of_pass caught begun =
+    subst (λ (h : List Event). HasToken h pass number) (caught.front ∙ sym (ap (λ (d : DeskState). d.history) view))
+    (subst (λ p. HasToken seat.front p number) (sym of_pass) begun)
+
+allowed_at : (desk now : DeskState) (seat : PassState) (pass number : ℕ) → desk ≡ now → pass < seat.pool.limits.passes → IsLegal desk.pool.limits desk.history → awaited desk.history ≡ None →
+    IsCaughtUp now seat → HasToken desk.history pass number → IsAllowed desk.pool.limits desk.history (event.End pass)
+allowed_at desk now seat pass number view in' legal none caught begun =
+    end_allowed desk.pool.limits desk.history pass number legal none
+    (subst (λ (p : PoolId). pass < p.limits.passes) (caught.seat_of.pool ∙ sym (ap (λ (d : DeskState). d.pool) view)) in') begun
+
+pub make_event-self-inside-requires-clause-allowed : goal.make_event-self-inside-requires-clause-allowed
+make_event-self-inside-requires-clause-allowed c =
+    let i = c.self.inside in
+    let desk = desk_of i in
+    let pool : i.home.pool ≡ c.args.pool.now = ap (λ (d : DeskState). d.pool) c.self.view_is ∙ sym c.requires.pool in
+    let begun = begun_at desk c.args.self.now c.args.seat.now c.number-pass.result c.args.token.opened_at c.self.view_is c.number-pass.ensures.number c.requires.caught_up c.requires.token.begun in
+    subst (λ (p : PoolId). IsAllowed p.limits i.home.history (event.End c.number-pass.result)) pool
+    (allowed_at desk c.args.self.now c.args.seat.now c.number-pass.result c.args.token.opened_at c.self.view_is c.number-pass.ensures.in_range c.self.invariant.kept.legal
+    c.self.invariant.none_awaited c.requires.caught_up begun)
+
+pub end-requires : goal.end-requires
+end-requires c =
+    let i = c.self.inside in
+    let desk = desk_of i in
+    let begun = begun_at desk c.args.self.now c.args.seat.now c.number-pass.result c.args.token.opened_at c.self.view_is c.number-pass.ensures.number c.requires.caught_up c.requires.token.begun in
+    token_is_kept i.home.pool.limits i.home.history i.tokens c.number-pass.result c.args.token.opened_at c.self.invariant.kept.tokens_are begun
+
+pub invariant_of-self : goal.invariant_of-self
+invariant_of-self c =
+    let i = c.self.inside in
+    let desk = desk_of i in
+    let home = c.make_event-self-inside.new.home in
+    let made = c.make_event-self-inside.ensures in
+    let begun = begun_at desk c.args.self.now c.args.seat.now c.number-pass.result c.args.token.opened_at c.self.view_is c.number-pass.ensures.number c.requires.caught_up c.requires.token.begun in
+    let allowed = allowed_at desk c.args.self.now c.args.seat.now c.number-pass.result c.args.token.opened_at c.self.view_is c.number-pass.ensures.in_range c.self.invariant.kept.legal
+    c.self.invariant.none_awaited c.requires.caught_up begun in
+    desk-end i.home.pool i.events_limit i.most_commits i.home.history (books_of i) c.self.invariant home.pool home.history c.make_event-self-inside.result c.end.new.self made.home.pool
+    c.number-pass.result allowed made.home.history made.number c.end.ensures
+
+pub returns-clause-made : goal.returns-clause-made
+returns-clause-made c =
+    let i = c.self.inside in
+    let made = c.make_event-self-inside.ensures in
+    let home = c.make_event-self-inside.new.home in
+    let seat = c.make_event-self-inside.new.seat in
+    let desk = desk_of i in
+    let next : DeskState = record { pool = home.pool; events_limit = i.events_limit; history = home.history } in
+    subst (λ n. Makes (event.End n ∷ []) c.args.self.now next c.args.seat.now seat) c.number-pass.ensures.number
+    (subst (λ (d : DeskState). Makes (event.End c.number-pass.result ∷ []) d next c.args.seat.now seat) c.self.view_is
+    (makes_one desk next c.args.seat.now seat (event.End c.number-pass.result) (subst (λ (d : DeskState). IsCaughtUp d c.args.seat.now) (sym c.self.view_is) c.requires.caught_up)
+    made.home.pool refl made.home.history (invariant_of-self c).kept.legal made.seat))

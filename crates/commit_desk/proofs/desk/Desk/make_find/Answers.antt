@@ -1,0 +1,101 @@
+use Rattle.std.proofs.Common.{rules, ◌≡◌, ◌↔◌, ℕ, ◌+◌, ◌<◌, [], ◌∷◌, ◌++◌, length, refl, sym, ap, ◌∙◌, subst, Contains}
+use Rattle.std.proofs.lemmas.List.{length-append}
+use Rattle.funnel_model.specs.declared.claim.Token.{Token}
+use Rattle.funnel_model.specs.declared.event.Event.TheVariants as event
+use Rattle.funnel_model.specs.History.{place}
+use Rattle.funnel_model.specs.Legal.{IsAllowed, IsIdle}
+use Rattle.funnel_model.specs.Slices.{IsInUse}
+use Rattle.slice_rule.specs.Pools.{PoolId}
+use Rattle.commit_desk.specs.Answers.{TakesCalls}
+use Rattle.commit_desk.specs.Desks.{DeskState, IsCaughtUp, Makes}
+use Rattle.commit_desk.proofs.FindEvents.{desk-find, find_allowed, token_held}
+use Rattle.commit_desk.proofs.Inside.{books_of, desk_of}
+use Rattle.commit_desk.proofs.Turns.{makes_one}
+use Rattle.commit_desk.proofs.StageFacts.{used_slices}
+use Rattle.commit_desk.proofs.TokenEvents.{idle_has_none}
+use Rattle.commit_desk.proofs.desk.Desk.make_find.Goals as goal
+
+idle_now : (c : goal.After-open-arg-1) → IsIdle c.number-pass.result c.self.inside.home.history
+idle_now c =
+    let history = c.self.inside.home.history in
+    subst (λ p. IsIdle p history) (sym c.number-pass.ensures.number)
+    (subst (λ (d : DeskState). IsIdle c.args.seat.now.number d.history) (sym c.self.view_is) c.requires.idle)
+
+pub open-requires-clause-none : goal.open-requires-clause-none
+open-requires-clause-none c =
+    let i = c.self.inside in
+    let kept = c.self.invariant.kept in
+    idle_has_none i.home.pool.limits i.home.history i.tokens c.number-pass.result kept.legal kept.tokens_are (idle_now c)
+
+allowed_now : (c : goal.After-in_use) → IsAllowed c.self.inside.home.pool.limits c.self.inside.home.history (event.Find c.number-pass.result c.args.query.now)
+allowed_now c =
+    let i = c.self.inside in
+    let pool : c.args.seat.now.pool ≡ i.home.pool = c.requires.caught_up.seat_of.pool ∙ sym (ap (λ (d : DeskState). d.pool) c.self.view_is) in
+    find_allowed i.home.pool.limits i.home.history c.number-pass.result c.args.query.now c.self.invariant.none_awaited
+    (subst (λ (p : PoolId). c.number-pass.result < p.limits.passes) pool c.number-pass.ensures.in_range) (idle_now c.before.before.before.before)
+
+pub invariant_of-self : goal.invariant_of-self
+invariant_of-self c =
+    let i = c.self.inside in
+    let home = c.make_event-opened_at.new.home in
+    let made = c.make_event-opened_at.ensures in
+    let below : length i.home.history < i.events_limit =
+    subst (λ (d : DeskState). TakesCalls d.events_limit d.history) (sym c.self.view_is) c.requires.takes_calls in
+    desk-find i.home.pool i.events_limit i.most_commits i.home.history (books_of i) c.self.invariant home.pool home.history c.make_event-opened_at.result c.open.new.self made.home.pool
+    c.number-pass.result c.args.query.now (allowed_now c) below made.home.history made.number c.open.ensures
+
+-- the number of the find, its place and the slices in use before it
+opened_now : (c : goal.After-in_use) → c.make_event-opened_at.result ≡ length c.self.inside.home.history + 1
+opened_now c =
+    let i = c.self.inside in
+    let made = c.make_event-opened_at.ensures in
+    made.number ∙ ap length made.home.history ∙ length-append i.home.history (event.Find c.number-pass.result c.args.query.now ∷ [])
+
+place_now : (c : goal.After-in_use) → c.len-place.result ≡ place c.self.inside.home.history
+place_now c =
+    let journal_is : c.len-place.result ≡ length c.self.inside.journal.items = search rules in
+    journal_is ∙ ap length c.self.invariant.kept.journal_is
+
+slices_now : (c : goal.After-in_use) → (slice : ℕ) →
+    Contains c.in_use.result slice ↔ ((slice < c.self.inside.home.pool.limits.slices) × IsInUse c.self.inside.home.pool.limits.columns slice c.self.inside.home.history)
+slices_now c =
+    let i = c.self.inside in
+    let kept = c.self.invariant.kept in
+    used_slices i.home.pool.limits i.home.history i.records i.tokens i.stages c.in_use.result kept.legal kept.recorded kept.staged c.in_use.ensures
+
+pub returns-clause-answer : goal.returns-clause-answer
+returns-clause-answer c =
+    let token : Token = record { place = c.len-place.result; opened_at = c.make_event-opened_at.result; slices = c.in_use.result } in (
+      c.requires.takes_calls,
+      subst (λ (d : DeskState). token.place ≡ place d.history) c.self.view_is (place_now c),
+      subst (λ (d : DeskState). token.opened_at ≡ length d.history + 1) c.self.view_is (opened_now c),
+      subst (λ (d : DeskState). (slice : ℕ) → Contains token.slices slice ↔ ((slice < d.pool.limits.slices) × IsInUse d.pool.limits.columns slice d.history)) c.self.view_is (slices_now c),
+    )
+
+pub returns-clause-token : goal.returns-clause-token
+returns-clause-token c =
+    let i = c.self.inside in
+    let made = c.make_event-opened_at.ensures in
+    let seat = c.make_event-opened_at.new.seat in
+    let token : Token = record { place = c.len-place.result; opened_at = c.make_event-opened_at.result; slices = c.in_use.result } in
+    let number : c.number-pass.result ≡ seat.number = c.number-pass.ensures.number ∙ sym made.seat.number in
+    let before : c.args.seat.now.front ≡ i.home.history = c.requires.caught_up.front ∙ sym (ap (λ (d : DeskState). d.history) c.self.view_is) in
+    let pool : i.home.pool ≡ seat.pool = ap (λ (d : DeskState). d.pool) c.self.view_is ∙ sym c.requires.caught_up.seat_of.pool ∙ sym made.seat.pool in
+    token_held seat i.home.history c.args.query.now token
+    (made.seat.front ∙ ap (λ h. h ++ event.Find c.number-pass.result c.args.query.now ∷ []) before ∙ ap (λ n. i.home.history ++ event.Find n c.args.query.now ∷ []) number)
+    (opened_now c) (place_now c)
+    (subst (λ (p : PoolId). (slice : ℕ) → Contains token.slices slice ↔ ((slice < p.limits.slices) × IsInUse p.limits.columns slice i.home.history)) pool (slices_now c))
+
+pub returns-clause-made : goal.returns-clause-made
+returns-clause-made c =
+    let i = c.self.inside in
+    let made = c.make_event-opened_at.ensures in
+    let home = c.make_event-opened_at.new.home in
+    let seat = c.make_event-opened_at.new.seat in
+    let query = c.args.query.now in
+    let now = desk_of i in
+    let next : DeskState = record { pool = home.pool; events_limit = i.events_limit; history = home.history } in
+    subst (λ n. Makes (event.Find n query ∷ []) c.args.self.now next c.args.seat.now seat) c.number-pass.ensures.number
+    (subst (λ (d : DeskState). Makes (event.Find c.number-pass.result query ∷ []) d next c.args.seat.now seat) c.self.view_is
+    (makes_one now next c.args.seat.now seat (event.Find c.number-pass.result query) (subst (λ (d : DeskState). IsCaughtUp d c.args.seat.now) (sym c.self.view_is) c.requires.caught_up)
+    made.home.pool refl made.home.history (invariant_of-self c).kept.legal made.seat))

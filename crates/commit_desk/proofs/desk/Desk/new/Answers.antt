@@ -1,0 +1,42 @@
+use Rattle.std.proofs.Common.{◌*◌, ◌^◌, ◌%◌, List, sym, refl, ap, ◌∙◌, subst, arith, replicate, vec_capacity}
+use Rattle.document_store.specs.Slots.{free_slot}
+use Rattle.funnel_model.specs.Configuration.{IsInRange}
+use Rattle.funnel_model.specs.declared.config.Config.{Config}
+use Rattle.funnel_model.specs.declared.event.Event.{Event}
+use Rattle.funnel_model.specs.Legal.{Limits, awaited}
+use Rattle.slice_rule.specs.Pools.{limits_of}
+use Rattle.commit_desk.specs.Kept.{Books, IsKept}
+use Rattle.commit_desk.proofs.KeptNew.{columns_as_made, kept-new, some_columns}
+use Rattle.commit_desk.proofs.desk.Desk.new.Goals as goal
+
+pub invariant_of-result : goal.invariant_of-result
+invariant_of-result c =
+    let pool = c.args.home.pool in
+    let config = c.args.config.now in
+    let limits = limits_of config pool.limits.slice_words in
+    let columns = columns_as_made config c.requires.config in
+    let books : Books = record {
+      slices = config.slices;
+      columns = 64 * (1 * 2 ^ config.max_rank % 2 ^ 32) * config.blocks;
+      events = 0;
+      journal = c.in_ok-with_capacity.field-0.items;
+      room = vec_capacity c.in_ok-with_capacity.field-0;
+      table = c.in_ok-new.field-0;
+      live = c.in_ok-new-2.field-0;
+      tokens = c.in_ok-new-3.field-0;
+      stages = c.in_ok-new-4.field-0;
+    } in
+    record {
+      in_range = subst IsInRange (sym c.requires.made_with) c.requires.config;
+      sizes = c.requires.sizes ∙ ap (λ k. limits_of k pool.limits.slice_words) (sym c.requires.made_with);
+      some = c.requires.some;
+      bounded = c.requires.bounded;
+      commits_are = ap (λ (l : Limits). l.commits) (sym c.requires.sizes);
+      none_awaited = ap awaited c.requires.empty;
+      kept = subst (λ (k : Config). IsKept k pool.limits c.args.events_limit c.args.home.history books) (sym c.requires.made_with)
+          (subst (λ (l : Limits). IsKept config l c.args.events_limit c.args.home.history books) (sym c.requires.sizes)
+          (subst (λ (h : List Event). IsKept config limits c.args.events_limit h books) (sym c.requires.empty)
+          (kept-new config limits c.args.events_limit books (some_columns config c.requires.config) refl columns refl c.in_ok-with_capacity.ensures.items (let h = c.in_ok-with_capacity.ensures.exact in omega arith)
+          c.in_ok-new.ensures.slices (c.in_ok-new.ensures.columns ∙ columns) (c.in_ok-new.ensures.free ∙ ap (λ n. replicate (config.slices * n) free_slot) columns) c.in_ok-new-2.ensures.empty c.in_ok-new-2.ensures.slices (c.in_ok-new-2.ensures.slice_columns ∙ columns)
+          c.in_ok-new-3.ensures (c.in_ok-new-4.ensures.columns ∙ columns) c.in_ok-new-4.ensures.stages c.in_ok-new-4.ensures.mark)));
+    }

@@ -1,0 +1,17 @@
+use Rattle.std.proofs.Common.{Ok, subst}
+use Rattle.commit_desk.specs.Answers.{AnswersFind}
+use Rattle.commit_desk.specs.Desks.{DeskState}
+use Rattle.commit_desk.proofs.FindTurns.{desk_is}
+use Rattle.commit_desk.proofs.Turns.{idle_now}
+use Rattle.commit_desk.proofs.desk.Desk.open_find.Goals as goal
+
+pub make_find-requires-clause-idle : goal.make_find-requires-clause-idle
+make_find-requires-clause-idle c =
+    let up = c.catch_up.ensures in
+    let next = c.catch_up.new.seat in
+    idle_now c.args.seat.now next c.catch_up.new.home.history up.seat up.none_since up.front c.requires.idle
+
+pub returns-clause-answer : goal.returns-clause-answer
+returns-clause-answer c =
+    let same = desk_is c.args.self.now c.self.inside.home c.catch_up.new.home c.self.inside.events_limit c.self.view_is c.catch_up.ensures.home in
+    subst (λ (d : DeskState). AnswersFind d.events_limit d.pool.limits d.history (Ok c.make_find.result)) same c.make_find.ensures.answer

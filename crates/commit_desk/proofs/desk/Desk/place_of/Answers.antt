@@ -1,0 +1,37 @@
+use Rattle.std.proofs.Common.{◌≡◌, ℕ, Some, sym, ap, ◌∙◌}
+use Rattle.document_store.specs.declared.column.Column.TheVariants as became
+use Rattle.funnel_model.specs.History.{live_place}
+use Rattle.commit_desk.specs.Desks.{DeskState}
+use Rattle.commit_desk.proofs.RecordFacts.{EntryPlace, entry_place, no_place_without}
+use Rattle.commit_desk.proofs.desk.Desk.place_of.Goals as goal
+
+pub returns-in_err-slice : goal.returns-in_err-slice
+returns-in_err-slice c =
+    let i = c.self.inside in
+    let kept = c.self.invariant.kept in
+    c.from_residual.ensures
+    ∙ sym (no_place_without i.home.pool.limits i.home.history i.records kept.legal kept.recorded i.live kept.listed c.args.id (sym c.get.ensures ∙ c.in_err-slice.was))
+    ∙ ap (λ (d : DeskState). live_place c.args.id d.history) c.self.view_is
+
+entry_at : (c : goal.In_ok-slice) → EntryPlace c.self.inside.home.pool.limits c.self.inside.home.history c.self.inside.records c.self.invariant.kept.legal c.self.invariant.kept.recorded c.self.inside.live c.self.invariant.kept.listed
+    c.args.id c.in_ok-slice.slice c.in_ok-slice.column
+entry_at c =
+    let i = c.self.inside in
+    let kept = c.self.invariant.kept in
+    entry_place i.home.pool.limits i.home.history i.records kept.legal kept.recorded i.live kept.listed c.args.id c.in_ok-slice.slice c.in_ok-slice.column (sym c.get.ensures ∙ c.in_ok-slice.was)
+
+pub state-requires : goal.state-requires
+state-requires c = (entry_at c).in_table
+
+same_place : (n m : ℕ) → became.Live n ≡ became.Live m → n ≡ m
+same_place n m is = cc
+
+pub returns-in-Live : goal.returns-in-Live
+returns-in-Live c =
+    let e = entry_at c.before.before in
+    ap (λ n. Some n) (same_place c.in-Live.place e.added (c.in-Live.ensures.state ∙ e.column_is)) ∙ sym e.place_is ∙ ap (λ (d : DeskState). live_place c.args.id d.history) c.self.view_is
+
+pub returns-in_default : goal.returns-in_default
+returns-in_default c =
+    let e = entry_at c.before.before in
+    absurd (c.in_default.not-Live e.added (c.state.ensures.state ∙ e.column_is))

@@ -1,0 +1,164 @@
+-- What each call of the desk answers, after the events of a history and in the order of its checks, and the events that it makes.
+use Rattle.std.specs.Prelude.{◌≡◌, ℕ, ◌+◌, ◌<◌, ◌≤◌, ◌↔◌, true, false, List, [], ◌∷◌, length, Result, Ok, Err, Some, Contains}
+use Rattle.funnel_model.specs.Blocks.{AreBlocks, IsLowestGuard}
+use Rattle.funnel_model.specs.declared.bit_list.Bit.{Bit}
+use Rattle.funnel_model.specs.declared.call.Call.TheVariants as call
+use Rattle.funnel_model.specs.declared.claim.Claim.{Claim}
+use Rattle.funnel_model.specs.declared.claim.ClearJob.{ClearJob}
+use Rattle.funnel_model.specs.declared.claim.Token.{Token}
+use Rattle.funnel_model.specs.declared.commit.Commit.{Commit}
+use Rattle.funnel_model.specs.declared.event.Event.{Event}
+use Rattle.funnel_model.specs.declared.event.Event.TheVariants as event
+use Rattle.funnel_model.specs.History.{commits_after, is_live, live_place, place}
+use Rattle.funnel_model.specs.Legal.{CanClear, HasJournalRoom, HasRoom, IsFull, Limits, MayClear, MayTake, NoneCanClear, is_journal_full}
+use Rattle.funnel_model.specs.Slices.{IsInUse, IsRetired}
+use Rattle.funnel_model.specs.Steps.{NoneRetired}
+use Rattle.commit_desk.specs.declared.answers.AddFault.{AddFault}
+use Rattle.commit_desk.specs.declared.answers.AddFault.TheVariants as add
+use Rattle.commit_desk.specs.declared.answers.ClearRefusal.{ClearRefusal}
+use Rattle.commit_desk.specs.declared.answers.ClearRefusal.TheVariants as clear
+use Rattle.commit_desk.specs.declared.answers.CommitFault.{CommitFault}
+use Rattle.commit_desk.specs.declared.answers.CommitFault.TheVariants as commit
+use Rattle.commit_desk.specs.declared.answers.DeleteFault.{DeleteFault}
+use Rattle.commit_desk.specs.declared.answers.DeleteFault.TheVariants as delete
+use Rattle.commit_desk.specs.declared.answers.JournalFault.{JournalFault}
+use Rattle.commit_desk.specs.declared.answers.JournalFault.TheVariants as journal
+use Rattle.commit_desk.specs.declared.answers.Spent.{Spent}
+use Rattle.commit_desk.specs.declared.answers.Taken.{Taken}
+use Rattle.commit_desk.specs.declared.answers.Taken.TheVariants as taken
+
+-- In these, `most` is the number of events from which on no call is taken. Calls are taken where the history has fewer.
+abbrev pub TakesCalls : ℕ → List Event → Type 0
+TakesCalls most history = length history < most
+
+-- no call is taken any more, and this is the number of events
+pub record IsSpentAt (most : ℕ) (history : List Event) (events : ℕ) : Type 0 where
+  pub many : most ≤ length history
+  pub count : events ≡ length history
+
+-- the number is live, and was added at this place
+pub record IsPresent (history : List Event) (id added : ℕ) : Type 0 where
+  pub live : live_place id history ≡ Some added
+
+-- the number is not live, and the journal holds this many commits, which is all that it can
+pub record HasFullJournal (limits : Limits) (history : List Event) (count : ℕ) : Type 0 where
+  pub full : is_journal_full limits history ≡ true
+  pub kept : count ≡ limits.commits
+
+-- nothing but want of room keeps a document with this number out: first calls are taken, then the number is not live, and then the
+-- journal has room
+pub record MayEnter (most : ℕ) (limits : Limits) (history : List Event) (id : ℕ) : Type 0 where
+  pub takes_calls : TakesCalls most history
+  pub absent : is_live id history ≡ false
+  pub journal : HasJournalRoom limits history
+
+-- why an add is refused: each reason yields to those before it
+abbrev pub RefusesAdd : ℕ → Limits → List Event → ℕ → AddFault → Type 0
+RefusesAdd most limits history id (add.Spent events) = IsSpentAt most history events
+RefusesAdd most limits history id (add.Present added) = TakesCalls most history × IsPresent history id added
+RefusesAdd most limits history id (add.JournalFull count) = TakesCalls most history × (is_live id history ≡ false) × HasFullJournal limits history count
+RefusesAdd most limits history id (add.Full blocks) = MayEnter most limits history id × IsFull limits history × AreBlocks limits history blocks
+RefusesAdd most limits history id add.Memory = ⊥
+
+-- an add takes the next column of the lowest slice with room; where none has room, it is to clear the lowest slice that can be cleared;
+-- else it is refused
+abbrev pub AnswersTake : ℕ → Limits → List Event → ℕ → ℕ → Taken → Type 0
+AnswersTake most limits history pass id (taken.Claim claim) = MayEnter most limits history id × MayTake limits history pass claim.slice claim.column
+AnswersTake most limits history pass id (taken.Clear job) =
+    MayEnter most limits history id × ((slice : ℕ) → slice < limits.slices → HasRoom limits.columns history slice → ⊥) × MayClear limits history pass job.slice
+AnswersTake most limits history pass id (taken.Refused fault) = RefusesAdd most limits history id fault
+
+-- and these are its events
+abbrev pub events_of_take : ℕ → ℕ → List ℕ → Taken → List Event
+events_of_take pass id text (taken.Claim claim) = event.Take pass claim.slice claim.column ∷ []
+events_of_take pass id text (taken.Clear job) = event.Clear pass job.slice ∷ []
+events_of_take pass id text (taken.Refused (add.Spent events)) = []
+events_of_take pass id text (taken.Refused _) = event.No pass (call.Add id text) ∷ []
+
+-- a document is added where its number is not live and the journal has room, and else dropped: a live number goes before a full journal
+abbrev pub AnswersCommit : Limits → List Event → ℕ → Result ℕ CommitFault → Type 0
+AnswersCommit limits history id (Ok added) = (is_live id history ≡ false) × HasJournalRoom limits history × (added ≡ place history + 1)
+AnswersCommit limits history id (Err (commit.Present added)) = IsPresent history id added
+AnswersCommit limits history id (Err (commit.JournalFull count)) = (is_live id history ≡ false) × HasFullJournal limits history count
+
+abbrev pub events_of_commit : ℕ → ℕ → List ℕ → Claim → List Bit → Result ℕ CommitFault → List Event
+events_of_commit pass id text claim bits (Ok added) = event.Add pass id text claim.slice claim.column bits ∷ []
+events_of_commit pass id text claim bits (Err fault) = event.Drop pass id text claim.slice claim.column ∷ []
+
+-- a live document can be deleted now
+pub record MayDeleteNow (most : ℕ) (limits : Limits) (history : List Event) (id : ℕ) : Type 0 where
+  pub takes_calls : TakesCalls most history
+  pub live : is_live id history ≡ true
+  pub journal : HasJournalRoom limits history
+
+-- a delete is refused first as spent, then for a number that is not live, and then for a full journal
+abbrev pub AnswersDelete : ℕ → Limits → List Event → ℕ → Result ℕ DeleteFault → Type 0
+AnswersDelete most limits history id (Ok deleted) = MayDeleteNow most limits history id × (deleted ≡ place history + 1)
+AnswersDelete most limits history id (Err (delete.Spent events)) = IsSpentAt most history events
+AnswersDelete most limits history id (Err delete.Absent) = TakesCalls most history × (is_live id history ≡ false)
+AnswersDelete most limits history id (Err (delete.JournalFull count)) = TakesCalls most history × (is_live id history ≡ true) × HasFullJournal limits history count
+
+abbrev pub events_of_delete : ℕ → ℕ → Result ℕ DeleteFault → List Event
+events_of_delete pass id (Ok deleted) = event.Del pass id ∷ []
+events_of_delete pass id (Err (delete.Spent events)) = []
+events_of_delete pass id (Err _) = event.No pass (call.Delete id) ∷ []
+
+-- the slice is the lowest that is retired
+pub record IsLowestRetired (limits : Limits) (history : List Event) (slice : ℕ) : Type 0 where
+  pub in_range : slice < limits.slices
+  pub retired : IsRetired limits.columns slice history
+  pub lowest : (lower : ℕ) → lower < slice → IsRetired limits.columns lower history → ⊥
+
+-- the slice is the lowest that can be cleared
+pub record IsLowestClearable (limits : Limits) (history : List Event) (slice : ℕ) : Type 0 where
+  pub in_range : slice < limits.slices
+  pub can_clear : CanClear limits.columns history slice
+  pub lowest : (lower : ℕ) → lower < slice → CanClear limits.columns history lower → ⊥
+
+-- why no slice can be cleared, where none can
+abbrev pub RefusesClear : Limits → List Event → ClearRefusal → Type 0
+RefusesClear limits history clear.NoneRetired = NoneRetired limits history
+RefusesClear limits history (clear.Guarded slice guard opened_at) = IsLowestRetired limits history slice × IsLowestGuard limits.columns history slice guard opened_at
+RefusesClear limits history (clear.Spent events) = ⊥
+
+-- a recycle is refused first as spent; then it clears the lowest slice that can be cleared; where there is none it is refused because
+-- none is retired, or with the lowest that is, its lowest guarding pass and the number of that pass's find
+abbrev pub AnswersClear : ℕ → Limits → List Event → ℕ → Result ClearJob ClearRefusal → Type 0
+AnswersClear most limits history pass (Ok job) = TakesCalls most history × MayClear limits history pass job.slice
+AnswersClear most limits history pass (Err (clear.Spent events)) = IsSpentAt most history events
+AnswersClear most limits history pass (Err fault) = TakesCalls most history × NoneCanClear limits history × RefusesClear limits history fault
+
+abbrev pub events_of_clear : ℕ → Result ClearJob ClearRefusal → List Event
+events_of_clear pass (Ok job) = event.Clear pass job.slice ∷ []
+events_of_clear pass (Err (clear.Spent events)) = []
+events_of_clear pass (Err _) = event.No pass call.Recycle ∷ []
+
+-- a place is the number of commits, unless the engine is spent
+abbrev pub AnswersPlace : ℕ → List Event → Result ℕ Spent → Type 0
+AnswersPlace most history (Ok count) = TakesCalls most history × (count ≡ place history)
+AnswersPlace most history (Err spent) = IsSpentAt most history spent.events
+
+abbrev pub events_of_place : ℕ → Result ℕ Spent → List Event
+events_of_place pass (Ok count) = event.Read pass call.Place ∷ []
+events_of_place pass (Err spent) = []
+
+-- a journal has the commits after the first so many, unless there was no memory or the engine is spent
+abbrev pub AnswersJournal : ℕ → List Event → ℕ → Result (List Commit) JournalFault → Type 0
+AnswersJournal most history from (Ok read) = TakesCalls most history × (read ≡ commits_after history from)
+AnswersJournal most history from (Err (journal.Spent events)) = IsSpentAt most history events
+AnswersJournal most history from (Err journal.Memory) = Unit {0}
+
+abbrev pub events_of_journal : ℕ → ℕ → Result (List Commit) JournalFault → List Event
+events_of_journal pass from (Ok read) = event.Read pass (call.Journal from) ∷ []
+events_of_journal pass from (Err fault) = []
+
+-- a find begins, unless the engine is spent: its token has the number of commits, the find's own number, and the slices in use
+abbrev pub AnswersFind : ℕ → Limits → List Event → Result Token Spent → Type 0
+AnswersFind most limits history (Ok token) =
+    TakesCalls most history × (token.place ≡ place history) × (token.opened_at ≡ length history + 1)
+    × ((slice : ℕ) → Contains token.slices slice ↔ ((slice < limits.slices) × IsInUse limits.columns slice history))
+AnswersFind most limits history (Err spent) = IsSpentAt most history spent.events
+
+abbrev pub events_of_find : ℕ → List ℕ → Result Token Spent → List Event
+events_of_find pass query (Ok token) = event.Find pass query ∷ []
+events_of_find pass query (Err spent) = []

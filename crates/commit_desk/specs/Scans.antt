@@ -1,0 +1,33 @@
+-- What a find hands in when it ends: the candidates that it scanned for.
+use Rattle.std.specs.Prelude.{◌≡◌, ℕ, ◌<◌, List, Contains, IsBitSet}
+use Rattle.std.specs.List.{AllPairs}
+use Rattle.funnel_model.specs.declared.bit_list.Bit.{Bit}
+use Rattle.funnel_model.specs.declared.claim.Token.{Token}
+use Rattle.funnel_model.specs.declared.config.Config.{Config}
+use Rattle.funnel_model.specs.RowWords.{IsCommitted}
+use Rattle.row_layout.specs.DocumentBits.{IsDocumentBit}
+use Rattle.slice_rule.specs.declared.view.Fact.TheVariants as fact
+use Rattle.slice_rule.specs.Seats.{PassState}
+
+-- the column is one of a slice that the find may read
+pub record IsOfToken (columns : ℕ) (token : Token) (candidate : ℕ × ℕ) : Type 0 where
+  pub slice : Contains token.slices candidate.0
+  pub column : candidate.1 < columns
+
+-- all bits that a document with these words sets at the column are committed, as the pass has seen
+abbrev pub HasAllCommitted : Config → PassState → List (List ℕ) → ℕ → ℕ → Type 0
+HasAllCommitted config seat words slice column =
+    (bit : Bit) → IsDocumentBit config words slice column bit → IsCommitted seat.front slice bit
+
+-- the bit was set in a value that the pass read under the token
+abbrev pub WasReadSet : PassState → Token → Bit → Type 0
+WasReadSet seat token bit = (value : ℕ) × Contains seat.own (fact.WordRead token.opened_at bit.word value) × IsBitSet value bit.bit
+
+-- The candidates of a find are columns that it may read, each once; each column of which all bits of the words are committed is one
+-- of them, and of each of them all bits of the words were read as set.
+pub record AreScanned (config : Config) (seat : PassState) (token : Token) (words : List (List ℕ)) (candidates : List (ℕ × ℕ)) : Type 0 where
+  pub of_token : (candidate : ℕ × ℕ) → Contains candidates candidate → IsOfToken seat.pool.limits.columns token candidate
+  pub each_once : AllPairs (λ (candidate other : ℕ × ℕ). candidate ≡ other → ⊥) candidates
+  pub every : (slice column : ℕ) → Contains token.slices slice → column < seat.pool.limits.columns → HasAllCommitted config seat words slice column →
+      Contains candidates (slice, column)
+  pub read : (candidate : ℕ × ℕ) → Contains candidates candidate → (bit : Bit) → IsDocumentBit config words candidate.0 candidate.1 bit → WasReadSet seat token bit

@@ -1,0 +1,262 @@
+ghost use Rattle.std.specs.Prelude.{◌≡◌, ℕ, ◌+◌, ◌<◌, ◌≤◌, ◌↔◌, ◌⊎◌, true, false, [], ◌∷◌, MatchResult, Ok, Err, Contains, All, length, vec_capacity};
+ghost use Rattle.funnel_model.specs.declared.bit_list.Bit.{Bit};
+ghost use Rattle.funnel_model.specs.declared.call.Call.TheVariants as call;
+ghost use Rattle.funnel_model.specs.declared.event.Event.TheVariants as event;
+ghost use Rattle.funnel_model.specs.History.{is_live, place};
+ghost use Rattle.funnel_model.specs.Legal.{IsIdle, IsInSlice, IsRefused, MayTake, is_journal_full};
+ghost use Rattle.funnel_model.specs.Slices.{claimed};
+ghost use Rattle.row_layout.specs.DocumentBits.{AreDocumentBits};
+ghost use Rattle.slice_rule.specs.declared.view.Fact.TheVariants as fact;
+ghost use Rattle.slice_rule.specs.Numbers.{last_number};
+ghost use Rattle.slice_rule.specs.Seats.{HasNoneOutstanding, HoldsClaim, HoldsJob};
+ghost use Rattle.commit_desk.specs.Answers.{AnswersCommit, AnswersTake, MayEnter, RefusesAdd, TakesCalls, events_of_commit, events_of_take};
+ghost use Rattle.commit_desk.specs.Desks.{IsCaughtUp, IsSeatOf, Makes, NothingUnderLast, NothingYet};
+
+use crate::answers::{AddFault, CommitFault, Taken};
+use crate::desk::Desk;
+use crate::entries::{Adds, Drops, Refuses};
+use document_store::Doc;
+use funnel_model::{Block, Blocked, Claim, ClearJob, Commit, Event};
+use row_layout::Bits;
+use slice_rule::{PassSeat, Pool};
+
+impl Desk {
+    /// Claims a column for a document, or begins to clear a slice for it, or says why the document can't be added. `room`
+    /// is an empty list with room for a block of each slice, for the answer `Full`.
+    pub fn take(&mut self, pool: &Pool, seat: &mut PassSeat, doc: &Doc, room: Vec<Block>) -> Taken
+        requires pool { pool.now ≡ self.old.pool }
+        requires seat { IsSeatOf self.old seat.old }
+        requires idle { IsIdle seat.old.number seat.old.front }
+        requires empty { room.items ≡ [] }
+        requires enough { self.old.pool.limits.slices ≤ vec_capacity room }
+        ensures answer { AnswersTake self.old.events_limit self.old.pool.limits self.old.history seat.old.number doc.now.id result }
+        ensures events { Makes (events_of_take seat.old.number doc.now.id doc.now.text result) self.old self.new seat.old seat.new }
+        ensures none_outstanding { HasNoneOutstanding seat.new }
+        ensures nothing_yet { NothingYet result seat.new }
+    {
+        pool.catch_up(&mut self.home, seat);
+        if self.is_spent() {
+            return Taken::Refused(AddFault::Spent(self.events));
+        }
+        match self.check_add(doc.id()) {
+            Ok(()) => self.take_room(pool, seat, doc, room),
+            Err(fault) => {
+                self.refuse_add(pool, seat, doc);
+                Taken::Refused(fault)
+            }
+        }
+    }
+
+    /// Opens the slice that the pass cleared for an add, and claims its first column. The slice's documents, which are all
+    /// deleted, are dropped.
+    pub fn opened_take(&mut self, pool: &Pool, seat: &mut PassSeat, job: ClearJob) -> Claim
+        requires pool { pool.now ≡ self.old.pool }
+        requires seat { IsSeatOf self.old seat.old }
+        requires job { HoldsJob seat.old job }
+        requires zero { (word : ℕ) → IsInSlice self.old.pool.limits.slice_words job.slice word → Contains seat.old.own (fact.WordZero (last_number seat.old.number seat.old.front) word) }
+        ensures slice { result.slice ≡ job.slice }
+        ensures column { result.column ≡ 0 }
+        ensures events { Makes (event.Opened seat.old.number job.slice false ∷ event.Take seat.old.number job.slice 0 ∷ []) self.old self.new seat.old seat.new }
+        ensures none_outstanding { HasNoneOutstanding seat.new }
+        ensures nothing_yet { NothingUnderLast seat.new }
+    {
+        pool.catch_up(&mut self.home, seat);
+        let ClearJob { slice } = job;
+        let pass = seat.number();
+        let alone = false;
+        let opens = Event::Opened { pass, slice, alone };
+        pool.make_event(&mut self.home, seat, &opens);
+        self.records.free(slice);
+        self.stages.open(slice);
+        let column = self.stages.claim(slice);
+        let takes = Event::Take {
+            pass,
+            slice,
+            column,
+        };
+        self.events = pool.make_event(&mut self.home, seat, &takes);
+        self.records.claim(slice, column, pass);
+        Claim { slice, column }
+    }
+
+    /// Adds the document to its column, all of whose bits the pass has set, and gives the place of the add; or drops it
+    /// where its number is live by now, or the journal full. It takes no memory.
+    pub fn commit(
+        &mut self,
+        pool: &Pool,
+        seat: &mut PassSeat,
+        claim: Claim,
+        doc: Doc,
+        bits: &Bits,
+    ) -> Result<u64, CommitFault>
+        requires pool { pool.now ≡ self.old.pool }
+        requires seat { IsSeatOf self.old seat.old }
+        requires claim { HoldsClaim seat.old claim }
+        requires bits { AreDocumentBits self.old.pool.config doc.words claim.slice claim.column bits.now.bits }
+        requires inside { All (λ b. IsInSlice self.old.pool.limits.slice_words claim.slice b.word) bits.now.bits }
+        requires of_words { All (λ b. b.bit < 64) bits.now.bits }
+        requires set { (b : Bit) → Contains bits.now.bits b ↔ Contains seat.old.own (fact.BitSet (last_number seat.old.number seat.old.front) b) }
+        ensures answer { AnswersCommit self.old.pool.limits self.old.history doc.id result }
+        ensures events { Makes (events_of_commit seat.old.number doc.id doc.text claim bits.now.bits result) self.old self.new seat.old seat.new }
+        ensures none_outstanding { HasNoneOutstanding seat.new }
+    {
+        pool.catch_up(&mut self.home, seat);
+        match self.check_commit(doc.id()) {
+            Ok(()) => Ok(self.make_add(pool, seat, claim, doc, bits)),
+            Err(fault) => {
+                self.make_drop(pool, seat, claim, doc);
+                Err(fault)
+            }
+        }
+    }
+
+    // Whether nothing but want of room keeps a document with this number out, or what does, where calls are taken.
+    fn check_add(&self, id: u64) -> Result<(), AddFault>
+        requires { TakesCalls self.now.events_limit self.now.history }
+        ensures { MatchResult result (λ _. MayEnter self.now.events_limit self.now.pool.limits self.now.history id)
+            (λ fault. RefusesAdd self.now.events_limit self.now.pool.limits self.now.history id fault) }
+    {
+        match self.check_commit(id) {
+            Ok(()) => Ok(()),
+            Err(CommitFault::Present(place)) => Err(AddFault::Present(place)),
+            Err(CommitFault::JournalFull(count)) => Err(AddFault::JournalFull(count)),
+        }
+    }
+
+    // Whether a document with this number can be added, or why not.
+    fn check_commit(&self, id: u64) -> Result<(), CommitFault>
+        ensures { MatchResult result (λ _. AnswersCommit self.now.pool.limits self.now.history id (Ok (place self.now.history + 1)))
+            (λ fault. AnswersCommit self.now.pool.limits self.now.history id (Err fault)) }
+    {
+        if let Some(place) = self.place_of(id) {
+            return Err(CommitFault::Present(place));
+        }
+        if self.is_journal_full() {
+            return Err(CommitFault::JournalFull(self.most_commits));
+        }
+        Ok(())
+    }
+
+    // Claims a column, or begins to clear a slice, or refuses the document for want of room.
+    fn take_room(&mut self, pool: &Pool, seat: &mut PassSeat, doc: &Doc, room: Vec<Block>) -> Taken
+        requires pool { pool.now ≡ self.old.pool }
+        requires caught_up { IsCaughtUp self.old seat.old }
+        requires idle { IsIdle seat.old.number self.old.history }
+        requires may { MayEnter self.old.events_limit self.old.pool.limits self.old.history doc.now.id }
+        requires empty { room.items ≡ [] }
+        requires enough { self.old.pool.limits.slices ≤ vec_capacity room }
+        ensures answer { AnswersTake self.old.events_limit self.old.pool.limits self.old.history seat.old.number doc.now.id result }
+        ensures events { Makes (events_of_take seat.old.number doc.now.id doc.now.text result) self.old self.new seat.old seat.new }
+        ensures none_outstanding { HasNoneOutstanding seat.new }
+        ensures nothing_yet { NothingYet result seat.new }
+    {
+        if let Some(slice) = self.stages.with_room() {
+            return Taken::Claim(self.claim(pool, seat, slice));
+        }
+        if let Some(job) = self.begin_clear(pool, seat) {
+            return Taken::Clear(job);
+        }
+        let blocks = self.blocks(room);
+        self.refuse_add(pool, seat, doc);
+        Taken::Refused(AddFault::Full(blocks))
+    }
+
+    // Claims the next column of the slice.
+    fn claim(&mut self, pool: &Pool, seat: &mut PassSeat, slice: u32) -> Claim
+        requires pool { pool.now ≡ self.old.pool }
+        requires caught_up { IsCaughtUp self.old seat.old }
+        requires takes_calls { TakesCalls self.old.events_limit self.old.history }
+        requires may { MayTake self.old.pool.limits self.old.history seat.old.number slice (length (claimed slice self.old.history)) }
+        ensures slice { result.slice ≡ slice }
+        ensures column { result.column ≡ length (claimed slice self.old.history) }
+        ensures made { Makes (event.Take seat.old.number slice result.column ∷ []) self.old self.new seat.old seat.new }
+        ensures none_outstanding { HasNoneOutstanding seat.new }
+        ensures nothing_yet { NothingUnderLast seat.new }
+    {
+        let pass = seat.number();
+        let column = self.stages.claim(slice);
+        let entry = Event::Take {
+            pass,
+            slice,
+            column,
+        };
+        self.events = pool.make_event(&mut self.home, seat, &entry);
+        self.records.claim(slice, column, pass);
+        Claim { slice, column }
+    }
+
+    // Makes the event of a refused add.
+    fn refuse_add(&mut self, pool: &Pool, seat: &mut PassSeat, doc: &Doc)
+        requires pool { pool.now ≡ self.old.pool }
+        requires caught_up { IsCaughtUp self.old seat.old }
+        requires idle { IsIdle seat.old.number self.old.history }
+        requires refused { IsRefused self.old.pool.limits self.old.history (call.Add doc.now.id doc.now.text) }
+        requires takes_calls { TakesCalls self.old.events_limit self.old.history }
+        ensures made { Makes (event.No seat.old.number (call.Add doc.now.id doc.now.text) ∷ []) self.old self.new seat.old seat.new }
+        ensures none_outstanding { HasNoneOutstanding seat.new }
+    {
+        let pass = seat.number();
+        self.make_plain(pool, seat, &Refuses { pass, doc });
+    }
+
+    // Makes the add of the document, and gives its place.
+    fn make_add(
+        &mut self,
+        pool: &Pool,
+        seat: &mut PassSeat,
+        claim: Claim,
+        doc: Doc,
+        bits: &Bits,
+    ) -> u64
+        requires pool { pool.now ≡ self.old.pool }
+        requires caught_up { IsCaughtUp self.old seat.old }
+        requires claim { HoldsClaim seat.old claim }
+        requires may { AnswersCommit self.old.pool.limits self.old.history doc.id (Ok (place self.old.history + 1)) }
+        requires bits { AreDocumentBits self.old.pool.config doc.words claim.slice claim.column bits.now.bits }
+        requires inside { All (λ b. IsInSlice self.old.pool.limits.slice_words claim.slice b.word) bits.now.bits }
+        requires of_words { All (λ b. b.bit < 64) bits.now.bits }
+        requires set { (b : Bit) → Contains bits.now.bits b ↔ Contains seat.old.own (fact.BitSet (last_number seat.old.number seat.old.front) b) }
+        ensures place { result ≡ place self.old.history + 1 }
+        ensures made { Makes (event.Add seat.old.number doc.id doc.text claim.slice claim.column bits.now.bits ∷ []) self.old self.new seat.old seat.new }
+        ensures none_outstanding { HasNoneOutstanding seat.new }
+    {
+        let place = self.journal.len() as u64 + 1;
+        let pass = seat.number();
+        let id = doc.id();
+        let _ = doc.words();
+        let entry = Adds {
+            pass,
+            doc: &doc,
+            claim: &claim,
+            bits: bits.list(),
+        };
+        self.events = pool.make_event(&mut self.home, seat, &entry);
+        let Claim { slice, column } = claim;
+        self.records.live(slice, column, doc, place);
+        self.live.add(id, slice, column);
+        self.journal.push_reserved(Commit { add: true, id });
+        place
+    }
+
+    // Makes the drop of the document.
+    fn make_drop(&mut self, pool: &Pool, seat: &mut PassSeat, claim: Claim, doc: Doc)
+        requires pool { pool.now ≡ self.old.pool }
+        requires caught_up { IsCaughtUp self.old seat.old }
+        requires claim { HoldsClaim seat.old claim }
+        requires refused { (is_live doc.id self.old.history ≡ true) ⊎ (is_journal_full self.old.pool.limits self.old.history ≡ true) }
+        ensures made { Makes (event.Drop seat.old.number doc.id doc.text claim.slice claim.column ∷ []) self.old self.new seat.old seat.new }
+        ensures none_outstanding { HasNoneOutstanding seat.new }
+    {
+        let pass = seat.number();
+        let entry = Drops {
+            pass,
+            doc: &doc,
+            claim: &claim,
+        };
+        let number = pool.make_event(&mut self.home, seat, &entry);
+        let Claim { slice, column } = claim;
+        self.records.drop_column(slice, column);
+        self.stages.end_column(slice, number);
+        self.events = number;
+    }
+}

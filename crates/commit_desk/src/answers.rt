@@ -1,0 +1,79 @@
+//! What the calls of the desk answer.
+use funnel_model::{Blocked, Claim, ClearJob};
+
+/// The history has so many events that no call is taken any more: this many.
+#[derive(Clone, Copy, Debug, PartialEq, Eq)]
+pub struct Spent {
+    pub events: u64,
+}
+
+/// What became of an add's wish for a column.
+#[derive(Debug)]
+pub enum Taken {
+    /// The pass has claimed this column.
+    Claim(Claim),
+    /// No slice has a column left, and the pass is to clear this slice. Then `opened_take` claims its first column.
+    Clear(ClearJob),
+    /// The add is refused.
+    Refused(AddFault),
+}
+
+/// Why no document was added.
+#[derive(Debug, Drop)]
+pub enum AddFault {
+    /// The number is live, and was added at this place.
+    Present(u64),
+    /// The journal holds this many commits, which is all that it can.
+    JournalFull(u64),
+    /// No slice has a column left, and none can be cleared: what keeps documents out of each.
+    Full(Blocked),
+    /// The history has this many events, and no call is taken any more.
+    Spent(u64),
+    /// There was no memory. The desk does not answer this.
+    Memory,
+}
+
+/// Why a document was dropped at its commit.
+#[derive(Clone, Copy, Debug, PartialEq, Eq)]
+pub enum CommitFault {
+    /// The number is live, and was added at this place.
+    Present(u64),
+    /// The journal holds this many commits, which is all that it can.
+    JournalFull(u64),
+}
+
+/// Why no document was deleted.
+#[derive(Clone, Copy, Debug, PartialEq, Eq)]
+pub enum DeleteFault {
+    /// The number is not live.
+    Absent,
+    /// The journal holds this many commits, which is all that it can.
+    JournalFull(u64),
+    /// The history has this many events, and no call is taken any more.
+    Spent(u64),
+}
+
+/// Why no slice is cleared.
+#[derive(Clone, Copy, Debug, PartialEq, Eq)]
+pub enum ClearRefusal {
+    /// No slice is retired.
+    NoneRetired,
+    /// Each retired slice is guarded. This is the lowest one, with the lowest pass that guards it and the number of the
+    /// event that began this pass's find.
+    Guarded {
+        slice: u32,
+        pass: u32,
+        opened_at: u64,
+    },
+    /// The history has this many events, and no call is taken any more.
+    Spent(u64),
+}
+
+/// Why the journal was not read.
+#[derive(Clone, Copy, Debug, PartialEq, Eq)]
+pub enum JournalFault {
+    /// The history has this many events, and no call is taken any more.
+    Spent(u64),
+    /// There was no memory.
+    Memory,
+}

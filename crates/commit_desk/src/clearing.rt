@@ -1,0 +1,92 @@
+ghost use Rattle.std.specs.Prelude.{◌≡◌, ℕ, ◌<◌, ◌≤◌, true, [], ◌∷◌, MatchOption, MatchResult, Ok, Err, Contains};
+ghost use Rattle.funnel_model.specs.declared.event.Event.TheVariants as event;
+ghost use Rattle.funnel_model.specs.Legal.{IsIdle, IsInSlice, MayClear, NoneCanClear};
+ghost use Rattle.slice_rule.specs.declared.view.Fact.TheVariants as fact;
+ghost use Rattle.slice_rule.specs.Numbers.{last_number};
+ghost use Rattle.slice_rule.specs.Seats.{HasNoneOutstanding, HoldsJob};
+ghost use Rattle.commit_desk.specs.Answers.{AnswersClear, TakesCalls, events_of_clear};
+ghost use Rattle.commit_desk.specs.Desks.{IsCaughtUp, IsSeatOf, Makes};
+
+use crate::answers::ClearRefusal;
+use crate::desk::Desk;
+use funnel_model::{Call, ClearJob, Event};
+use slice_rule::{PassSeat, Pool};
+
+impl Desk {
+    /// Begins to clear the lowest slice that is retired and that no running find guards, for a recycle. The pass clears
+    /// the slice's words, and then calls `opened`.
+    pub fn start_clear(
+        &mut self,
+        pool: &Pool,
+        seat: &mut PassSeat,
+    ) -> Result<ClearJob, ClearRefusal>
+        requires pool { pool.now ≡ self.old.pool }
+        requires seat { IsSeatOf self.old seat.old }
+        requires idle { IsIdle seat.old.number seat.old.front }
+        ensures answer { AnswersClear self.old.events_limit self.old.pool.limits self.old.history seat.old.number result }
+        ensures events { Makes (events_of_clear seat.old.number result) self.old self.new seat.old seat.new }
+        ensures none_outstanding { HasNoneOutstanding seat.new }
+    {
+        pool.catch_up(&mut self.home, seat);
+        if self.is_spent() {
+            return Err(ClearRefusal::Spent(self.events));
+        }
+        if let Some(job) = self.begin_clear(pool, seat) {
+            return Ok(job);
+        }
+        let refusal = self.clear_refusal();
+        let pass = seat.number();
+        let call = Call::Recycle;
+        self.make_plain(pool, seat, &Event::No { pass, call });
+        Err(refusal)
+    }
+
+    /// Opens the slice that the pass cleared, for a recycle, and gives its number. Its documents, which are all deleted,
+    /// are dropped.
+    pub fn opened(&mut self, pool: &Pool, seat: &mut PassSeat, job: ClearJob) -> u32
+        requires pool { pool.now ≡ self.old.pool }
+        requires seat { IsSeatOf self.old seat.old }
+        requires job { HoldsJob seat.old job }
+        requires zero { (word : ℕ) → IsInSlice self.old.pool.limits.slice_words job.slice word → Contains seat.old.own (fact.WordZero (last_number seat.old.number seat.old.front) word) }
+        ensures slice { result ≡ job.slice }
+        ensures events { Makes (event.Opened seat.old.number job.slice true ∷ []) self.old self.new seat.old seat.new }
+        ensures none_outstanding { HasNoneOutstanding seat.new }
+    {
+        pool.catch_up(&mut self.home, seat);
+        let ClearJob { slice } = job;
+        let pass = seat.number();
+        let alone = true;
+        let entry = Event::Opened { pass, slice, alone };
+        self.events = pool.make_event(&mut self.home, seat, &entry);
+        self.records.free(slice);
+        self.stages.open(slice);
+        slice
+    }
+
+    // The pass begins to clear the lowest slice that can be cleared, where there is one.
+    pub(crate) fn begin_clear(&mut self, pool: &Pool, seat: &mut PassSeat) -> Option<ClearJob>
+        requires pool { pool.now ≡ self.old.pool }
+        requires caught_up { IsCaughtUp self.old seat.old }
+        requires takes_calls { TakesCalls self.old.events_limit self.old.history }
+        requires idle { IsIdle seat.old.number self.old.history }
+        ensures may { MatchOption result (NoneCanClear self.old.pool.limits self.old.history)
+            (λ job. MayClear self.old.pool.limits self.old.history seat.old.number job.slice) }
+        ensures made { MatchOption result ((self.new ≡ self.old) × (seat.new ≡ seat.old))
+            (λ job. Makes (event.Clear seat.old.number job.slice ∷ []) self.old self.new seat.old seat.new) }
+        ensures none_outstanding { HasNoneOutstanding seat.new }
+    {
+        let _ = &self.home;
+        let mark = match self.tokens.oldest() {
+            Some(number) => number,
+            None => self.events,
+        };
+        self.stages.look(mark);
+        let Some(slice) = self.stages.clearable() else {
+            return None;
+        };
+        let pass = seat.number();
+        self.events = pool.make_event(&mut self.home, seat, &Event::Clear { pass, slice });
+        self.stages.clear(slice, pass);
+        Some(ClearJob { slice })
+    }
+}

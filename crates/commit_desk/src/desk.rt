@@ -1,0 +1,129 @@
+ghost use Rattle.std.specs.Prelude.{◌≡◌, ◌≤◌, ◌^◌, [], ◌∷◌, ◌++◌, IfOk, IsTrue, ◌↔◌, length};
+ghost use Rattle.funnel_model.specs.Configuration.{IsInRange};
+ghost use Rattle.funnel_model.specs.History.{commits, live_place, place};
+ghost use Rattle.funnel_model.specs.Legal.{IsLegal, is_journal_full};
+ghost use Rattle.row_layout.specs.Sound.{IsSound};
+ghost use Rattle.slice_rule.specs.Pools.{limits_of};
+ghost use Rattle.slice_rule.specs.Seats.{new_home_state};
+
+use document_store::{Column, LiveList, Records};
+use funnel_model::{Commit, Commits, Config, Memory};
+use slice_rule::Home;
+use slice_stages::Stages;
+use std::alloc::Global;
+use std::marker::Model;
+use token_manager::Tokens;
+
+/// The one place where events are made: the pool's home, and what answers calls by the history that it stands for.
+/// Contracts see the pool, the limit of events and the history.
+#[derive(Drop)]
+pub struct Desk {
+    pub(crate) home: Home,
+    pub(crate) events_limit: u64,
+    pub(crate) slices: u32,
+    pub(crate) columns: u32,
+    pub(crate) events: u64,
+    pub(crate) most_commits: u64,
+    pub(crate) journal: Vec<Commit>,
+    pub(crate) records: Records,
+    pub(crate) live: LiveList,
+    pub(crate) tokens: Tokens,
+    pub(crate) stages: Stages,
+}
+
+impl Model for Desk {
+    ghost use Rattle.std.specs.Prelude.{vec_capacity};
+    ghost use Rattle.commit_desk.specs.Desks.{DeskState};
+    ghost use Rattle.commit_desk.specs.Kept.{IsDesk};
+
+    ghost Value = { DeskState };
+
+    ghost view = { λ d. record { pool = d.home.pool; events_limit = d.events_limit; history = d.home.history } };
+
+    ghost invariant = { λ d. IsDesk d.home.pool d.events_limit d.most_commits d.home.history (record {
+      slices = d.slices;
+      columns = d.columns;
+      events = d.events;
+      journal = d.journal.items;
+      room = vec_capacity d.journal;
+      table = d.records;
+      live = d.live;
+      tokens = d.tokens;
+      stages = d.stages;
+    }) };
+}
+
+impl Desk {
+    ghost use Rattle.commit_desk.specs.Desks.{DeskState};
+
+    /// An empty desk of the pool whose home it is given. From so many events on it takes no call. It takes all memory that
+    /// it ever needs, but for that of a journal's answer.
+    pub fn new(
+        alloc: Global,
+        config: &Config,
+        home: Home,
+        events_limit: u64,
+    ) -> Result<Desk, Memory>
+        requires config { IsInRange config.now }
+        requires made_with { home.pool.config ≡ config.now }
+        requires sizes { home.pool.limits ≡ limits_of config.now home.pool.limits.slice_words }
+        requires empty { home.history ≡ [] }
+        requires some { 1 ≤ events_limit }
+        requires bounded { events_limit ≤ 2 ^ 62 }
+        ensures { IfOk result (λ desk. desk ≡ record { pool = home.pool; events_limit = events_limit; history = [] }) }
+    {
+        let columns = 64 * (1 << config.max_rank as u32) * config.blocks;
+        Ok(Desk {
+            home,
+            events_limit,
+            slices: config.slices,
+            columns,
+            events: 0,
+            most_commits: config.commits,
+            journal: Vec::with_capacity(alloc, config.commits as usize)?,
+            records: Records::new(alloc, config.slices, columns)?,
+            live: LiveList::new(alloc, config.slices, columns)?,
+            tokens: Tokens::new(alloc, config.passes)?,
+            stages: Stages::new(alloc, config.slices, columns)?,
+        })
+    }
+
+    /// The home, which has the whole history, and the history's commits.
+    pub fn into_parts(self) -> (Home, Commits)
+        ensures pool { result.0.pool ≡ self.pool }
+        ensures history { result.0.history ≡ self.history }
+        ensures commits { result.1 ≡ commits self.history }
+        ensures legal { IsLegal self.pool.limits self.history }
+        ensures sound { IsSound self.pool.config self.history }
+    {
+        (self.home, Commits::new(self.journal))
+    }
+
+    // Whether calls are taken no more.
+    pub(crate) fn is_spent(&self) -> bool
+        ensures spent { IsTrue result ↔ (self.now.events_limit ≤ length self.now.history) }
+    {
+        let _ = &self.home;
+        self.events_limit <= self.events
+    }
+
+    // Whether the journal holds as many commits as it can.
+    pub(crate) fn is_journal_full(&self) -> bool
+        ensures full { result ≡ is_journal_full self.now.pool.limits self.now.history }
+    {
+        let _ = &self.home;
+        self.journal.len() as u64 == self.most_commits
+    }
+
+    // The place of the add of the live document with this number.
+    pub(crate) fn place_of(&self, id: u64) -> Option<u64>
+        ensures { result ≡ live_place id self.now.history }
+    {
+        let _ = &self.home;
+        let (slice, column) = self.live.get(id)?;
+        match self.records.state(slice, column) {
+            Column::Live(place) => Some(place),
+            _ => None,
+        }
+    }
+}

@@ -1,0 +1,54 @@
+//! Names of events that borrow what they tell, so that an event costs no copy of a text.
+ghost use Rattle.funnel_model.specs.declared.call.Call.TheVariants as call;
+ghost use Rattle.funnel_model.specs.declared.event.Event.TheVariants as event;
+
+use document_store::Doc;
+use funnel_model::{BitList, Claim, Text};
+use slice_rule::Entry;
+
+/// A document is added to the column that was claimed for it.
+#[derive(Drop)]
+pub struct Adds<'a> {
+    pub pass: u32,
+    pub doc: &'a Doc,
+    pub claim: &'a Claim,
+    pub bits: &'a BitList,
+}
+
+impl<'a> Entry for Adds<'a> {
+    ghost event = { λ e. event.Add e.pass e.doc.now.id e.doc.now.text e.claim.now.slice e.claim.now.column e.bits.now };
+}
+
+/// A document is dropped for the column that was claimed for it.
+#[derive(Drop)]
+pub struct Drops<'a> {
+    pub pass: u32,
+    pub doc: &'a Doc,
+    pub claim: &'a Claim,
+}
+
+impl<'a> Entry for Drops<'a> {
+    ghost event = { λ e. event.Drop e.pass e.doc.now.id e.doc.now.text e.claim.now.slice e.claim.now.column };
+}
+
+/// An add of a document is refused.
+#[derive(Drop)]
+pub struct Refuses<'a> {
+    pub pass: u32,
+    pub doc: &'a Doc,
+}
+
+impl<'a> Entry for Refuses<'a> {
+    ghost event = { λ e. event.No e.pass (call.Add e.doc.now.id e.doc.now.text) };
+}
+
+/// A find begins.
+#[derive(Drop)]
+pub struct Finds<'a> {
+    pub pass: u32,
+    pub query: &'a Text,
+}
+
+impl<'a> Entry for Finds<'a> {
+    ghost event = { λ e. event.Find e.pass e.query.now };
+}

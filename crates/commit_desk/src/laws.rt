@@ -1,0 +1,13 @@
+//! What holds of what a desk keeps, whatever the history. Each is the contract of a function that does nothing.
+ghost use Rattle.commit_desk.specs.Laws.{DesksHaveTheirCommits, NewDesksAreKept};
+
+/// A desk that keeps nothing yet stands for the history without events, so what is kept of a history can be met.
+pub fn new_desks_are_kept()
+    ensures { NewDesksAreKept }
+{}
+
+/// What a desk keeps stands for one list of commits and one number of events: where two histories could be that of one
+/// desk, these are equal. Which of them it is, its home knows.
+pub fn desks_have_their_commits()
+    ensures { DesksHaveTheirCommits }
+{}

@@ -1,0 +1,14 @@
+ghost use Rattle.std.specs.Prelude.{◌≡◌, ◌^◌};
+
+use crate::desk::Desk;
+use slice_rule::PoolName;
+use std::marker::PhantomData;
+
+/// The desk of the pool that `N` names, with the engine's limit of events: what an engine's lock holds.
+#[derive(Drop)]
+pub struct Named<N: PoolName> {
+    pub desk: Desk,
+    pub of: PhantomData<N>,
+    pub ghost of_pool: { desk.pool ≡ N.pool },
+    pub ghost limit: { desk.events_limit ≡ 2 ^ 62 },
+}
