@@ -14,7 +14,6 @@ use Rattle.slice_stages.specs.Stages.{HoldsOfNone, IsLowest, IsRetiredBy, StageT
 use Rattle.slice_stages.specs.declared.stage.Stage.{Stage}
 use Rattle.slice_stages.specs.declared.stage.Stage.TheVariants as stage
 use Rattle.token_manager.specs.Guarding.{HasOpened, IsOldest, NoneOpen}
-use Rattle.commit_desk.specs.Answers.{IsLowestClearable}
 use Rattle.slice_rule.specs.Pools.{PoolId}
 use Rattle.commit_desk.specs.Kept.{AreStages, Books, IsDesk, AreTokens, IsAtStage}
 use Rattle.commit_desk.specs.Records.{AreRecorded}
@@ -23,6 +22,12 @@ use Rattle.commit_desk.proofs.StageFacts.{retired_since, retired_stage}
 -- each running find began at the mark or after it
 abbrev pub NoneBeforeMark : List (Option ℕ) → ℕ → Type 0
 NoneBeforeMark tokens mark = (pass number : ℕ) → HasOpened tokens pass number → mark ≤ number
+
+-- the slice is the lowest that can be cleared
+pub record IsLowestClearable (limits : Limits) (history : List Event) (slice : ℕ) : Type 0 where
+  pub in_range : slice < limits.slices
+  pub can_clear : CanClear limits.columns history slice
+  pub lowest : (lower : ℕ) → lower < slice → CanClear limits.columns history lower → ⊥
 
 -- an event leaves the mark within the history
 pub mark-same : (history : List Event) (e : Event) (mark : ℕ) → mark ≤ length history → mark ≤ length (history ++ e ∷ [])

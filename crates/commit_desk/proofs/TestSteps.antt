@@ -13,7 +13,7 @@ use Rattle.funnel_model.specs.declared.event.Event.TheVariants as event
 use Rattle.funnel_model.specs.declared.bit_list.Bit.{Bit}
 use Rattle.funnel_model.specs.Events.{leaves_open, pass_of}
 use Rattle.funnel_model.specs.History.{last_by}
-use Rattle.funnel_model.specs.Legal.{IsAllowed, IsIdle, IsInSlice, IsLegal, Limits}
+use Rattle.funnel_model.specs.Legal.{IsIdle, IsInSlice, IsLegal, Limits}
 use Rattle.funnel_model.specs.declared.config.Config.{Config}
 use Rattle.funnel_model.specs.Sizes.{words_of_slice}
 use Rattle.row_layout.specs.DocumentBits.{AreDocumentBits}
@@ -39,7 +39,8 @@ use Rattle.commit_desk.specs.declared.answers.Spent.{Spent}
 use Rattle.commit_desk.specs.declared.answers.Taken.{Taken}
 use Rattle.commit_desk.specs.declared.answers.Taken.TheVariants as taken
 use Rattle.commit_desk.specs.Desks.{DeskState, Makes, NothingUnderLast, NothingYet}
-use Rattle.commit_desk.specs.Tested.{HasCleared, HasWritten, IsFinding, IsLaidBy, IsResting, IsSeated, IsToClear, IsToDo, IsToWrite}
+use Rattle.commit_desk.specs.Passes.{HasCleared, HasWritten, IsFinding, IsResting, IsSeated, IsToClear, IsToDo, IsToWrite}
+use Rattle.commit_desk.specs.Tested.{IsLaidBy}
 
 -- the last event of the pass is the one that it made
 last_made : (before after : DeskState) (seat next : PassState) (e : Event) → pass_of e ≡ seat.number → Makes (e ∷ []) before after seat next → last_by next.number next.front ≡ Some e
@@ -145,7 +146,7 @@ module _ (pool : PoolId) (before after : DeskState) (seat next : PassState) (her
       is_to_do id text (taken.Refused add.Memory) may nothing made = rests_one (event.No seat.number (call.Add id text)) refl refl made
 
 -- the pass is seated still after it did something itself
-seated_still : (pool : PoolId) (seat next : PassState) → next ≡ record seat { own = next.own } → IsSeated pool seat → IsSeated pool next
+pub seated_still : (pool : PoolId) (seat next : PassState) → next ≡ record seat { own = next.own } → IsSeated pool seat → IsSeated pool next
 seated_still pool seat next is seated = record {
   same = ap (λ (p : PassState). p.pool) is ∙ seated.same;
   none_outstanding = subst HasNoneOutstanding (sym is) seated.none_outstanding;
@@ -164,14 +165,13 @@ has_set number bits before own nothing has b = (
 
 pub has_written : (layout : Config) (pool : PoolId) (claim : Claim) (set : List (List ℕ)) (bits : List Bit) (seat next : PassState) → IsLaidBy layout pool → IsToWrite pool claim seat →
     next ≡ record seat { own = next.own } → ((f : Fact) → Contains next.own f ↔ (Contains seat.own f ⊎ IsBitOf (last_number seat.number seat.front) bits f)) →
-    AreDocumentBits layout set claim.slice claim.column bits → All (λ b. IsInSlice (words_of_slice layout) claim.slice b.word) bits → All (λ b. b.bit < 64) bits →
+    AreDocumentBits layout set claim.slice claim.column bits → All (λ b. IsInSlice (words_of_slice layout) claim.slice b.word) bits →
     HasWritten pool claim set bits next
-has_written layout pool claim set bits seat next laid start is has document inside of_words = record {
+has_written layout pool claim set bits seat next laid start is has document inside = record {
   seated = seated_still pool seat next is start.seated;
   holds = subst (λ (p : PassState). HoldsClaim p claim) (sym is) start.holds;
   document = subst (λ (c : Config). AreDocumentBits c set claim.slice claim.column bits) laid.config document;
   inside = subst (λ n. All (λ b. IsInSlice n claim.slice b.word) bits) (sym (ap (λ (l : Limits). l.slice_words) laid.limits)) inside;
-  of_words = of_words;
   bits_set = λ b. subst (λ n. Contains bits b ↔ Contains next.own (fact.BitSet n b)) (sym (ap (λ (p : PassState). last_number p.number p.front) is))
       (has_set (last_number seat.number seat.front) bits seat.own next.own start.nothing has b);
 }

@@ -10,7 +10,7 @@ use Rattle.funnel_model.specs.declared.commit.Commit.{Commit}
 use Rattle.funnel_model.specs.declared.event.Event.{Event}
 use Rattle.funnel_model.specs.declared.event.Event.TheVariants as event
 use Rattle.funnel_model.specs.History.{commits_after, is_live, live_place, place}
-use Rattle.funnel_model.specs.Legal.{CanClear, HasJournalRoom, HasRoom, IsFull, Limits, MayClear, MayTake, NoneCanClear, is_journal_full}
+use Rattle.funnel_model.specs.Legal.{HasJournalRoom, HasRoom, IsFull, Limits, MayClear, MayTake, NoneCanClear, is_journal_full}
 use Rattle.funnel_model.specs.Slices.{IsInUse, IsRetired}
 use Rattle.funnel_model.specs.Steps.{NoneRetired}
 use Rattle.commit_desk.specs.declared.answers.AddFault.{AddFault}
@@ -109,12 +109,6 @@ pub record IsLowestRetired (limits : Limits) (history : List Event) (slice : ℕ
   pub retired : IsRetired limits.columns slice history
   pub lowest : (lower : ℕ) → lower < slice → IsRetired limits.columns lower history → ⊥
 
--- the slice is the lowest that can be cleared
-pub record IsLowestClearable (limits : Limits) (history : List Event) (slice : ℕ) : Type 0 where
-  pub in_range : slice < limits.slices
-  pub can_clear : CanClear limits.columns history slice
-  pub lowest : (lower : ℕ) → lower < slice → CanClear limits.columns history lower → ⊥
-
 -- why no slice can be cleared, where none can
 abbrev pub RefusesClear : Limits → List Event → ClearRefusal → Type 0
 RefusesClear limits history clear.NoneRetired = NoneRetired limits history
@@ -142,11 +136,11 @@ abbrev pub events_of_place : ℕ → Result ℕ Spent → List Event
 events_of_place pass (Ok count) = event.Read pass call.Place ∷ []
 events_of_place pass (Err spent) = []
 
--- a journal has the commits after the first so many, unless there was no memory or the engine is spent
+-- a journal has the commits after the first so many, unless the engine is spent, or there was no memory where it isn't
 abbrev pub AnswersJournal : ℕ → List Event → ℕ → Result (List Commit) JournalFault → Type 0
 AnswersJournal most history from (Ok read) = TakesCalls most history × (read ≡ commits_after history from)
 AnswersJournal most history from (Err (journal.Spent events)) = IsSpentAt most history events
-AnswersJournal most history from (Err journal.Memory) = Unit {0}
+AnswersJournal most history from (Err journal.Memory) = TakesCalls most history
 
 abbrev pub events_of_journal : ℕ → ℕ → Result (List Commit) JournalFault → List Event
 events_of_journal pass from (Ok read) = event.Read pass (call.Journal from) ∷ []

@@ -2,6 +2,7 @@ pub mod Answers
 pub mod Desks
 pub mod Kept
 pub mod Laws
+pub mod Passes
 pub mod Records
 pub mod Scans
 pub mod Tested

@@ -94,7 +94,6 @@ impl Desk {
         requires claim { HoldsClaim seat.old claim }
         requires bits { AreDocumentBits self.old.pool.config doc.words claim.slice claim.column bits.now.bits }
         requires inside { All (λ b. IsInSlice self.old.pool.limits.slice_words claim.slice b.word) bits.now.bits }
-        requires of_words { All (λ b. b.bit < 64) bits.now.bits }
         requires set { (b : Bit) → Contains bits.now.bits b ↔ Contains seat.old.own (fact.BitSet (last_number seat.old.number seat.old.front) b) }
         ensures answer { AnswersCommit self.old.pool.limits self.old.history doc.id result }
         ensures events { Makes (events_of_commit seat.old.number doc.id doc.text claim bits.now.bits result) self.old self.new seat.old seat.new }

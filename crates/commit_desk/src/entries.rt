@@ -3,7 +3,7 @@ ghost use Rattle.funnel_model.specs.declared.call.Call.TheVariants as call;
 ghost use Rattle.funnel_model.specs.declared.event.Event.TheVariants as event;
 
 use document_store::Doc;
-use funnel_model::{BitList, Claim, Text};
+use funnel_model::{BitList, Claim};
 use slice_rule::Entry;
 
 /// A document is added to the column that was claimed for it.
@@ -46,7 +46,7 @@ impl<'a> Entry for Refuses<'a> {
 #[derive(Drop)]
 pub struct Finds<'a> {
     pub pass: u32,
-    pub query: &'a Text,
+    pub query: &'a str,
 }
 
 impl<'a> Entry for Finds<'a> {

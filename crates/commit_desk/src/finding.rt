@@ -13,7 +13,7 @@ use crate::answers::Spent;
 use crate::desk::Desk;
 use crate::entries::Finds;
 use document_store::{Found, resolve};
-use funnel_model::{Candidates, Event, Text, Token, WordSet};
+use funnel_model::{Candidates, Event, Token, WordSet};
 use slice_rule::{PassSeat, Pool};
 
 impl Desk {
@@ -22,7 +22,7 @@ impl Desk {
         &mut self,
         pool: &Pool,
         seat: &mut PassSeat,
-        query: &Text,
+        query: &str,
     ) -> Result<Token, Spent>
         requires pool { pool.now ≡ self.old.pool }
         requires seat { IsSeatOf self.old seat.old }
@@ -83,7 +83,7 @@ impl Desk {
     }
 
     // Makes the event that begins a find, and gives its token.
-    fn make_find(&mut self, pool: &Pool, seat: &mut PassSeat, query: &Text) -> Token
+    fn make_find(&mut self, pool: &Pool, seat: &mut PassSeat, query: &str) -> Token
         requires pool { pool.now ≡ self.old.pool }
         requires caught_up { IsCaughtUp self.old seat.old }
         requires idle { IsIdle seat.old.number self.old.history }

@@ -11,4 +11,5 @@ pub struct Named<N: PoolName> {
     pub of: PhantomData<N>,
     pub ghost of_pool: { desk.pool ≡ N.pool },
     pub ghost limit: { desk.events_limit ≡ 2 ^ 62 },
+    pub ghost pool_limit: { desk.pool.limits.events ≡ 2 ^ 62 },
 }

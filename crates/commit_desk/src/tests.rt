@@ -1,6 +1,7 @@
 //! The desk alone: two passes and one slice.
 ghost use Rattle.std.specs.Prelude.{◌≡◌, ◌^◌, ◌<◌, ◌≤◌, [], ◌∷◌, IfOk, OnOk, MatchOption, MatchResult, vec_capacity};
-ghost use Rattle.commit_desk.specs.Tested.{HasCleared, HasWritten, IsFinding, IsLaidBy, IsResting, IsToClear, IsToDo, IsToWrite};
+ghost use Rattle.commit_desk.specs.Passes.{HasCleared, HasWritten, IsFinding, IsResting, IsToClear, IsToDo, IsToWrite};
+ghost use Rattle.commit_desk.specs.Tested.{IsLaidBy};
 ghost use Rattle.funnel_model.specs.Configuration.{IsInRange};
 ghost use Rattle.funnel_model.specs.Sizes.{columns_of_slice};
 ghost use Rattle.funnel_model.specs.Words.{words};
@@ -83,7 +84,7 @@ fn two_passes(
 }
 
 /// Begins a find.
-fn begin(desk: &mut Desk, pool: &Pool, seat: &mut PassSeat, query: &Text) -> Result<Token, Spent>
+fn begin(desk: &mut Desk, pool: &Pool, seat: &mut PassSeat, query: &str) -> Result<Token, Spent>
     requires desk { desk.old.pool ≡ pool.now }
     requires seat { IsResting pool.now seat.old }
     ensures desk { desk.new.pool ≡ pool.now }
@@ -311,9 +312,8 @@ fn add_both(
 #[test]
 fn a_spent_desk_ends_its_find(rt: HostRuntime) -> Result<(), Fail> {
     let alloc = rt.alloc();
-    let query = Text::new(String::new(alloc));
     let (_layout, pool, mut desk, mut seat, _other) = two_passes(alloc, 1)?;
-    let Ok(token) = begin(&mut desk, &pool, &mut seat, &query) else {
+    let Ok(token) = begin(&mut desk, &pool, &mut seat, "") else {
         return Err(Fail::new("a find"));
     };
     let opened_at = token.opened_at;

@@ -23,11 +23,13 @@ impl Model for PassSeat {
 
 impl PassSeat {
     ghost use Rattle.std.specs.Prelude.{◌≡◌, ◌<◌};
+    ghost use Rattle.funnel_model.specs.Legal.{IsLegal};
 
     /// The number of its pass.
     pub fn number(&self) -> u32
         ensures number { result ≡ self.now.number }
         ensures in_range { result < self.now.pool.limits.passes }
+        ensures legal { IsLegal self.now.pool.limits self.now.front }
     {
         self.number
     }

@@ -7,13 +7,13 @@ use Rattle.slice_rule.specs.Pools.{PoolId}
 use Rattle.slice_stages.specs.Stages.{StageTable, with_stage}
 use Rattle.slice_stages.specs.declared.stage.Stage.TheVariants as stage
 use Rattle.token_manager.specs.Guarding.{IsOldest}
-use Rattle.commit_desk.specs.Answers.{IsLowestClearable, TakesCalls}
+use Rattle.commit_desk.specs.Answers.{TakesCalls}
 use Rattle.commit_desk.specs.Desks.{DeskState, Makes}
 use Rattle.commit_desk.specs.Kept.{Books, IsDesk}
 use Rattle.commit_desk.proofs.Few.{few-start}
 use Rattle.commit_desk.proofs.Inside.{books_of}
 use Rattle.commit_desk.proofs.MadeEvents.{desk_at, made_one, number_is}
-use Rattle.commit_desk.proofs.Marks.{IsNextMark, desk-look, lowest_clearable}
+use Rattle.commit_desk.proofs.Marks.{IsLowestClearable, IsNextMark, desk-look, lowest_clearable}
 use Rattle.commit_desk.proofs.SliceEvents.{books_after, desk-with, kept-as, kept-clear}
 use Rattle.commit_desk.proofs.desk.Desk.begin_clear.Goals as goal
 use Rattle.commit_desk.proofs.desk.Desk.begin_clear.Goals.{in-Some, in-None, After-clearable, After-number-pass}

@@ -15,24 +15,24 @@ use Rattle.commit_desk.proofs.StageFacts.{used_slices}
 use Rattle.commit_desk.proofs.TokenEvents.{idle_has_none}
 use Rattle.commit_desk.proofs.desk.Desk.make_find.Goals as goal
 
-idle_now : (c : goal.After-open-arg-1) → IsIdle c.number-pass.result c.self.inside.home.history
-idle_now c =
-    let history = c.self.inside.home.history in
-    subst (λ p. IsIdle p history) (sym c.number-pass.ensures.number)
-    (subst (λ (d : DeskState). IsIdle c.args.seat.now.number d.history) (sym c.self.view_is) c.requires.idle)
+-- the pass is idle in the history of the desk that it is seen as
+idle_in : (pass number : ℕ) (inside seen : DeskState) → pass ≡ number → inside ≡ seen → IsIdle number seen.history → IsIdle pass inside.history
+idle_in pass number inside seen same is idle = subst (λ p. IsIdle p inside.history) (sym same) (subst (λ (d : DeskState). IsIdle number d.history) (sym is) idle)
 
 pub open-requires-clause-none : goal.open-requires-clause-none
 open-requires-clause-none c =
     let i = c.self.inside in
     let kept = c.self.invariant.kept in
-    idle_has_none i.home.pool.limits i.home.history i.tokens c.number-pass.result kept.legal kept.tokens_are (idle_now c)
+    idle_has_none i.home.pool.limits i.home.history i.tokens c.number-pass.result kept.legal kept.tokens_are
+    (idle_in c.number-pass.result c.args.seat.now.number (desk_of i) c.args.self.now c.number-pass.ensures.number c.self.view_is c.requires.idle)
 
 allowed_now : (c : goal.After-in_use) → IsAllowed c.self.inside.home.pool.limits c.self.inside.home.history (event.Find c.number-pass.result c.args.query.now)
 allowed_now c =
     let i = c.self.inside in
     let pool : c.args.seat.now.pool ≡ i.home.pool = c.requires.caught_up.seat_of.pool ∙ sym (ap (λ (d : DeskState). d.pool) c.self.view_is) in
     find_allowed i.home.pool.limits i.home.history c.number-pass.result c.args.query.now c.self.invariant.none_awaited
-    (subst (λ (p : PoolId). c.number-pass.result < p.limits.passes) pool c.number-pass.ensures.in_range) (idle_now c.before.before.before.before)
+    (subst (λ (p : PoolId). c.number-pass.result < p.limits.passes) pool c.number-pass.ensures.in_range)
+    (idle_in c.number-pass.result c.args.seat.now.number (desk_of i) c.args.self.now c.number-pass.ensures.number c.self.view_is c.requires.idle)
 
 pub invariant_of-self : goal.invariant_of-self
 invariant_of-self c =

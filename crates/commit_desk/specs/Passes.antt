@@ -1,0 +1,63 @@
+-- Where a pass stands between the turns of a call.
+use Rattle.std.specs.Prelude.{◌≡◌, ℕ, ◌<◌, ◌↔◌, List, All, Contains}
+use Rattle.funnel_model.specs.declared.bit_list.Bit.{Bit}
+use Rattle.funnel_model.specs.declared.claim.Claim.{Claim}
+use Rattle.funnel_model.specs.declared.claim.ClearJob.{ClearJob}
+use Rattle.funnel_model.specs.declared.claim.Token.{Token}
+use Rattle.funnel_model.specs.Legal.{IsIdle, IsInSlice}
+use Rattle.row_layout.specs.DocumentBits.{AreDocumentBits}
+use Rattle.slice_rule.specs.declared.view.Fact.TheVariants as fact
+use Rattle.slice_rule.specs.Numbers.{last_number}
+use Rattle.slice_rule.specs.Pools.{PoolId}
+use Rattle.slice_rule.specs.Seats.{HasNoneOutstanding, HoldsClaim, HoldsJob, HoldsToken, PassState}
+use Rattle.commit_desk.specs.Desks.{NothingUnderLast}
+use Rattle.commit_desk.specs.declared.answers.Taken.{Taken}
+use Rattle.commit_desk.specs.declared.answers.Taken.TheVariants as taken
+
+-- the pass is of the pool, and asked nothing that it hasn't seen
+pub record IsSeated (pool : PoolId) (seat : PassState) : Type 0 where
+  pub same : seat.pool ≡ pool
+  pub none_outstanding : HasNoneOutstanding seat
+
+-- the pass is not in the middle of a call
+pub record IsResting (pool : PoolId) (seat : PassState) : Type 0 where
+  pub seated : IsSeated pool seat
+  pub idle : IsIdle seat.number seat.front
+
+-- the pass has a find open
+pub record IsFinding (pool : PoolId) (token : Token) (seat : PassState) : Type 0 where
+  pub seated : IsSeated pool seat
+  pub holds : HoldsToken seat token
+
+-- the pass claimed a column of the pool, and wrote nothing into it yet
+pub record IsToWrite (pool : PoolId) (claim : Claim) (seat : PassState) : Type 0 where
+  pub seated : IsSeated pool seat
+  pub holds : HoldsClaim seat claim
+  pub nothing : NothingUnderLast seat
+  pub in_range : claim.slice < pool.limits.slices
+  pub column : claim.column < pool.limits.columns
+
+-- the pass wrote these bits into its column, which are those of a document with these words
+pub record HasWritten (pool : PoolId) (claim : Claim) (words : List (List ℕ)) (bits : List Bit) (seat : PassState) : Type 0 where
+  pub seated : IsSeated pool seat
+  pub holds : HoldsClaim seat claim
+  pub document : AreDocumentBits pool.config words claim.slice claim.column bits
+  pub inside : All (λ b. IsInSlice pool.limits.slice_words claim.slice b.word) bits
+  pub bits_set : (b : Bit) → Contains bits b ↔ Contains seat.own (fact.BitSet (last_number seat.number seat.front) b)
+
+-- the pass is to clear a slice of the pool
+pub record IsToClear (pool : PoolId) (job : ClearJob) (seat : PassState) : Type 0 where
+  pub seated : IsSeated pool seat
+  pub holds : HoldsJob seat job
+  pub in_range : job.slice < pool.limits.slices
+
+-- the pass made each word of the slice zero
+pub record HasCleared (pool : PoolId) (job : ClearJob) (seat : PassState) : Type 0 where
+  pub to_clear : IsToClear pool job seat
+  pub zeros : (word : ℕ) → IsInSlice pool.limits.slice_words job.slice word → Contains seat.own (fact.WordZero (last_number seat.number seat.front) word)
+
+-- what the pass is to do after its take
+abbrev pub IsToDo : PoolId → Taken → PassState → Type 0
+IsToDo pool (taken.Claim claim) seat = IsToWrite pool claim seat
+IsToDo pool (taken.Clear job) seat = IsToClear pool job seat
+IsToDo pool (taken.Refused fault) seat = IsResting pool seat

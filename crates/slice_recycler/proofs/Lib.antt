@@ -1,0 +1,3 @@
+pub mod Recycles
+pub mod Steps
+pub mod ZeroWords

@@ -1,0 +1,40 @@
+-- What a recycle is answered, and its turns at the desk.
+use Rattle.std.specs.Prelude.{ℕ, true, List, [], ◌∷◌, Ok, Err}
+use Rattle.funnel_model.specs.declared.event.Event.{Event}
+use Rattle.funnel_model.specs.declared.event.Event.TheVariants as event
+use Rattle.funnel_model.specs.declared.reply.Reply.{Reply}
+use Rattle.funnel_model.specs.declared.reply.Reply.TheVariants as reply
+use Rattle.funnel_model.specs.Legal.{Limits}
+use Rattle.commit_desk.specs.Answers.{AnswersClear, events_of_clear}
+use Rattle.commit_desk.specs.declared.answers.ClearRefusal.{ClearRefusal}
+use Rattle.commit_desk.specs.declared.answers.ClearRefusal.TheVariants as clear
+use Rattle.slice_recycler.specs.declared.recycling.Recycled.{Recycled}
+use Rattle.slice_recycler.specs.declared.recycling.Recycled.TheVariants as recycled
+use Rattle.slice_recycler.specs.Turns.{IsTurn}
+
+-- the reply that says so
+abbrev pub reply_of_recycle : Recycled → Reply
+reply_of_recycle (recycled.Done slice) = reply.Recycled slice
+reply_of_recycle recycled.NoneRetired = reply.NothingRetired
+reply_of_recycle (recycled.Guarded slice pass opened_at) = reply.Guarded slice pass
+reply_of_recycle (recycled.Spent events) = reply.Spent
+
+-- what becomes of a recycle that the desk refuses so
+abbrev pub refused_as : ClearRefusal → Recycled
+refused_as clear.NoneRetired = recycled.NoneRetired
+refused_as (clear.Guarded slice pass opened_at) = recycled.Guarded slice pass opened_at
+refused_as (clear.Spent events) = recycled.Spent events
+
+-- a recycle that is refused at the desk
+abbrev pub IsRefusedTurn : Limits → ℕ → List Event → List Event → ClearRefusal → Type 0
+IsRefusedTurn limits pass before after refusal =
+    IsTurn pass before after (λ history. AnswersClear limits.events limits history pass (Err refusal)) (events_of_clear pass (Err refusal))
+
+-- A recycle clears the slice that the desk names in a first turn, and opens it in a second one; a refused one has one turn.
+abbrev pub RecycleTurns : Limits → ℕ → List Event → List Event → Recycled → Type 0
+RecycleTurns limits pass before after (recycled.Done slice) =
+    (middle : List Event) × IsTurn pass before middle (λ history. AnswersClear limits.events limits history pass (Ok (record { slice = slice }))) (event.Clear pass slice ∷ [])
+    × IsTurn pass middle after (λ history. Unit {0}) (event.Opened pass slice true ∷ [])
+RecycleTurns limits pass before after recycled.NoneRetired = IsRefusedTurn limits pass before after clear.NoneRetired
+RecycleTurns limits pass before after (recycled.Guarded slice guard opened_at) = IsRefusedTurn limits pass before after (clear.Guarded slice guard opened_at)
+RecycleTurns limits pass before after (recycled.Spent events) = IsRefusedTurn limits pass before after (clear.Spent events)

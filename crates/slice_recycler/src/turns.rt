@@ -1,0 +1,49 @@
+//! The two turns of a recycle at the desk.
+ghost use Rattle.std.specs.Prelude.{◌≡◌, [], ◌∷◌, true, MatchResult};
+ghost use Rattle.funnel_model.specs.declared.event.Event.TheVariants as event;
+ghost use Rattle.funnel_model.specs.Legal.{IsLegal};
+ghost use Rattle.commit_desk.specs.Answers.{AnswersClear, events_of_clear};
+ghost use Rattle.commit_desk.specs.Passes.{HasCleared, IsResting, IsToClear};
+ghost use Rattle.slice_recycler.specs.Turns.{IsTurn};
+
+use commit_desk::{ClearRefusal, Named};
+use funnel_model::ClearJob;
+use slice_rule::{PassSeat, Pool, PoolName};
+use std::sync::{Mutex, Wait};
+
+// The first turn: the desk names the slice, or refuses.
+pub(crate) fn start<N: PoolName, R: Wait>(
+    rt: &R,
+    pool: &Pool,
+    desk: &Mutex<Named<N>>,
+    seat: &mut PassSeat,
+) -> Result<ClearJob, ClearRefusal>
+    requires named { pool.now ≡ N.pool }
+    requires rests { IsResting pool.now seat.old }
+    ensures turn { IsTurn seat.old.number seat.old.front seat.new.front
+        (λ history. AnswersClear pool.now.limits.events pool.now.limits history seat.old.number result) (events_of_clear seat.old.number result) }
+    ensures next { MatchResult result (λ job. IsToClear pool.now job seat.new) (λ _. IsResting pool.now seat.new) }
+    ensures number { seat.new.number ≡ seat.old.number }
+    ensures legal { IsLegal pool.now.limits seat.new.front }
+{
+    desk.lock(rt).desk.start_clear(pool, seat)
+}
+
+// The second turn: the slice, whose words are zero, is opened.
+pub(crate) fn open<N: PoolName, R: Wait>(
+    rt: &R,
+    pool: &Pool,
+    desk: &Mutex<Named<N>>,
+    seat: &mut PassSeat,
+    job: ClearJob,
+) -> u32
+    requires named { pool.now ≡ N.pool }
+    requires cleared { HasCleared pool.now job seat.old }
+    ensures slice { result ≡ job.slice }
+    ensures turn { IsTurn seat.old.number seat.old.front seat.new.front (λ history. Unit {0}) (event.Opened seat.old.number job.slice true ∷ []) }
+    ensures rests { IsResting pool.now seat.new }
+    ensures number { seat.new.number ≡ seat.old.number }
+    ensures legal { IsLegal pool.now.limits seat.new.front }
+{
+    desk.lock(rt).desk.opened(pool, seat, job)
+}
