@@ -1,0 +1,92 @@
+-- What a pass has done for its add between its turns.
+use Rattle.std.proofs.Common.{◌≡◌, ℕ, ◌<◌, ◌⊎◌, ◌↔◌, false, List, [], ◌∷◌, Result, refl, sym, ap, subst, ⊎_elim, inr, arith}
+use Rattle.std.specs.List.{All, Contains}
+use Rattle.std.proofs.lemmas.List.Elements.{All-contains}
+use Rattle.column_writer.specs.Written.{IsBitOf}
+use Rattle.funnel_model.specs.declared.bit_list.Bit.{Bit}
+use Rattle.funnel_model.specs.declared.claim.Claim.{Claim}
+use Rattle.funnel_model.specs.declared.claim.ClearJob.{ClearJob}
+use Rattle.funnel_model.specs.declared.config.Config.{Config}
+use Rattle.funnel_model.specs.declared.event.Event.{Event}
+use Rattle.funnel_model.specs.declared.event.Event.TheVariants as event
+use Rattle.funnel_model.specs.Legal.{IsInSlice, Limits}
+use Rattle.funnel_model.specs.Sizes.{words_of_slice}
+use Rattle.funnel_model.specs.Words.{AreWordsOf, words}
+use Rattle.row_layout.specs.declared.row.Row.{Row}
+use Rattle.row_layout.specs.DocumentBits.{AreDocumentBits}
+use Rattle.row_layout.specs.Orders.{HasRowsOf}
+use Rattle.row_layout.proofs.BitLemmas.{rows-of_part}
+use Rattle.slice_rule.specs.declared.view.Fact.{Fact}
+use Rattle.slice_rule.specs.declared.view.Fact.TheVariants as fact
+use Rattle.slice_rule.specs.Numbers.{last_number}
+use Rattle.slice_rule.specs.Pools.{PoolId}
+use Rattle.slice_rule.specs.Seats.{HoldsClaim, PassState, number_under}
+use Rattle.commit_desk.specs.Answers.{AnswersCommit, events_of_commit}
+use Rattle.commit_desk.specs.Passes.{HasWritten, IsToWrite}
+use Rattle.commit_desk.specs.declared.answers.CommitFault.{CommitFault}
+use Rattle.commit_desk.specs.declared.answers.Taken.TheVariants as taken
+use Rattle.commit_desk.proofs.TestSteps.{seated_still}
+use Rattle.slice_recycler.specs.Turns.{IsTurn}
+use Rattle.engine.specs.Adds.{ClaimTurns, ClearsFirst, CommitTurns, TakeTurn}
+use Rattle.engine.specs.Engines.{IsOfConfig}
+
+-- the rows of a document's words are those of its text's words
+pub rows_of_text : (config : Config) (set : List (List ℕ)) (text : List ℕ) (rows : List Row) → AreWordsOf set text → HasRowsOf config set rows → HasRowsOf config (words text) rows
+rows_of_text config set text rows of_text has row = (
+  λ in_rows. rows-of_part config set (words text) (λ word. (of_text word).0) row ((has row).0 in_rows),
+  λ of_words. (has row).1 (rows-of_part config (words text) set (λ word. (of_text word).1) row of_words),
+)
+
+-- a pass that knew nothing under its claim has set exactly the bits that it wrote
+has_set : (number : ℕ) (bits : List Bit) (before own : List Fact) → All (λ f. number_under f < number) before → ((f : Fact) → Contains own f ↔ (Contains before f ⊎ IsBitOf number bits f)) → (b : Bit) →
+    Contains bits b ↔ Contains own (fact.BitSet number b)
+has_set number bits before own nothing has b = (
+  λ in_bits. (has (fact.BitSet number b)).1 (inr (b, in_bits, refl)),
+  λ in_own. ⊎_elim
+      (λ old. let low = All-contains (λ f. number_under f < number) before (fact.BitSet number b) nothing old in absurd (omega arith))
+      (λ is. let same : b ≡ is.0 = let h = is.2 in cc in subst (Contains bits) (sym same) is.1)
+      ((has (fact.BitSet number b)).0 in_own),
+)
+
+-- a pass that set the bits of a document at its column has written it
+pub has_written : (pool : PoolId) (claim : Claim) (set : List (List ℕ)) (bits : List Bit) (seat next : PassState) → IsOfConfig pool → IsToWrite pool claim seat →
+    next ≡ record seat { own = next.own } → ((f : Fact) → Contains next.own f ↔ (Contains seat.own f ⊎ IsBitOf (last_number seat.number seat.front) bits f)) →
+    AreDocumentBits pool.config set claim.slice claim.column bits → All (λ b. IsInSlice (words_of_slice pool.config) claim.slice b.word) bits →
+    HasWritten pool claim set bits next
+has_written pool claim set bits seat next of_config start is has document inside = record {
+  seated = seated_still pool seat next is start.seated;
+  holds = subst (λ (p : PassState). HoldsClaim p claim) (sym is) start.holds;
+  document = document;
+  inside = subst (λ n. All (λ b. IsInSlice n claim.slice b.word) bits) (sym (ap (λ (l : Limits). l.slice_words) of_config.limits)) inside;
+  bits_set = λ b. subst (λ n. Contains bits b ↔ Contains next.own (fact.BitSet n b)) (sym (ap (λ (p : PassState). last_number p.number p.front) is))
+      (has_set (last_number seat.number seat.front) bits seat.own next.own start.nothing has b);
+}
+
+-- the turns of a claim that cleared a slice between them
+pub cleared_first : (limits : Limits) (pass id : ℕ) (text : List ℕ) (before after : List Event) (job : ClearJob) (claim : Claim) (seat next : PassState) →
+    TakeTurn limits pass id text before seat.front (taken.Clear job) → seat.number ≡ pass → next ≡ record seat { own = next.own } →
+    IsTurn next.number next.front after (λ history. Unit {0}) (event.Opened next.number job.slice false ∷ event.Take next.number job.slice 0 ∷ []) → claim.slice ≡ job.slice → claim.column ≡ 0 →
+    ClearsFirst limits pass id text before after claim
+cleared_first limits pass id text before after job claim seat next cleared number is opened slice first = record {
+  middle = seat.front;
+  cleared = subst (λ (s : ℕ). TakeTurn limits pass id text before seat.front (taken.Clear (record { slice = s }))) (sym slice) cleared;
+  opened = subst (λ (s : ℕ). IsTurn pass seat.front after (λ history. Unit {0}) (event.Opened pass s false ∷ event.Take pass s 0 ∷ [])) (sym slice)
+      (subst (λ (n : ℕ). IsTurn n seat.front after (λ history. Unit {0}) (event.Opened n job.slice false ∷ event.Take n job.slice 0 ∷ [])) number
+      (subst (λ (p : PassState). IsTurn p.number p.front after (λ history. Unit {0}) (event.Opened p.number job.slice false ∷ event.Take p.number job.slice 0 ∷ [])) is opened));
+  first = first;
+}
+
+-- the turns of an add whose pass wrote its bits before the last one
+pub commit_turns : (config : Config) (limits : Limits) (pass id : ℕ) (text : List ℕ) (before after : List Event) (claim : Claim) (bits : List Bit) (answer : Result ℕ CommitFault) (seat next : PassState) →
+    ClaimTurns limits pass id text before seat.front claim → seat.number ≡ pass → next ≡ record seat { own = next.own } → AreDocumentBits config (words text) claim.slice claim.column bits →
+    IsTurn next.number next.front after (λ history. AnswersCommit limits history id answer) (events_of_commit next.number id text claim bits answer) →
+    CommitTurns config limits pass id text before after answer
+commit_turns config limits pass id text before after claim bits answer seat next claimed number is of_text turn = record {
+  claim = claim;
+  bits = bits;
+  middle = seat.front;
+  claimed = claimed;
+  of_text = of_text;
+  committed = subst (λ (n : ℕ). IsTurn n seat.front after (λ history. AnswersCommit limits history id answer) (events_of_commit n id text claim bits answer)) number
+      (subst (λ (p : PassState). IsTurn p.number p.front after (λ history. AnswersCommit limits history id answer) (events_of_commit p.number id text claim bits answer)) is turn);
+}

@@ -1,0 +1,10 @@
+pub mod AddSteps
+pub mod Candidates
+pub mod Claims
+pub mod DeskTurns
+pub mod Ends
+pub mod Finds
+pub mod OpenFinds
+pub mod Scans
+pub mod Sizes
+pub mod TestsSetting

@@ -1,0 +1,21 @@
+use Rattle.std.proofs.Common.{◌≡◌, ap, subst, ◌∙◌}
+use Rattle.engine.proofs.Finds.{scan_begun}
+use Rattle.funnel_model.specs.Legal.{IsLegal}
+use Rattle.slice_rule.specs.Pools.{PoolId}
+use Rattle.engine.proofs.engine.Engine.begin.Goals as goal
+
+pub returns-in_default-clause-legal : goal.returns-in_default-clause-legal
+returns-in_default-clause-legal g c = subst (λ (p : PoolId). IsLegal p.limits c.args.pass.now.front) c.requires.pass.seated.same c.number.ensures.legal
+
+pub returns-in_default-plan-clause-legal : goal.returns-in_default-plan-clause-legal
+returns-in_default-plan-clause-legal g c = subst (λ (p : PoolId). IsLegal p.limits c.args.pass.now.front) c.requires.pass.seated.same c.number.ensures.legal
+
+pub returns-in-Ok-open_find-clause-begun : goal.returns-in-Ok-open_find-clause-begun
+returns-in-Ok-open_find-clause-begun g c =
+    let pass = c.args.pass.now in
+    let next = c.open_find.new.pass in
+    let opened = c.in-Ok-open_find.ensures in
+    let planned = c.in-Ok-plan.ensures in
+    let laid_out : c.self.inside.layout ≡ c.args.self.now.config = c.self.invariant.laid_out ∙ ap (λ (p : PoolId). p.config) c.self.view_is in
+    scan_begun c.args.self.now.limits pass.number c.args.query.now pass.front c.args.self.now c.self.inside.layout next c.in-Ok-open_find.token c.in-Ok.words c.in-Ok-plan.plan laid_out opened.number
+    (record { earlier = opened.turn.earlier; seen = opened.turn.seen; answer = opened.turn.answer.0; made = opened.turn.made }) opened.next c.in-Ok.ensures planned.rows planned.laid

@@ -1,0 +1,10 @@
+use Rattle.std.proofs.Common.{refl}
+use Rattle.funnel_model.specs.declared.event.Event.TheVariants as event
+use Rattle.commit_desk.proofs.TestSteps.{rests_one}
+use Rattle.engine.proofs.engine.Engine.drop_find.Goals as goal
+
+pub returns-clause-rests : goal.returns-clause-rests
+returns-clause-rests g c =
+    let seat = c.args.pass.now in
+    rests_one c.args.self.now c.deref_mut.result.now.desk c.drop_find.new.self seat c.drop_find.new.seat c.requires.finding.seated.same c.drop_find.ensures.none_outstanding
+    (event.End seat.number) refl refl c.drop_find.ensures.events

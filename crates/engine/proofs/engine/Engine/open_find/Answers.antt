@@ -1,0 +1,9 @@
+use Rattle.commit_desk.proofs.TestSteps.{finds_or_rests}
+use Rattle.engine.proofs.engine.Engine.open_find.Goals as goal
+
+pub returns-clause-next : goal.returns-clause-next
+returns-clause-next g c =
+    let rests = c.requires.rests in
+    let found = c.open_find.ensures in
+    finds_or_rests c.args.self.now c.deref_mut.result.now.desk c.open_find.new.self c.args.pass.now c.open_find.new.seat rests.seated.same found.none_outstanding rests.idle c.args.query.now
+    c.open_find.result found.token found.events

@@ -1,0 +1,17 @@
+use Rattle.std.proofs.Common.{sym, ◌∙◌}
+use Rattle.commit_desk.proofs.TestSteps.{rests_place}
+use Rattle.engine.proofs.DeskTurns.{place_made}
+use Rattle.engine.proofs.engine.Engine.place.Goals as goal
+
+pub returns-clause-step : goal.returns-clause-step
+returns-clause-step g c =
+    let named = c.deref_mut.result.now in
+    let read = c.read_place.ensures in
+    place_made c.args.self.now named.desk c.read_place.new.self c.args.pass.now c.read_place.new.seat (named.of_pool ∙ sym c.self.invariant.of_name ∙ c.self.view_is) named.limit named.pool_limit
+    c.requires.pass.idle c.read_place.result read.answer read.events
+
+pub returns-clause-rests : goal.returns-clause-rests
+returns-clause-rests g c =
+    let rests = c.requires.pass in
+    let read = c.read_place.ensures in
+    rests_place c.args.self.now c.deref_mut.result.now.desk c.read_place.new.self c.args.pass.now c.read_place.new.seat rests.seated.same read.none_outstanding rests.idle c.read_place.result read.events

@@ -1,0 +1,12 @@
+use Rattle.std.proofs.Common.{sym, ◌∙◌}
+use Rattle.commit_desk.proofs.TestSteps.{is_to_do}
+use Rattle.engine.proofs.engine.Engine.take.Goals as goal
+
+pub returns-clause-next : goal.returns-clause-next
+returns-clause-next g c =
+    let desk = c.deref_mut.result.now.desk in
+    let doc = c.args.doc.now in
+    let rests = c.requires.rests in
+    let took = c.take.ensures in
+    is_to_do c.args.self.now desk c.take.new.self c.args.pass.now c.take.new.seat rests.seated.same took.none_outstanding rests.idle
+    (c.deref_mut.result.now.of_pool ∙ sym c.self.invariant.of_name ∙ c.self.view_is) desk.events_limit doc.id doc.text c.take.result took.answer took.nothing_yet took.events

@@ -1,0 +1,23 @@
+use Rattle.std.proofs.Common.{◌≡◌, sym, ap, ◌∙◌, subst}
+use Rattle.std.specs.List.{All}
+use Rattle.funnel_model.specs.declared.config.Config.{Config}
+use Rattle.funnel_model.specs.Legal.{IsInSlice}
+use Rattle.funnel_model.specs.Sizes.{words_of_slice}
+use Rattle.row_layout.specs.DocumentBits.{AreDocumentBits}
+use Rattle.row_layout.specs.Orders.{HasRowsOf}
+use Rattle.slice_rule.specs.Pools.{PoolId}
+use Rattle.engine.specs.Engines.{IsOfConfig}
+use Rattle.engine.proofs.Claims.{has_written}
+use Rattle.engine.proofs.engine.Engine.write.Goals as goal
+
+pub returns-clause-written : goal.returns-clause-written
+returns-clause-written g c set rows =
+    let pool = c.args.self.now in
+    let claim = c.args.claim.now in
+    let bits = c.place.new.self.bits in
+    let view : c.self.inside.pool ≡ pool = c.self.view_is in
+    let laid : c.self.inside.layout ≡ pool.config = c.self.invariant.laid_out ∙ ap (λ (p : PoolId). p.config) view in
+    has_written pool claim set bits c.args.pass.now c.write.new.seat (subst IsOfConfig view c.self.invariant.of_config) c.requires.claimed c.write.ensures.seat c.write.ensures.bits
+    (subst (λ (k : Config). AreDocumentBits k set claim.slice claim.column bits) laid
+    (c.place.ensures.document_bits set (subst (λ (k : Config). HasRowsOf k set c.args.bits.now.rows) (sym laid) rows)))
+    (subst (λ (k : Config). All (λ b. IsInSlice (words_of_slice k) claim.slice b.word) bits) laid c.place.ensures.inside)

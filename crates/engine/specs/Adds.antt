@@ -1,0 +1,61 @@
+-- The turns of an add at the desk.
+use Rattle.std.specs.Prelude.{◌≡◌, ℕ, ◌⊎◌, false, List, [], ◌∷◌, Result, Ok, Err}
+use Rattle.funnel_model.specs.declared.bit_list.Bit.{Bit}
+use Rattle.funnel_model.specs.declared.claim.Claim.{Claim}
+use Rattle.funnel_model.specs.declared.config.Config.{Config}
+use Rattle.funnel_model.specs.declared.event.Event.{Event}
+use Rattle.funnel_model.specs.declared.event.Event.TheVariants as event
+use Rattle.funnel_model.specs.Legal.{Limits}
+use Rattle.funnel_model.specs.Words.{words}
+use Rattle.commit_desk.specs.Answers.{AnswersCommit, AnswersTake, events_of_commit, events_of_take}
+use Rattle.commit_desk.specs.declared.answers.AddFault.{AddFault}
+use Rattle.commit_desk.specs.declared.answers.AddFault.TheVariants as add
+use Rattle.commit_desk.specs.declared.answers.CommitFault.{CommitFault}
+use Rattle.commit_desk.specs.declared.answers.CommitFault.TheVariants as commit
+use Rattle.commit_desk.specs.declared.answers.Taken.{Taken}
+use Rattle.commit_desk.specs.declared.answers.Taken.TheVariants as taken
+use Rattle.row_layout.specs.DocumentBits.{AreDocumentBits}
+use Rattle.slice_recycler.specs.Turns.{IsTurn}
+
+-- the desk's answer to a document with this number, in the first turn of its add
+abbrev pub TakeTurn : Limits → ℕ → ℕ → List ℕ → List Event → List Event → Taken → Type 0
+TakeTurn limits pass id text before after answer =
+    IsTurn pass before after (λ history. AnswersTake limits.events limits history pass id answer) (events_of_take pass id text answer)
+
+-- the pass cleared a slice, opened it, and took its first column
+pub record ClearsFirst (limits : Limits) (pass id : ℕ) (text : List ℕ) (before after : List Event) (claim : Claim) : Type 0 where
+  pub middle : List Event
+  pub cleared : TakeTurn limits pass id text before middle (taken.Clear (record { slice = claim.slice }))
+  pub opened : IsTurn pass middle after (λ history. Unit {0}) (event.Opened pass claim.slice false ∷ event.Take pass claim.slice 0 ∷ [])
+  pub first : claim.column ≡ 0
+
+-- the pass took a column: at once, or after it cleared a slice
+abbrev pub ClaimTurns : Limits → ℕ → ℕ → List ℕ → List Event → List Event → Claim → Type 0
+ClaimTurns limits pass id text before after claim =
+    TakeTurn limits pass id text before after (taken.Claim claim) ⊎ ClearsFirst limits pass id text before after claim
+
+-- the add came to its last turn, and was answered so there: the document was added with exactly its bits, or dropped
+pub record CommitTurns (config : Config) (limits : Limits) (pass id : ℕ) (text : List ℕ) (before after : List Event) (answer : Result ℕ CommitFault) : Type 0 where
+  pub claim : Claim
+  pub bits : List Bit
+  pub middle : List Event
+  pub claimed : ClaimTurns limits pass id text before middle claim
+  pub of_text : AreDocumentBits config (words text) claim.slice claim.column bits
+  pub committed : IsTurn pass middle after (λ history. AnswersCommit limits history id answer) (events_of_commit pass id text claim bits answer)
+
+-- what an add is answered whose document was dropped so
+abbrev pub fault_of_drop : CommitFault → AddFault
+fault_of_drop (commit.Present added) = add.Present added
+fault_of_drop (commit.JournalFull count) = add.JournalFull count
+
+-- An add that is answered by its place was added in its last turn. It is refused as present or for a full journal in its first turn
+-- or in its last, and for want of room or as spent in its first. Where no memory was found nothing was done.
+abbrev pub AddTurns : Config → Limits → ℕ → ℕ → List ℕ → List Event → List Event → Result ℕ AddFault → Type 0
+AddTurns config limits pass id text before after (Ok added) = CommitTurns config limits pass id text before after (Ok added)
+AddTurns config limits pass id text before after (Err (add.Present added)) =
+    TakeTurn limits pass id text before after (taken.Refused (add.Present added)) ⊎ CommitTurns config limits pass id text before after (Err (commit.Present added))
+AddTurns config limits pass id text before after (Err (add.JournalFull count)) =
+    TakeTurn limits pass id text before after (taken.Refused (add.JournalFull count)) ⊎ CommitTurns config limits pass id text before after (Err (commit.JournalFull count))
+AddTurns config limits pass id text before after (Err (add.Full blocks)) = TakeTurn limits pass id text before after (taken.Refused (add.Full blocks))
+AddTurns config limits pass id text before after (Err (add.Spent events)) = TakeTurn limits pass id text before after (taken.Refused (add.Spent events))
+AddTurns config limits pass id text before after (Err add.Memory) = before ≡ after

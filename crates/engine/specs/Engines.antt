@@ -1,0 +1,48 @@
+-- What contracts see of an engine before it is open, while it is, and when it is closed.
+use Rattle.std.specs.Prelude.{◌≡◌, ℕ, List, length, map}
+use Rattle.std.specs.List.{range_with_len}
+use Rattle.funnel_model.specs.Configuration.{IsValid}
+use Rattle.funnel_model.specs.declared.commit.Commit.{Commit}
+use Rattle.funnel_model.specs.declared.config.Config.{Config}
+use Rattle.funnel_model.specs.declared.event.Event.{Event}
+use Rattle.funnel_model.specs.History.{IsFrontOf, commits, own}
+use Rattle.funnel_model.specs.Sizes.{words_of_slice}
+use Rattle.slice_rule.specs.Pools.{PoolId, limits_of}
+use Rattle.slice_rule.specs.Seats.{HomeState, PassState, new_home_state, new_pass_state}
+
+-- the pool is of a valid configuration, and has its sizes
+pub record IsOfConfig (pool : PoolId) : Type 0 where
+  pub valid : IsValid pool.config
+  pub limits : pool.limits ≡ limits_of pool.config (words_of_slice pool.config)
+
+-- an engine that isn't open yet: its home and its passes are those of a new pool
+pub record IsBlank (pool : PoolId) (home : HomeState) (passes : List PassState) : Type 0 where
+  pub of_config : IsOfConfig pool
+  pub new_home : home ≡ new_home_state pool
+  pub new_passes : passes ≡ map (new_pass_state pool) (range_with_len 0 pool.config.passes)
+
+-- the engine's pool is the one that its type names, and its rows are laid out by the pool's configuration
+pub record IsEngine (named pool : PoolId) (layout : Config) (slices : ℕ) : Type 0 where
+  pub of_name : pool ≡ named
+  pub of_config : IsOfConfig pool
+  pub laid_out : layout ≡ pool.config
+  pub count : slices ≡ pool.config.slices
+
+-- an engine that is closed: the commits and the number of events of its history, and the history
+pub record ClosedState : Type 0 where
+  pub commits : List Commit
+  pub events : ℕ
+  pub history : List Event
+
+-- its commits and the number of its events are those of its history
+pub record IsClosed (closed : ClosedState) : Type 0 where
+  pub commits : closed.commits ≡ commits closed.history
+  pub events : closed.events ≡ length closed.history
+
+-- the history goes on from what the pass had seen, without a further event of the pass
+abbrev pub EndsIn : List Event → PassState → Type 0
+EndsIn history pass = IsFrontOf pass.number pass.front history
+
+-- so it has each call of the pass once, and no other call of it
+abbrev pub HasItsCalls : List Event → PassState → Type 0
+HasItsCalls history pass = own pass.number history ≡ own pass.number pass.front

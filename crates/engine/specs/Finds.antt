@@ -1,0 +1,68 @@
+-- Finds: what an open one scans for, and the turns of a find at the desk.
+use Rattle.std.specs.Prelude.{◌≡◌, ℕ, ◌⊎◌, List, [], ◌∷◌, ◌++◌, All, Result, Ok, Err}
+use Rattle.funnel_model.specs.declared.claim.Token.{Token}
+use Rattle.funnel_model.specs.declared.event.Event.{Event}
+use Rattle.funnel_model.specs.declared.event.Event.TheVariants as event
+use Rattle.funnel_model.specs.History.{answer}
+use Rattle.funnel_model.specs.Legal.{Limits}
+use Rattle.funnel_model.specs.Words.{AreWordsOf}
+use Rattle.commit_desk.specs.Answers.{IsSpentAt, TakesCalls}
+use Rattle.commit_desk.specs.Passes.{IsFinding}
+use Rattle.engine.specs.declared.finding.FindFault.{FindFault}
+use Rattle.engine.specs.declared.finding.FindFault.TheVariants as find
+use Rattle.row_layout.specs.declared.row.Row.{Row}
+use Rattle.row_layout.specs.Orders.{HasRowsOf}
+use Rattle.row_layout.specs.Rows.{IsRowOf}
+use Rattle.slice_recycler.specs.Turns.{IsTurn}
+use Rattle.slice_rule.specs.Pools.{PoolId}
+use Rattle.slice_rule.specs.Seats.{PassState}
+
+-- the pass's last event began a find of this query, after these events
+abbrev pub IsBegunAt : PassState → List Event → List ℕ → Type 0
+IsBegunAt pass earlier query = pass.front ≡ earlier ++ event.Find pass.number query ∷ []
+
+-- the pass's last event began a find
+pub record HasJustBegun (pass : PassState) : Type 0 where
+  pub earlier : List Event
+  pub query : List ℕ
+  pub at : IsBegunAt pass earlier query
+
+-- the pass has a find open, which its last event began, and which scans for these words: those of its query, by a plan of their rows
+pub record IsScanFor (pool : PoolId) (pass : PassState) (token : Token) (words : List (List ℕ)) (plan : List Row) : Type 0 where
+  pub finding : IsFinding pool token pass
+  pub begun : HasJustBegun pass
+  pub of_query : (earlier : List Event) (query : List ℕ) → IsBegunAt pass earlier query → AreWordsOf words query
+  pub rows : HasRowsOf pool.config words plan
+  pub laid : All (IsRowOf pool.config) plan
+
+-- the turn that begins a find
+abbrev pub FindBegins : Limits → ℕ → List ℕ → List Event → List Event → Type 0
+FindBegins limits pass query before after = IsTurn pass before after (TakesCalls limits.events) (event.Find pass query ∷ [])
+
+-- the turn that ends it
+abbrev pub FindEnds : ℕ → List Event → List Event → Type 0
+FindEnds pass before after = IsTurn pass before after (λ history. Unit {0}) (event.End pass ∷ [])
+
+-- a find that began and ended, and is answered by what was live when it began
+pub record FoundTurns (limits : Limits) (pass : ℕ) (query : List ℕ) (before after : List Event) (ids : List ℕ) : Type 0 where
+  pub middle : List Event
+  pub begun : FindBegins limits pass query before middle
+  pub found : ids ≡ answer begun.earlier query
+  pub ended : FindEnds pass middle after
+
+-- a find that found no memory after it had begun
+pub record DroppedTurns (limits : Limits) (pass : ℕ) (query : List ℕ) (before after : List Event) : Type 0 where
+  pub middle : List Event
+  pub begun : FindBegins limits pass query before middle
+  pub ended : FindEnds pass middle after
+
+-- a find that did not begin: there was no memory, and nothing was done; or no call is taken any more
+abbrev pub RefusedTurns : Limits → ℕ → List Event → List Event → FindFault → Type 0
+RefusedTurns limits pass before after find.Memory = before ≡ after
+RefusedTurns limits pass before after (find.Spent events) = IsTurn pass before after (λ history. IsSpentAt limits.events history events) []
+
+-- A find is answered, or did not begin, or found no memory after it had begun.
+abbrev pub FindTurns : Limits → ℕ → List ℕ → List Event → List Event → Result (List ℕ) FindFault → Type 0
+FindTurns limits pass query before after (Ok ids) = FoundTurns limits pass query before after ids
+FindTurns limits pass query before after (Err find.Memory) = RefusedTurns limits pass before after find.Memory ⊎ DroppedTurns limits pass query before after
+FindTurns limits pass query before after (Err (find.Spent events)) = RefusedTurns limits pass before after (find.Spent events)

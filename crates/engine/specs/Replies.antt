@@ -1,0 +1,45 @@
+-- The replies that the answers of an engine stand for.
+use Rattle.std.specs.Prelude.{ℕ, List, Result, Ok, Err}
+use Rattle.funnel_model.specs.declared.commit.Commit.{Commit}
+use Rattle.funnel_model.specs.declared.reply.Reply.{Reply}
+use Rattle.funnel_model.specs.declared.reply.Reply.TheVariants as reply
+use Rattle.commit_desk.specs.declared.answers.AddFault.{AddFault}
+use Rattle.commit_desk.specs.declared.answers.AddFault.TheVariants as add
+use Rattle.commit_desk.specs.declared.answers.DeleteFault.{DeleteFault}
+use Rattle.commit_desk.specs.declared.answers.DeleteFault.TheVariants as delete
+use Rattle.commit_desk.specs.declared.answers.JournalFault.{JournalFault}
+use Rattle.commit_desk.specs.declared.answers.JournalFault.TheVariants as journal
+use Rattle.commit_desk.specs.declared.answers.Spent.{Spent}
+use Rattle.engine.specs.declared.finding.FindFault.{FindFault}
+use Rattle.engine.specs.declared.finding.FindFault.TheVariants as find
+
+abbrev pub reply_of_add : Result ℕ AddFault → Reply
+reply_of_add (Ok place) = reply.Added place
+reply_of_add (Err (add.Present place)) = reply.Present place
+reply_of_add (Err (add.JournalFull count)) = reply.JournalFull
+reply_of_add (Err (add.Full blocks)) = reply.Full
+reply_of_add (Err (add.Spent events)) = reply.Spent
+reply_of_add (Err add.Memory) = reply.Memory
+
+abbrev pub reply_of_delete : Result ℕ DeleteFault → Reply
+reply_of_delete (Ok place) = reply.Deleted place
+reply_of_delete (Err delete.Absent) = reply.Absent
+reply_of_delete (Err (delete.JournalFull count)) = reply.JournalFull
+reply_of_delete (Err (delete.Spent events)) = reply.Spent
+
+abbrev pub reply_of_find_fault : FindFault → Reply
+reply_of_find_fault (find.Spent events) = reply.Spent
+reply_of_find_fault find.Memory = reply.Memory
+
+abbrev pub reply_of_find : Result (List ℕ) FindFault → Reply
+reply_of_find (Ok ids) = reply.Found ids
+reply_of_find (Err fault) = reply_of_find_fault fault
+
+abbrev pub reply_of_place : Result ℕ Spent → Reply
+reply_of_place (Ok place) = reply.Place place
+reply_of_place (Err spent) = reply.Spent
+
+abbrev pub reply_of_journal : Result (List Commit) JournalFault → Reply
+reply_of_journal (Ok commits) = reply.Commits commits
+reply_of_journal (Err (journal.Spent events)) = reply.Spent
+reply_of_journal (Err journal.Memory) = reply.Memory

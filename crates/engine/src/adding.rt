@@ -1,0 +1,168 @@
+//! Adds.
+ghost use Rattle.std.specs.Prelude.{◌≡◌, ℕ, List, ◌≤◌, [], IfOk, MatchResult, vec_capacity};
+ghost use Rattle.funnel_model.specs.declared.call.Call.TheVariants as call;
+ghost use Rattle.funnel_model.specs.Legal.{IsLegal};
+ghost use Rattle.funnel_model.specs.Steps.{Step};
+ghost use Rattle.funnel_model.specs.Words.{AreWordsOf};
+ghost use Rattle.commit_desk.specs.declared.answers.Taken.TheVariants as taken;
+ghost use Rattle.commit_desk.specs.Passes.{HasWritten, IsResting, IsToWrite};
+ghost use Rattle.engine.specs.Adds.{AddTurns, ClaimTurns, TakeTurn, fault_of_drop};
+ghost use Rattle.engine.specs.Replies.{reply_of_add};
+ghost use Rattle.row_layout.specs.DocumentBits.{CanPlace};
+ghost use Rattle.row_layout.specs.Orders.{HasRowsOf};
+
+use crate::engine::Engine;
+use crate::work::{Direct, Work};
+use commit_desk::{AddFault, CommitFault, Taken};
+use document_store::Doc;
+use funnel_model::{Block, Claim, ClearJob, Memory, Text};
+use row_layout::{Bits, bits_of};
+use slice_rule::{PassSeat, PoolName};
+use std::alloc::Global;
+use std::sync::Wait;
+use word_cut::words;
+
+impl<N: PoolName> Engine<N> {
+    /// Adds a document, and gives the place of its add. It takes all its memory at first: for the words, the text, the bits,
+    /// and what `Full` tells. Where there is none it makes no event. Then it waits for the lock twice, or three times where
+    /// it clears a slice; where it is refused in its first turn, once.
+    pub fn add<R: Wait>(
+        &self,
+        rt: &R,
+        alloc: Global,
+        pass: &mut PassSeat,
+        id: u64,
+        text: &str,
+    ) -> Result<u64, AddFault>
+        requires pass { IsResting self.now pass.old }
+        ensures step { Step self.now.limits pass.old.number pass.old.front pass.new.front (call.Add id text.now) (reply_of_add result) }
+        ensures turns { AddTurns self.now.config self.now.limits pass.old.number id text.now pass.old.front pass.new.front result }
+        ensures rests { IsResting self.now pass.new }
+        ensures number { pass.new.number ≡ pass.old.number }
+    {
+        self.add_by(rt, alloc, pass, id, text, &mut Direct)
+    }
+
+    /// An add whose column is written by `work`, and whose slice is cleared by it, while the lock is free.
+    pub fn add_by<R: Wait, W: Work>(
+        &self,
+        rt: &R,
+        alloc: Global,
+        pass: &mut PassSeat,
+        id: u64,
+        text: &str,
+        work: &mut W,
+    ) -> Result<u64, AddFault>
+        requires pass { IsResting self.now pass.old }
+        ensures step { Step self.now.limits pass.old.number pass.old.front pass.new.front (call.Add id text.now) (reply_of_add result) }
+        ensures turns { AddTurns self.now.config self.now.limits pass.old.number id text.now pass.old.front pass.new.front result }
+        ensures rests { IsResting self.now pass.new }
+        ensures number { pass.new.number ≡ pass.old.number }
+    {
+        let _ = pass.number();
+        match self.prepare(alloc, id, text) {
+            Ok(prepared) => {
+                let (doc, bits, room) = prepared;
+                self.add_prepared(rt, pass, doc, bits, room, work)
+            }
+            Err(Memory) => Err(AddFault::Memory),
+        }
+    }
+
+    // The turns of an add.
+    fn add_prepared<R: Wait, W: Work>(
+        &self,
+        rt: &R,
+        pass: &mut PassSeat,
+        doc: Doc,
+        mut bits: Bits,
+        room: Vec<Block>,
+        work: &mut W,
+    ) -> Result<u64, AddFault>
+        requires rests { IsResting self.now pass.old }
+        requires of_text { AreWordsOf doc.words doc.text }
+        requires rows { HasRowsOf self.now.config doc.words bits.rows }
+        requires can_place { CanPlace self.now.config bits.rows }
+        requires empty { room.items ≡ [] }
+        requires enough { self.now.limits.slices ≤ vec_capacity room }
+        ensures step { Step self.now.limits pass.old.number pass.old.front pass.new.front (call.Add doc.id doc.text) (reply_of_add result) }
+        ensures turns { AddTurns self.now.config self.now.limits pass.old.number doc.id doc.text pass.old.front pass.new.front result }
+        ensures rests { IsResting self.now pass.new }
+        ensures number { pass.new.number ≡ pass.old.number }
+    {
+        let claim = self.claim(rt, pass, &doc, room, work)?;
+        self.write(pass, &claim, &mut bits, work);
+        match self.commit(rt, pass, claim, doc, &bits) {
+            Ok(place) => Ok(place),
+            Err(fault) => Err(dropped(fault)),
+        }
+    }
+
+    // The document, its bits at some column, and room for what the answer `Full` tells.
+    fn prepare(&self, alloc: Global, id: u64, text: &str) -> Result<(Doc, Bits, Vec<Block>), Memory>
+        ensures id { IfOk result (λ prepared. prepared.0.id ≡ id) }
+        ensures text { IfOk result (λ prepared. prepared.0.text ≡ text.now) }
+        ensures of_text { IfOk result (λ prepared. AreWordsOf prepared.0.words text.now) }
+        ensures rows { IfOk result (λ prepared. HasRowsOf self.now.config prepared.0.words prepared.1.rows) }
+        ensures can_place { IfOk result (λ prepared. CanPlace self.now.config prepared.1.rows) }
+        ensures empty { IfOk result (λ prepared. prepared.2.items ≡ []) }
+        ensures enough { IfOk result (λ prepared. self.now.limits.slices ≤ vec_capacity prepared.2) }
+    {
+        let Ok(words) = words(alloc, text) else {
+            return Err(Memory);
+        };
+        let bits = bits_of(alloc, &self.layout, &words)?;
+        let room = Vec::with_capacity(alloc, self.slices as usize)?;
+        let text = Text::new(String::from_str(alloc, text)?);
+        Ok((Doc::new(id, text, words), bits, room))
+    }
+
+    // Claims a column, after it cleared a slice where there is need to.
+    fn claim<R: Wait, W: Work>(
+        &self,
+        rt: &R,
+        pass: &mut PassSeat,
+        doc: &Doc,
+        room: Vec<Block>,
+        work: &mut W,
+    ) -> Result<Claim, AddFault>
+        requires rests { IsResting self.now pass.old }
+        requires empty { room.items ≡ [] }
+        requires enough { self.now.limits.slices ≤ vec_capacity room }
+        ensures turns { MatchResult result (λ claim. ClaimTurns self.now.limits pass.old.number doc.now.id doc.now.text pass.old.front pass.new.front claim)
+            (λ fault. TakeTurn self.now.limits pass.old.number doc.now.id doc.now.text pass.old.front pass.new.front (taken.Refused fault)) }
+        ensures next { MatchResult result (λ claim. IsToWrite self.now claim pass.new) (λ _. IsResting self.now pass.new) }
+        ensures legal { IsLegal self.now.limits pass.new.front }
+        ensures number { pass.new.number ≡ pass.old.number }
+    {
+        match self.take(rt, pass, doc, room) {
+            Taken::Claim(claim) => Ok(claim),
+            Taken::Clear(job) => {
+                work.clear(&self.pool, pass, &self.layout, &job);
+                Ok(self.opened_take(rt, pass, job))
+            }
+            Taken::Refused(fault) => Err(fault),
+        }
+    }
+
+    // Moves the bits to the column that was claimed, and sets them.
+    fn write<W: Work>(&self, pass: &mut PassSeat, claim: &Claim, bits: &mut Bits, work: &mut W)
+        requires claimed { IsToWrite self.now claim.now pass.old }
+        requires can_place { CanPlace self.now.config bits.old.rows }
+        ensures written { (words : List (List ℕ)) → HasRowsOf self.now.config words bits.old.rows → HasWritten self.now claim.now words bits.new.bits pass.new }
+        ensures seat { pass.new ≡ record pass.old { own = pass.new.own } }
+    {
+        bits.place(&self.layout, claim.slice, claim.column);
+        work.write(&self.pool, pass, claim, bits);
+    }
+}
+
+// What an add is answered whose document was dropped.
+fn dropped(fault: CommitFault) -> AddFault
+    ensures { result ≡ fault_of_drop fault }
+{
+    match fault {
+        CommitFault::Present(place) => AddFault::Present(place),
+        CommitFault::JournalFull(count) => AddFault::JournalFull(count),
+    }
+}

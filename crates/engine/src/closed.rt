@@ -1,0 +1,25 @@
+use funnel_model::Commits;
+use slice_rule::Ended;
+use std::marker::Model;
+
+/// What an engine leaves behind. Contracts see its whole history.
+#[derive(Drop)]
+pub struct Closed {
+    /// The history's commits, in order.
+    pub commits: Commits,
+    /// How many events the history has.
+    pub events: u64,
+    pub(crate) ended: Ended,
+}
+
+impl Model for Closed {
+    ghost use Rattle.std.specs.Prelude.{◌≡◌, length};
+    ghost use Rattle.funnel_model.specs.History.{commits};
+    ghost use Rattle.engine.specs.Engines.{ClosedState, IsClosed};
+
+    ghost Value = { ClosedState };
+
+    ghost view = { λ c. record { commits = c.commits; events = c.events; history = c.ended.history } };
+
+    ghost invariant = { λ c. IsClosed (record { commits = c.commits; events = c.events; history = c.ended.history }) };
+}

@@ -1,0 +1,276 @@
+//! Finds.
+ghost use Rattle.std.specs.Prelude.{◌≡◌, ℕ, ◌+◌, ◌<◌, List, ◌≤◌, [], IfErr, IfOk, MatchResult, length, vec_capacity};
+ghost use Rattle.funnel_model.specs.declared.call.Call.TheVariants as call;
+ghost use Rattle.funnel_model.specs.declared.event.Event.{Event};
+ghost use Rattle.funnel_model.specs.History.{answer};
+ghost use Rattle.funnel_model.specs.Legal.{IsLegal};
+ghost use Rattle.funnel_model.specs.Steps.{AddsCall, AddsNone, Step};
+ghost use Rattle.commit_desk.specs.Passes.{IsResting};
+ghost use Rattle.commit_desk.specs.Scans.{AreScanned};
+ghost use Rattle.engine.specs.Finds.{FindBegins, FindEnds, FindTurns, IsBegunAt, IsScanFor, RefusedTurns};
+ghost use Rattle.engine.specs.Replies.{reply_of_find, reply_of_find_fault};
+ghost use Rattle.engine.specs.Scans.{AreScannedBelow, CanScan};
+ghost use Rattle.row_read.specs.SharedRows.{kept_of};
+
+use crate::engine::Engine;
+use crate::open_find::{Begun, OpenFind};
+use crate::work::{Direct, Work};
+use commit_desk::Spent;
+use document_store::Found;
+use funnel_model::{Candidates, Ids, Memory};
+use plan_rows::plan;
+use row_read::Shared;
+use slice_rule::{PassSeat, PoolName};
+use std::alloc::Global;
+use std::sync::Wait;
+use word_cut::words;
+
+/// Why a find has no answer.
+#[derive(Clone, Copy, Debug, PartialEq, Eq)]
+pub enum FindFault {
+    /// The history has this many events, and no call is taken any more.
+    Spent(u64),
+    /// There was no memory: for the words and their rows, before the find began, or for the candidates and the answer, and
+    /// then the find was ended.
+    Memory,
+}
+
+impl<N: PoolName> Engine<N> {
+    /// The numbers of the documents that are live when the find begins and have every word of the query, in the order in
+    /// which they were added. It waits for the lock twice, or once where the engine is spent.
+    pub fn find<R: Wait>(
+        &self,
+        rt: &R,
+        alloc: Global,
+        pass: &mut PassSeat,
+        query: &str,
+    ) -> Result<Ids, FindFault>
+        requires pass { IsResting self.now pass.old }
+        ensures step { Step self.now.limits pass.old.number pass.old.front pass.new.front (call.Find query.now) (reply_of_find result) }
+        ensures turns { FindTurns self.now.limits pass.old.number query.now pass.old.front pass.new.front result }
+        ensures rests { IsResting self.now pass.new }
+        ensures number { pass.new.number ≡ pass.old.number }
+    {
+        self.find_by(rt, alloc, pass, query, &mut Direct)
+    }
+
+    /// A find whose slices are scanned by `work`, while the lock is free.
+    pub fn find_by<R: Wait, W: Work>(
+        &self,
+        rt: &R,
+        alloc: Global,
+        pass: &mut PassSeat,
+        query: &str,
+        work: &mut W,
+    ) -> Result<Ids, FindFault>
+        requires pass { IsResting self.now pass.old }
+        ensures step { Step self.now.limits pass.old.number pass.old.front pass.new.front (call.Find query.now) (reply_of_find result) }
+        ensures turns { FindTurns self.now.limits pass.old.number query.now pass.old.front pass.new.front result }
+        ensures rests { IsResting self.now pass.new }
+        ensures number { pass.new.number ≡ pass.old.number }
+    {
+        let begun = self.begin(rt, alloc, pass, query)?;
+        match self.finish(rt, alloc, pass, begun, work) {
+            Ok(ids) => Ok(ids),
+            Err(Memory) => Err(FindFault::Memory),
+        }
+    }
+
+    /// Begins a find, which `finish_find` answers by what is live now, whatever others do meanwhile. It waits for the lock.
+    /// A refusal hands the pass back.
+    pub fn begin_find<R: Wait>(
+        &self,
+        rt: &R,
+        alloc: Global,
+        pass: PassSeat,
+        query: &str,
+    ) -> Result<OpenFind, (PassSeat, FindFault)>
+        requires pass { IsResting self.now pass }
+        ensures begun { IfOk result (λ find. FindBegins self.now.limits pass.number query.now pass.front find.front) }
+        ensures call { IfOk result (λ find. AddsCall pass.number pass.front find.front (call.Find query.now)) }
+        ensures legal { IfOk result (λ find. IsLegal self.now.limits find.front) }
+        ensures of_engine { IfOk result (λ find. find.pool ≡ self.now) }
+        ensures number { IfOk result (λ find. find.number ≡ pass.number) }
+        ensures refused { IfErr result (λ refused. Step self.now.limits pass.number pass.front refused.0.front (call.Find query.now) (reply_of_find_fault refused.1)) }
+        ensures turns { IfErr result (λ refused. RefusedTurns self.now.limits pass.number pass.front refused.0.front refused.1) }
+        ensures rests { IfErr result (λ refused. IsResting self.now refused.0) }
+        ensures same { IfErr result (λ refused. refused.0.number ≡ pass.number) }
+    {
+        let mut pass = pass;
+        match self.begin(rt, alloc, &mut pass, query) {
+            Ok(begun) => Ok(OpenFind { pass, begun }),
+            Err(fault) => Err((pass, fault)),
+        }
+    }
+
+    /// Ends a find, and hands its pass back. Where there is no memory for its candidates or its answer, the find is ended all
+    /// the same. It waits for the lock once.
+    pub fn finish_find<R: Wait>(
+        &self,
+        rt: &R,
+        alloc: Global,
+        find: OpenFind,
+    ) -> (PassSeat, Result<Ids, Memory>)
+        requires find { find.pool ≡ self.now }
+        ensures found { IfOk result.1 (λ ids. (earlier : List Event) (query : List ℕ) → IsBegunAt find earlier query → ids ≡ answer earlier query) }
+        ensures ended { FindEnds find.number find.front result.0.front }
+        ensures calls { AddsNone find.number find.front result.0.front }
+        ensures legal { IsLegal self.now.limits result.0.front }
+        ensures rests { IsResting self.now result.0 }
+        ensures number { result.0.number ≡ find.number }
+    {
+        let OpenFind { mut pass, begun } = find;
+        let answer = self.finish(rt, alloc, &mut pass, begun, &mut Direct);
+        (pass, answer)
+    }
+
+    // Begins a find, after it took its words and planned their rows.
+    fn begin<R: Wait>(
+        &self,
+        rt: &R,
+        alloc: Global,
+        pass: &mut PassSeat,
+        query: &str,
+    ) -> Result<Begun, FindFault>
+        requires pass { IsResting self.now pass.old }
+        ensures begun { IfOk result (λ begun. IsScanFor self.now pass.new begun.token begun.words begun.plan) }
+        ensures turns { MatchResult result (λ _. FindBegins self.now.limits pass.old.number query.now pass.old.front pass.new.front)
+            (λ fault. RefusedTurns self.now.limits pass.old.number pass.old.front pass.new.front fault) }
+        ensures rests { IfErr result (λ _. IsResting self.now pass.new) }
+        ensures legal { IsLegal self.now.limits pass.new.front }
+        ensures number { pass.new.number ≡ pass.old.number }
+    {
+        let _ = pass.number();
+        let Ok(words) = words(alloc, query) else {
+            return Err(FindFault::Memory);
+        };
+        let Ok(plan) = plan(alloc, &self.layout, &words) else {
+            return Err(FindFault::Memory);
+        };
+        match self.open_find(rt, pass, query) {
+            Ok(token) => Ok(Begun { token, words, plan }),
+            Err(Spent { events }) => Err(FindFault::Spent(events)),
+        }
+    }
+
+    // Scans, and ends the find.
+    fn finish<R: Wait, W: Work>(
+        &self,
+        rt: &R,
+        alloc: Global,
+        pass: &mut PassSeat,
+        begun: Begun,
+        work: &mut W,
+    ) -> Result<Ids, Memory>
+        requires begun { IsScanFor self.now pass.old begun.token begun.words begun.plan }
+        ensures found { IfOk result (λ ids. (earlier : List Event) (query : List ℕ) → IsBegunAt pass.old earlier query → ids ≡ answer earlier query) }
+        ensures ended { FindEnds pass.old.number pass.old.front pass.new.front }
+        ensures rests { IsResting self.now pass.new }
+        ensures legal { IsLegal self.now.limits pass.new.front }
+        ensures number { pass.new.number ≡ pass.old.number }
+    {
+        match self.scan(alloc, pass, &begun, work) {
+            Ok((candidates, found, ids)) => {
+                let Begun {
+                    token,
+                    words,
+                    plan: _,
+                } = begun;
+                let mut found = found;
+                self.end_find(rt, pass, token, &candidates, &words, &mut found);
+                Ok(found.into_ids(ids))
+            }
+            Err(Memory) => {
+                let Begun {
+                    token,
+                    words: _,
+                    plan: _,
+                } = begun;
+                self.drop_find(rt, pass, token);
+                Err(Memory)
+            }
+        }
+    }
+
+    // The candidates of a find, with room for its answer.
+    fn scan<W: Work>(
+        &self,
+        alloc: Global,
+        pass: &mut PassSeat,
+        begun: &Begun,
+        work: &mut W,
+    ) -> Result<(Candidates, Found, Vec<u64>), Memory>
+        requires begun { IsScanFor self.now pass.old begun.now.token begun.now.words begun.now.plan }
+        ensures scanned { IfOk result (λ scanned. AreScanned self.now.config pass.new begun.now.token begun.now.words scanned.0) }
+        ensures none { IfOk result (λ scanned. scanned.1.found ≡ []) }
+        ensures room { IfOk result (λ scanned. length scanned.0 ≤ scanned.1.room) }
+        ensures ids { IfOk result (λ scanned. scanned.2.items ≡ []) }
+        ensures enough { IfOk result (λ scanned. length scanned.0 ≤ vec_capacity scanned.2) }
+        ensures seat { pass.new ≡ record pass.old { own = pass.new.own; told = pass.new.told } }
+    {
+        let mut candidates = Candidates::new(Vec::new(alloc));
+        self.scan_slices(pass, begun, work, &mut candidates)?;
+        let found = Found::with_room(alloc, candidates.len())?;
+        let ids = Vec::with_capacity(alloc, candidates.len())?;
+        Ok((candidates, found, ids))
+    }
+
+    // Scans the slices that the find may read.
+    fn scan_slices<W: Work>(
+        &self,
+        pass: &mut PassSeat,
+        begun: &Begun,
+        work: &mut W,
+        out: &mut Candidates,
+    ) -> Result<(), Memory>
+        requires begun { IsScanFor self.now pass.old begun.now.token begun.now.words begun.now.plan }
+        requires empty { out.old ≡ [] }
+        ensures scanned { IfOk result (λ _. AreScanned self.now.config pass.new begun.now.token begun.now.words out.new) }
+        ensures seat { pass.new ≡ record pass.old { own = pass.new.own; told = pass.new.told } }
+    {
+        let mut rows = Shared::new(&self.pool, pass, &begun.token);
+        self.scan_each(&mut rows, begun, work, out)
+    }
+
+    // Scans the slices of the token, one after the other.
+    fn scan_each<W: Work>(
+        &self,
+        rows: &mut Shared<'_>,
+        begun: &Begun,
+        work: &mut W,
+        out: &mut Candidates,
+    ) -> Result<(), Memory>
+        requires scan { CanScan self.now rows.old begun.now.words begun.now.plan }
+        requires empty { out.old ≡ [] }
+        ensures scanned { IfOk result (λ _. AreScanned self.now.config rows.new.seat.now rows.new.token.now begun.now.words out.new) }
+        ensures kept { kept_of rows.new ≡ kept_of rows.old }
+    {
+        for slice in 0..self.slices {
+            self.scan_slice(rows, begun, slice, work, out)?;
+        }
+        Ok(())
+    }
+
+    // Scans one more slice, where the token has it.
+    fn scan_slice<W: Work>(
+        &self,
+        rows: &mut Shared<'_>,
+        begun: &Begun,
+        slice: u32,
+        work: &mut W,
+        out: &mut Candidates,
+    ) -> Result<(), Memory>
+        requires scan { CanScan self.now rows.old begun.now.words begun.now.plan }
+        requires slice { slice < self.now.limits.slices }
+        requires below { AreScannedBelow self.now.config rows.old.seat.now rows.old.token.now begun.now.words slice out.old }
+        ensures scanned { IfOk result (λ _. AreScannedBelow self.now.config rows.new.seat.now rows.new.token.now begun.now.words (slice + 1) out.new) }
+        ensures kept { kept_of rows.new ≡ kept_of rows.old }
+    {
+        let layout = &self.layout;
+        if rows.token.slices.has(slice) {
+            work.scan(rows, layout, &begun.plan, slice, out)
+        } else {
+            Ok(())
+        }
+    }
+}

@@ -1,0 +1,6 @@
+//! Whole engines.
+mod example;
+mod free_lock;
+mod guards;
+mod setting;
+mod threads;
