@@ -1,4 +1,5 @@
 pub mod Adds
+pub mod Clients
 pub mod Engines
 pub mod Finds
 pub mod Replies

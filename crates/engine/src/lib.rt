@@ -52,6 +52,7 @@
 
 mod adding;
 mod blank;
+mod client;
 mod closed;
 mod engine;
 mod finding;
@@ -60,6 +61,7 @@ mod turns;
 mod work;
 
 pub use blank::Blank;
+pub use client::Client;
 pub use closed::Closed;
 pub use commit_desk::{AddFault, DeleteFault, JournalFault, Spent};
 pub use engine::Engine;

@@ -1,43 +1,154 @@
-ghost use Rattle.funnel.specs.declared.running.TheConstants.{MOST_BYTES};
-ghost use Rattle.std.specs.Prelude.{◌≡◌, ◌↔◌, ◌^◌, map, IfNone};
-ghost use Rattle.funnel.specs.Kept.{program_limits};
-ghost use Rattle.funnel.specs.Running.{IsRun, RanOrNot};
+//! The words after the program's name: which command they are, with its numbers. `clap` reads them, and the command
+//! line that it reads is written out in `specs/Commands.antt`.
+ghost use Rattle.std.specs.Prelude.{◌≡◌, ◌↔◌, ℕ, List, [], codes, map, option_and_then, IfOk, IfSome, IsErrOf, IsSome, Some, None, false, true};
+ghost use Rattle.clap.specs.Words.{app_of, found_of, kind_of, rows_of, rule_of, subcommand_rows_of, takes};
+ghost use Rattle.clap.specs.declared.builder.command.Command.TheViews.{out-Command as fields_of};
+ghost use Rattle.funnel.specs.Commands.{HasNumbers, HasNumbersInRange, IsInRange, call_words, command_of, fault_by, funnel_app, load_form, load_of, number_option, subcommand_as};
+ghost use Rattle.funnel.specs.declared.command.CommandFault.TheVariants.{Memory};
 
-use crate::ended::{Ended, Why};
-use crate::running::run_with;
-use funnel_io::{Gate, Sink, Source};
-use std::alloc::Global;
+use clap::builder::ValueParser;
+use clap::error::ErrorKind;
+use clap::{Arg, ArgAction, ArgMatches, value_parser};
+use std::alloc::{AllocError, AllocFailed, Global};
 
-/// How many slices `run` has.
-const RUN_SLICES: u32 = 2;
+/// What the program is to do.
+#[derive(Clone, Copy, Debug, PartialEq, Eq)]
+pub enum Command {
+    /// Answers the lines of standard input on standard output.
+    Run,
+    /// Adds, deletes and finds made up documents, and prints a summary.
+    Load(LoadCommand),
+}
 
-/// Runs the command that the words are. There is one: `run` answers the lines of `input` on `output`. `config` is not
-/// read, and `gates` come back as they came.
-pub fn funnel_main<C: Source, S: Source, K: Sink, G: Gate + Send>(
-    alloc: Global,
-    words: &[&str],
-    config: &mut C,
-    input: &mut S,
-    output: &mut K,
-    gates: Vec<G>,
-) -> Ended<G>
-    ensures gates { result.gates ≡ gates }
-    ensures config { config.new ≡ config.old }
-    ensures usage { result.why ≡ Why.Usage ↔ (IsRun (map (λ word. word.now) words.now) → ⊥) }
-    ensures nothing_run { (IsRun (map (λ word. word.now) words.now) → ⊥) → result.closed ≡ None }
-    ensures ran { IsRun (map (λ word. word.now) words.now) → RanOrNot (program_limits RUN_SLICES) MOST_BYTES
-        record { left = (S.incoming input.old).left; taken = (S.incoming input.old).taken; written = (K.outgoing output.old).written; reads = (S.incoming input.old).faults; writes = (K.outgoing output.old).faults }
-        record { left = (S.incoming input.new).left; taken = (S.incoming input.new).taken; written = (K.outgoing output.new).written; reads = (S.incoming input.new).faults; writes = (K.outgoing output.new).faults }
-        result.why result.closed }
-    ensures input_untouched { IfNone result.closed (input.new ≡ input.old) }
-    ensures output_untouched { IfNone result.closed (output.new ≡ output.old) }
-    ensures source_borrowed { S.borrowed input.new ≡ S.borrowed input.old }
-    ensures sink_borrowed { K.borrowed output.new ≡ K.borrowed output.old }
+/// How a load is made up.
+#[derive(Clone, Copy, Debug, PartialEq, Eq)]
+pub struct LoadCommand {
+    /// The number of documents, from 1 to 4,194,304.
+    pub docs: u32,
+    /// The number of words in each document, from 0 to 1,000.
+    pub words: u32,
+    /// Where the generator of the documents starts.
+    pub seed: u64,
+}
+
+/// Why no command was read.
+#[derive(Clone, Copy, Debug, PartialEq, Eq)]
+pub enum CommandFault {
+    /// The words are no command, or ask for help.
+    Usage,
+    /// Memory ran out.
+    Memory,
+}
+
+impl From<AllocError> for CommandFault {
+    ghost from_gives = { λ _ fault. fault ≡ Memory };
+
+    fn from(_: AllocError) -> CommandFault {
+        CommandFault::Memory
+    }
+}
+
+impl<T: Drop> From<AllocFailed<T>> for CommandFault {
+    ghost from_gives = { λ _ fault. fault ≡ Memory };
+
+    fn from(_: AllocFailed<T>) -> CommandFault {
+        CommandFault::Memory
+    }
+}
+
+impl From<clap::Error> for CommandFault {
+    ghost from_gives = { λ error fault. fault ≡ fault_by (kind_of error) };
+
+    fn from(error: clap::Error) -> CommandFault {
+        match error.kind() {
+            ErrorKind::OutOfMemory => CommandFault::Memory,
+            _ => CommandFault::Usage,
+        }
+    }
+}
+
+/// The command that the words are, which stand without the program's name. `Usage` comes where `clap` doesn't take them,
+/// also where they ask for help or the version. Nothing is printed.
+pub fn read_command(alloc: Global, words: &[&str]) -> Result<Command, CommandFault>
+    ensures ok { IfOk result (λ command. command_of (map (λ word. word.now) words.now) ≡ Some command) }
+    ensures in_range { IfOk result HasNumbersInRange }
+    ensures usage { IsErrOf result CommandFault.Usage → command_of (map (λ word. word.now) words.now) ≡ None }
 {
-    let _ = config;
-    let (why, closed) = match words {
-        ["run"] => run_with(alloc, RUN_SLICES, input, output),
-        _ => (Why::Usage, None),
-    };
-    Ended { why, gates, closed }
+    let words = call_words(alloc, words)?;
+    let matches = funnel_app(alloc)?.try_get_matches_from(words.as_slice())?;
+    command_in(&matches).ok_or(CommandFault::Usage)
+}
+
+/// Words are a command exactly where `clap` takes them.
+pub fn words_are_a_command_where_clap_takes_them()
+    ensures { (words : List (List ℕ)) → IsSome (command_of words) ↔ (takes funnel_app (call_words words) ≡ true) }
+{}
+
+// The program's name, and the words after it.
+fn call_words<'a>(alloc: Global, words: &[&'a str]) -> Result<Vec<&'a str>, AllocError>
+    ensures { IfOk result (λ all. map (λ word. word.now) all.items ≡ call_words (map (λ word. word.now) words.now)) }
+{
+    let mut all = Vec::with_capacity(alloc, words.len() + 1)?;
+    all.push("funnel")?;
+    all.extend_from_slice(words)?;
+    Ok(all)
+}
+
+fn funnel_app<'a>(alloc: Global) -> Result<clap::Command<'a>, AllocError>
+    ensures { IfOk result (λ app. app_of app ≡ funnel_app) }
+{
+    let run = clap::Command::new(alloc, "run");
+    let load = load_app(alloc)?;
+    clap::Command::new(alloc, "funnel")
+        .subcommand_required(true)
+        .subcommand(run)?
+        .subcommand(load)
+}
+
+fn load_app<'a>(alloc: Global) -> Result<clap::Command<'a>, AllocError>
+    ensures app { IfOk result (λ app. (app_of app ≡ record { top = load_form; subs = [] })) }
+    ensures local { IfOk result (λ app. (fields_of app).has_globals ≡ false) }
+{
+    let docs = number_option(alloc, "docs", value_parser!(u32).range(1..=4_194_304));
+    let words = number_option(alloc, "words", value_parser!(u32).range(0..=1_000));
+    let seed = number_option(alloc, "seed", value_parser!(u64));
+    clap::Command::new(alloc, "load")
+        .arg(docs.required(true))?
+        .arg(words.default_value("80"))?
+        .arg(seed.default_value("0"))
+}
+
+// `--name` with one value, which is one of these numbers.
+fn number_option<'a>(alloc: Global, name: &'a str, numbers: ValueParser<'a>) -> Arg<'a>
+    ensures rule { rule_of result ≡ number_option name.entry.now numbers.entry }
+    ensures local { result.global ≡ false }
+{
+    Arg::new(alloc, name)
+        .long(name)
+        .action(ArgAction::Set)
+        .value_parser(numbers)
+}
+
+fn command_in(matches: &ArgMatches) -> Option<Command>
+    requires { IfSome (subcommand_rows_of matches.now) (λ found. found.0 ≡ codes "load" → HasNumbers found.1) }
+    ensures found { result ≡ option_and_then subcommand_as (subcommand_rows_of matches.now) }
+    ensures in_range { IfSome result HasNumbersInRange }
+{
+    match matches.subcommand()? {
+        ("run", _) => Some(Command::Run),
+        ("load", found) => Some(Command::Load(load_in(found))),
+        _ => None,
+    }
+}
+
+fn load_in(found: &ArgMatches) -> LoadCommand
+    requires { HasNumbers (rows_of (found_of found.now)) }
+    ensures load { result ≡ load_of (rows_of (found_of found.now)) }
+    ensures in_range { IsInRange result }
+{
+    LoadCommand {
+        docs: found.get_one("docs").unwrap(),
+        words: found.get_one("words").unwrap(),
+        seed: found.get_one("seed").unwrap(),
+    }
 }

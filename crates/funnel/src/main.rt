@@ -1,47 +1,40 @@
 //! A search engine over a stream of documents: it answers which of them have every word of a query.
 #![tactic(auto)]
 
-mod answering;
-mod calls;
-mod closed;
 mod command;
-mod draft;
 mod ended;
-mod held;
-mod index;
+mod fitting;
 mod laws;
-mod reader;
-mod rows;
+mod loading;
+mod program;
 mod running;
-mod serving;
+mod workload;
 
-use command::funnel_main;
 use ended::Why;
-use funnel_io::{MemGate, MemSource, StdinSource, StdoutSink};
+use funnel_io::{FileSource, MemGate, StdinSource, StdoutSink};
+use program::funnel_main;
 use std::env;
 use std::io::ErrorKind;
 use std::process::ExitCode;
 
+/// The configuration, in the folder in which the program is started.
+const CONFIG_PATH: &str = "funnel.json";
+
 fn main(rt: HostRuntime) -> ExitCode {
     let alloc = rt.alloc();
-    let args = match env::args(&rt) {
+    let args = match args(&rt) {
         Ok(args) => args,
-        Err(error) if error.kind() == ErrorKind::OutOfMemory => return ExitCode::from(
-            Why::Memory.status(),
-        ),
-        Err(_) => return ExitCode::from(Why::Usage.status()),
-    };
-    let Ok(args): Result<Vec<String>, _> = args.skip(1).collect(alloc) else {
-        return ExitCode::from(Why::Memory.status());
+        Err(why) => return report(&rt, why),
     };
     let Ok(words): Result<Vec<&str>, _> = args.iter().map(|arg| arg.as_str()).collect(alloc) else {
-        return ExitCode::from(Why::Memory.status());
+        return report(&rt, Why::Memory);
     };
-    let mut config = MemSource::new(Vec::new(alloc), Vec::new(alloc));
+    let mut config = FileSource::open(&rt, CONFIG_PATH);
     let mut input = StdinSource::new(rt.stdin());
     let mut output = StdoutSink::new(rt.stdout());
     let gates: Vec<MemGate> = Vec::new(alloc);
     let ended = funnel_main(
+        &rt,
         alloc,
         words.as_slice(),
         &mut config,
@@ -49,7 +42,25 @@ fn main(rt: HostRuntime) -> ExitCode {
         &mut output,
         gates,
     );
-    ExitCode::from(ended.status())
+    report(&rt, ended.why)
+}
+
+/// The words after the program's name. One that is not UTF-8 is in no command.
+fn args(rt: &HostRuntime) -> Result<Vec<String>, Why> {
+    match env::args(rt) {
+        Ok(args) => args.skip(1).collect(rt.alloc()).map_err(|_| Why::Memory),
+        Err(error) if error.kind() == ErrorKind::OutOfMemory => Err(Why::Memory),
+        Err(_) => Err(Why::Usage),
+    }
+}
+
+/// Says on standard error why the program did not do all that it was to do, and gives its status.
+fn report(rt: &HostRuntime, why: Why) -> ExitCode {
+    if why.status() != 0 {
+        // Where nothing can be written there either, the status tells it alone.
+        let _ = eprintln!(rt; "funnel: {why}");
+    }
+    ExitCode::from(why.status())
 }
 
 #[cfg(test)]

@@ -1,61 +1,88 @@
-ghost use Rattle.funnel_model.specs.declared.config.TheConstants.{MOST_SLICES};
-ghost use Rattle.std.specs.Prelude.{◌≡◌, ◌≤◌, ◌^◌, IfNone};
-ghost use Rattle.funnel.specs.Kept.{program_limits};
-ghost use Rattle.funnel.specs.Running.{RanOrNot};
+//! One session over a new engine.
+ghost use Rattle.std.specs.Prelude.{◌≡◌, ◌≤◌, [], map, IfNone};
+ghost use Rattle.std.specs.List.{range_with_len};
+ghost use Rattle.funnel_model.specs.Configuration.{IsValid};
+ghost use Rattle.slice_rule.specs.Seats.{new_pass_state};
+ghost use Rattle.funnel.specs.Runs.{RanOrNot, first_caller, limits_by};
+ghost use Rattle.funnel.specs.Serving.{FirstDid};
+ghost use Rattle.funnel.specs.declared.running.TheConstants.{MOST_BYTES};
+ghost use Rattle.session.specs.Ends.{Serves};
 
-use crate::closed::Closed;
 use crate::ended::Why;
-use crate::serving::Server;
-use funnel_io::{Sink, Source};
+use engine::{Blank, Client, Closed, Engine, Pass, PoolName};
+use funnel_io::{End, Pair, Sink, Source};
+use funnel_model::Config;
+use session::serve_session;
 use std::alloc::Global;
+use std::sync::Wait;
 
 /// A session takes at most so many bytes.
 pub const MOST_BYTES: u64 = 1 << 40;
 
-/// Answers the lines of an input over a new index of so many slices, and gives back what is left of it. There is nothing
-/// of it where memory was wanting before the session began; then nothing was read or written.
-pub fn run_with<S: Source, K: Sink>(
+/// Opens an engine over the blank, answers the lines of the input by its first pass, and closes it. Nothing of it is left
+/// where there was no memory to open it; then nothing was read or written.
+pub(crate) fn run<N: PoolName, R: Wait, S: Source, K: Sink>(
+    rt: &R,
     alloc: Global,
-    slices: u32,
+    config: &Config,
+    blank: Blank,
     input: &mut S,
     output: &mut K,
 ) -> (Why, Option<Closed>)
-    requires some { 1 ≤ slices }
-    requires few { slices ≤ MOST_SLICES }
-    ensures ran { RanOrNot (program_limits slices) MOST_BYTES
-        record { left = (S.incoming input.old).left; taken = (S.incoming input.old).taken; written = (K.outgoing output.old).written; reads = (S.incoming input.old).faults; writes = (K.outgoing output.old).faults }
-        record { left = (S.incoming input.new).left; taken = (S.incoming input.new).taken; written = (K.outgoing output.new).written; reads = (S.incoming input.new).faults; writes = (K.outgoing output.new).faults }
-        result.0 result.1 }
+    requires valid { IsValid config.now }
+    requires made_with { blank.config ≡ config.now }
+    requires limits { blank.limits ≡ limits_by config.now }
+    requires named { blank ≡ N.pool }
+    ensures ran { RanOrNot config.now (S.incoming input.old) (S.incoming input.new) (K.outgoing output.old) (K.outgoing output.new) result.0 result.1 }
     ensures input_untouched { IfNone result.1 (input.new ≡ input.old) }
     ensures output_untouched { IfNone result.1 (output.new ≡ output.old) }
     ensures source_borrowed { S.borrowed input.new ≡ S.borrowed input.old }
     ensures sink_borrowed { K.borrowed output.new ≡ K.borrowed output.old }
 {
-    run_up_to(alloc, slices, input, output, MOST_BYTES)
-}
-
-/// As [`run_with`], with another limit of the bytes taken.
-pub(crate) fn run_up_to<S: Source, K: Sink>(
-    alloc: Global,
-    slices: u32,
-    input: &mut S,
-    output: &mut K,
-    limit: u64,
-) -> (Why, Option<Closed>)
-    requires some { 1 ≤ slices }
-    requires few { slices ≤ MOST_SLICES }
-    ensures ran { RanOrNot (program_limits slices) limit
-        record { left = (S.incoming input.old).left; taken = (S.incoming input.old).taken; written = (K.outgoing output.old).written; reads = (S.incoming input.old).faults; writes = (K.outgoing output.old).faults }
-        record { left = (S.incoming input.new).left; taken = (S.incoming input.new).taken; written = (K.outgoing output.new).written; reads = (S.incoming input.new).faults; writes = (K.outgoing output.new).faults }
-        result.0 result.1 }
-    ensures input_untouched { IfNone result.1 (input.new ≡ input.old) }
-    ensures output_untouched { IfNone result.1 (output.new ≡ output.old) }
-    ensures source_borrowed { S.borrowed input.new ≡ S.borrowed input.old }
-    ensures sink_borrowed { K.borrowed output.new ≡ K.borrowed output.old }
-{
-    let Ok(mut server) = Server::new(alloc, slices) else {
+    let Ok((engine, passes)) = Engine::<N>::open(alloc, config, blank) else {
         return (Why::Memory, None);
     };
-    let end = server.serve(alloc, input, output, limit);
-    (Why::from(end), Some(server.close()))
+    let (end, passes) = serve(rt, alloc, &engine, passes, input, output);
+    (Why::from(end), Some(engine.close(passes)))
+}
+
+/// Answers the lines of the input by the first of the engine's passes, which are new, and hands them all back.
+fn serve<N: PoolName, R: Wait, S: Source, K: Sink>(
+    rt: &R,
+    alloc: Global,
+    engine: &Engine<N>,
+    passes: Vec<Pass>,
+    input: &mut S,
+    output: &mut K,
+) -> (End, Vec<Pass>)
+    requires named { engine.now ≡ N.pool }
+    requires some { 1 ≤ engine.now.limits.passes }
+    requires passes { engine.now.limits.passes ≡ engine.now.config.passes }
+    requires new { passes.items ≡ map (new_pass_state engine.now) (range_with_len 0 engine.now.config.passes) }
+    ensures served { FirstDid engine.now result.1.items (λ front. Serves (first_caller engine.now.limits) MOST_BYTES
+        record { front = []; incoming = S.incoming input.old; outgoing = K.outgoing output.old }
+        record { front = front; incoming = S.incoming input.new; outgoing = K.outgoing output.new }
+        result.0) }
+    ensures source_borrowed { S.borrowed input.new ≡ S.borrowed input.old }
+    ensures sink_borrowed { K.borrowed output.new ≡ K.borrowed output.old }
+{
+    let mut passes = passes;
+    let pass = passes.remove(0);
+    let mut client = Client {
+        engine,
+        pass,
+        rt,
+        alloc,
+    };
+    let mut conn = Pair {
+        source: input,
+        sink: output,
+    };
+    let end = serve_session(alloc, &mut client, &mut conn, MOST_BYTES);
+    let Client { pass, .. } = client;
+    // The room of the pass that was taken out is still there.
+    if passes.push(pass).is_err() {
+        unreachable!()
+    }
+    (end, passes)
 }

@@ -1,0 +1,179 @@
+//! A pass of an engine as what answers a client's lines.
+ghost use Rattle.std.specs.Prelude.{◌≡◌};
+ghost use Rattle.funnel_model.specs.declared.call.Call.TheVariants as call;
+ghost use Rattle.commit_desk.specs.Passes.{IsResting};
+ghost use Rattle.engine.specs.Clients.{caller_of};
+ghost use Rattle.engine.specs.Replies.{reply_of_add, reply_of_delete, reply_of_find, reply_of_journal, reply_of_place};
+ghost use Rattle.line_proto.specs.Services.{AnswersCall};
+ghost use Rattle.slice_recycler.specs.Recycles.{reply_of_recycle};
+
+use crate::engine::Engine;
+use crate::finding::FindFault;
+use commit_desk::{AddFault, DeleteFault, JournalFault, Spent};
+use funnel_model::{Commits, Ids, Reply};
+use line_proto::{Request, Service};
+use slice_recycler::Recycled;
+use slice_rule::{PassSeat, PoolName};
+use std::alloc::Global;
+use std::marker::Model;
+use std::sync::Wait;
+
+/// A pass of an engine that answers requests, one after another. It is a `Service`, whose calls wait for the engine's lock
+/// as the engine's own do. Contracts see the pass, which is one of the engine and is not in the middle of a call.
+#[derive(Drop)]
+pub struct Client<'a, N: PoolName, R: Wait> {
+    pub engine: &'a Engine<N>,
+    pub pass: PassSeat,
+    pub rt: &'a R,
+    pub alloc: Global,
+}
+
+impl<'a, N: PoolName, R: Wait> Model for Client<'a, N, R> {
+    ghost use Rattle.commit_desk.specs.Passes.{IsResting};
+    ghost use Rattle.slice_rule.specs.Seats.{PassState};
+
+    ghost Value = { PassState };
+
+    ghost view = { λ c. c.pass };
+
+    ghost invariant = { λ c. IsResting N.pool c.pass };
+}
+
+impl<'a, N: PoolName, R: Wait> Service for Client<'a, N, R> {
+    ghost use Rattle.engine.specs.Clients.{caller_of};
+
+    ghost caller = { λ pass. caller_of pass };
+
+    ghost front = { λ pass. pass.front };
+
+    fn call(&mut self, request: &Request<'_>) -> Reply {
+        match request {
+            Request::Add { id, text } => self.add(*id, text),
+            Request::Delete { id } => self.delete(*id),
+            Request::Find { query } => self.find(query),
+            Request::Place => self.place(),
+            Request::Journal { from } => self.journal(*from),
+            Request::Recycle => self.recycle(),
+        }
+    }
+}
+
+impl<'a, N: PoolName, R: Wait> Client<'a, N, R> {
+    fn add(&mut self, id: u64, text: &str) -> Reply
+        ensures caller { caller_of self.new ≡ caller_of self.old }
+        ensures answers { AnswersCall (caller_of self.old) self.old.front self.new.front (call.Add id text.now) result }
+    {
+        let engine = self.engine;
+        let _ = &engine.pool;
+        reply_to_add(engine.add(self.rt, self.alloc, &mut self.pass, id, text))
+    }
+
+    fn delete(&mut self, id: u64) -> Reply
+        ensures caller { caller_of self.new ≡ caller_of self.old }
+        ensures answers { AnswersCall (caller_of self.old) self.old.front self.new.front (call.Delete id) result }
+    {
+        let engine = self.engine;
+        let _ = &engine.pool;
+        reply_to_delete(engine.delete(self.rt, &mut self.pass, id))
+    }
+
+    fn find(&mut self, query: &str) -> Reply
+        ensures caller { caller_of self.new ≡ caller_of self.old }
+        ensures answers { AnswersCall (caller_of self.old) self.old.front self.new.front (call.Find query.now) result }
+    {
+        let engine = self.engine;
+        let _ = &engine.pool;
+        reply_to_find(engine.find(self.rt, self.alloc, &mut self.pass, query))
+    }
+
+    fn place(&mut self) -> Reply
+        ensures caller { caller_of self.new ≡ caller_of self.old }
+        ensures answers { AnswersCall (caller_of self.old) self.old.front self.new.front call.Place result }
+    {
+        let engine = self.engine;
+        let _ = &engine.pool;
+        reply_to_place(engine.place(self.rt, &mut self.pass))
+    }
+
+    fn journal(&mut self, from: u64) -> Reply
+        ensures caller { caller_of self.new ≡ caller_of self.old }
+        ensures answers { AnswersCall (caller_of self.old) self.old.front self.new.front (call.Journal from) result }
+    {
+        let engine = self.engine;
+        let _ = &engine.pool;
+        reply_to_journal(engine.journal(self.rt, self.alloc, &mut self.pass, from))
+    }
+
+    fn recycle(&mut self) -> Reply
+        ensures caller { caller_of self.new ≡ caller_of self.old }
+        ensures answers { AnswersCall (caller_of self.old) self.old.front self.new.front call.Recycle result }
+    {
+        let engine = self.engine;
+        let _ = &engine.pool;
+        reply_to_recycle(engine.recycle(self.rt, &mut self.pass))
+    }
+}
+
+fn reply_to_add(answer: Result<u64, AddFault>) -> Reply
+    ensures { result ≡ reply_of_add answer }
+{
+    match answer {
+        Ok(place) => Reply::Added(place),
+        Err(AddFault::Present(place)) => Reply::Present(place),
+        Err(AddFault::JournalFull(_)) => Reply::JournalFull,
+        Err(AddFault::Full(_)) => Reply::Full,
+        Err(AddFault::Spent(_)) => Reply::Spent,
+        Err(AddFault::Memory) => Reply::Memory,
+    }
+}
+
+fn reply_to_delete(answer: Result<u64, DeleteFault>) -> Reply
+    ensures { result ≡ reply_of_delete answer }
+{
+    match answer {
+        Ok(place) => Reply::Deleted(place),
+        Err(DeleteFault::Absent) => Reply::Absent,
+        Err(DeleteFault::JournalFull(_)) => Reply::JournalFull,
+        Err(DeleteFault::Spent(_)) => Reply::Spent,
+    }
+}
+
+fn reply_to_find(answer: Result<Ids, FindFault>) -> Reply
+    ensures { result ≡ reply_of_find answer }
+{
+    match answer {
+        Ok(ids) => Reply::Found(ids),
+        Err(FindFault::Spent(_)) => Reply::Spent,
+        Err(FindFault::Memory) => Reply::Memory,
+    }
+}
+
+fn reply_to_place(answer: Result<u64, Spent>) -> Reply
+    ensures { result ≡ reply_of_place answer }
+{
+    match answer {
+        Ok(place) => Reply::Place(place),
+        Err(_) => Reply::Spent,
+    }
+}
+
+fn reply_to_journal(answer: Result<Commits, JournalFault>) -> Reply
+    ensures { result ≡ reply_of_journal answer }
+{
+    match answer {
+        Ok(commits) => Reply::Commits(commits),
+        Err(JournalFault::Spent(_)) => Reply::Spent,
+        Err(JournalFault::Memory) => Reply::Memory,
+    }
+}
+
+fn reply_to_recycle(answer: Recycled) -> Reply
+    ensures { result ≡ reply_of_recycle answer }
+{
+    match answer {
+        Recycled::Done(slice) => Reply::Recycled(slice),
+        Recycled::NoneRetired => Reply::NothingRetired,
+        Recycled::Guarded { slice, pass, .. } => Reply::Guarded { slice, pass },
+        Recycled::Spent(_) => Reply::Spent,
+    }
+}

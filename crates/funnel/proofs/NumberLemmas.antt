@@ -1,0 +1,94 @@
+-- Numbers as words write them, and as they are read.
+use Rattle.std.proofs.Common.{◌≤◌, ◌≡◌, ◌∙◌, ◌<◌, ◌^◌, ◌==◌, ℕ, Bool, codes, cond, true, false, refl, sym, ap, subst, arith, List, [], ◌∷◌, drop, Option, Some, None, Result, Ok, Err}
+use Rattle.std.specs.Prelude.{pos, unwrap_or}
+use Rattle.std.specs.Option.{IsSomeAnd}
+use Rattle.std.specs.Str.Parse.{IsNumeral, ParsesUnsigned, digits_value, starts_with_minus, without_leading_plus}
+use Rattle.std.proofs.lemmas.Bool.{ne_eqb}
+use Rattle.std.proofs.lemmas.Int.{ints}
+use Rattle.std.proofs.lemmas.Str.Parse.{digit_from_value}
+use Rattle.clap.specs.Lexer.{without_minus}
+use Rattle.clap.specs.Matches.{ReadsOne, one_text}
+use Rattle.clap.specs.Values.{IsSignedIn, read_as}
+use Rattle.clap.specs.Walk.{Row, Rule, Text, one_of, reading_by, rows_of}
+use Rattle.clap.specs.declared.parser.matches.Found.{Found}
+use Rattle.clap.proofs.WalkLemmas.{one_text-rows}
+use Rattle.funnel.specs.Commands.{HasNumber, HasNumbers, IsInRange, load_of, number_of}
+use Rattle.funnel.specs.declared.command.LoadCommand.{LoadCommand}
+use Rattle.funnel.proofs.FoundValues.{HasValue}
+
+without_minus-cond : (t : List ℕ) → without_minus t ≡ cond (starts_with_minus t) (drop 1 t) t
+without_minus-cond [] = refl
+without_minus-cond (x ∷ xs) = go (x == 45)
+  where
+    go : (b : Bool) → unwrap_or (cond b (Some xs) None) (x ∷ xs) ≡ cond b xs (x ∷ xs)
+    go true = refl
+    go false = refl
+
+no_plus : (ds : List ℕ) → IsNumeral 10 ds → without_leading_plus ds ≡ ds
+no_plus [] h = refl
+no_plus (d ∷ ds) h =
+    let plus : (d == 43) ≡ false = ne_eqb _ _ (λ e. omega (arith, digit_from_value d h.1.0)) in
+    ap (λ (b : Bool). drop (cond b 1 0) (d ∷ ds)) plus
+
+abbrev IsNumber : ℕ → ℕ → Text → Type 0
+IsNumber low high text = IsNumeral 10 (without_leading_plus text) × (low ≤ digits_value 10 (without_leading_plus text)) × (digits_value 10 (without_leading_plus text) ≤ high)
+
+-- a text that passed a range of numbers is one, once a minus before zero is dropped
+pub signed_number : (low high : ℕ) (t : Text) → IsSignedIn (pos low) (pos high) t → IsNumber low high (without_minus t)
+signed_number low high t passed = subst (IsNumber low high) (sym (without_minus-cond t)) (go (starts_with_minus t) refl)
+  where
+    go : (b : Bool) → starts_with_minus t ≡ b → IsNumber low high (cond b (drop 1 t) t)
+    go true minus =
+        let low_ok = rw minus at passed.2 in
+        let high_ok = rw minus at passed.3 in
+        let numeral : IsNumeral 10 (drop 1 t) = rw minus at passed.0 in
+        let same = no_plus (drop 1 t) numeral in
+        let least : low ≤ digits_value 10 (drop 1 t) = omega (arith, ints) in
+        let most : digits_value 10 (drop 1 t) ≤ high = omega (arith, ints) in
+        (rw same numeral, rw same least, rw same most)
+    go false minus =
+        let low_ok = rw minus at passed.2 in
+        let high_ok = rw minus at passed.3 in
+        let numeral = rw minus at passed.0 in
+        (numeral, omega (arith, ints), omega (arith, ints))
+
+-- an option has the number that its value is
+pub number_in : (low high : ℕ) (a : Rule) (id : Text) (rows : List Row) → (value : HasValue a id rows) → IsNumber low high (read_as (reading_by a) value.value) → HasNumber low high id rows
+number_in low high a id rows value is = subst (λ (o : Option Text). IsSomeAnd o (IsNumber low high)) (sym value.reads) is
+
+number_read : {E : Type 0} (G : List ℕ → Result ℕ E → Type 0) (bits low high : ℕ) (text : Text) (r : Option ℕ) → high < 2 ^ bits → ReadsOne G text r
+    → ((u : List ℕ) (x : Result ℕ E) → G u x → ParsesUnsigned bits 10 u x) → IsNumber low high text → r ≡ Some (digits_value 10 (without_leading_plus text))
+number_read G bits low high text (Some n) fits read only is = ap (λ (x : ℕ). Some x) (only text (Ok n) read).1
+number_read G bits low high text None fits read only is =
+    let small : digits_value 10 (without_leading_plus text) < 2 ^ bits = omega (arith, is.2, fits) in
+    absurd (only text (Err read.0) read.1 (is.0, small))
+
+-- what `get_one` reads of an option that has a number
+pub option_read : {E : Type 0} (G : List ℕ → Result ℕ E → Type 0) (bits low high : ℕ) (id : Text) (found : Found) (r : Option ℕ) → high < 2 ^ bits → HasNumber low high id (rows_of found)
+    → ((t : List ℕ) → one_text found id ≡ Some t → ReadsOne G t r) → ((u : List ℕ) (x : Result ℕ E) → G u x → ParsesUnsigned bits 10 u x) → r ≡ Some (number_of id (rows_of found))
+option_read G bits low high id found r fits has reads only = go (one_of id (rows_of found)) refl has
+  where
+    go : (o : Option Text) → one_of id (rows_of found) ≡ o → IsSomeAnd o (IsNumber low high) → r ≡ Some (number_of id (rows_of found))
+    go None is h = absurd h
+    go (Some t) is h =
+        number_read G bits low high t r fits (reads t (one_text-rows found id ∙ is)) only h
+        ∙ ap (λ (o : Option Text). Some (digits_value 10 (without_leading_plus (unwrap_or o [])))) (sym is)
+
+-- the number that an option has lies in its range
+number_in_range : (low high : ℕ) (id : Text) (rows : List Row) → HasNumber low high id rows → (low ≤ number_of id rows) × (number_of id rows ≤ high)
+number_in_range low high id rows has = go (one_of id rows) has
+  where
+    go : (o : Option Text) → IsSomeAnd o (IsNumber low high)
+        → (low ≤ digits_value 10 (without_leading_plus (unwrap_or o []))) × (digits_value 10 (without_leading_plus (unwrap_or o [])) ≤ high)
+    go None h = absurd h
+    go (Some t) h = (h.1, h.2)
+
+pub load_in_range : (found : List Row) → HasNumbers found → IsInRange (load_of found)
+load_in_range found has =
+    let docs = number_in_range 1 4194304 (codes "docs") found has.docs in
+    (docs.0, docs.1, (number_in_range 0 1000 (codes "words") found has.words).1)
+
+-- a load with the numbers of its options is the one that was found
+pub load_is : (found : List Row) (docs words seed : ℕ) → docs ≡ number_of (codes "docs") found → words ≡ number_of (codes "words") found → seed ≡ number_of (codes "seed") found
+    → ◌≡◌ {A = LoadCommand} (record { docs = docs; words = words; seed = seed }) (load_of found)
+load_is found docs words seed d w s = λ i. record { docs = d i; words = w i; seed = s i }

@@ -1,0 +1,28 @@
+use Rattle.std.proofs.Common.{rules, ◌≡◌, ◌∙◌, ap, ap₂, codes, true, false, [], ◌∷◌, ◌||◌}
+use Rattle.std.proofs.lemmas.Result.{IfOk-weaker}
+use Rattle.clap.specs.Words.{Rule, rule_of, with_rule}
+use Rattle.funnel.specs.Commands.{docs_option, number_option, numbers_between, seed_option, words_option}
+use Rattle.funnel.proofs.command.load_app.Goals as goal
+
+pub returns-clause-app : goal.returns-clause-app
+returns-clause-app c =
+    let docs_numbers : c.range.result ≡ numbers_between 1 4194304 = rw (c.value_parser.ensures, c.new.ensures.start, c.new.ensures.end) at c.range.ensures in
+    let words_numbers : c.range-2.result ≡ numbers_between 0 1000 = rw (c.value_parser-2.ensures, c.new-2.ensures.start, c.new-2.ensures.end) at c.range-2.ensures in
+    let docs_is : rule_of c.required.result ≡ docs_option = ap rule_of c.required.ensures
+    ∙ ap (λ (r : Rule). record r { required = true }) (c.number_option-docs.ensures.rule ∙ ap (number_option (codes "docs")) docs_numbers) in
+    let words_is : rule_of c.default_value.result ≡ words_option = ap rule_of c.default_value.ensures
+    ∙ ap (λ (r : Rule). record r { defaults = codes "80" ∷ [] }) (c.number_option-words.ensures.rule ∙ ap (number_option (codes "words")) words_numbers) in
+    let seed_is : rule_of c.default_value-2.result ≡ seed_option = ap rule_of c.default_value-2.ensures
+    ∙ ap (λ (r : Rule). record r { defaults = codes "0" ∷ [] }) (c.number_option-seed.ensures.rule ∙ ap (number_option (codes "seed")) c.value_parser-3.ensures) in
+    let first = c.in_ok-arg.ensures.shape (search rules) ∙ ap₂ with_rule c.new-3.ensures.app docs_is in
+    let second = c.in_ok-arg-2.ensures.shape (search rules) ∙ ap₂ with_rule first words_is in
+    IfOk-weaker c.arg-3.result _ _ (λ app adds. adds.shape (search rules) ∙ ap₂ with_rule second seed_is) c.arg-3.ensures
+
+pub returns-clause-local : goal.returns-clause-local
+returns-clause-local c =
+    let docs : c.required.result.global ≡ false = search rules in
+    let words : c.default_value.result.global ≡ false = search rules in
+    let seed : c.default_value-2.result.global ≡ false = search rules in
+    let first = c.in_ok-arg.ensures.globals ∙ ap₂ ◌||◌ c.new-3.ensures.local docs in
+    let second = c.in_ok-arg-2.ensures.globals ∙ ap₂ ◌||◌ first words in
+    IfOk-weaker c.arg-3.result _ _ (λ app adds. adds.globals ∙ ap₂ ◌||◌ second seed) c.arg-3.ensures

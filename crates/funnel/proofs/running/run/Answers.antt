@@ -1,0 +1,13 @@
+use Rattle.std.proofs.Common.{◌≡◌, ◌≤◌, rules}
+use Rattle.funnel.proofs.Alone.{have_run}
+use Rattle.funnel.specs.Runs.{limits_by}
+use Rattle.funnel.proofs.running.run.Goals as goal
+
+pub returns-clause-ran : goal.returns-clause-ran
+returns-clause-ran g c =
+    let pool = c.in-Ok.engine in
+    let limits_are : pool.limits ≡ limits_by c.args.config.now = search rules in
+    let config_is : pool.config ≡ c.args.config.now = search rules in
+    let some : 1 ≤ pool.limits.passes = search rules in
+    have_run pool c.args.config.now c.serve-end.result.1.items _ _ _ _ c.serve-end.result.0 c.from.result c.close.result
+    limits_are config_is some c.serve-end.ensures.served c.from.ensures c.close.ensures.legal c.close.ensures.sound c.close.ensures.passes

@@ -1,0 +1,33 @@
+-- How a program of funnel ends.
+use Rattle.std.specs.Prelude.{ℕ}
+use Rattle.funnel_io.specs.declared.end.End.{End}
+use Rattle.funnel_io.specs.declared.end.End.TheVariants as end_of
+use Rattle.funnel_stats.specs.declared.fault.ConfigFault.{ConfigFault}
+use Rattle.funnel_stats.specs.declared.fault.ConfigFault.TheVariants as config
+use Rattle.funnel.specs.declared.ended.Why.{Why}
+use Rattle.funnel.specs.declared.ended.Why.TheVariants as why_of
+
+-- the exit status
+abbrev pub status_of : Why → ℕ
+status_of why_of.Done = 0
+status_of why_of.Usage = 1
+status_of (why_of.Config fault) = 2
+status_of why_of.ReadFault = 3
+status_of why_of.WriteFault = 4
+status_of why_of.Memory = 5
+status_of (why_of.ByteLimit count) = 7
+status_of (why_of.Misfit misfit) = 8
+
+-- how it ends where its session ends so
+abbrev pub why_of_end : End → Why
+why_of_end end_of.Done = why_of.Done
+why_of_end end_of.ReadFault = why_of.ReadFault
+why_of_end end_of.WriteFault = why_of.WriteFault
+why_of_end (end_of.ByteLimit count) = why_of.ByteLimit count
+why_of_end end_of.Memory = why_of.Memory
+
+-- how it ends where its configuration is refused so
+abbrev pub why_of_config : ConfigFault → Why
+why_of_config config.ReadFault = why_of.ReadFault
+why_of_config config.Memory = why_of.Memory
+why_of_config fault = why_of.Config fault

@@ -1,0 +1,96 @@
+-- What a program of funnel does, from its words to its end.
+use Rattle.std.specs.Prelude.{◌≡◌, ◌≢◌, ◌⊎◌, ⊤, ℕ, List, Option, Some, None, IsSome, Ok, Err}
+use Rattle.engine.specs.Engines.{ClosedState}
+use Rattle.funnel_io.specs.Counts.{Rose, counted}
+use Rattle.funnel_io.specs.Streams.{Incoming, Outgoing}
+use Rattle.funnel_model.specs.declared.config.Config.{Config}
+use Rattle.funnel_stats.specs.declared.fault.ConfigFault.{ConfigFault}
+use Rattle.funnel_stats.specs.Reading.{IsConfigRead, is_failed_read}
+use Rattle.funnel.specs.Commands.{command_of}
+use Rattle.funnel.specs.Ends.{why_of_config}
+use Rattle.funnel.specs.LoadRuns.{EndsLoad}
+use Rattle.funnel.specs.Misfits.{misfit_of}
+use Rattle.funnel.specs.Runs.{RanOrNot}
+use Rattle.funnel.specs.declared.command.Command.{Command}
+use Rattle.funnel.specs.declared.command.Command.TheVariants as command
+use Rattle.funnel.specs.declared.command.LoadCommand.{LoadCommand}
+use Rattle.funnel.specs.declared.ended.Misfit.{Misfit}
+use Rattle.funnel.specs.declared.running.TheConstants.{MOST_BYTES}
+use Rattle.funnel.specs.declared.ended.Why.{Why}
+use Rattle.funnel.specs.declared.ended.Why.TheVariants as why_of
+
+-- what a program reads and writes: its configuration, its input and its output
+pub record Streams : Type 0 where
+  pub config : Incoming
+  pub input : Incoming
+  pub output : Outgoing
+
+-- the words are no command, or there was no memory to read them
+pub record EndsAtWords (words : List (List ℕ)) (why : Why) (closed : Option ClosedState) : Type 0 where
+  pub cause : ((why ≡ why_of.Usage) × (command_of words ≡ None)) ⊎ (why ≡ why_of.Memory)
+  pub none : closed ≡ None
+
+-- the words are a command, and the configuration is refused
+pub record EndsAtConfig (words : List (List ℕ)) (before after : Streams) (why : Why) (closed : Option ClosedState) : Type 0 where
+  pub command : IsSome (command_of words)
+  pub fault : ConfigFault
+  pub read : IsConfigRead (Err fault) before.config after.config
+  pub faults : after.config.faults ≡ counted (is_failed_read fault) before.config.faults
+  pub cause : why ≡ why_of_config fault
+  pub none : closed ≡ None
+
+-- the words are a command, and the configuration is read
+pub record IsConfigured (words : List (List ℕ)) (before after : Streams) (command : Command) (config : Config) : Type 0 where
+  pub words_are : command_of words ≡ Some command
+  pub read : IsConfigRead (Ok config) before.config after.config
+  pub faults : after.config.faults ≡ before.config.faults
+
+-- the command's numbers don't fit the configuration
+pub record EndsAtMisfit (words : List (List ℕ)) (before after : Streams) (why : Why) (closed : Option ClosedState) : Type 0 where
+  pub command : Command
+  pub config : Config
+  pub configured : IsConfigured words before after command config
+  pub misfit : Misfit
+  pub misfits : misfit_of command config ≡ Some misfit
+  pub cause : why ≡ why_of.Misfit misfit
+  pub none : closed ≡ None
+
+-- the lines of the input are answered by an engine with the configuration
+pub record EndsAfterRun (words : List (List ℕ)) (before after : Streams) (why : Why) (closed : Option ClosedState) : Type 0 where
+  pub config : Config
+  pub configured : IsConfigured words before after command.Run config
+  pub ran : RanOrNot config before.input after.input before.output after.output why closed
+
+-- the load that the words ask for fits, and is put to an engine with the configuration
+pub record EndsAfterLoad (words : List (List ℕ)) (before after : Streams) (why : Why) (closed : Option ClosedState) : Type 0 where
+  pub load : LoadCommand
+  pub config : Config
+  pub configured : IsConfigured words before after (command.Load load) config
+  pub fits : misfit_of (command.Load load) config ≡ None
+  pub input : after.input ≡ before.input
+  pub ends : EndsLoad config load before.output after.output why closed
+
+-- a program ends at its words, or at its configuration, or at numbers that don't fit, or after its run or its load
+abbrev pub Ends : List (List ℕ) → Streams → Streams → Why → Option ClosedState → Type 0
+Ends words before after why closed =
+    EndsAtWords words why closed ⊎ EndsAtConfig words before after why closed ⊎ EndsAtMisfit words before after why closed
+    ⊎ EndsAfterRun words before after why closed ⊎ EndsAfterLoad words before after why closed
+
+-- no read and no write failed
+pub record NoFault (before after : Streams) : Type 0 where
+  pub config : Rose before.config.faults after.config.faults → ⊥
+  pub input : Rose before.input.faults after.input.faults → ⊥
+  pub output : Rose before.output.faults after.output.faults → ⊥
+
+-- the words are a command, and neither the configuration nor the command's numbers are refused
+pub record IsAccepted (words : List (List ℕ)) (why : Why) : Type 0 where
+  pub command : IsSome (command_of words)
+  pub config : (fault : ConfigFault) → why ≢ why_of.Config fault
+  pub fits : (misfit : Misfit) → why ≢ why_of.Misfit misfit
+
+-- the program did all, or memory ran out, or as many bytes were read as may be
+abbrev pub EndsWell : Why → Type 0
+EndsWell why_of.Done = ⊤
+EndsWell why_of.Memory = ⊤
+EndsWell (why_of.ByteLimit count) = count ≡ MOST_BYTES
+EndsWell _ = ⊥

@@ -1,0 +1,41 @@
+-- A run: one session over a new engine, by its first pass.
+use Rattle.std.specs.Prelude.{◌≡◌, [], Option, MatchOption, All}
+use Rattle.engine.specs.Engines.{ClosedState}
+use Rattle.funnel_io.specs.Streams.{Incoming, Outgoing}
+use Rattle.funnel_io.specs.declared.end.End.{End}
+use Rattle.funnel_model.specs.declared.config.Config.{Config}
+use Rattle.funnel_model.specs.Events.{pass_of}
+use Rattle.funnel_model.specs.Legal.{IsLegal, Limits}
+use Rattle.funnel_model.specs.Sizes.{words_of_slice}
+use Rattle.line_proto.specs.Services.{Caller}
+use Rattle.row_layout.specs.Sound.{IsSound}
+use Rattle.session.specs.Ends.{Serves}
+use Rattle.slice_rule.specs.Pools.{limits_of}
+use Rattle.funnel.specs.Ends.{why_of_end}
+use Rattle.funnel.specs.declared.ended.Why.{Why}
+use Rattle.funnel.specs.declared.ended.Why.TheVariants as why_of
+use Rattle.funnel.specs.declared.running.TheConstants.{MOST_BYTES}
+
+-- the limits of an engine with this configuration
+abbrev pub limits_by : Config → Limits
+limits_by config = limits_of config (words_of_slice config)
+
+-- the engine's first pass, which the session is on
+abbrev pub first_caller : Limits → Caller
+first_caller limits = record { limits = limits; pass = 0 }
+
+-- what a session of the first pass takes and writes, over a history that is all its own: it begins with none, and this is what it leaves
+pub record Ran (config : Config) (incoming later_incoming : Incoming) (outgoing later_outgoing : Outgoing) (why : Why) (closed : ClosedState) : Type 0 where
+  pub end : End
+  pub answered : why ≡ why_of_end end
+  pub serves : Serves (first_caller (limits_by config)) MOST_BYTES
+      (record { front = []; incoming = incoming; outgoing = outgoing })
+      (record { front = closed.history; incoming = later_incoming; outgoing = later_outgoing }) end
+  pub legal : IsLegal (limits_by config) closed.history
+  pub sound : IsSound config closed.history
+  pub alone : All (λ e. pass_of e ≡ 0) closed.history
+
+-- the run left its history, or there was no memory to open its engine
+abbrev pub RanOrNot : Config → Incoming → Incoming → Outgoing → Outgoing → Why → Option ClosedState → Type 0
+RanOrNot config incoming later_incoming outgoing later_outgoing why closed =
+    MatchOption closed (why ≡ why_of.Memory) (λ left. Ran config incoming later_incoming outgoing later_outgoing why left)

@@ -1,0 +1,39 @@
+-- What each worker of a load asks, in three parts.
+use Rattle.std.specs.Prelude.{ℕ, ◌+◌, ◌%◌, ◌==◌, Bool, List, [], ◌∷◌, ◌++◌, map, filter, flat_map, if◌then◌else◌}
+use Rattle.std.specs.List.{enumerate_from}
+use Rattle.funnel_model.specs.declared.call.Call.{Call}
+use Rattle.funnel_model.specs.declared.call.Call.TheVariants as call
+use Rattle.load_gen.specs.declared.limits.TheConstants.{CHECKED_ONE_IN, DELETED_ONE_IN}
+use Rattle.load_gen.specs.Documents.{name_of, documents}
+use Rattle.load_gen.specs.Queries.{queries}
+
+-- a worker's share of a list: what stands at the places, from 0 on, that leave the worker's number when they are divided by
+-- the number of workers. Each item with its place, in rising order
+abbrev pub share : {A : Type 0} → List A → ℕ → ℕ → List (ℕ × A)
+share items workers worker = filter (λ item. item.0 % workers == worker) (enumerate_from 0 items)
+
+-- the documents whose number is a multiple of 10 are deleted
+abbrev pub is_deleted : ℕ → Bool
+is_deleted id = id % DELETED_ONE_IN == 0
+
+-- a worker's n-th add, which is of this document, and after each 100th one a find of its name
+abbrev pub nth_add : ℕ × (ℕ × List ℕ) → List Call
+nth_add (n, (i, text)) = call.Add (i + 1) text ∷ (if n % CHECKED_ONE_IN == 0 then call.Find (name_of (i + 1)) ∷ [] else [])
+
+-- the first part: the worker adds its documents
+abbrev pub adds_of : List (List ℕ) → ℕ → ℕ → List Call
+adds_of texts workers worker = flat_map nth_add (enumerate_from 1 (share texts workers worker))
+
+-- the second part: it deletes those that are to be deleted
+abbrev pub deletes_of : List (List ℕ) → ℕ → ℕ → List Call
+deletes_of texts workers worker = map call.Delete (filter is_deleted (map (λ item. item.0 + 1) (share texts workers worker)))
+
+-- the third part: it runs its queries
+abbrev pub queries_of : ℕ → ℕ → List Call
+queries_of workers worker = map (λ item. call.Find item.1) (share queries workers worker)
+
+-- all that the worker asks, in order
+abbrev pub jobs : ℕ → ℕ → ℕ → ℕ → ℕ → List Call
+jobs docs words seed workers worker =
+    let texts = documents docs words seed in
+    adds_of texts workers worker ++ deletes_of texts workers worker ++ queries_of workers worker

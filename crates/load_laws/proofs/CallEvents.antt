@@ -1,0 +1,76 @@
+-- By which event a call is answered where there is no cause to refuse it.
+use Rattle.std.proofs.Common.{◌≡◌, ℕ, ◌+◌, ⊎_elim, Bool, true, false, cond, List, Some, None, sym, ap, ◌∙◌}
+use Rattle.std.proofs.lemmas.Bool.{both_ways}
+use Rattle.funnel_model.specs.declared.bit_list.Bit.{Bit}
+use Rattle.funnel_model.specs.declared.call.Call.{Call}
+use Rattle.funnel_model.specs.declared.call.Call.TheVariants as call
+use Rattle.funnel_model.specs.declared.event.Event.{Event}
+use Rattle.funnel_model.specs.declared.event.Event.TheVariants as event
+use Rattle.funnel_model.specs.declared.reply.Reply.{Reply}
+use Rattle.funnel_model.specs.declared.reply.Reply.TheVariants as reply
+use Rattle.funnel_model.specs.Events.{call_of, pass_of}
+use Rattle.funnel_model.specs.History.{answer, is_live, place}
+use Rattle.funnel_model.specs.Legal.{Limits, IsAllowed, IsFull, IsIdle, is_journal_full}
+use Rattle.funnel_model.specs.Steps.{IsReply}
+
+-- the call of a recycle is no other
+not_recycle : (alone : Bool) (asked : Call) → (call.Recycle ≡ asked → ⊥) → cond alone (Some call.Recycle) None ≡ Some asked → ⊥
+not_recycle true asked other is = other (let h : call.Recycle ≡ asked = cc in h)
+not_recycle false asked other is = cc
+
+-- a find is answered by its event
+pub find_event : (limits : Limits) (history : List Event) (e : Event) (query : List ℕ) (given : Reply) → call_of e ≡ Some (call.Find query) →
+    IsReply limits history e given → (pass : ℕ) × (e ≡ event.Find pass query) × (given ≡ reply.Found (answer history query))
+find_event limits history (event.Find pass asked) query given is replied = (pass, cc, replied ∙ ap (λ q. reply.Found (answer history q)) (let h : asked ≡ query = cc in h))
+find_event limits history (event.No pass (call.Find asked)) query given is replied = absurd replied
+find_event limits history (event.No pass _) query given is replied = cc
+find_event limits history (event.Read pass (call.Find asked)) query given is replied = absurd replied
+find_event limits history (event.Read pass _) query given is replied = cc
+find_event limits history (event.Opened pass slice alone) query given is replied =
+    absurd (not_recycle alone (call.Find query) (λ same. let h : call.Recycle ≡ call.Find query = same in cc) is)
+find_event limits history _ query given is replied = cc
+
+-- a delete of a live number is answered by its event, where the journal has room
+pub delete_event : (limits : Limits) (history : List Event) (e : Event) (id : ℕ) (given : Reply) → is_live id history ≡ true →
+    (is_journal_full limits history ≡ true → ⊥) → IsAllowed limits history e → call_of e ≡ Some (call.Delete id) →
+    IsReply limits history e given → (pass : ℕ) × (e ≡ event.Del pass id) × (given ≡ reply.Deleted (place history + 1))
+delete_event limits history (event.Del pass deleted) id given present room allowed is replied = (pass, cc, replied)
+delete_event limits history (event.No pass (call.Delete deleted)) id given present room allowed is replied =
+    let same : deleted ≡ id = cc in
+    ⊎_elim
+    (λ absent. absurd (both_ways (is_live id history) (ap (λ i. is_live i history) (sym same) ∙ absent) present))
+    (λ full. absurd (room full))
+    allowed.rule.refused
+delete_event limits history (event.No pass _) id given present room allowed is replied = cc
+delete_event limits history (event.Read pass (call.Delete deleted)) id given present room allowed is replied = absurd replied
+delete_event limits history (event.Read pass _) id given present room allowed is replied = cc
+delete_event limits history (event.Opened pass slice alone) id given present room allowed is replied =
+    absurd (not_recycle alone (call.Delete id) (λ same. let h : call.Recycle ≡ call.Delete id = same in cc) is)
+delete_event limits history _ id given present room allowed is replied = cc
+
+-- an add that isn't live is answered by its event, where the journal has room and the engine isn't full
+pub add_event : (limits : Limits) (history : List Event) (e : Event) (id : ℕ) (text : List ℕ) (given : Reply) → is_live id history ≡ false →
+    (is_journal_full limits history ≡ true → ⊥) → (IsIdle (pass_of e) history → IsFull limits history → ⊥) → IsAllowed limits history e →
+    call_of e ≡ Some (call.Add id text) → IsReply limits history e given →
+    (pass : ℕ) × (slice : ℕ) × (column : ℕ) × (bits : List Bit) × (e ≡ event.Add pass id text slice column bits)
+    × (given ≡ reply.Added (place history + 1))
+add_event limits history (event.Add pass added of slice column bits) id text given absent room no_room allowed is replied =
+    (pass, slice, column, bits, cc, replied)
+add_event limits history (event.Drop pass dropped of slice column) id text given absent room no_room allowed is replied =
+    let same : dropped ≡ id = cc in
+    ⊎_elim
+    (λ present. absurd (both_ways (is_live id history) absent (ap (λ i. is_live i history) (sym same) ∙ present)))
+    (λ full. absurd (room full))
+    allowed.rule.refused
+add_event limits history (event.No pass (call.Add refused of)) id text given absent room no_room allowed is replied =
+    let same : refused ≡ id = cc in
+    ⊎_elim
+    (λ present. absurd (both_ways (is_live id history) absent (ap (λ i. is_live i history) (sym same) ∙ present)))
+    (λ rest. ⊎_elim (λ full. absurd (room full)) (λ full. absurd (no_room allowed.rule.idle full)) rest)
+    allowed.rule.refused
+add_event limits history (event.No pass _) id text given absent room no_room allowed is replied = cc
+add_event limits history (event.Read pass (call.Add added of)) id text given absent room no_room allowed is replied = absurd replied
+add_event limits history (event.Read pass _) id text given absent room no_room allowed is replied = cc
+add_event limits history (event.Opened pass slice alone) id text given absent room no_room allowed is replied =
+    absurd (not_recycle alone (call.Add id text) (λ same. let h : call.Recycle ≡ call.Add id text = same in cc) is)
+add_event limits history _ id text given absent room no_room allowed is replied = cc

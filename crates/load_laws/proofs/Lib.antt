@@ -1,0 +1,17 @@
+pub mod Quiet
+pub mod Alone
+pub mod Takes
+pub mod Room
+pub mod Answering
+pub mod CallEvents
+pub mod LoneSteps
+pub mod LoadLemmas
+pub mod ListLemmas
+pub mod EventCounts
+pub mod PlainBreaks
+pub mod PlainTexts
+pub mod PlainQueries
+pub mod OneWorker
+pub mod AddsPart
+pub mod DeletesPart
+pub mod OneLoad

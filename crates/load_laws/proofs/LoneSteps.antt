@@ -1,0 +1,126 @@
+-- What a call of a pass that is alone in its history does.
+use Rattle.std.proofs.Common.{◌≡◌, ℕ, ◌+◌, ◌*◌, ◌<◌, Bool, true, false, cond, not, List, [], ◌∷◌, ◌++◌, map, filter, sym, refl, ap, ◌∙◌, subst, arith}
+use Rattle.std.proofs.lemmas.Bool.{eqb-true}
+use Rattle.std.specs.List.{list_any}
+use Rattle.std.specs.Prelude.{◌==◌}
+use Rattle.funnel_model.proofs.LiveLemmas.{live-adds, live-deletes, live-silent}
+use Rattle.funnel_model.specs.declared.bit_list.Bit.{Bit}
+use Rattle.funnel_model.specs.declared.call.Call.{Call}
+use Rattle.funnel_model.specs.declared.call.Call.TheVariants as call
+use Rattle.funnel_model.specs.declared.event.Event.{Event}
+use Rattle.funnel_model.specs.declared.event.Event.TheVariants as event
+use Rattle.funnel_model.specs.declared.reply.Reply.{Reply}
+use Rattle.funnel_model.specs.declared.reply.Reply.TheVariants as reply
+use Rattle.funnel_model.specs.Events.{pass_of}
+use Rattle.funnel_model.specs.History.{Document, is_live, live, place}
+use Rattle.funnel_model.specs.Legal.{Limits, IsFull, IsIdle, is_journal_full}
+use Rattle.funnel_model.specs.Words.{meets}
+use Rattle.load_laws.specs.LonePass.{LoneStep, Adds, Deletes, Finds, takes_in}
+use Rattle.load_laws.proofs.Quiet.{Quiet, fills_column}
+use Rattle.load_laws.proofs.Room.{not_full}
+use Rattle.load_laws.proofs.Takes.{takes_filled}
+use Rattle.load_laws.proofs.Answering.{Answered, answered, place_after, takes_after}
+use Rattle.load_laws.proofs.CallEvents.{add_event, delete_event, find_event}
+
+-- a number is live as long as the documents stay
+live_same : (id : ℕ) (before after : List Event) (b : Bool) → Quiet before after → is_live id before ≡ b → is_live id after ≡ b
+live_same id before after b quiet is = ap (λ (ds : List Document). list_any (λ d. d.id == id) ds) quiet.documents ∙ is
+
+-- a journal that has room isn't full
+room_not_full : (limits : Limits) (before after : List Event) → Quiet before after → place before < limits.commits → is_journal_full limits after ≡ true → ⊥
+room_not_full limits before after quiet room full =
+    let same = quiet.at_place in
+    let at_end = eqb-true (place after) limits.commits full in
+    omega arith
+
+-- a find of a pass that is alone is answered by the documents that are live before it
+finds_by : (limits : Limits) (pass : ℕ) (before after : List Event) (query : List ℕ) (given : Reply) → Answered limits pass before after (call.Find query) given →
+    Finds before after query given
+finds_by limits pass before after query given is =
+    let h = is.earlier in
+    let by = find_event limits h is.event query given is.call is.reply in
+    let found = event.Find by.0 query in
+    let no_commit : place (is.event ∷ []) ≡ 0 = ap (λ x. place (x ∷ [])) by.1 in
+    let commits = place_after limits pass before after (call.Find query) given is in
+    let takes : takes_in after ≡ takes_in before + 0 =
+    takes_after limits pass before after (call.Find query) given is ∙ ap (λ x. takes_in before + cond (fills_column x) 1 0) by.1 in
+    record {
+      reply = by.2 ∙ ap (λ (ds : List Document). reply.Found (map (λ d. d.id) (filter (λ d. meets d.text query) ds))) is.first.documents;
+      documents = is.last.documents ∙ ap (λ x. live (h ++ x ∷ [])) by.1 ∙ live-silent h found (λ id. refl) refl ∙ is.first.documents;
+      at_place = omega arith;
+      takes = omega arith;
+    }
+
+pub finds : (limits : Limits) (pass : ℕ) (before after : List Event) (query : List ℕ) (given : Reply) → LoneStep limits pass before after (call.Find query) given →
+    Finds before after query given
+finds limits pass before after query given lone =
+    finds_by limits pass before after query given (answered limits pass before after (call.Find query) given lone)
+
+-- a live document of a pass that is alone is deleted where the journal has room
+deletes_it_by : (limits : Limits) (pass : ℕ) (before after : List Event) (id : ℕ) (given : Reply) → Answered limits pass before after (call.Delete id) given →
+    is_live id before ≡ true → place before < limits.commits → Deletes before after id given
+deletes_it_by limits pass before after id given is present room =
+    let h = is.earlier in
+    let by = delete_event limits h is.event id given (live_same id before h true is.first present)
+    (room_not_full limits before h is.first room) is.allowed is.call is.reply in
+    let one_commit : place (is.event ∷ []) ≡ 1 = ap (λ x. place (x ∷ [])) by.1 in
+    let commits = place_after limits pass before after (call.Delete id) given is in
+    let takes : takes_in after ≡ takes_in before + 0 =
+    takes_after limits pass before after (call.Delete id) given is ∙ ap (λ x. takes_in before + cond (fills_column x) 1 0) by.1 in
+    record {
+      reply = by.2 ∙ ap (λ n. reply.Deleted (n + 1)) is.first.at_place;
+      documents = is.last.documents ∙ ap (λ x. live (h ++ x ∷ [])) by.1 ∙ live-deletes h by.0 id
+          ∙ ap (λ (ds : List Document). filter (λ d. not (d.id == id)) ds) is.first.documents;
+      at_place = omega arith;
+      takes = omega arith;
+    }
+
+pub deletes_it : (limits : Limits) (pass : ℕ) (before after : List Event) (id : ℕ) (given : Reply) → LoneStep limits pass before after (call.Delete id) given →
+    is_live id before ≡ true → place before < limits.commits → Deletes before after id given
+deletes_it limits pass before after id given lone present room =
+    deletes_it_by limits pass before after id given (answered limits pass before after (call.Delete id) given lone) present room
+
+-- while a pass that is alone makes an add, the engine isn't full where fewer columns were claimed than it has
+room_left : (limits : Limits) (pass : ℕ) (before after : List Event) (asked : Call) (given : Reply) → (is : Answered limits pass before after asked given) →
+    takes_in before < limits.slices * limits.columns → IsIdle (pass_of is.event) is.earlier → IsFull limits is.earlier → ⊥
+room_left limits pass before after asked given is few idle full =
+    let takes = takes_filled limits pass is.earlier is.legal is.alone (subst (λ p. IsIdle p is.earlier) is.is_own idle) in
+    let first = is.first.filled_same in
+    let filled_before = is.filled_before in
+    let same : takes_in is.earlier ≡ takes_in before = omega arith in
+    not_full limits is.earlier is.legal (subst (λ n. n < limits.slices * limits.columns) (sym same) few) full
+
+-- the document that is added comes behind those that were live
+live_added : (before history : List Event) (pass id : ℕ) (text : List ℕ) (slice column : ℕ) (bits : List Bit) → Quiet before history →
+    live (history ++ event.Add pass id text slice column bits ∷ []) ≡ live before ++ record { id = id; text = text; place = place before + 1 } ∷ []
+live_added before history pass id text slice column bits quiet =
+    let added = λ (n : ℕ). let d : Document = record { id = id; text = text; place = n + 1 } in d in
+    live-adds history (event.Add pass id text slice column bits) (λ i. refl)
+    ∙ ap (λ (ds : List Document). ds ++ added (place history) ∷ []) quiet.documents
+    ∙ ap (λ n. live before ++ added n ∷ []) quiet.at_place
+
+-- a document of a pass that is alone is added, where its number isn't live, the journal has room, and fewer columns were claimed
+-- than the engine has
+adds_by : (limits : Limits) (pass : ℕ) (before after : List Event) (id : ℕ) (text : List ℕ) (given : Reply) →
+    Answered limits pass before after (call.Add id text) given → is_live id before ≡ false → place before < limits.commits →
+    takes_in before < limits.slices * limits.columns → Adds before after id text given
+adds_by limits pass before after id text given is absent room few =
+    let h = is.earlier in
+    let by = add_event limits h is.event id text given (live_same id before h false is.first absent) (room_not_full limits before h is.first room)
+    (room_left limits pass before after (call.Add id text) given is few) is.allowed is.call is.reply in
+    let one_commit : place (is.event ∷ []) ≡ 1 = ap (λ x. place (x ∷ [])) by.4 in
+    let commits = place_after limits pass before after (call.Add id text) given is in
+    let takes : takes_in after ≡ takes_in before + 1 =
+    takes_after limits pass before after (call.Add id text) given is ∙ ap (λ x. takes_in before + cond (fills_column x) 1 0) by.4 in
+    record {
+      reply = by.5 ∙ ap (λ n. reply.Added (n + 1)) is.first.at_place;
+      documents = is.last.documents ∙ ap (λ x. live (h ++ x ∷ [])) by.4 ∙ live_added before h by.0 id text by.1 by.2 by.3 is.first;
+      at_place = omega arith;
+      takes = omega arith;
+    }
+
+pub adds : (limits : Limits) (pass : ℕ) (before after : List Event) (id : ℕ) (text : List ℕ) (given : Reply) →
+    LoneStep limits pass before after (call.Add id text) given → is_live id before ≡ false → place before < limits.commits →
+    takes_in before < limits.slices * limits.columns → Adds before after id text given
+adds limits pass before after id text given lone absent room few =
+    adds_by limits pass before after id text given (answered limits pass before after (call.Add id text) given lone) absent room few

@@ -1,0 +1,5 @@
+pub mod LoadExample
+pub mod Loads
+pub mod LonePass
+pub mod PlainTexts
+pub mod Replies

@@ -1,0 +1,86 @@
+//! Laws of a pass that is alone in its history: one for each kind of call, and one for a whole load.
+ghost use Rattle.std.specs.Prelude.{◌≡◌, ◌≢◌, ◌+◌, ◌*◌, ◌<◌, ◌≤◌, ℕ, true, false, List, [], ◌++◌, length, Contains};
+ghost use Rattle.std.specs.List.{All};
+ghost use Rattle.funnel_model.specs.declared.call.Call.{Call};
+ghost use Rattle.funnel_model.specs.declared.call.Call.TheVariants as call;
+ghost use Rattle.funnel_model.specs.declared.event.Event.{Event};
+ghost use Rattle.funnel_model.specs.declared.reply.Reply.{Reply};
+ghost use Rattle.funnel_model.specs.declared.reply.Reply.TheVariants as reply;
+ghost use Rattle.funnel_model.specs.Example.{small};
+ghost use Rattle.funnel_model.specs.History.{IsFrontOf, is_live, place};
+ghost use Rattle.funnel_model.specs.Legal.{IsLegal, Limits};
+ghost use Rattle.funnel_model.specs.Steps.{Linear};
+ghost use Rattle.funnel_model.specs.Words.{meets};
+ghost use Rattle.load_laws.specs.LonePass.{IsAlone, LoneStep, Adds, Deletes, Finds, takes_in};
+ghost use Rattle.load_laws.specs.LoadExample.{small_load, small_load_events, small_load_replies};
+ghost use Rattle.load_laws.specs.Loads.{AreInTurn, Fits, IsLoaded, answers_from, answers_of, commits_in, found_in, held_after};
+
+/// A document whose number is not live is added where the journal has room and fewer columns were claimed than the engine has.
+pub fn adds_are_committed()
+    ensures { (limits : Limits) (pass : ℕ) (before after : List Event) (id : ℕ) (text : List ℕ) (given : Reply) →
+        LoneStep limits pass before after (call.Add id text) given → is_live id before ≡ false → place before < limits.commits →
+        takes_in before < limits.slices * limits.columns → Adds before after id text given }
+{}
+
+/// A find is answered by the documents that are live before it.
+pub fn finds_are_answered()
+    ensures { (limits : Limits) (pass : ℕ) (before after : List Event) (query : List ℕ) (given : Reply) →
+        LoneStep limits pass before after (call.Find query) given → Finds before after query given }
+{}
+
+/// A live document is deleted where the journal has room.
+pub fn deletes_are_committed()
+    ensures { (limits : Limits) (pass : ℕ) (before after : List Event) (id : ℕ) (given : Reply) →
+        LoneStep limits pass before after (call.Delete id) given → is_live id before ≡ true → place before < limits.commits →
+        Deletes before after id given }
+{}
+
+/// A load that fits an empty engine is answered as a plain list of documents tells, and leaves live what that list holds.
+pub fn loads_are_answered_as_by_a_list()
+    ensures replies { (limits : Limits) (pass : ℕ) (after : List Event) (calls : List Call) (replies : List Reply) →
+        Linear limits pass [] after calls replies → IsAlone pass after → length after < limits.events →
+        All (λ r. r ≢ reply.Memory) replies → Fits limits calls → replies ≡ answers_of [] calls }
+    ensures loaded { (limits : Limits) (pass : ℕ) (after : List Event) (calls : List Call) (replies : List Reply) →
+        Linear limits pass [] after calls replies → IsAlone pass after → length after < limits.events →
+        All (λ r. r ≢ reply.Memory) replies → Fits limits calls → IsLoaded after (held_after [] calls) (commits_in calls) }
+{}
+
+/// Further calls are answered as the documents tell that are held by then, and are in turn where they are for those.
+pub fn loads_go_on()
+    ensures answers { (place : ℕ) (documents : List (ℕ × List ℕ)) (first more : List Call) →
+        answers_from place documents (first ++ more)
+        ≡ answers_from place documents first ++ answers_from (place + commits_in first) (held_after documents first) more }
+    ensures in_turn { (documents : List (ℕ × List ℕ)) (first more : List Call) → AreInTurn documents first →
+        AreInTurn (held_after documents first) more → AreInTurn documents (first ++ more) }
+{}
+
+/// A query finds the number of each document of a list that meets it, and of no other.
+pub fn queries_find_what_meets_them()
+    ensures complete { (documents : List (ℕ × List ℕ)) (query : List ℕ) (d : ℕ × List ℕ) → Contains documents d →
+        meets d.1 query ≡ true → Contains (found_in documents query) d.0 }
+    ensures sound { (documents : List (ℕ × List ℕ)) (query : List ℕ) (id : ℕ) → Contains (found_in documents query) id →
+        (d : ℕ × List ℕ) × Contains documents d × (d.0 ≡ id) × (meets d.1 query ≡ true) }
+{}
+
+/// A pass is alone in a legal history where no other pass has an event in it, and then it has seen the whole history once it
+/// has seen all its own events.
+pub fn a_pass_is_alone_where_no_other_has_events()
+    ensures alone { (limits : Limits) (pass : ℕ) (history : List Event) → IsLegal limits history →
+        ((other : ℕ) → other < limits.passes → other ≢ pass → IsFrontOf other [] history) → IsAlone pass history }
+    ensures seen { (pass : ℕ) (front history : List Event) → IsAlone pass history → IsFrontOf pass front history → front ≡ history }
+{}
+
+/// The calls of a pass that is alone make at most four events each, so that a short load can't spend the history.
+pub fn a_call_makes_at_most_four_events()
+    ensures { (limits : Limits) (pass : ℕ) (after : List Event) (calls : List Call) (replies : List Reply) →
+        Linear limits pass [] after calls replies → IsAlone pass after → length after ≤ 4 * length calls }
+{}
+
+/// There are loads that fit, and a pass can make them alone: this one fits an engine of one slice of two columns.
+pub fn a_small_load_is_made()
+    ensures fits { Fits small small_load }
+    ensures run { Linear small 0 [] small_load_events small_load small_load_replies }
+    ensures alone { IsAlone 0 small_load_events }
+    ensures unspent { length small_load_events < small.events }
+    ensures answers { answers_of [] small_load ≡ small_load_replies }
+{}
