@@ -1,7 +1,7 @@
 -- A load that was put to the first pass of a new engine, which was alone, is answered as it is to be.
 use Rattle.std.proofs.Common.{◌≡◌, ◌≢◌, ◌⊎◌, ℕ, suc, ◌+◌, ◌<◌, ◌≤◌, List, [], ◌∷◌, ◌++◌, length, None, Some, rules, sym, ap, ◌∙◌, subst, arith, inl, inr, append_assoc, append-nil}
 use Rattle.std.specs.List.{All}
-use Rattle.std.specs.Prelude.{IfOk, Result, Ok}
+use Rattle.std.specs.Prelude.{MatchResult, Result, Ok, Err}
 use Rattle.funnel_model.specs.declared.memory.Memory.{Memory}
 use Rattle.engine.specs.Engines.{ClosedState}
 use Rattle.funnel_io.specs.Streams.{Outgoing}
@@ -23,8 +23,8 @@ use Rattle.load_laws.proofs.OneLoad.{last_results, load_is_replied, load_is_shor
 use Rattle.funnel.specs.declared.command.LoadCommand.{LoadCommand}
 use Rattle.funnel.specs.declared.ended.Why.{Why}
 use Rattle.funnel.specs.declared.ended.Why.TheVariants as why_of
-use Rattle.funnel.specs.Loading.{IsPut, calls_of}
-use Rattle.funnel.specs.LoadRuns.{EndsLoad, IsLoaded, IsOfFirst, Tells}
+use Rattle.funnel.specs.Loading.{AreStopped, IsPut, calls_of}
+use Rattle.funnel.specs.LoadRuns.{EndsLoad, IsCutShort, IsLoaded, IsOfFirst, Tells}
 use Rattle.funnel.specs.Misfits.{commits_of_load, misfit_of_load}
 use Rattle.funnel.specs.Runs.{first_caller, limits_by}
 use Rattle.load_laws.proofs.EventCounts.{four_events_a_call}
@@ -87,11 +87,24 @@ have_load config load closed texts results few fits made of_first put =
 
 -- what holds of the results where there are some, of these
 pub put_at : {V : Type 0} (items : V → List (ℕ × ℕ)) (result : Result V Memory) (value : V) (limits other : Limits) (front : List Event) (texts : List (List ℕ)) →
-    result ≡ Ok value → limits ≡ other → IfOk result (λ results. IsPut (first_caller limits) [] front texts (items results)) →
+    result ≡ Ok value → limits ≡ other →
+    MatchResult result (λ results. IsPut (first_caller limits) [] front texts (items results)) (λ _. AreStopped (first_caller limits) [] front (calls_of texts)) →
     IsPut (first_caller other) [] front texts (items value)
 put_at {V} items result value limits other front texts is same put =
     subst (λ (l : Limits). IsPut (first_caller l) [] front texts (items value)) same
-    (subst (λ (r : Result V Memory). IfOk r (λ results. IsPut (first_caller limits) [] front texts (items results))) is put)
+    (subst (λ (r : Result V Memory). MatchResult r (λ results. IsPut (first_caller limits) [] front texts (items results)) (λ _. AreStopped (first_caller limits) [] front (calls_of texts))) is put)
+
+-- a load for which memory ran out was cut short
+pub cut_short : {V : Type 0} (items : V → List (ℕ × ℕ)) (result : Result V Memory) (config : Config) (load : LoadCommand) (closed : ClosedState) (limits : Limits) (texts : List (List ℕ)) (fault : Memory) →
+    result ≡ Err fault → limits ≡ limits_by config → texts ≡ documents load.docs load.words load.seed → IsOfFirst config closed →
+    MatchResult result (λ results. IsPut (first_caller limits) [] closed.history texts (items results)) (λ _. AreStopped (first_caller limits) [] closed.history (calls_of texts)) →
+    IsCutShort config load closed
+cut_short {V} items result config load closed limits texts fault is same made of_first put = record {
+  of_first = of_first;
+  stopped = subst (λ ts. AreStopped (first_caller (limits_by config)) [] closed.history (calls_of ts)) made
+      (subst (λ (l : Limits). AreStopped (first_caller l) [] closed.history (calls_of texts)) same
+      (subst (λ (r : Result V Memory). MatchResult r (λ results. IsPut (first_caller limits) [] closed.history texts (items results)) (λ _. AreStopped (first_caller limits) [] closed.history (calls_of texts))) is put));
+}
 
 -- and its summary is told, or there was no memory for it
 pub ends_load : (config : Config) (load : LoadCommand) (before after : Outgoing) (why : Why) (closed : ClosedState) (results : List (ℕ × ℕ)) →
@@ -101,7 +114,7 @@ ends_load config load before after why closed results told tells =
       by_why : (why : Why) → Tells (summary load.docs load.words load.seed) before after why → EndsLoad config load before after why (Some closed)
       by_why why_of.Done tells = (told.loaded, tells)
       by_why why_of.WriteFault tells = (told.loaded, tells)
-      by_why why_of.Memory tells = (tells, told.loaded.of_first)
+      by_why why_of.Memory tells = (tells, inr told.loaded)
       by_why why_of.Usage tells = absurd tells
       by_why (why_of.Config fault) tells = absurd tells
       by_why why_of.ReadFault tells = absurd tells

@@ -1,5 +1,5 @@
 -- A load: its calls by the first pass of a new engine, and the summary.
-use Rattle.std.specs.Prelude.{◌≡◌, ℕ, List, [], true, All, Option, Some, None, IfSome}
+use Rattle.std.specs.Prelude.{◌≡◌, ℕ, List, [], true, All, Option, Some, None, ◌⊎◌}
 use Rattle.engine.specs.Engines.{ClosedState}
 use Rattle.funnel_io.specs.Counts.{counted}
 use Rattle.funnel_io.specs.Streams.{Outgoing, Writes, WritesPart}
@@ -15,7 +15,8 @@ use Rattle.row_layout.specs.Sound.{IsSound}
 use Rattle.funnel.specs.declared.command.LoadCommand.{LoadCommand}
 use Rattle.funnel.specs.declared.ended.Why.{Why}
 use Rattle.funnel.specs.declared.ended.Why.TheVariants as why_of
-use Rattle.funnel.specs.Runs.{limits_by}
+use Rattle.funnel.specs.Loading.{AreStopped}
+use Rattle.funnel.specs.Runs.{first_caller, limits_by}
 
 -- the text is written whole, or a write failed before its end, or there was no memory and nothing is written
 abbrev pub Tells : List ℕ → Outgoing → Outgoing → Why → Type 0
@@ -37,8 +38,15 @@ pub record IsLoaded (config : Config) (load : LoadCommand) (closed : ClosedState
   pub calls : own 0 closed.history ≡ jobs load.docs load.words load.seed 1 0
   pub answers : Linear (limits_by config) 0 [] closed.history (jobs load.docs load.words load.seed 1 0) (replies_to_jobs load.docs load.words load.seed)
 
--- A load is made, and its summary told; or there was no memory for one of its calls. Where there is no memory nothing is written.
+-- the first pass made the first calls of the load, and no memory was found for the next
+pub record IsCutShort (config : Config) (load : LoadCommand) (closed : ClosedState) : Type 0 where
+  pub of_first : IsOfFirst config closed
+  pub stopped : AreStopped (first_caller (limits_by config)) [] closed.history (jobs load.docs load.words load.seed 1 0)
+
+-- A load is made, and its summary told. For want of memory it may end before it is begun, with one of its calls, or where its
+-- summary is to be told; then nothing is written.
 abbrev pub EndsLoad : Config → LoadCommand → Outgoing → Outgoing → Why → Option ClosedState → Type 0
-EndsLoad config load before after why_of.Memory closed = (after ≡ before) × IfSome closed (IsOfFirst config)
+EndsLoad config load before after why_of.Memory None = after ≡ before
+EndsLoad config load before after why_of.Memory (Some closed) = (after ≡ before) × (IsCutShort config load closed ⊎ IsLoaded config load closed)
 EndsLoad config load before after why (Some closed) = IsLoaded config load closed × Tells (summary load.docs load.words load.seed) before after why
 EndsLoad config load before after why None = ⊥

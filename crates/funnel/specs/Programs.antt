@@ -26,7 +26,8 @@ pub record Streams : Type 0 where
   pub output : Outgoing
 
 -- the words are no command, or there was no memory to read them
-pub record EndsAtWords (words : List (List ℕ)) (why : Why) (closed : Option ClosedState) : Type 0 where
+pub record EndsAtWords (words : List (List ℕ)) (before after : Streams) (why : Why) (closed : Option ClosedState) : Type 0 where
+  pub untouched : after ≡ before
   pub cause : ((why ≡ why_of.Usage) × (command_of words ≡ None)) ⊎ (why ≡ why_of.Memory)
   pub none : closed ≡ None
 
@@ -73,7 +74,7 @@ pub record EndsAfterLoad (words : List (List ℕ)) (before after : Streams) (why
 -- a program ends at its words, or at its configuration, or at numbers that don't fit, or after its run or its load
 abbrev pub Ends : List (List ℕ) → Streams → Streams → Why → Option ClosedState → Type 0
 Ends words before after why closed =
-    EndsAtWords words why closed ⊎ EndsAtConfig words before after why closed ⊎ EndsAtMisfit words before after why closed
+    EndsAtWords words before after why closed ⊎ EndsAtConfig words before after why closed ⊎ EndsAtMisfit words before after why closed
     ⊎ EndsAfterRun words before after why closed ⊎ EndsAfterLoad words before after why closed
 
 -- no read and no write failed

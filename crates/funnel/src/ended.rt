@@ -9,7 +9,7 @@ use std::fmt;
 /// How a program of funnel ended.
 #[derive(Debug, Drop)]
 pub enum Why {
-    /// The input was read to its end and every reply was written.
+    /// `run`: the input was read to its end and every reply was written. `load`: the whole summary was written.
     Done,
     /// The words are no command.
     Usage,
@@ -19,7 +19,7 @@ pub enum Why {
     ReadFault,
     /// A write failed.
     WriteFault,
-    /// Memory ran out before any line was read.
+    /// Memory ran out: in a run before any line was read, in a load at any time. Nothing was written.
     Memory,
     /// So many bytes of the input were read, and no more may be.
     ByteLimit(u64),

@@ -1,7 +1,5 @@
-ghost use Rattle.std.specs.Prelude.{◌≡◌, ◌≤◌};
+ghost use Rattle.std.specs.Prelude.{◌≡◌};
 ghost use Rattle.funnel_model.specs.Configuration.{IsInRange};
-ghost use Rattle.load_gen.specs.declared.limits.TheConstants.{MOST_DOCS};
-ghost use Rattle.funnel.specs.Commands.{HasNumbersInRange};
 ghost use Rattle.funnel.specs.Misfits.{misfit_of, misfit_of_load};
 
 use crate::command::{Command, LoadCommand};

@@ -16,6 +16,9 @@ use std::sync::Wait;
 /// Runs the command that the words are, by an engine with the configuration. `run` answers the lines of `input` on `output`.
 /// `load` makes its documents, adds, deletes and finds them, and writes its summary on `output`; it reads nothing from
 /// `input`. `gates` come back as they came.
+///
+/// The words are judged first, then the configuration, then whether a load fits it. Nothing is left of an engine where one
+/// of these is refused, or where memory ran out before the engine was open.
 pub fn funnel_main<R: Wait, C: Source, S: Source, K: Sink, G: Gate + Send>(
     rt: &R,
     alloc: Global,

@@ -1,12 +1,12 @@
 //! A load over a new engine, and its summary.
-ghost use Rattle.std.specs.Prelude.{◌≡◌, ◌≤◌, [], None, IfOk, length, map};
+ghost use Rattle.std.specs.Prelude.{◌≡◌, ◌≤◌, [], None, MatchResult, length, map};
 ghost use Rattle.std.specs.List.{range_with_len};
 ghost use Rattle.funnel_model.specs.Configuration.{IsValid};
 ghost use Rattle.load_gen.specs.declared.limits.TheConstants.{MOST_DOCS, MOST_WORDS};
 ghost use Rattle.load_gen.specs.Summary.{summary_text};
 ghost use Rattle.slice_rule.specs.Seats.{new_pass_state};
 ghost use Rattle.funnel.specs.LoadRuns.{EndsLoad, Tells};
-ghost use Rattle.funnel.specs.Loading.{IsPut};
+ghost use Rattle.funnel.specs.Loading.{AreStopped, IsPut, calls_of};
 ghost use Rattle.funnel.specs.Misfits.{misfit_of_load};
 ghost use Rattle.funnel.specs.Runs.{first_caller, limits_by};
 ghost use Rattle.funnel.specs.Serving.{FirstDid};
@@ -71,7 +71,8 @@ fn put<N: PoolName, R: Wait>(
     requires passes { engine.now.limits.passes ≡ engine.now.config.passes }
     requires new { passes.items ≡ map (new_pass_state engine.now) (range_with_len 0 engine.now.config.passes) }
     ensures put { FirstDid engine.now result.1.items (λ front.
-        IfOk result.0 (λ results. IsPut (first_caller engine.now.limits) [] front load.now results.items)) }
+        MatchResult result.0 (λ results. IsPut (first_caller engine.now.limits) [] front load.now results.items)
+        (λ _. AreStopped (first_caller engine.now.limits) [] front (calls_of load.now))) }
 {
     let mut passes = passes;
     let pass = passes.remove(0);
