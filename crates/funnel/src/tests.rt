@@ -257,8 +257,38 @@ fn the_longest_line_is_answered(rt: HostRuntime) -> Result<(), Fail> {
     script.check(&rt, alloc, b"")
 }
 
+// Runs two lines, each in a piece of its own, with a read or a write that fails.
+fn expect_fault<R: Wait + Abort>(
+    rt: &R,
+    alloc: Global,
+    reads: &[u64],
+    writes: &[u64],
+    status: u8,
+    written: &str,
+) -> Result<(), Fail> {
+    let pieces: [&[u8]; 2] = [b"add 7 The cat sat\n", b"find CAT\n"];
+    let mut input = source_of(alloc, &pieces, reads)?;
+    let mut output = MemSink::new(alloc, 100, writes.to_vec(alloc)?)?;
+    let why = program(rt, alloc, &["run"], b"", &mut input, &mut output)?;
+    assert_eq!(rt; why.status(), status);
+    assert_eq!(rt; output.bytes(), written.as_bytes());
+    Ok(())
+}
+
 #[test]
-fn a_failed_read_ends_the_run(rt: HostRuntime) -> Result<(), Fail> {
+fn a_failed_read_or_write_ends_the_run(rt: HostRuntime) -> Result<(), Fail> {
+    let replies = ["", "added 1\n", "added 1\nfound 1 7\n"];
+    for (made, written) in replies.into_iter().enumerate() {
+        let next = made as u64 + 1;
+        expect_fault(&rt, rt.alloc(), &[next], &[], 3, written)?;
+        let status = if made < 2 { 4 } else { 0 };
+        expect_fault(&rt, rt.alloc(), &[], &[next], status, written)?;
+    }
+    Ok(())
+}
+
+#[test]
+fn a_read_that_fails_within_a_line_ends_the_run(rt: HostRuntime) -> Result<(), Fail> {
     let alloc = rt.alloc();
     let pieces: [&[u8]; 2] = [b"add 1 a\nfi", b"nd a\npla"];
     let mut input = source_of(alloc, &pieces, &[3])?;
@@ -270,14 +300,19 @@ fn a_failed_read_ends_the_run(rt: HostRuntime) -> Result<(), Fail> {
 }
 
 #[test]
-fn a_failed_write_ends_the_run(rt: HostRuntime) -> Result<(), Fail> {
+fn many_numbers_are_found(rt: HostRuntime) -> Result<(), Fail> {
     let alloc = rt.alloc();
-    let mut input = source_of(alloc, &[b"place\nplace\nplace\n"], &[])?;
-    let mut output = MemSink::new(alloc, 100, [2].to_vec(alloc)?)?;
-    let why = program(&rt, alloc, &["run"], b"", &mut input, &mut output)?;
-    assert_eq!(rt; why.status(), 4);
-    assert_eq!(rt; output.bytes(), "place 0\n".as_bytes());
-    Ok(())
+    let mut script = Script::new(alloc);
+    let mut found = String::from_str(alloc, "found 2000")?;
+    for id in 1..=2000 {
+        script.line(
+            format!(in alloc; "add {id} x")?.as_str(),
+            format!(in alloc; "added {id}")?.as_str(),
+        )?;
+        found.push_str(format!(in alloc; " {id}")?.as_str())?;
+    }
+    script.line("find x", found.as_str())?;
+    script.check(&rt, alloc, br#"{"slices":32,"commits":2000}"#)
 }
 
 #[test]
