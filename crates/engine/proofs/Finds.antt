@@ -5,7 +5,7 @@ use Rattle.engine.proofs.OpenFinds.{begun_last}
 use Rattle.engine.proofs.Scans.{holds_still}
 use Rattle.engine.specs.declared.finding.FindFault.{FindFault}
 use Rattle.engine.specs.declared.finding.FindFault.TheVariants as find
-use Rattle.engine.specs.Finds.{DroppedTurns, FindBegins, FindEnds, FoundTurns, HasJustBegun, IsBegunAt, IsScanFor, RefusedTurns}
+use Rattle.engine.specs.Finds.{EndedTurns, FindBegins, FindEnds, FoundTurns, HasJustBegun, IsBegunAt, IsScanFor, RefusedTurns}
 use Rattle.engine.specs.Replies.{reply_of_find_fault}
 use Rattle.funnel_model.proofs.StepLemmas.{call_by-own}
 use Rattle.funnel_model.specs.declared.call.Call.TheVariants as call
@@ -72,16 +72,11 @@ module _ (limits : Limits) (pass : ℕ) (query : List ℕ) (before : List Event)
 
   -- What follows it is made of the pass as it was then.
   module _ (middle : PassState) (number : middle.number ≡ pass) (begun : FindBegins limits pass query before middle.front) (after : List Event) (ended : FindEnds middle.number middle.front after) where
-    pub found_turns : (ids : List ℕ) → ((earlier : List Event) (asked : List ℕ) → IsBegunAt middle earlier asked → ids ≡ answer earlier asked) → FoundTurns limits pass query before after ids
-    found_turns ids found = record {
-      middle = middle.front;
-      begun = begun;
-      found = found begun.earlier query (begun_by middle number begun);
-      ended = subst (λ n. FindEnds n middle.front after) number ended;
-    }
+    abbrev pub ended_turns : EndedTurns limits pass query before after
+    ended_turns = record { middle = middle.front; begun = begun; ended = subst (λ n. FindEnds n middle.front after) number ended }
 
-    pub dropped_turns : DroppedTurns limits pass query before after
-    dropped_turns = record { middle = middle.front; begun = begun; ended = subst (λ n. FindEnds n middle.front after) number ended }
+    pub found_turns : (ids : List ℕ) → ((earlier : List Event) (asked : List ℕ) → IsBegunAt middle earlier asked → ids ≡ answer earlier asked) → FoundTurns limits pass query before after ids
+    found_turns ids found = record { turns = ended_turns; found = found begun.earlier query (begun_by middle number begun) }
 
 -- The step of a find.
 module _ (limits : Limits) (pass : ℕ) (query : List ℕ) (before after : List Event) (idle : IsIdle pass before) (legal : IsLegal limits after) where
@@ -94,13 +89,14 @@ module _ (limits : Limits) (pass : ℕ) (query : List ℕ) (before after : List 
   module _ (idle_end : IsIdle pass after) where
     -- that is answered
     pub found_step : (ids : List ℕ) → FoundTurns limits pass query before after ids → Step limits pass before after (call.Find query) (reply.Found ids)
-    found_step ids turns =
+    found_step ids found =
+        let turns = found.turns in
         let e = event.Find pass query in
         step_made_within limits pass before before turns.middle after e (call.Find query) (reply.Found ids) idle (quiet_none pass before) turns.begun (call_by-own pass e refl)
-        (ap (λ (found : List ℕ). reply.Found found) turns.found) (end_is_quiet pass turns.middle after turns.ended) legal idle_end
+        (ap (λ (answered : List ℕ). reply.Found answered) found.found) (end_is_quiet pass turns.middle after turns.ended) legal idle_end
 
     -- that found no memory
-    pub dropped_step : DroppedTurns limits pass query before after → Step limits pass before after (call.Find query) reply.Memory
+    pub dropped_step : EndedTurns limits pass query before after → Step limits pass before after (call.Find query) reply.Memory
     dropped_step turns =
         step_found_without_memory limits pass before turns.middle after query idle turns.begun (call_by-own pass (event.Find pass query) refl)
         (end_is_quiet pass turns.middle after turns.ended) legal idle_end

@@ -1,13 +1,14 @@
 -- A scan goes from slice to slice.
-use Rattle.std.proofs.Common.{◌≡◌, ℕ, ◌+◌, ◌<◌, ◌≤◌, ◌⊎◌, List, [], ◌++◌, All, Contains, ap, sym, subst, ◌∙◌, ⊎_elim, inl, inr, arith}
+use Rattle.std.proofs.Common.{◌≡◌, ℕ, ◌+◌, ◌<◌, ◌≤◌, ◌⊎◌, nat_lt, List, [], ◌++◌, All, Contains, ap, sym, subst, ◌∙◌, ⊎_elim, inl, inr, arith}
 use Rattle.std.specs.List.Sorted.{IsStrictlySortedBy}
 use Rattle.std.specs.Ordering.{nat_cmp}
-use Rattle.std.proofs.lemmas.Bool.{cases_lt}
+use Rattle.std.proofs.lemmas.Bool.{cases_lt, lt-ltb, ltb-true}
 use Rattle.std.proofs.lemmas.List.Elements.{All-contains, Contains-append_cases, Contains-append_left, Contains-append_right}
 use Rattle.commit_desk.specs.Scans.{AreScanned, HasAllCommitted, IsOfToken, WasReadSet}
-use Rattle.engine.specs.Scans.{AreScannedBelow, CanScan}
+use Rattle.engine.specs.Scans.{AreScannedBelow, CanScan, token_below}
 use Rattle.engine.specs.Engines.{IsOfConfig}
 use Rattle.engine.proofs.Candidates.{candidate_is, candidate_of_column, candidates_once, pairs-append}
+use Rattle.funnel_model.proofs.AnswerLemmas.{Contains-filter, Contains-filtered}
 use Rattle.funnel_model.specs.declared.bit_list.Bit.{Bit}
 use Rattle.funnel_model.specs.declared.claim.Token.{Token}
 use Rattle.funnel_model.specs.declared.config.Config.{Config}
@@ -27,13 +28,20 @@ use Rattle.slice_rule.specs.declared.view.Fact.{Fact}
 use Rattle.slice_rule.specs.Pools.{PoolId}
 use Rattle.slice_rule.specs.Seats.{HoldsToken, PassState}
 
+-- The slices of a token that are below one of them.
+module _ (slices slice : ℕ) (token : Token) where
+  is_below : Contains (token_below slices token).slices slice → Contains token.slices slice × (slice < slices)
+  is_below has = let kept = Contains-filtered (λ s. nat_lt s slices) token.slices slice has in (kept.0, ltb-true slice slices kept.1)
+
+  below : Contains token.slices slice → slice < slices → Contains (token_below slices token).slices slice
+  below has low = Contains-filter (λ s. nat_lt s slices) token.slices slice has (lt-ltb slice slices low)
+
 -- no slice is below slice 0
 pub scanned_none : (config : Config) (seat : PassState) (token : Token) (words : List (List ℕ)) → AreScannedBelow config seat token words 0 []
 scanned_none config seat token words = record {
   of_token = λ candidate has. absurd (nothing candidate has);
-  below = λ candidate has. absurd (nothing candidate has);
   each_once = λ i j d lt within. absurd (omega (arith, within));
-  every = λ slice column low. absurd (omega (arith, low));
+  every = λ slice column has. let low = (is_below 0 slice token has).1 in absurd (omega (arith, low));
   read = λ candidate has. absurd (nothing candidate has);
 }
   where
@@ -44,25 +52,33 @@ scanned_none config seat token words = record {
 pub scanned_all : (config : Config) (seat : PassState) (token : Token) (words : List (List ℕ)) (slices : ℕ) (candidates : List (ℕ × ℕ)) →
     ((slice : ℕ) → Contains token.slices slice → slice < slices) → AreScannedBelow config seat token words slices candidates → AreScanned config seat token words candidates
 scanned_all config seat token words slices candidates in_range scanned = record {
-  of_token = scanned.of_token;
+  of_token = λ candidate has.
+      let of = scanned.of_token candidate has in
+      record { slice = (is_below slices candidate.0 token of.slice).0; column = of.column };
   each_once = scanned.each_once;
-  every = λ slice column has. scanned.every slice column (in_range slice has) has;
+  every = λ slice column has. scanned.every slice column (below slices slice token has (in_range slice has));
   read = scanned.read;
 }
+
+-- what is of a slice below one is of a slice below the next
+of_token_later : (columns slices : ℕ) (token : Token) (candidate : ℕ × ℕ) → IsOfToken columns (token_below slices token) candidate → IsOfToken columns (token_below (slices + 1) token) candidate
+of_token_later columns slices token candidate of =
+    let has = is_below slices candidate.0 token of.slice in
+    let low = has.1 in
+    record { slice = below (slices + 1) candidate.0 token has.0 (omega (arith, low)); column = of.column }
 
 -- A slice that the token doesn't have.
 pub scanned_without : (config : Config) (seat : PassState) (token : Token) (words : List (List ℕ)) (slice : ℕ) (candidates : List (ℕ × ℕ)) →
     (Contains token.slices slice → ⊥) → AreScannedBelow config seat token words slice candidates → AreScannedBelow config seat token words (slice + 1) candidates
 scanned_without config seat token words slice candidates lacks scanned = record {
-  of_token = scanned.of_token;
-  below = λ candidate has. let low = scanned.below candidate has in omega (arith, low);
+  of_token = λ candidate has. of_token_later seat.pool.limits.columns slice token candidate (scanned.of_token candidate has);
   each_once = scanned.each_once;
-  every = λ s column low has. here s low has column (cases_lt s slice);
+  every = λ s column has. let is = is_below (slice + 1) s token has in here s is.1 is.0 column (cases_lt s slice);
   read = scanned.read;
 }
   where
     here : (s : ℕ) → s < slice + 1 → Contains token.slices s → (column : ℕ) → (s < slice) ⊎ (slice ≤ s) → column < seat.pool.limits.columns → HasAllCommitted config seat words s column → Contains candidates (s, column)
-    here s low has column (inl lower) = scanned.every s column lower has
+    here s low has column (inl lower) = scanned.every s column (below slice s token has lower)
     here s low has column (inr high) = let same : s ≡ slice = omega (arith, low, high) in absurd (lacks (subst (Contains token.slices) same has))
 
 -- A slice that the token has, of which these columns were appended.
@@ -73,15 +89,17 @@ module _ (config : Config) (before after : PassState) (token : Token) (words : L
   width : after.pool.limits.columns ≡ columns_of_slice config
   width = ap (λ (p : PoolId). p.limits.columns) same_pool ∙ sizes
 
-  of_old : (candidate : ℕ × ℕ) → Contains old candidate → IsOfToken after.pool.limits.columns token candidate
-  of_old candidate has = subst (λ n. IsOfToken n token candidate) (sym (ap (λ (p : PoolId). p.limits.columns) same_pool)) (scanned.of_token candidate has)
+  of_old : (candidate : ℕ × ℕ) → Contains old candidate → IsOfToken after.pool.limits.columns (token_below (slice + 1) token) candidate
+  of_old candidate has =
+      of_token_later after.pool.limits.columns slice token candidate
+      (subst (λ n. IsOfToken n (token_below slice token) candidate) (sym (ap (λ (p : PoolId). p.limits.columns) same_pool)) (scanned.of_token candidate has))
 
-  of_new : All (λ column. column < columns_of_slice config) columns → (candidate : ℕ × ℕ) → Contains (candidates_of slice columns) candidate → IsOfToken after.pool.limits.columns token candidate
+  of_new : All (λ column. column < columns_of_slice config) columns → (candidate : ℕ × ℕ) → Contains (candidates_of slice columns) candidate → IsOfToken after.pool.limits.columns (token_below (slice + 1) token) candidate
   of_new in_slice candidate has =
       let is = candidate_is slice columns candidate has in
       let low = All-contains (λ column. column < columns_of_slice config) columns candidate.1 in_slice is.1 in
       record {
-        slice = subst (Contains token.slices) (sym is.0) readable;
+        slice = subst (Contains (token_below (slice + 1) token).slices) (sym is.0) (below (slice + 1) slice token readable (omega arith));
         column = subst (λ n. candidate.1 < n) (sym width) low;
       }
 
@@ -116,19 +134,14 @@ module _ (config : Config) (before after : PassState) (token : Token) (words : L
       AreScannedBelow config after token words (slice + 1) (old ++ candidates_of slice columns)
   scanned_more covered in_slice rising seen = record {
     of_token = λ candidate has. ⊎_elim (of_old candidate) (of_new in_slice candidate) (Contains-append_cases old (candidates_of slice columns) candidate has);
-    below = λ candidate has.
-        ⊎_elim
-        (λ (h : Contains old candidate). let low = scanned.below candidate h in let e : candidate.0 < slice + 1 = omega (arith, low) in e)
-        (λ (h : Contains (candidates_of slice columns) candidate). let is = low_new candidate h in let e : candidate.0 < slice + 1 = omega (arith, is) in e)
-        (Contains-append_cases old (candidates_of slice columns) candidate has);
     each_once =
         pairs-append (λ (candidate other : ℕ × ℕ). candidate ≡ other → ⊥) old (candidates_of slice columns) scanned.each_once (candidates_once slice columns rising)
         (λ candidate other of_first of_second same.
-        let low = scanned.below candidate of_first in
+        let low = (is_below slice candidate.0 token (scanned.of_token candidate of_first).slice).1 in
         let is = low_new other of_second in
         let slices = ap (λ (c : ℕ × ℕ). c.0) same in
         omega (arith, low, is, slices));
-    every = λ s column low has. here s low has column (cases_lt s slice);
+    every = λ s column has. let is = is_below (slice + 1) s token has in here s is.1 is.0 column (cases_lt s slice);
     read = λ candidate has bit of_document.
         ⊎_elim (λ (h : Contains old candidate). seen_stays bit (scanned.read candidate h bit of_document)) (λ (h : Contains (candidates_of slice columns) candidate). read_new seen candidate h bit of_document)
         (Contains-append_cases old (candidates_of slice columns) candidate has);
@@ -138,7 +151,7 @@ module _ (config : Config) (before after : PassState) (token : Token) (words : L
           Contains (old ++ candidates_of slice columns) (s, column)
       here s low has column (inl lower) in_range committed =
           Contains-append_left old (candidates_of slice columns) (s, column)
-          (scanned.every s column lower has (subst (λ n. column < n) (ap (λ (p : PoolId). p.limits.columns) same_pool) in_range)
+          (scanned.every s column (below slice s token has lower) (subst (λ n. column < n) (ap (λ (p : PoolId). p.limits.columns) same_pool) in_range)
           (λ bit of_document. subst (λ (h : List Event). IsCommitted h s bit) same_front (committed bit of_document)))
       here s low has column (inr high) in_range committed =
           let same : s ≡ slice = omega (arith, low, high) in

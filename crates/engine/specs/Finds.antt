@@ -43,18 +43,16 @@ FindBegins limits pass query before after = IsTurn pass before after (TakesCalls
 abbrev pub FindEnds : ℕ → List Event → List Event → Type 0
 FindEnds pass before after = IsTurn pass before after (λ history. Unit {0}) (event.End pass ∷ [])
 
--- a find that began and ended, and is answered by what was live when it began
-pub record FoundTurns (limits : Limits) (pass : ℕ) (query : List ℕ) (before after : List Event) (ids : List ℕ) : Type 0 where
+-- a find that began and ended
+pub record EndedTurns (limits : Limits) (pass : ℕ) (query : List ℕ) (before after : List Event) : Type 0 where
   pub middle : List Event
   pub begun : FindBegins limits pass query before middle
-  pub found : ids ≡ answer begun.earlier query
   pub ended : FindEnds pass middle after
 
--- a find that found no memory after it had begun
-pub record DroppedTurns (limits : Limits) (pass : ℕ) (query : List ℕ) (before after : List Event) : Type 0 where
-  pub middle : List Event
-  pub begun : FindBegins limits pass query before middle
-  pub ended : FindEnds pass middle after
+-- and is answered by what was live when it began
+pub record FoundTurns (limits : Limits) (pass : ℕ) (query : List ℕ) (before after : List Event) (ids : List ℕ) : Type 0 where
+  pub turns : EndedTurns limits pass query before after
+  pub found : ids ≡ answer turns.begun.earlier query
 
 -- a find that did not begin: there was no memory, and nothing was done; or no call is taken any more
 abbrev pub RefusedTurns : Limits → ℕ → List Event → List Event → FindFault → Type 0
@@ -64,5 +62,5 @@ RefusedTurns limits pass before after (find.Spent events) = IsTurn pass before a
 -- A find is answered, or did not begin, or found no memory after it had begun.
 abbrev pub FindTurns : Limits → ℕ → List ℕ → List Event → List Event → Result (List ℕ) FindFault → Type 0
 FindTurns limits pass query before after (Ok ids) = FoundTurns limits pass query before after ids
-FindTurns limits pass query before after (Err find.Memory) = RefusedTurns limits pass before after find.Memory ⊎ DroppedTurns limits pass query before after
+FindTurns limits pass query before after (Err find.Memory) = RefusedTurns limits pass before after find.Memory ⊎ EndedTurns limits pass query before after
 FindTurns limits pass query before after (Err (find.Spent events)) = RefusedTurns limits pass before after (find.Spent events)

@@ -1,4 +1,5 @@
--- The replies that the answers of an engine stand for.
+-- The replies that a client is given for the answers of an engine: those to an add, a delete, a find, a request for the number of
+-- commits, and a journal.
 use Rattle.std.specs.Prelude.{ℕ, List, Result, Ok, Err}
 use Rattle.funnel_model.specs.declared.commit.Commit.{Commit}
 use Rattle.funnel_model.specs.declared.reply.Reply.{Reply}

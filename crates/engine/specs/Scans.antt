@@ -1,12 +1,10 @@
 -- A scan of the slices of a find, slice by slice.
-use Rattle.std.specs.Prelude.{◌≡◌, ℕ, ◌<◌, List, All, Contains}
-use Rattle.std.specs.List.{AllPairs}
-use Rattle.commit_desk.specs.Scans.{HasAllCommitted, IsOfToken, WasReadSet}
-use Rattle.funnel_model.specs.declared.bit_list.Bit.{Bit}
+use Rattle.std.specs.Prelude.{◌≡◌, ℕ, List, All, nat_lt}
+use Rattle.std.specs.List.{filter}
+use Rattle.commit_desk.specs.Scans.{AreScanned}
 use Rattle.funnel_model.specs.declared.claim.Token.{Token}
 use Rattle.funnel_model.specs.declared.config.Config.{Config}
 use Rattle.row_layout.specs.declared.row.Row.{Row}
-use Rattle.row_layout.specs.DocumentBits.{IsDocumentBit}
 use Rattle.row_layout.specs.Orders.{HasRowsOf}
 use Rattle.row_layout.specs.Rows.{IsRowOf}
 use Rattle.row_read.specs.declared.shared.Shared.{Shared}
@@ -21,11 +19,10 @@ pub record CanScan (pool : PoolId) (shared : Shared) (words : List (List ℕ)) (
   pub rows : HasRowsOf pool.config words plan
   pub laid : All (IsRowOf pool.config) plan
 
--- the candidates of the slices below this one are as `AreScanned` says of all slices
-pub record AreScannedBelow (config : Config) (seat : PassState) (token : Token) (words : List (List ℕ)) (slices : ℕ) (candidates : List (ℕ × ℕ)) : Type 0 where
-  pub of_token : (candidate : ℕ × ℕ) → Contains candidates candidate → IsOfToken seat.pool.limits.columns token candidate
-  pub below : (candidate : ℕ × ℕ) → Contains candidates candidate → candidate.0 < slices
-  pub each_once : AllPairs (λ (candidate other : ℕ × ℕ). candidate ≡ other → ⊥) candidates
-  pub every : (slice column : ℕ) → slice < slices → Contains token.slices slice → column < seat.pool.limits.columns → HasAllCommitted config seat words slice column →
-      Contains candidates (slice, column)
-  pub read : (candidate : ℕ × ℕ) → Contains candidates candidate → (bit : Bit) → IsDocumentBit config words candidate.0 candidate.1 bit → WasReadSet seat token bit
+-- the token, but that it has no slice from this one on
+abbrev pub token_below : ℕ → Token → Token
+token_below slices token = record token { slices = filter (λ slice. nat_lt slice slices) token.slices }
+
+-- the candidates of the slices below this one are scanned
+abbrev pub AreScannedBelow : Config → PassState → Token → List (List ℕ) → ℕ → List (ℕ × ℕ) → Type 0
+AreScannedBelow config seat token words slices candidates = AreScanned config seat (token_below slices token) words candidates

@@ -59,12 +59,20 @@ impl<'a, N: PoolName, R: Wait> Service for Client<'a, N, R> {
 }
 
 impl<'a, N: PoolName, R: Wait> Client<'a, N, R> {
+    // The engine. It is read here, by which the caller knows that its pool is the one that the pass is of.
+    fn engine(&self) -> &'a Engine<N>
+        ensures { result.now ≡ N.pool }
+    {
+        let engine: &'a Engine<N> = self.engine;
+        let _ = &engine.pool;
+        engine
+    }
+
     fn add(&mut self, id: u64, text: &str) -> Reply
         ensures caller { caller_of self.new ≡ caller_of self.old }
         ensures answers { AnswersCall (caller_of self.old) self.old.front self.new.front (call.Add id text.now) result }
     {
-        let engine = self.engine;
-        let _ = &engine.pool;
+        let engine = self.engine();
         reply_to_add(engine.add(self.rt, self.alloc, &mut self.pass, id, text))
     }
 
@@ -72,8 +80,7 @@ impl<'a, N: PoolName, R: Wait> Client<'a, N, R> {
         ensures caller { caller_of self.new ≡ caller_of self.old }
         ensures answers { AnswersCall (caller_of self.old) self.old.front self.new.front (call.Delete id) result }
     {
-        let engine = self.engine;
-        let _ = &engine.pool;
+        let engine = self.engine();
         reply_to_delete(engine.delete(self.rt, &mut self.pass, id))
     }
 
@@ -81,8 +88,7 @@ impl<'a, N: PoolName, R: Wait> Client<'a, N, R> {
         ensures caller { caller_of self.new ≡ caller_of self.old }
         ensures answers { AnswersCall (caller_of self.old) self.old.front self.new.front (call.Find query.now) result }
     {
-        let engine = self.engine;
-        let _ = &engine.pool;
+        let engine = self.engine();
         reply_to_find(engine.find(self.rt, self.alloc, &mut self.pass, query))
     }
 
@@ -90,8 +96,7 @@ impl<'a, N: PoolName, R: Wait> Client<'a, N, R> {
         ensures caller { caller_of self.new ≡ caller_of self.old }
         ensures answers { AnswersCall (caller_of self.old) self.old.front self.new.front call.Place result }
     {
-        let engine = self.engine;
-        let _ = &engine.pool;
+        let engine = self.engine();
         reply_to_place(engine.place(self.rt, &mut self.pass))
     }
 
@@ -99,8 +104,7 @@ impl<'a, N: PoolName, R: Wait> Client<'a, N, R> {
         ensures caller { caller_of self.new ≡ caller_of self.old }
         ensures answers { AnswersCall (caller_of self.old) self.old.front self.new.front (call.Journal from) result }
     {
-        let engine = self.engine;
-        let _ = &engine.pool;
+        let engine = self.engine();
         reply_to_journal(engine.journal(self.rt, self.alloc, &mut self.pass, from))
     }
 
@@ -108,8 +112,7 @@ impl<'a, N: PoolName, R: Wait> Client<'a, N, R> {
         ensures caller { caller_of self.new ≡ caller_of self.old }
         ensures answers { AnswersCall (caller_of self.old) self.old.front self.new.front call.Recycle result }
     {
-        let engine = self.engine;
-        let _ = &engine.pool;
+        let engine = self.engine();
         reply_to_recycle(engine.recycle(self.rt, &mut self.pass))
     }
 }

@@ -1,4 +1,4 @@
-ghost use Rattle.std.specs.Prelude.{◌≡◌, ℕ, ◌<◌, ◌≤◌, ◌++◌, ◌↔◌, ◌⊎◌, All, Contains, OnOk};
+ghost use Rattle.std.specs.Prelude.{◌≡◌, ℕ, ◌+◌, ◌<◌, ◌≤◌, ◌++◌, ◌↔◌, ◌⊎◌, All, Contains, OnOk};
 ghost use Rattle.std.specs.List.Sorted.{IsStrictlySortedBy};
 ghost use Rattle.std.specs.Ordering.{nat_cmp};
 ghost use Rattle.column_writer.specs.Written.{IsBitOf};
@@ -6,6 +6,7 @@ ghost use Rattle.funnel_model.specs.declared.bit_list.Bit.{Bit};
 ghost use Rattle.funnel_model.specs.Legal.{IsInSlice};
 ghost use Rattle.funnel_model.specs.Sizes.{columns_of_slice, words_of_slice};
 ghost use Rattle.rank_matcher.specs.Appended.{appended, candidates_of};
+ghost use Rattle.rank_matcher.specs.Reads.{shown_reads, words_of_plan};
 ghost use Rattle.row_layout.specs.DocumentBits.{bit_of_row};
 ghost use Rattle.row_layout.specs.Rows.{IsRowOf};
 ghost use Rattle.row_read.specs.SharedRows.{IsCommittedUnder, IsInReach, WasReadSet, kept_of};
@@ -54,6 +55,7 @@ pub trait Work: Clearer {
         ensures rising { IsStrictlySortedBy nat_cmp (appended out.old out.new) }
         ensures seen { All (λ column. All (λ row. WasReadSet rows.new (bit_of_row (words_of_slice layout.now) slice column row)) plan.now) (appended out.old out.new) }
         ensures seen_stays { (bit : Bit) → WasReadSet rows.old bit → WasReadSet rows.new bit }
+        ensures reads_at_most { shown_reads rows.new.count ≤ rows.old.count + words_of_plan plan.now }
         ensures kept { kept_of rows.new ≡ kept_of rows.old };
 }
 

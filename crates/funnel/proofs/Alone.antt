@@ -8,26 +8,25 @@ use Rattle.funnel_model.specs.Events.{pass_of}
 use Rattle.funnel_model.specs.Legal.{IsLegal, Limits}
 use Rattle.funnel_model.proofs.Invariants.{passes_in_range}
 use Rattle.slice_rule.specs.Seats.{PassState}
-use Rattle.funnel.specs.LoadRuns.{IsOfFirst}
 use Rattle.funnel.specs.Serving.{FirstDid, HasSeen}
 use Rattle.engine.specs.Engines.{ClosedState}
 use Rattle.funnel_io.specs.declared.end.End.{End}
 use Rattle.funnel_io.specs.Streams.{Incoming, Outgoing}
 use Rattle.funnel_model.specs.declared.config.Config.{Config}
 use Rattle.row_layout.specs.Sound.{IsSound}
-use Rattle.session.specs.Ends.{Serves, Stand}
+use Rattle.session.specs.Ends.{Serves}
 use Rattle.slice_rule.specs.Pools.{PoolId}
 use Rattle.funnel.specs.declared.ended.Why.{Why}
-use Rattle.funnel.specs.declared.running.TheConstants.{MOST_BYTES}
+use Rattle.session.specs.declared.serving.TheConstants.{MOST_BYTES}
 use Rattle.funnel.specs.Ends.{why_of_end}
-use Rattle.funnel.specs.Runs.{Ran, first_caller, limits_by}
+use Rattle.funnel.specs.Runs.{IsOfFirst, Ran, first_caller, limits_by}
 use Rattle.std.proofs.lemmas.List.Elements.{All-contains, All-drop}
 use Rattle.std.proofs.lemmas.List.Prefix.{front_rest}
 use Rattle.std.proofs.lemmas.List.Folds.{list_any_at}
 use Rattle.row_layout.proofs.Lists.{Contains-from_map}
 
 -- what no element is, one of them isn't
-none_with : {X : Type 0} (p : X → Bool) (xs : List X) (x : X) → list_any p xs ≡ false → Contains xs x → p x ≡ false
+pub none_with : {X : Type 0} (p : X → Bool) (xs : List X) (x : X) → list_any p xs ≡ false → Contains xs x → p x ≡ false
 none_with p xs x none contains = by_value (p x) refl where
   by_value : (b : Bool) → p x ≡ b → p x ≡ false
   by_value false is = is
@@ -68,7 +67,22 @@ module _ (limits : Limits) (history front : List Event) (passes : List PassState
       subst (All (λ e. pass_of e ≡ 0)) (front_rest history front ended.later whole) (All-drop (λ e. pass_of e ≡ 0) (length front) history all_of_first) in
       whole ∙ ap (λ h. front ++ h) (none_left 0 ended.later later_of_first (subst (λ n. list_any (λ e. pass_of e == n) ended.later ≡ false) (sym pass.2) ended.silent)) ∙ append-nil front
 
--- so a session of the first pass was all that the engine did
+-- so what the first pass did was all that the engine did
+pub have_done : (pool : PoolId) (config : Config) (passes : List PassState) (did : List Event → Type 0) (closed : ClosedState) →
+    pool.limits ≡ limits_by config → pool.config ≡ config → 1 ≤ pool.limits.passes → FirstDid pool passes did →
+    IsLegal pool.limits closed.history → IsSound pool.config closed.history → All (EndsIn closed.history) passes →
+    did closed.history × IsOfFirst config closed
+have_done pool config passes did closed limits_are config_is some first legal sound ends =
+    let saw = first_saw_all pool.limits closed.history first.front passes legal some ends first.used.seen first.used.every in (
+      subst did (sym saw) first.done,
+      record {
+        legal = subst (λ (l : Limits). IsLegal l closed.history) limits_are legal;
+        sound = subst (λ (k : Config). IsSound k closed.history) config_is sound;
+        alone = all_of_first pool.limits closed.history first.front passes legal some ends first.used.seen first.used.every;
+      },
+    )
+
+-- and so was a session of it
 pub have_run : (pool : PoolId) (config : Config) (passes : List PassState) (incoming later_incoming : Incoming) (outgoing later_outgoing : Outgoing)
     (end : End) (why : Why) (closed : ClosedState) → pool.limits ≡ limits_by config → pool.config ≡ config → 1 ≤ pool.limits.passes →
     FirstDid pool passes (λ front. Serves (first_caller pool.limits) MOST_BYTES (record { front = []; incoming = incoming; outgoing = outgoing })
@@ -76,30 +90,12 @@ pub have_run : (pool : PoolId) (config : Config) (passes : List PassState) (inco
     IsLegal pool.limits closed.history → IsSound pool.config closed.history → All (EndsIn closed.history) passes →
     Ran config incoming later_incoming outgoing later_outgoing why closed
 have_run pool config passes incoming later_incoming outgoing later_outgoing end why closed limits_are config_is some served answered legal sound ends =
-    let saw = first_saw_all pool.limits closed.history served.front passes legal some ends served.used.seen served.used.every in
-    let left : List Event → Stand = λ h. record { front = h; incoming = later_incoming; outgoing = later_outgoing } in
-    let began : Stand = record { front = []; incoming = incoming; outgoing = outgoing } in
+    let done = have_done pool config passes (λ front. Serves (first_caller pool.limits) MOST_BYTES (record { front = []; incoming = incoming; outgoing = outgoing })
+    (record { front = front; incoming = later_incoming; outgoing = later_outgoing }) end) closed limits_are config_is some served legal sound ends in
     record {
       end = end;
       answered = answered;
-      serves = subst (λ (l : Limits). Serves (first_caller l) MOST_BYTES began (left closed.history) end) limits_are
-          (subst (λ (h : List Event). Serves (first_caller pool.limits) MOST_BYTES began (left h) end) (sym saw) served.done);
-      legal = subst (λ (l : Limits). IsLegal l closed.history) limits_are legal;
-      sound = subst (λ (k : Config). IsSound k closed.history) config_is sound;
-      alone = all_of_first pool.limits closed.history served.front passes legal some ends served.used.seen served.used.every;
+      serves = subst (λ (l : Limits). Serves (first_caller l) MOST_BYTES (record { front = []; incoming = incoming; outgoing = outgoing })
+          (record { front = closed.history; incoming = later_incoming; outgoing = later_outgoing }) end) limits_are done.0;
+      of_first = done.1;
     }
-
--- and so was a load
-pub have_loaded : (pool : PoolId) (config : Config) (passes : List PassState) (did : List Event → Type 0) (closed : ClosedState) →
-    pool.limits ≡ limits_by config → pool.config ≡ config → 1 ≤ pool.limits.passes → FirstDid pool passes did →
-    IsLegal pool.limits closed.history → IsSound pool.config closed.history → All (EndsIn closed.history) passes →
-    did closed.history × IsOfFirst config closed
-have_loaded pool config passes did closed limits_are config_is some served legal sound ends =
-    let saw = first_saw_all pool.limits closed.history served.front passes legal some ends served.used.seen served.used.every in (
-      subst did (sym saw) served.done,
-      record {
-        legal = subst (λ (l : Limits). IsLegal l closed.history) limits_are legal;
-        sound = subst (λ (k : Config). IsSound k closed.history) config_is sound;
-        alone = all_of_first pool.limits closed.history served.front passes legal some ends served.used.seen served.used.every;
-      },
-    )

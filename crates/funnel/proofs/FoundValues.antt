@@ -43,13 +43,17 @@ pub record Fits (c : List Rule) (r : Row) : Type 0 where
 abbrev pub AllFit : List Rule → List Row → Type 0
 AllFit c rows = AllByRecursion (Fits c) rows
 
-found_belongs : (c all : List Rule) (p : Rule → Bool) (a : Rule) → AllByRecursion (Belongs c) all → find p all ≡ Some a → Belongs c a
-found_belongs c [] p a h e = absurd (cc)
-found_belongs c (x ∷ xs) p a h e = go (p x) (found_belongs c xs p a h.1) e
+-- what each element has, the one that is found has
+pub found_has : {X : Type 0} (P : X → Type 0) (all : List X) (p : X → Bool) (a : X) → AllByRecursion P all → find p all ≡ Some a → (p a ≡ true) × P a
+found_has P [] p a h e = absurd (cc)
+found_has {X} P (x ∷ xs) p a h e = go (p x) refl (found_has P xs p a h.1) e
   where
-    go : (b : Bool) → (find p xs ≡ Some a → Belongs c a) → cond b (Some x) (find p xs) ≡ Some a → Belongs c a
-    go true later e = subst (Belongs c) (some_is e) h.0
-    go false later e = later e
+    go : (b : Bool) → p x ≡ b → (find p xs ≡ Some a → (p a ≡ true) × P a) → cond b (Some x) (find p xs) ≡ Some a → (p a ≡ true) × P a
+    go true is later e = (ap p (sym (some_is e)) ∙ is, subst P (some_is e) h.0)
+    go false is later e = later e
+
+found_belongs : (c all : List Rule) (p : Rule → Bool) (a : Rule) → AllByRecursion (Belongs c) all → find p all ≡ Some a → Belongs c a
+found_belongs c all p a h e = (found_has (Belongs c) all p a h e).1
 
 -- ---- rows
 

@@ -1,85 +1,349 @@
--- Programs that end well.
-use Rattle.std.proofs.Common.{◌≡◌, ◌⊎◌, ℕ, ◌≤◌, List, [], Option, Some, None, rules, sym, refl, subst, inl, inr}
-use Rattle.std.specs.Prelude.{IsSome}
+-- Programs whose command is accepted, and whose reads, writes and gates do not fail.
+use Rattle.std.proofs.Common.{◌≡◌, ◌⊎◌, ℕ, ◌+◌, ◌≤◌, ◌||◌, Bool, true, false, cond, List, [], ◌∷◌, ◌++◌, length, map, Option, Some, None, Result, Ok, Err, IfSome, rules, sym, refl, ap, ◌∙◌, subst, inl, inr, arith, length-append}
+use Rattle.std.proofs.KnownBytes.{Consumes-all}
+use Rattle.std.proofs.lemmas.Bool.{lt-ltb}
+use Rattle.std.specs.Io.KnownBytes.{Consumes, IsAtEnd}
+use Rattle.std.specs.List.{list_any}
 use Rattle.engine.specs.Engines.{ClosedState}
-use Rattle.funnel_io.specs.Counts.{Rose, raised}
-use Rattle.funnel_io.specs.Streams.{Outgoing}
+use Rattle.funnel_io.specs.Counts.{Rose, counted, raised}
+use Rattle.funnel_io.specs.Streams.{Incoming, Outgoing, Takes, Writes}
 use Rattle.funnel_io.specs.declared.end.End.{End}
 use Rattle.funnel_io.specs.declared.end.End.TheVariants as end_of
 use Rattle.funnel_model.specs.declared.config.Config.{Config}
+use Rattle.funnel_model.specs.Legal.{Limits}
+use Rattle.funnel_server.specs.Gates.{GateState}
+use Rattle.funnel_server.specs.Workers.{WorkerState}
+use Rattle.funnel_stats.specs.Configurations.{configuration, longest}
+use Rattle.funnel_stats.specs.Reading.{IsConfigRead, IsFaultOf}
 use Rattle.funnel_stats.specs.declared.fault.ConfigFault.{ConfigFault}
 use Rattle.funnel_stats.specs.declared.fault.ConfigFault.TheVariants as config
 use Rattle.session.specs.Ends.{Serves}
 use Rattle.funnel.specs.declared.command.Command.{Command}
+use Rattle.funnel.specs.declared.command.Command.TheVariants as command
 use Rattle.funnel.specs.declared.command.LoadCommand.{LoadCommand}
+use Rattle.funnel.specs.declared.command.ServeCommand.{ServeCommand}
+use Rattle.funnel.specs.declared.ended.Misfit.{Misfit}
 use Rattle.funnel.specs.declared.ended.Why.{Why}
 use Rattle.funnel.specs.declared.ended.Why.TheVariants as why_of
-use Rattle.funnel.specs.declared.running.TheConstants.{MOST_BYTES}
+use Rattle.session.specs.declared.serving.TheConstants.{MOST_BYTES}
 use Rattle.funnel.specs.Commands.{command_of}
-use Rattle.funnel.specs.Ends.{why_of_end}
+use Rattle.funnel.specs.Ends.{why_of_config, why_of_end}
+use Rattle.line_proto.specs.Forms.{items}
+use Rattle.session.specs.Sessions.{Answers}
+use Rattle.funnel.specs.Laws.{AreDue, CompletesLoad, CompletesRun, CompletesServe, EndsWell, IsAccepted, NoFault, NoneFailed, RepliesAreDue, TellsFew}
 use Rattle.funnel.specs.LoadRuns.{EndsLoad}
-use Rattle.funnel.specs.Programs.{Ends, EndsAtConfig, EndsWell, IsAccepted, NoFault, Streams}
-use Rattle.funnel.specs.Runs.{Ran, first_caller, limits_by}
+use Rattle.funnel.specs.Misfits.{misfit_of}
+use Rattle.funnel.specs.Programs.{Ends, EndsAtConfig, EndsAtMisfit, EndsAtWords, EndsAfterLoad, EndsAfterRun, EndsAfterServe, Streams}
+use Rattle.funnel.specs.Runs.{Ran, RanOrNot, first_caller, limits_by}
+use Rattle.funnel.specs.Served.{AllWork, EndsServe, HasServed, new_workers}
+use Rattle.funnel.proofs.DueReplies.{replies_are_due}
 
 -- a count that was raised rose
 raised_rose : (before after : ℕ) → after ≡ raised before → Rose before after
 raised_rose before after is = subst (λ n. raised before ≤ n) (sym is) (search rules)
 
-by_config : (words : List (List ℕ)) (before after : Streams) (why : Why) (closed : Option ClosedState) → EndsAtConfig words before after why closed →
-    NoFault before after → IsAccepted words why → EndsWell why
-by_config words before after why closed ends none accepted = by_fault ends.fault refl where
-  by_fault : (fault : ConfigFault) → ends.fault ≡ fault → EndsWell why
-  by_fault config.ReadFault is = absurd (none.config (raised_rose before.config.faults after.config.faults (search (rules, ends.faults, is))))
-  by_fault config.Memory is = let cause : why ≡ why_of.Memory = search (rules, ends.cause, is) in subst EndsWell (sym cause) tt
-  by_fault (config.TooLong limit) is = absurd (accepted.config (config.TooLong limit) (search (rules, ends.cause, is)))
-  by_fault config.NotJson is = absurd (accepted.config config.NotJson (search (rules, ends.cause, is)))
-  by_fault (config.UnknownKey key) is = absurd (accepted.config (config.UnknownKey key) (search (rules, ends.cause, is)))
-  by_fault (config.BadValue key kept) is = absurd (accepted.config (config.BadValue key kept) (search (rules, ends.cause, is)))
-  by_fault (config.NotWord text) is = absurd (accepted.config (config.NotWord text) (search (rules, ends.cause, is)))
-  by_fault (config.WordCount word kept) is = absurd (accepted.config (config.WordCount word kept) (search (rules, ends.cause, is)))
-  by_fault (config.TooManyColumns columns) is = absurd (accepted.config (config.TooManyColumns columns) (search (rules, ends.cause, is)))
-  by_fault (config.PoolTooLarge words) is = absurd (accepted.config (config.PoolTooLarge words) (search (rules, ends.cause, is)))
+-- bytes that were taken up to the end of a source are all that it told
+all_taken : (before after : Incoming) (taken bytes : List ℕ) → Takes taken before after → IsAtEnd after.left → before.left ≡ Some bytes → taken ≡ bytes
+all_taken before after taken bytes takes at_end told =
+    subst (λ (left : Option (List ℕ)). IfSome left (λ all. taken ≡ all)) told (Consumes-all before.left after.left taken [] taken takes.left at_end refl)
 
-by_run : (config : Config) (before after : Streams) (why : Why) (closed : ClosedState) → Ran config before.input after.input before.output after.output why closed →
-    NoFault before after → EndsWell why
-by_run config before after why closed ran none = subst EndsWell (sym ran.answered) (by_end ran.end ran.serves) where
-  by_end : (end : End) → Serves (first_caller (limits_by config)) MOST_BYTES (record { front = []; incoming = before.input; outgoing = before.output })
-      (record { front = closed.history; incoming = after.input; outgoing = after.output }) end → EndsWell (why_of_end end)
-  by_end end_of.Done serves = tt
-  by_end end_of.ReadFault serves = absurd (none.input (raised_rose before.input.faults after.input.faults serves.faults.reads))
-  by_end end_of.WriteFault serves = absurd (none.output (raised_rose before.output.faults after.output.faults serves.faults.writes))
-  by_end (end_of.ByteLimit told) serves = serves.within.0
-  by_end end_of.Memory serves = tt
+-- and those that were taken are the first of them
+first_taken : (left rest : Option (List ℕ)) (taken bytes : List ℕ) → Consumes left rest taken → left ≡ Some bytes → (others : List ℕ) × (bytes ≡ taken ++ others)
+first_taken None rest taken bytes consumes told = absurd (cc)
+first_taken (Some all) None taken bytes consumes told = absurd consumes
+first_taken (Some all) (Some others) taken bytes consumes told = let same : bytes ≡ all = cc in (others, same ∙ consumes)
 
-by_load : (config : Config) (load : LoadCommand) (before after : Outgoing) (why : Why) (closed : Option ClosedState) → EndsLoad config load before after why closed →
-    (Rose before.faults after.faults → ⊥) → EndsWell why
-by_load config load before after why_of.Done closed ends none = tt
-by_load config load before after why_of.Memory closed ends none = tt
-by_load config load before after why_of.WriteFault (Some closed) ends none = absurd (none (raised_rose before.faults after.faults ends.1.1))
-by_load config load before after why_of.WriteFault None ends none = absurd ends
-by_load config load before after why_of.Usage (Some closed) ends none = absurd ends.1
-by_load config load before after why_of.Usage None ends none = absurd ends
-by_load config load before after (why_of.Config fault) (Some closed) ends none = absurd ends.1
-by_load config load before after (why_of.Config fault) None ends none = absurd ends
-by_load config load before after why_of.ReadFault (Some closed) ends none = absurd ends.1
-by_load config load before after why_of.ReadFault None ends none = absurd ends
-by_load config load before after (why_of.ByteLimit count) (Some closed) ends none = absurd ends.1
-by_load config load before after (why_of.ByteLimit count) None ends none = absurd ends
-by_load config load before after (why_of.Misfit misfit) (Some closed) ends none = absurd ends.1
-by_load config load before after (why_of.Misfit misfit) None ends none = absurd ends
+-- bytes that begin with too many are too many
+too_long : (taken others : List ℕ) → length taken ≡ longest + 1 → configuration (taken ++ others) ≡ Err (config.TooLong longest)
+unfolding configuration
+too_long taken others long = rw (lt-ltb longest (length (taken ++ others)) (omega (arith, long, length-append taken others))) refl
 
-no_command : IsSome {T = Command} None → ⊥
-no_command some = cc
+same_value : (answer : Result Config ConfigFault) (x y : Config) → answer ≡ Ok x → answer ≡ Ok y → x ≡ y
+same_value answer x y is also = cc
 
-pub ends_well : (words : List (List ℕ)) (before after : Streams) (why : Why) (closed : Option ClosedState) → Ends words before after why closed →
-    NoFault before after → IsAccepted words why → EndsWell why
-ends_well words before after why closed (inl at_words) none accepted = by_cause at_words.cause where
-  by_cause : ((why ≡ why_of.Usage) × (command_of words ≡ None)) ⊎ (why ≡ why_of.Memory) → EndsWell why
-  by_cause (inl usage) = absurd (no_command (subst IsSome usage.1 accepted.command))
-  by_cause (inr memory) = subst EndsWell (sym memory) tt
-ends_well words before after why closed (inr (inl at_config)) none accepted = by_config words before after why closed at_config none accepted
-ends_well words before after why closed (inr (inr (inl at_misfit))) none accepted = absurd (accepted.fits at_misfit.misfit at_misfit.cause)
-ends_well words before after why (Some closed) (inr (inr (inr (inl ran)))) none accepted = by_run ran.config before after why closed ran.ran none
-ends_well words before after why None (inr (inr (inr (inl ran)))) none accepted = subst EndsWell (sym ran.ran) tt
-ends_well words before after why closed (inr (inr (inr (inr loaded)))) none accepted =
-    by_load loaded.config loaded.load before.output after.output why closed loaded.ends none.output
+never_both : (answer : Result Config ConfigFault) (value : Config) (fault : ConfigFault) → answer ≡ Err fault → answer ≡ Ok value → ⊥
+never_both answer value fault failed is = cc
+
+module _ (before after : Incoming) (bytes : List ℕ) (value : Config) (told : before.left ≡ Some bytes) (valid : configuration bytes ≡ Ok value) where
+  -- a source that tells a configuration is read as that one
+  read_as_told : (other : Config) → IsConfigRead (Ok other) before after → other ≡ value
+  read_as_told other read =
+      same_value (configuration bytes) other value
+      (ap configuration (sym (all_taken before after read.bytes bytes read.takes read.answers.1 told)) ∙ read.answers.0) valid
+
+  -- so it has no fault of its bytes
+  no_fault : (fault : ConfigFault) (taken : List ℕ) → Takes taken before after → (configuration taken ≡ Err fault) × IsAtEnd after.left → ⊥
+  no_fault fault taken takes faulty =
+      never_both (configuration bytes) value fault (ap configuration (sym (all_taken before after taken bytes takes faulty.1 told)) ∙ faulty.0) valid
+
+  not_too_long : (taken : List ℕ) → Takes taken before after → length taken ≡ longest + 1 → ⊥
+  not_too_long taken takes long =
+      let first = first_taken before.left after.left taken bytes takes.left told in
+      never_both (configuration bytes) value (config.TooLong longest) (ap configuration first.1 ∙ too_long taken first.0 long) valid
+
+  -- and if it is refused for another cause than a failed read, memory ran out
+  lacks_memory : (fault : ConfigFault) (taken : List ℕ) → Takes taken before after → IsFaultOf fault taken after.left →
+      (fault ≡ config.ReadFault → ⊥) → why_of_config fault ≡ why_of.Memory
+  lacks_memory config.ReadFault taken takes faulty not_read = absurd (not_read refl)
+  lacks_memory config.Memory taken takes faulty not_read = refl
+  lacks_memory (config.TooLong limit) taken takes faulty not_read = absurd (not_too_long taken takes faulty.1)
+  lacks_memory config.NotJson taken takes faulty not_read = absurd (no_fault config.NotJson taken takes faulty)
+  lacks_memory (config.UnknownKey key) taken takes faulty not_read = absurd (no_fault (config.UnknownKey key) taken takes faulty)
+  lacks_memory (config.BadValue key kept) taken takes faulty not_read = absurd (no_fault (config.BadValue key kept) taken takes faulty)
+  lacks_memory (config.NotWord text) taken takes faulty not_read = absurd (no_fault (config.NotWord text) taken takes faulty)
+  lacks_memory (config.WordCount word kept) taken takes faulty not_read = absurd (no_fault (config.WordCount word kept) taken takes faulty)
+  lacks_memory (config.TooManyColumns columns) taken takes faulty not_read = absurd (no_fault (config.TooManyColumns columns) taken takes faulty)
+  lacks_memory (config.PoolTooLarge words) taken takes faulty not_read = absurd (no_fault (config.PoolTooLarge words) taken takes faulty)
+
+-- the command is `run`, and this is how its run went
+record IsRun (before after : Streams) (asked : Command) (value : Config) (why : Why) (closed : Option ClosedState) : Type 0 where
+  is : asked ≡ command.Run
+  ran : RanOrNot value before.input after.input before.output after.output why closed
+
+-- or a serve, and this is how it went
+record IsServe (before after : Streams) (asked : Command) (value : Config) (why : Why) (closed : Option ClosedState) : Type 0 where
+  serve : ServeCommand
+  is : asked ≡ command.Serve serve
+  ends : EndsServe value serve.connections before.gates after.gates why closed
+
+-- or a load, and this is how it went
+record IsLoad (before after : Streams) (asked : Command) (value : Config) (why : Why) (closed : Option ClosedState) : Type 0 where
+  load : LoadCommand
+  is : asked ≡ command.Load load
+  ends : EndsLoad value load before.output after.output why closed
+
+-- memory ran out, or the command is one of these
+abbrev IsCarriedOut : Streams → Streams → Command → Config → Why → Option ClosedState → Type 0
+IsCarriedOut before after asked value why closed =
+    (why ≡ why_of.Memory) ⊎ IsRun before after asked value why closed ⊎ IsServe before after asked value why closed ⊎ IsLoad before after asked value why closed
+
+some_same : (x y : Command) → Some x ≡ Some y → x ≡ y
+some_same x y is = cc
+
+no_misfit : (misfit : Misfit) → Some misfit ≡ None → ⊥
+no_misfit misfit is = cc
+
+module _ (words : List (List ℕ)) (before after : Streams) (why : Why) (closed : Option ClosedState) (asked : Command) (value : Config)
+    (none : NoFault before after) (accepted : IsAccepted words before asked value) where
+  at_words : EndsAtWords words before after why closed → why ≡ why_of.Memory
+  at_words ends = by_cause ends.cause where
+    no_words : command_of words ≡ None → ⊥
+    no_words is = let some = accepted.words_are in cc
+
+    by_cause : ((why ≡ why_of.Usage) × (command_of words ≡ None)) ⊎ (why ≡ why_of.Memory) → why ≡ why_of.Memory
+    by_cause (inl usage) = absurd (no_words usage.1)
+    by_cause (inr memory) = memory
+
+  at_config : EndsAtConfig words before after why closed → why ≡ why_of.Memory
+  at_config ends =
+      ends.cause ∙ lacks_memory before.config after.config accepted.bytes value accepted.told accepted.valid ends.fault ends.read.bytes ends.read.takes ends.read.answers
+      (λ is. none.config (raised_rose before.config.faults after.config.faults (search (rules, ends.faults, is))))
+
+  at_misfit : EndsAtMisfit words before after why closed → ⊥
+  at_misfit ends =
+      let same_command = some_same ends.command asked (sym ends.configured.words_are ∙ accepted.words_are) in
+      let same_config = read_as_told before.config after.config accepted.bytes value accepted.told accepted.valid ends.config ends.configured.read in
+      no_misfit ends.misfit (sym ends.misfits ∙ ap (λ c. misfit_of c (length before.gates) ends.config) same_command ∙ ap (misfit_of asked (length before.gates)) same_config ∙ accepted.fits)
+
+  after_run : EndsAfterRun words before after why closed → IsRun before after asked value why closed
+  after_run ends = record {
+    is = some_same asked command.Run (sym accepted.words_are ∙ ends.configured.words_are);
+    ran = subst (λ (c : Config). RanOrNot c before.input after.input before.output after.output why closed)
+        (read_as_told before.config after.config accepted.bytes value accepted.told accepted.valid ends.config ends.configured.read) ends.ran;
+  }
+
+  after_serve : EndsAfterServe words before after why closed → IsServe before after asked value why closed
+  after_serve ends = record {
+    serve = ends.serve;
+    is = some_same asked (command.Serve ends.serve) (sym accepted.words_are ∙ ends.configured.words_are);
+    ends = subst (λ (c : Config). EndsServe c ends.serve.connections before.gates after.gates why closed)
+        (read_as_told before.config after.config accepted.bytes value accepted.told accepted.valid ends.config ends.configured.read) ends.served;
+  }
+
+  after_load : EndsAfterLoad words before after why closed → IsLoad before after asked value why closed
+  after_load ends = record {
+    load = ends.load;
+    is = some_same asked (command.Load ends.load) (sym accepted.words_are ∙ ends.configured.words_are);
+    ends = subst (λ (c : Config). EndsLoad c ends.load before.output after.output why closed)
+        (read_as_told before.config after.config accepted.bytes value accepted.told accepted.valid ends.config ends.configured.read) ends.ends;
+  }
+
+  -- a command that is accepted is carried out, or memory ran out
+  carried_out : Ends words before after why closed → IsCarriedOut before after asked value why closed
+  carried_out (inl ends) = inl (at_words ends)
+  carried_out (inr (inl ends)) = inl (at_config ends)
+  carried_out (inr (inr (inl ends))) = absurd (at_misfit ends)
+  carried_out (inr (inr (inr (inl ends)))) = inr (inl (after_run ends))
+  carried_out (inr (inr (inr (inr (inl ends))))) = inr (inr (inl (after_serve ends)))
+  carried_out (inr (inr (inr (inr (inr ends))))) = inr (inr (inr (after_load ends)))
+
+not_a_load : (load : LoadCommand) → command.Run ≡ command.Load load → ⊥
+not_a_load load is = cc
+
+not_a_serve : (serve : ServeCommand) → command.Run ≡ command.Serve serve → ⊥
+not_a_serve serve is = cc
+
+no_load_serves : (load : LoadCommand) (serve : ServeCommand) → command.Load load ≡ command.Serve serve → ⊥
+no_load_serves load serve is = cc
+
+same_serve : (serve other : ServeCommand) → command.Serve serve ≡ command.Serve other → serve ≡ other
+same_serve serve other is = cc
+
+same_load : (load other : LoadCommand) → command.Load load ≡ command.Load other → load ≡ other
+same_load load other is = cc
+
+-- a run that was begun
+module _ (value : Config) (before after : Streams) (why : Why) (closed : ClosedState) (none : NoFault before after)
+    (ran : Ran value before.input after.input before.output after.output why closed) where
+  abbrev Served : End → Type 0
+  Served end = Serves (first_caller (limits_by value)) MOST_BYTES (record { front = []; incoming = before.input; outgoing = before.output })
+      (record { front = closed.history; incoming = after.input; outgoing = after.output }) end
+
+  ran_well : EndsWell why
+  ran_well = subst EndsWell (sym ran.answered) (by_end ran.end ran.serves) where
+    by_end : (end : End) → Served end → EndsWell (why_of_end end)
+    by_end end_of.Done serves = tt
+    by_end end_of.ReadFault serves = absurd (none.input (raised_rose before.input.faults after.input.faults serves.faults.reads))
+    by_end end_of.WriteFault serves = absurd (none.output (raised_rose before.output.faults after.output.faults serves.faults.writes))
+    by_end (end_of.ByteLimit told) serves = serves.within.0
+    by_end end_of.Memory serves = tt
+
+  module _ (bytes : List ℕ) (input : TellsFew before.input bytes) where
+    ran_whole : (end : End) (serves : Served end) →
+        RepliesAreDue (first_caller (limits_by value)) [] closed.history serves.taken serves.written end serves.session →
+        CompletesRun value bytes before.output after.output (why_of_end end) (Some closed)
+    ran_whole end_of.Done serves due =
+        let all = all_taken before.input after.input serves.taken bytes serves.takes serves.leaves input.told in
+        let replies = serves.session.replies in
+        record {
+          of_first = ran.of_first;
+          replies = replies;
+          answers = subst (λ (bs : List ℕ). Answers (first_caller (limits_by value)) [] (items bs true) replies closed.history) all serves.session.answers;
+          due = subst (λ (bs : List ℕ). AreDue (items bs true) replies) all due;
+          writes = subst (λ (bs : List ℕ). Writes bs before.output after.output) serves.session.text serves.writes;
+        }
+    ran_whole end_of.ReadFault serves due = absurd (none.input (raised_rose before.input.faults after.input.faults serves.faults.reads))
+    ran_whole end_of.WriteFault serves due = absurd (none.output (raised_rose before.output.faults after.output.faults serves.faults.writes))
+    ran_whole (end_of.ByteLimit told) serves due =
+        let first = first_taken before.input.left after.input.left serves.taken bytes serves.takes.left input.told in
+        absurd (omega (arith, serves.within.1, input.few, ap length first.1, length-append serves.taken first.0))
+    ran_whole end_of.Memory serves due = tt
+
+    ran_completes : CompletesRun value bytes before.output after.output why (Some closed)
+    ran_completes =
+        subst (λ (w : Why). CompletesRun value bytes before.output after.output w (Some closed)) (sym ran.answered)
+        (ran_whole ran.end ran.serves (replies_are_due value before.input after.input before.output after.output why closed ran))
+
+-- a run that is accepted and whose input is short enough answers all of it, or memory ran out
+pub run_completes : (words : List (List ℕ)) (before after : Streams) (why : Why) (closed : Option ClosedState) (value : Config) (bytes : List ℕ) →
+    Ends words before after why closed → NoFault before after → IsAccepted words before command.Run value → TellsFew before.input bytes →
+    CompletesRun value bytes before.output after.output why closed
+run_completes words before after why closed value bytes ends none accepted input =
+    by_case (carried_out words before after why closed command.Run value none accepted ends) where
+      lacking : (left : Option ClosedState) → why ≡ why_of.Memory → CompletesRun value bytes before.output after.output why left
+      lacking left memory = subst (λ (w : Why). CompletesRun value bytes before.output after.output w left) (sym memory) tt
+
+      of_run : (left : Option ClosedState) → RanOrNot value before.input after.input before.output after.output why left →
+          CompletesRun value bytes before.output after.output why left
+      of_run None memory = lacking None memory
+      of_run (Some state) ran = ran_completes value before after why state none ran bytes input
+
+      by_case : IsCarriedOut before after command.Run value why closed →
+          CompletesRun value bytes before.output after.output why closed
+      by_case (inl memory) = lacking closed memory
+      by_case (inr (inl run)) = of_run closed run.ran
+      by_case (inr (inr (inl serve))) = absurd (not_a_serve serve.serve serve.is)
+      by_case (inr (inr (inr load))) = absurd (not_a_load load.load load.is)
+
+-- and one of any input ends well
+pub run_ends_well : (words : List (List ℕ)) (before after : Streams) (why : Why) (closed : Option ClosedState) (value : Config) →
+    Ends words before after why closed → NoFault before after → IsAccepted words before command.Run value → EndsWell why
+run_ends_well words before after why closed value ends none accepted =
+    by_case (carried_out words before after why closed command.Run value none accepted ends) where
+      of_run : (left : Option ClosedState) → RanOrNot value before.input after.input before.output after.output why left → EndsWell why
+      of_run None memory = subst EndsWell (sym memory) tt
+      of_run (Some state) ran = ran_well value before after why state none ran
+
+      by_case : IsCarriedOut before after command.Run value why closed → EndsWell why
+      by_case (inl memory) = subst EndsWell (sym memory) tt
+      by_case (inr (inl run)) = of_run closed run.ran
+      by_case (inr (inr (inl serve))) = absurd (not_a_serve serve.serve serve.is)
+      by_case (inr (inr (inr load))) = absurd (not_a_load load.load load.is)
+
+-- how a load ends, where no write failed
+of_load : (value : Config) (load : LoadCommand) (before after : Outgoing) (why : Why) (closed : Option ClosedState) → EndsLoad value load before after why closed →
+    (Rose before.faults after.faults → ⊥) → CompletesLoad value load before after why closed
+of_load value load before after why_of.Memory closed ends none = tt
+of_load value load before after why_of.Done (Some closed) ends none = (ends.0, ends.1.0)
+of_load value load before after why_of.WriteFault (Some closed) ends none = absurd (none (raised_rose before.faults after.faults ends.1.1))
+of_load value load before after why_of.Usage (Some closed) ends none = absurd ends.1
+of_load value load before after (why_of.Config fault) (Some closed) ends none = absurd ends.1
+of_load value load before after why_of.ReadFault (Some closed) ends none = absurd ends.1
+of_load value load before after why_of.GateFault (Some closed) ends none = absurd ends.1
+of_load value load before after (why_of.ByteLimit count) (Some closed) ends none = absurd ends.1
+of_load value load before after (why_of.Misfit misfit) (Some closed) ends none = absurd ends.1
+of_load value load before after why_of.Done None ends none = absurd ends
+of_load value load before after why_of.WriteFault None ends none = absurd ends
+of_load value load before after why_of.Usage None ends none = absurd ends
+of_load value load before after (why_of.Config fault) None ends none = absurd ends
+of_load value load before after why_of.ReadFault None ends none = absurd ends
+of_load value load before after why_of.GateFault None ends none = absurd ends
+of_load value load before after (why_of.ByteLimit count) None ends none = absurd ends
+of_load value load before after (why_of.Misfit misfit) None ends none = absurd ends
+
+-- a load that is accepted is made and told, or memory ran out
+pub load_completes : (words : List (List ℕ)) (before after : Streams) (why : Why) (closed : Option ClosedState) (value : Config) (load : LoadCommand) →
+    Ends words before after why closed → NoFault before after → IsAccepted words before (command.Load load) value →
+    CompletesLoad value load before.output after.output why closed
+load_completes words before after why closed value load ends none accepted =
+    by_case (carried_out words before after why closed (command.Load load) value none accepted ends) where
+      by_case : IsCarriedOut before after (command.Load load) value why closed →
+          CompletesLoad value load before.output after.output why closed
+      by_case (inl memory) = subst (λ (w : Why). CompletesLoad value load before.output after.output w closed) (sym memory) tt
+      by_case (inr (inl run)) = absurd (not_a_load load (sym run.is))
+      by_case (inr (inr (inl serve))) = absurd (no_load_serves load serve.serve serve.is)
+      by_case (inr (inr (inr made))) =
+          of_load value load before.output after.output why closed
+          (subst (λ (l : LoadCommand). EndsLoad value l before.output after.output why closed) (sym (same_load load made.load made.is)) made.ends) none.output
+
+-- where no call of a gate failed, no worker's did
+no_worker_failed : (limits : Limits) (connections pass : ℕ) (gates : List GateState) (workers : List WorkerState) →
+    AllWork (new_workers limits connections pass gates) workers → NoneFailed gates (map (λ (worker : WorkerState). worker.gate) workers) →
+    list_any (λ (worker : WorkerState). worker.fault) workers ≡ false
+no_worker_failed limits connections pass [] [] work none = refl
+no_worker_failed limits connections pass [] (worker ∷ workers) work none = absurd work
+no_worker_failed limits connections pass (gate ∷ gates) [] work none = absurd work
+no_worker_failed limits connections pass (gate ∷ gates) (worker ∷ workers) work none =
+    by_worker (no_worker_failed limits connections (pass + 1) gates workers work.1 none.1) worker.fault refl where
+      by_worker : list_any (λ (w : WorkerState). w.fault) workers ≡ false → (fault : Bool) → worker.fault ≡ fault →
+          list_any (λ (w : WorkerState). w.fault) (worker ∷ workers) ≡ false
+      by_worker others true is = absurd (none.0 (raised_rose gate.faults worker.gate.faults (work.0.serves.faults ∙ ap (λ b. counted b gate.faults) is)))
+      by_worker others false is = ap (λ b. b || list_any (λ (w : WorkerState). w.fault) workers) is ∙ others
+
+-- how a serve ends, where no call of a gate failed
+of_serve : (value : Config) (connections : ℕ) (before after : List GateState) (why : Why) (closed : Option ClosedState) →
+    EndsServe value connections before after why closed → NoneFailed before after → CompletesServe value connections before after why closed
+of_serve value connections before after why None ends none = subst (λ (w : Why). CompletesServe value connections before after w None) (sym ends.0) tt
+of_serve value connections before after why (Some state) served none =
+    let faults = no_worker_failed (limits_by value) connections 0 before served.workers served.work (subst (NoneFailed before) served.gates none) in
+    by_memory (list_any (λ (worker : WorkerState). worker.memory) served.workers)
+    (served.cause ∙ ap (λ b. cond b why_of.GateFault (cond (list_any (λ (worker : WorkerState). worker.memory) served.workers) why_of.Memory why_of.Done)) faults) where
+      by_memory : (memory : Bool) → why ≡ cond memory why_of.Memory why_of.Done → CompletesServe value connections before after why (Some state)
+      by_memory true is = subst (λ (w : Why). CompletesServe value connections before after w (Some state)) (sym is) tt
+      by_memory false is =
+          subst (λ (w : Why). CompletesServe value connections before after w (Some state)) (sym is)
+          (subst (λ (w : Why). HasServed value connections before after w state) is served)
+
+-- a serve that is accepted answers the connections of its gates, or memory ran out
+pub serve_completes : (words : List (List ℕ)) (before after : Streams) (why : Why) (closed : Option ClosedState) (value : Config) (serve : ServeCommand) →
+    Ends words before after why closed → NoFault before after → IsAccepted words before (command.Serve serve) value →
+    CompletesServe value serve.connections before.gates after.gates why closed
+serve_completes words before after why closed value serve ends none accepted =
+    by_case (carried_out words before after why closed (command.Serve serve) value none accepted ends) where
+      by_case : IsCarriedOut before after (command.Serve serve) value why closed → CompletesServe value serve.connections before.gates after.gates why closed
+      by_case (inl memory) = subst (λ (w : Why). CompletesServe value serve.connections before.gates after.gates w closed) (sym memory) tt
+      by_case (inr (inl run)) = absurd (not_a_serve serve (sym run.is))
+      by_case (inr (inr (inl served))) =
+          of_serve value serve.connections before.gates after.gates why closed
+          (subst (λ (s : ServeCommand). EndsServe value s.connections before.gates after.gates why closed) (sym (same_serve serve served.serve served.is)) served.ends) none.gates
+      by_case (inr (inr (inr load))) = absurd (no_load_serves load.load serve (sym load.is))

@@ -1,4 +1,6 @@
 pub mod Alone
+pub mod DueReplies
+pub mod Endings
 pub mod Faultless
 pub mod FoundValues
 pub mod GoodEnds
@@ -7,6 +9,8 @@ pub mod NumberLemmas
 pub mod Parts
 pub mod Passes
 pub mod Runs
+pub mod Served
 pub mod Sums
 pub mod TakenNames
 pub mod TakenWords
+pub mod Turns

@@ -24,9 +24,9 @@ use Rattle.funnel.specs.declared.command.LoadCommand.{LoadCommand}
 use Rattle.funnel.specs.declared.ended.Why.{Why}
 use Rattle.funnel.specs.declared.ended.Why.TheVariants as why_of
 use Rattle.funnel.specs.Loading.{AreStopped, IsPut, calls_of}
-use Rattle.funnel.specs.LoadRuns.{EndsLoad, IsCutShort, IsLoaded, IsOfFirst, Tells}
+use Rattle.funnel.specs.LoadRuns.{EndsLoad, IsCutShort, IsLoaded, Tells}
 use Rattle.funnel.specs.Misfits.{commits_of_load, misfit_of_load}
-use Rattle.funnel.specs.Runs.{first_caller, limits_by}
+use Rattle.funnel.specs.Runs.{IsOfFirst, first_caller, limits_by}
 use Rattle.load_laws.proofs.EventCounts.{four_events_a_call}
 use Rattle.std.proofs.lemmas.List.{length-append}
 
@@ -117,6 +117,7 @@ ends_load config load before after why closed results told tells =
       by_why why_of.Memory tells = (tells, inr told.loaded)
       by_why why_of.Usage tells = absurd tells
       by_why (why_of.Config fault) tells = absurd tells
+      by_why why_of.GateFault tells = absurd tells
       by_why why_of.ReadFault tells = absurd tells
       by_why (why_of.ByteLimit count) tells = absurd tells
       by_why (why_of.Misfit misfit) tells = absurd tells

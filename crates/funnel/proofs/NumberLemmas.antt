@@ -12,8 +12,12 @@ use Rattle.clap.specs.Values.{IsSignedIn, read_as}
 use Rattle.clap.specs.Walk.{Row, Rule, Text, one_of, reading_by, rows_of}
 use Rattle.clap.specs.declared.parser.matches.Found.{Found}
 use Rattle.clap.proofs.WalkLemmas.{one_text-rows}
-use Rattle.funnel.specs.Commands.{HasNumber, HasNumbers, IsInRange, load_of, number_of}
+use Rattle.funnel.specs.Commands.{HasLoadNumbers, HasNumber, HasServeNumbers, IsLoadInRange, IsServeInRange, load_of, number_of, serve_of}
 use Rattle.funnel.specs.declared.command.LoadCommand.{LoadCommand}
+use Rattle.funnel.specs.declared.command.ServeCommand.{ServeCommand}
+use Rattle.funnel_model.specs.declared.config.TheConstants.{MOST_PASSES}
+use Rattle.load_gen.specs.declared.limits.TheConstants.{MOST_DOCS, MOST_WORDS}
+use Rattle.funnel.specs.declared.command.TheConstants.{MOST_CONNECTIONS, MOST_PORT}
 use Rattle.funnel.proofs.FoundValues.{HasValue}
 
 without_minus-cond : (t : List ℕ) → without_minus t ≡ cond (starts_with_minus t) (drop 1 t) t
@@ -30,7 +34,7 @@ no_plus (d ∷ ds) h =
     let plus : (d == 43) ≡ false = ne_eqb _ _ (λ e. omega (arith, digit_from_value d h.1.0)) in
     ap (λ (b : Bool). drop (cond b 1 0) (d ∷ ds)) plus
 
-abbrev IsNumber : ℕ → ℕ → Text → Type 0
+abbrev pub IsNumber : ℕ → ℕ → Text → Type 0
 IsNumber low high text = IsNumeral 10 (without_leading_plus text) × (low ≤ digits_value 10 (without_leading_plus text)) × (digits_value 10 (without_leading_plus text) ≤ high)
 
 -- a text that passed a range of numbers is one, once a minus before zero is dropped
@@ -83,12 +87,25 @@ number_in_range low high id rows has = go (one_of id rows) has
     go None h = absurd h
     go (Some t) h = (h.1, h.2)
 
-pub load_in_range : (found : List Row) → HasNumbers found → IsInRange (load_of found)
-load_in_range found has =
-    let docs = number_in_range 1 4194304 (codes "docs") found has.docs in
-    (docs.0, docs.1, (number_in_range 0 1000 (codes "words") found has.words).1)
+pub serve_in_range : (found : List Row) → HasServeNumbers found → IsServeInRange (serve_of found)
+serve_in_range found has =
+    let port = number_in_range 1 MOST_PORT (codes "port") found has.port in
+    let workers = number_in_range 1 MOST_PASSES (codes "workers") found has.workers in
+    let connections = number_in_range 1 MOST_CONNECTIONS (codes "connections") found has.connections in
+    record { some_port = port.0; is_port = port.1; some_workers = workers.0; few_workers = workers.1; some_connections = connections.0; few_connections = connections.1 }
 
--- a load with the numbers of its options is the one that was found
+pub load_in_range : (found : List Row) → HasLoadNumbers found → IsLoadInRange (load_of found)
+load_in_range found has =
+    let docs = number_in_range 1 MOST_DOCS (codes "docs") found has.docs in
+    record { some_docs = docs.0; few_docs = docs.1; few_words = (number_in_range 0 MOST_WORDS (codes "words") found has.words).1 }
+
+-- a serve with the numbers of its options is the one that was found
+pub serve_is : (found : List Row) (port workers connections : ℕ) → port ≡ number_of (codes "port") found → workers ≡ number_of (codes "workers") found →
+    connections ≡ number_of (codes "connections") found →
+    ◌≡◌ {A = ServeCommand} (record { port = port; workers = workers; connections = connections }) (serve_of found)
+serve_is found port workers connections p w c = λ i. record { port = p i; workers = w i; connections = c i }
+
+-- and so is a load
 pub load_is : (found : List Row) (docs words seed : ℕ) → docs ≡ number_of (codes "docs") found → words ≡ number_of (codes "words") found → seed ≡ number_of (codes "seed") found
     → ◌≡◌ {A = LoadCommand} (record { docs = docs; words = words; seed = seed }) (load_of found)
 load_is found docs words seed d w s = λ i. record { docs = d i; words = w i; seed = s i }

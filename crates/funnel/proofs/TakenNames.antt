@@ -1,17 +1,18 @@
--- Which subcommand words name that are taken: `run` or `load`, and not `help`.
-use Rattle.std.proofs.Common.{◌≡◌, ◌∙◌, ◌&&◌, ◌||◌, ℕ, Bool, cond, codes, true, false, not, refl, sym, ap, subst, inl, inr, List, [], ◌∷◌, Option, Some, None, IfSome, IsSome, is_some}
+-- Which subcommand words name that are taken: one of the command's own, and not `help`.
+use Rattle.std.proofs.Common.{◌≡◌, ◌∙◌, ◌&&◌, ◌||◌, ℕ, Bool, cond, codes, true, false, not, refl, sym, ap, subst, List, [], ◌∷◌, Option, Some, None, IfSome, IsSome, is_some}
 use Rattle.std.proofs.lemmas.Slice.Eq.{bytes_eq-Decides}
 use Rattle.std.specs.Prelude.{find, option_and_then, option_map}
-use Rattle.std.specs.List.{fold, list_all}
+use Rattle.std.specs.List.{AllByRecursion, fold, list_all}
 use Rattle.std.specs.Str.{bytes_eq}
 use Rattle.clap.specs.Lexer.{long_of, short_of}
 use Rattle.clap.specs.Walk.{Held, Names, Outcome, Rule, Step, Text, Waiting, Walk, after_flag, after_step, answers_to, arg_by_index, bundle, finished, long_met, arg_by_long, long_or_other, nothing_held, plain_word, short_or_plain, subcommand_met, subcommand_or_other, to_positional, walk, walk_from, walked, walked_from, word_met}
 use Rattle.clap.specs.Walk as walk_words
 use Rattle.clap.specs.Simple.{Shape, argument_words, built, built_leaf, entered, help_shape, is_simple, label_of, names_of, rows_at, subcommand_of}
 use Rattle.clap.specs.Takes.{default_passes, entered_passes, other_passes, settle_passes, step_passes, takes, turn_passes, walk_passes, word_passes}
-use Rattle.funnel.specs.Commands.{call_words, command_of, funnel_app, load_form, run_form, subcommand_as}
-use Rattle.funnel.proofs.Faultless.{both, some_is}
-use Rattle.funnel.proofs.TakenWords.{built_form, command_is, found_of_three, no_command}
+use Rattle.funnel.specs.Commands.{call_words, command_of, funnel_app, subcommand_as}
+use Rattle.funnel.proofs.Faultless.{both}
+use Rattle.funnel.proofs.FoundValues.{found_has}
+use Rattle.funnel.proofs.TakenWords.{command_is, no_command}
 
 -- the word is no call for help
 abbrev IsNoHelp : Text → Type 0
@@ -96,14 +97,6 @@ module _ (s : Shape) (names : Names) (helps : s.disable_help_subcommand ≡ fals
 
 -- ---- the subcommand
 
-find_passes : (p : Shape → Bool) (xs : List Shape) (s : Shape) → find p xs ≡ Some s → p s ≡ true
-find_passes p [] s e = absurd (cc)
-find_passes p (x ∷ xs) s e = go (p x) refl (find_passes p xs s) e
-  where
-    go : (b : Bool) → p x ≡ b → (find p xs ≡ Some s → p s ≡ true) → cond b (Some x) (find p xs) ≡ Some s → p s ≡ true
-    go true is later e = ap p (sym (some_is e)) ∙ is
-    go false is later e = later e
-
 -- only the name `help` names the subcommand that building adds
 no_help_met : (name : Text) → IsNoHelp name → answers_to name (label_of (built_leaf help_shape)) ≡ true → ⊥
 no_help_met name no_help e = go (bytes_eq (codes "help") name) refl e
@@ -118,14 +111,16 @@ no_help_met name no_help e = go (bytes_eq (codes "help") name) refl e
 abbrev IsCommand : Option (Text × List walk_words.Row) → Type 0
 IsCommand found = IsSome (option_and_then subcommand_as found)
 
+abbrev GivesCommand : Text → List Text → Shape → Type 0
+GivesCommand name words s = answers_to name (label_of s) ≡ true → IsCommand (Some (rows_at s words))
+
+all_give : (name : Text) (words : List Text) → IsNoHelp name → AllByRecursion (GivesCommand name words) (built funnel_app).subs
+all_give name words no_help = (λ e. refl, (λ e. refl, (λ e. refl, (λ e. absurd (no_help_met name no_help e), tt))))
+
 found_command : (name : Text) (words : List Text) (s : Shape) → IsNoHelp name → find (λ s. answers_to name (label_of s)) (built funnel_app).subs ≡ Some s → IsCommand (Some (rows_at s words))
-found_command name words s no_help is = elim (found_of_three (λ s. answers_to name (label_of s)) (built_form run_form) (built_form load_form) (built_leaf help_shape) s is) [
-  | inl run ↦ subst (λ (x : Shape). IsCommand (Some (rows_at x words))) run refl
-  | inr rest ↦ elim rest [
-    | inl load ↦ subst (λ (x : Shape). IsCommand (Some (rows_at x words))) load refl
-    | inr help ↦ absurd (no_help_met name no_help (ap (λ (x : Shape). answers_to name (label_of x)) help ∙ find_passes (λ s. answers_to name (label_of s)) (built funnel_app).subs s is))
-  ]
-]
+found_command name words s no_help is =
+    let found = found_has (GivesCommand name words) (built funnel_app).subs (λ s. answers_to name (label_of s)) s (all_give name words no_help) is in
+    found.1 found.0
 
 entered_command : (stop : Option (Text × List Text)) → IfSome stop (λ p. IsNoHelp p.0) → is_some (entered (built funnel_app) stop) ≡ true → IsCommand (entered (built funnel_app) stop)
 entered_command None no_help e = absurd (cc)

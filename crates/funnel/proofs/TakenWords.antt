@@ -1,15 +1,21 @@
 -- What `clap` takes of funnel's own command line.
-use Rattle.std.proofs.Common.{◌≡◌, ◌∙◌, ◌⊎◌, ℕ, Bool, cond, codes, true, false, refl, sym, ap, ap₂, subst, inl, inr, arith, List, [], ◌∷◌, Option, Some, None, IfSome, slice_index, Result, Ok, Err, IfOk, IsErrAnd, IsErrOf}
+use Rattle.std.proofs.Common.{◌≡◌, ◌∙◌, ℕ, Bool, codes, true, false, refl, sym, ap, ap₂, subst, inl, inr, arith, List, [], ◌∷◌, Option, Some, None, IfSome, slice_index, Result, Ok, Err, IfOk, IsErrAnd, IsErrOf}
 use Rattle.std.specs.Prelude.{find, option_and_then, option_map}
 use Rattle.std.specs.List.{AllByRecursion, list_all}
 use Rattle.std.specs.Option.{ok_or, option_map_or}
-use Rattle.clap.specs.Walk.{Row, Rule, Text, answers_to, finished, nothing_held, rows_after, settled, walk, walk_from}
+use Rattle.clap.specs.Walk.{Row, Rule, Text, answers_to, arg_by_id, has_row, nothing_held, reading_by, rows_after, settled, walk, walk_from}
 use Rattle.clap.specs.Simple.{Shape, argument_words, built, built_leaf, entered, filled, help_rule, help_shape, inherited, is_simple, label_of, marked_built, names_of, rows_at, subcommand_of, with_leaf_noted}
-use Rattle.clap.specs.Takes.{default_passes, entered_passes, is_given, is_valid, level_passes, settle_passes, takes, walk_passes}
+use Rattle.clap.specs.Takes.{default_passes, entered_passes, is_given, is_valid, level_passes, settle_passes, takes, value_passes, walk_passes}
 use Rattle.clap.specs.Faults.{fault_of, is_simple_and_free}
 use Rattle.clap.proofs.OnLiterals.{clap_on_literals}
 use Rattle.clap.proofs.ValueTestLemmas.{accepts-Accepts}
+use Rattle.clap.specs.Values.{read_as}
+use Rattle.clap.specs.ValueTests.{accepts}
+use Rattle.clap.specs.declared.builder.value_parser.Reading.TheVariants.{AsWritten, WithoutMinus}
 use Rattle.clap.specs.declared.builder.value_parser.ValueParser.TheVariants as vp
+use Rattle.funnel_model.specs.declared.config.TheConstants.{MOST_PASSES}
+use Rattle.load_gen.specs.declared.limits.TheConstants.{MOST_DOCS, MOST_WORDS}
+use Rattle.funnel.specs.declared.command.TheConstants.{MOST_CONNECTIONS, MOST_PORT}
 use Rattle.clap.specs.Words.{App, HasMatchesOf, subcommand_rows_of}
 use Rattle.clap.specs.declared.parser.matches.ArgMatches.{ArgMatches}
 use Rattle.clap.specs.declared.error.kind.ErrorKind.{ErrorKind}
@@ -17,10 +23,10 @@ use Rattle.clap.specs.declared.error.kind.ErrorKind.TheVariants.{OutOfMemory}
 use Rattle.funnel.specs.declared.command.Command.{Command}
 use Rattle.funnel.specs.declared.command.CommandFault.{CommandFault}
 use Rattle.funnel.specs.declared.command.CommandFault.TheVariants.{Memory, Usage}
-use Rattle.funnel.proofs.NumberLemmas.{number_in, signed_number}
-use Rattle.funnel.specs.Commands.{HasNumbers, call_words, command_of, fault_by, subcommand_as, funnel_app, load_form, docs_option, numbers_between, run_form, seed_option, words_option}
-use Rattle.funnel.proofs.Faultless.{all_of_two, both, built_taken, is_open, some_is}
-use Rattle.funnel.proofs.FoundValues.{AllFit, Belongs, defaults-fit, defaults-there, given-there, has_value, settled-fits, walk-fits}
+use Rattle.funnel.proofs.NumberLemmas.{IsNumber, number_in, signed_number}
+use Rattle.funnel.specs.Commands.{HasLoadNumbers, HasNumber, HasNumbers, HasServeNumbers, call_words, command_of, connections_option, docs_option, fault_by, funnel_app, load_form, numbers_between, port_option, run_form, seed_option, serve_form, subcommand_as, words_option, workers_option}
+use Rattle.funnel.proofs.Faultless.{all_of_two, both, built_taken, is_open}
+use Rattle.funnel.proofs.FoundValues.{AllFit, Belongs, defaults-fit, defaults-there, found_has, given-there, has_value, settled-fits, walk-fits}
 
 -- ---- the command line itself
 
@@ -44,14 +50,98 @@ subcommands_are_open = refl
 pub faultless_is_taken : (words : List Text) → fault_of funnel_app words ≡ [] → takes funnel_app words ≡ true
 faultless_is_taken words e = all_of_two _ _ app_is_simple (built_taken (built funnel_app) (argument_words funnel_app words) top_is_open subcommands_are_open e)
 
--- ---- the options of `load`
+-- ---- the options of a subcommand
 
 -- a form of a subcommand, as building leaves it
 abbrev pub built_form : Shape → Shape
 built_form form = built_leaf (inherited (with_leaf_noted (marked_built funnel_app.top)) form)
 
-abbrev rules : List Rule
-rules = (built_form load_form).rules
+-- what words that pass give the options of a form: each has values that passed its parser, and what has to be given is
+record AreFound (form : Shape) (words : List Text) : Type 0 where
+  pub fit : AllFit form.rules (rows_after form.rules [] words)
+  pub valid : is_valid form (rows_after form.rules [] words) false ≡ true
+
+are_found : (form : Shape) (words : List Text) → AllByRecursion (Belongs form.rules) form.rules → level_passes form [] nothing_held words false ≡ true → AreFound form words
+are_found form words all e =
+    let rules = form.rules in
+    let again = form.args_override_self in
+    let end = (walk rules [] nothing_held words).held in
+    let walked = both (walk_passes form [] (walk_from nothing_held) words) _ e in
+    let ends = both (settle_passes rules again end) _ walked.1 in
+    let rest = both (list_all default_passes rules) _ ends.1 in
+    let walk_fits : AllFit rules end.rows = walk-fits form [] all (walk_from nothing_held) words walked.0 tt in
+    record {
+      fit = defaults-fit rules rules (settled rules end).rows all rest.0 (settled-fits rules again all end ends.0 walk_fits);
+      valid = rest.1;
+    }
+
+-- the rows of a form before the defaults
+abbrev rows_given : Shape → List Text → List Row
+rows_given form words = (settled form.rules (walk form.rules [] nothing_held words).held).rows
+
+module _ (rules : List Rule) (rows : List Row) (fits : AllFit rules rows) where
+  -- an option of numbers that has a row has a number
+  signed : (low high : ℕ) (a : Rule) (id : Text) → arg_by_id rules id ≡ Some a → reading_by a ≡ WithoutMinus →
+      ((text : Text) → value_passes a text ≡ true → accepts false (numbers_between low high) text ≡ true) → has_row id rows ≡ true → HasNumber low high id rows
+  signed low high a id own reads passes there =
+      let value = has_value rules a id rows own fits there in
+      let passed = accepts-Accepts false (numbers_between low high) value.value (passes value.value value.pass) in
+      number_in low high a id rows value (subst (λ how. IsNumber low high (read_as how value.value)) (sym reads) (signed_number low high value.value passed))
+
+  unsigned : (low high : ℕ) (a : Rule) (id : Text) → arg_by_id rules id ≡ Some a → reading_by a ≡ AsWritten →
+      ((text : Text) → value_passes a text ≡ true → accepts false (vp.Unsigned low high) text ≡ true) → has_row id rows ≡ true → HasNumber low high id rows
+  unsigned low high a id own reads passes there =
+      let value = has_value rules a id rows own fits there in
+      let passed = accepts-Accepts false (vp.Unsigned low high) value.value (passes value.value value.pass) in
+      number_in low high a id rows value (subst (λ how. IsNumber low high (read_as how value.value)) (sym reads) (passed.0, passed.2, passed.3))
+
+-- ---- the options of `serve`
+
+abbrev serve_rules : List Rule
+serve_rules = (built_form serve_form).rules
+
+abbrev port : Rule
+port = filled port_option
+
+abbrev workers : Rule
+workers = filled workers_option
+
+abbrev connections : Rule
+connections = filled connections_option
+
+serve_rules_belong : AllByRecursion (Belongs serve_rules) serve_rules
+serve_rules_belong = (
+  record { own = refl; kind = inl (refl, omega arith) },
+  (
+    record { own = refl; kind = inl (refl, omega arith) },
+    (
+      record { own = refl; kind = inl (refl, omega arith) },
+      (record { own = refl; kind = inr refl }, tt),
+    ),
+  ),
+)
+
+port_and_workers_are_given : (rows : List Row) → is_valid (built_form serve_form) rows false ≡ true → (is_given (codes "port") rows ≡ true) × (is_given (codes "workers") rows ≡ true)
+port_and_workers_are_given rows e =
+    let given = both (is_given (codes "port") rows) _ e in
+    (given.0, (both (is_given (codes "workers") rows) _ given.1).0)
+
+serve_numbers : (words : List Text) → level_passes (built_form serve_form) [] nothing_held words false ≡ true → HasServeNumbers (rows_after serve_rules [] words)
+serve_numbers words e =
+    let found = are_found (built_form serve_form) words serve_rules_belong e in
+    let rows = rows_after serve_rules [] words in
+    let given = port_and_workers_are_given rows found.valid in
+    let default = defaults-there (port ∷ workers ∷ []) (filled help_rule ∷ []) connections (rows_given (built_form serve_form) words) (omega arith) in
+    record {
+      port = signed serve_rules rows found.fit 1 MOST_PORT port (codes "port") refl refl (λ text pass. pass) (given-there (codes "port") rows given.0);
+      workers = signed serve_rules rows found.fit 1 MOST_PASSES workers (codes "workers") refl refl (λ text pass. pass) (given-there (codes "workers") rows given.1);
+      connections = unsigned serve_rules rows found.fit 1 MOST_CONNECTIONS connections (codes "connections") refl refl (λ text pass. pass) default;
+    }
+
+-- ---- the options of `load`
+
+abbrev load_rules : List Rule
+load_rules = (built_form load_form).rules
 
 abbrev docs : Rule
 docs = filled docs_option
@@ -62,8 +152,8 @@ words_in_each = filled words_option
 abbrev seed : Rule
 seed = filled seed_option
 
-all_belong : AllByRecursion (Belongs rules) rules
-all_belong = (
+load_rules_belong : AllByRecursion (Belongs load_rules) load_rules
+load_rules_belong = (
   record { own = refl; kind = inl (refl, omega arith) },
   (
     record { own = refl; kind = inl (refl, omega arith) },
@@ -77,67 +167,66 @@ all_belong = (
 docs_is_given : (rows : List Row) → is_valid (built_form load_form) rows false ≡ true → is_given (codes "docs") rows ≡ true
 docs_is_given rows e = (both (is_given (codes "docs") rows) _ e).0
 
-load_numbers : (words : List Text) → level_passes (built_form load_form) [] nothing_held words false ≡ true → HasNumbers (rows_after rules [] words)
+load_numbers : (words : List Text) → level_passes (built_form load_form) [] nothing_held words false ≡ true → HasLoadNumbers (rows_after load_rules [] words)
 load_numbers words e =
-    let end = (walk rules [] nothing_held words).held in
-    let rows = finished rules end in
-    let walked = both (walk_passes (built_form load_form) [] (walk_from nothing_held) words) _ e in
-    let ends = both (settle_passes rules false end) _ walked.1 in
-    let rest = both (list_all default_passes rules) _ ends.1 in
-    let walk_fits : AllFit rules end.rows = walk-fits (built_form load_form) [] all_belong (walk_from nothing_held) words walked.0 tt in
-    let fits : AllFit rules rows = defaults-fit rules rules (settled rules end).rows all_belong rest.0 (settled-fits rules false all_belong end ends.0 walk_fits) in
-    let before = (settled rules end).rows in
-    let docs_value = has_value rules docs (codes "docs") rows refl fits (given-there (codes "docs") rows (docs_is_given rows rest.1)) in
-    let words_value = has_value rules words_in_each (codes "words") rows refl fits (defaults-there (docs ∷ []) (seed ∷ filled help_rule ∷ []) words_in_each before (omega arith)) in
-    let seed_value = has_value rules seed (codes "seed") rows refl fits (defaults-there (docs ∷ words_in_each ∷ []) (filled help_rule ∷ []) seed before (omega arith)) in
+    let found = are_found (built_form load_form) words load_rules_belong e in
+    let rows = rows_after load_rules [] words in
+    let before = rows_given (built_form load_form) words in
+    let words_default = defaults-there (docs ∷ []) (seed ∷ filled help_rule ∷ []) words_in_each before (omega arith) in
+    let seed_default = defaults-there (docs ∷ words_in_each ∷ []) (filled help_rule ∷ []) seed before (omega arith) in
     record {
-      docs = number_in 1 4194304 docs (codes "docs") rows docs_value (signed_number 1 4194304 docs_value.value (accepts-Accepts false (numbers_between 1 4194304) docs_value.value docs_value.pass));
-      words = number_in 0 1000 words_in_each (codes "words") rows words_value (signed_number 0 1000 words_value.value (accepts-Accepts false (numbers_between 0 1000) words_value.value words_value.pass));
-      seed =
-          let passed = accepts-Accepts false (vp.Unsigned 0 18446744073709551615) seed_value.value seed_value.pass in
-          number_in 0 18446744073709551615 seed (codes "seed") rows seed_value (passed.0, passed.2, passed.3);
+      docs = signed load_rules rows found.fit 1 MOST_DOCS docs (codes "docs") refl refl (λ text pass. pass) (given-there (codes "docs") rows (docs_is_given rows found.valid));
+      words = signed load_rules rows found.fit 0 MOST_WORDS words_in_each (codes "words") refl refl (λ text pass. pass) words_default;
+      seed = unsigned load_rules rows found.fit 0 18446744073709551615 seed (codes "seed") refl refl (λ text pass. pass) seed_default;
     }
 
 -- ---- the subcommand that words name
 
-abbrev pub IsLoadWithNumbers : Text × List Row → Type 0
-IsLoadWithNumbers found = found.0 ≡ codes "load" → HasNumbers found.1
+-- names that begin with other letters are not the same
+other_name : (a b : Text) → (slice_index a 0 ≡ slice_index b 0 → ⊥) → a ≡ b → ⊥
+other_name a b other same = other (ap (λ (t : Text). slice_index t 0) same)
 
-pub found_of_three : (p : Shape → Bool) (x y z s : Shape) → find p (x ∷ y ∷ z ∷ []) ≡ Some s → (x ≡ s) ⊎ ((y ≡ s) ⊎ (z ≡ s))
-found_of_three p x y z s e = go (p x) (p y) (p z) e
-  where
-    go : (a b d : Bool) → cond a (Some x) (cond b (Some y) (cond d (Some z) None)) ≡ Some s → (x ≡ s) ⊎ ((y ≡ s) ⊎ (z ≡ s))
-    go true b d e = inl (some_is e)
-    go false true d e = inr (inl (some_is e))
-    go false false true e = inr (inr (some_is e))
-    go false false false e = absurd (cc)
+abbrev FindsNumbers : List Text → Shape → Type 0
+FindsNumbers words s = level_passes s [] nothing_held words false ≡ true → HasNumbers (rows_at s words)
 
-other_name : (name : Text) (letter : ℕ) → slice_index name 0 ≡ letter → (letter ≡ 108 → ⊥) → name ≡ codes "load" → ⊥
-other_name name letter first other e =
-    let l : slice_index name 0 ≡ 108 = ap (λ (t : Text). slice_index t 0) e in
-    other (sym first ∙ l)
+run_finds_none : (words : List Text) → FindsNumbers words (built_form run_form)
+run_finds_none words e = record {
+  serve = λ is. absurd (other_name (codes "run") (codes "serve") (λ same. omega (arith, same)) is);
+  load = λ is. absurd (other_name (codes "run") (codes "load") (λ same. omega (arith, same)) is);
+}
 
-found_numbers : (words : List Text) (name : Text) (s : Shape) → find (λ s. answers_to name (label_of s)) (built funnel_app).subs ≡ Some s → level_passes s [] nothing_held words false ≡ true
-    → IsLoadWithNumbers (rows_at s words)
-found_numbers words name s is e = elim (found_of_three (λ s. answers_to name (label_of s)) (built_form run_form) (built_form load_form) (built_leaf help_shape) s is) [
-  | inl run ↦ λ load. absurd (other_name s.name 114 (ap (λ (x : Shape). slice_index x.name 0) (sym run)) (λ bad. omega arith) load)
-  | inr rest ↦ elim rest [
-    | inl load ↦ subst (λ (x : Shape). level_passes x [] nothing_held words false ≡ true → IsLoadWithNumbers (rows_at x words)) load (λ passes named. load_numbers words passes) e
-    | inr help ↦ λ load. absurd (other_name s.name 104 (ap (λ (x : Shape). slice_index x.name 0) (sym help)) (λ bad. omega arith) load)
-  ]
-]
+serve_finds : (words : List Text) → FindsNumbers words (built_form serve_form)
+serve_finds words e = record {
+  serve = λ is. serve_numbers words e;
+  load = λ is. absurd (other_name (codes "serve") (codes "load") (λ same. omega (arith, same)) is);
+}
 
-entered_numbers : (stop : Option (Text × List Text)) → entered_passes (built funnel_app) stop ≡ true → IfSome (entered (built funnel_app) stop) IsLoadWithNumbers
+load_finds : (words : List Text) → FindsNumbers words (built_form load_form)
+load_finds words e = record {
+  serve = λ is. absurd (other_name (codes "load") (codes "serve") (λ same. omega (arith, same)) is);
+  load = λ is. load_numbers words e;
+}
+
+help_finds_none : (words : List Text) → FindsNumbers words (built_leaf help_shape)
+help_finds_none words e = record {
+  serve = λ is. absurd (other_name (codes "help") (codes "serve") (λ same. omega (arith, same)) is);
+  load = λ is. absurd (other_name (codes "help") (codes "load") (λ same. omega (arith, same)) is);
+}
+
+all_find : (words : List Text) → AllByRecursion (FindsNumbers words) (built funnel_app).subs
+all_find words = (run_finds_none words, (serve_finds words, (load_finds words, (help_finds_none words, tt))))
+
+entered_numbers : (stop : Option (Text × List Text)) → entered_passes (built funnel_app) stop ≡ true → IfSome (entered (built funnel_app) stop) HasNumbers
 entered_numbers None e = tt
 entered_numbers (Some p) e = go (find (λ s. answers_to p.0 (label_of s)) (built funnel_app).subs) refl e
   where
     go : (o : Option Shape) → find (λ s. answers_to p.0 (label_of s)) (built funnel_app).subs ≡ o → option_map_or (λ s. level_passes s [] nothing_held p.1 false) o true ≡ true
-        → IfSome (option_map (λ s. rows_at s p.1) o) IsLoadWithNumbers
+        → IfSome (option_map (λ s. rows_at s p.1) o) HasNumbers
     go None is e = tt
-    go (Some s) is e = found_numbers p.1 p.0 s is e
+    go (Some s) is e = (found_has (FindsNumbers p.1) (built funnel_app).subs (λ s. answers_to p.0 (label_of s)) s (all_find p.1) is).1 e
 
--- where the words are taken and are a load, each of its options has a number
-pub taken_numbers : (words : List Text) → takes funnel_app words ≡ true → IfSome (subcommand_of funnel_app words) IsLoadWithNumbers
+-- where the words are taken, each option of the subcommand that they name has a number
+pub taken_numbers : (words : List Text) → takes funnel_app words ≡ true → IfSome (subcommand_of funnel_app words) HasNumbers
 taken_numbers words e =
     let parts = both (is_simple funnel_app) _ e in
     let stop = (walk (built funnel_app).top.rules (names_of (built funnel_app)) nothing_held (argument_words funnel_app words)).stopped in

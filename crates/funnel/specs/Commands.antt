@@ -1,5 +1,6 @@
 -- Which command some words are: what `clap` makes of them for the command that is written out here.
-use Rattle.std.specs.Prelude.{◌≤◌, ⊤, ℕ, true, false, List, [], ◌∷◌, Option, Some, None, pos, codes, if◌then◌else◌, option_and_then, unwrap_or}
+use Rattle.std.specs.Prelude.{◌≡◌, ◌≤◌, ⊤, ℕ, Bool, true, false, List, [], ◌∷◌, Option, Some, None, pos, codes, if◌then◌else◌, option_and_then, unwrap_or}
+use Rattle.std.specs.List.{range_with_len}
 use Rattle.std.specs.Option.{IsSomeAnd}
 use Rattle.std.specs.Str.{bytes_eq}
 use Rattle.std.specs.Str.Parse.{IsNumeral, digits_value, without_leading_plus}
@@ -11,6 +12,10 @@ use Rattle.clap.specs.declared.builder.value_parser.ValueParser.TheVariants as v
 use Rattle.funnel.specs.declared.command.Command.{Command}
 use Rattle.funnel.specs.declared.command.Command.TheVariants as command
 use Rattle.funnel.specs.declared.command.LoadCommand.{LoadCommand}
+use Rattle.funnel.specs.declared.command.ServeCommand.{ServeCommand}
+use Rattle.funnel.specs.declared.command.TheConstants.{MOST_CONNECTIONS, MOST_PORT}
+use Rattle.funnel_model.specs.declared.config.TheConstants.{MOST_PASSES}
+use Rattle.load_gen.specs.declared.limits.TheConstants.{MOST_DOCS, MOST_WORDS}
 use Rattle.funnel.specs.declared.command.CommandFault.{CommandFault}
 use Rattle.funnel.specs.declared.command.CommandFault.TheVariants.{Memory, Usage}
 use Rattle.clap.specs.declared.error.kind.ErrorKind.{ErrorKind}
@@ -24,13 +29,25 @@ numbers_between low high = vp.Signed (pos low) (pos high)
 abbrev pub number_option : Text → ValueParser → Rule
 number_option name numbers = record (new_rule name) { long = Some name; action = Some Set; parser = Some numbers }
 
+-- the port of the first worker, which has to be given
+abbrev pub port_option : Rule
+port_option = record (number_option (codes "port") (numbers_between 1 MOST_PORT)) { required = true }
+
+-- a number of workers, which has to be given
+abbrev pub workers_option : Rule
+workers_option = record (number_option (codes "workers") (numbers_between 1 MOST_PASSES)) { required = true }
+
+-- how many connections each worker serves, or else 1,000,000
+abbrev pub connections_option : Rule
+connections_option = record (number_option (codes "connections") (vp.Unsigned 1 MOST_CONNECTIONS)) { defaults = codes "1000000" ∷ [] }
+
 -- a number of documents, which has to be given
 abbrev pub docs_option : Rule
-docs_option = record (number_option (codes "docs") (numbers_between 1 4194304)) { required = true }
+docs_option = record (number_option (codes "docs") (numbers_between 1 MOST_DOCS)) { required = true }
 
 -- a number of words for each document, or else 80
 abbrev pub words_option : Rule
-words_option = record (number_option (codes "words") (numbers_between 0 1000)) { defaults = codes "80" ∷ [] }
+words_option = record (number_option (codes "words") (numbers_between 0 MOST_WORDS)) { defaults = codes "80" ∷ [] }
 
 -- a number of 64 bits, or else 0
 abbrev pub seed_option : Rule
@@ -40,6 +57,9 @@ seed_option = record (number_option (codes "seed") (vp.Unsigned 0 18446744073709
 abbrev pub run_form : Shape
 run_form = new_shape (codes "run")
 
+abbrev pub serve_form : Shape
+serve_form = record (new_shape (codes "serve")) { rules = port_option ∷ workers_option ∷ connections_option ∷ [] }
+
 abbrev pub load_form : Shape
 load_form = record (new_shape (codes "load")) { rules = docs_option ∷ words_option ∷ seed_option ∷ [] }
 
@@ -47,7 +67,7 @@ load_form = record (new_shape (codes "load")) { rules = docs_option ∷ words_op
 abbrev pub funnel_app : App
 funnel_app = record {
   top = record (new_shape (codes "funnel")) { is_leaf = false; subcommand_required = true };
-  subs = run_form ∷ load_form ∷ [];
+  subs = run_form ∷ serve_form ∷ load_form ∷ [];
 }
 
 -- the option has a value, which is a number from `low` to `high`
@@ -55,15 +75,33 @@ abbrev pub HasNumber : ℕ → ℕ → Text → List Row → Type 0
 HasNumber low high name found = IsSomeAnd (one_of name found) (λ text.
     IsNumeral 10 (without_leading_plus text) × (low ≤ digits_value 10 (without_leading_plus text)) × (digits_value 10 (without_leading_plus text) ≤ high))
 
+-- each option of `serve` has one
+pub record HasServeNumbers (found : List Row) : Type 0 where
+  pub port : HasNumber 1 MOST_PORT (codes "port") found
+  pub workers : HasNumber 1 MOST_PASSES (codes "workers") found
+  pub connections : HasNumber 1 MOST_CONNECTIONS (codes "connections") found
+
 -- each option of `load` has one
-pub record HasNumbers (found : List Row) : Type 0 where
-  pub docs : HasNumber 1 4194304 (codes "docs") found
-  pub words : HasNumber 0 1000 (codes "words") found
+pub record HasLoadNumbers (found : List Row) : Type 0 where
+  pub docs : HasNumber 1 MOST_DOCS (codes "docs") found
+  pub words : HasNumber 0 MOST_WORDS (codes "words") found
   pub seed : HasNumber 0 18446744073709551615 (codes "seed") found
+
+-- and so has each option of the subcommand that was found
+pub record HasNumbers (found : Text × List Row) : Type 0 where
+  pub serve : found.0 ≡ codes "serve" → HasServeNumbers found.1
+  pub load : found.0 ≡ codes "load" → HasLoadNumbers found.1
 
 -- the number that an option has: the value that was given, or else its default
 abbrev pub number_of : Text → List Row → ℕ
 number_of name found = digits_value 10 (without_leading_plus (unwrap_or (one_of name found) []))
+
+abbrev pub serve_of : List Row → ServeCommand
+serve_of found = record {
+  port = number_of (codes "port") found;
+  workers = number_of (codes "workers") found;
+  connections = number_of (codes "connections") found;
+}
 
 abbrev pub load_of : List Row → LoadCommand
 load_of found = record {
@@ -72,20 +110,33 @@ load_of found = record {
   seed = number_of (codes "seed") found;
 }
 
--- the numbers of a load lie in their ranges
-abbrev pub IsInRange : LoadCommand → Type 0
-IsInRange load = (1 ≤ load.docs) × (load.docs ≤ 4194304) × (load.words ≤ 1000)
+-- the numbers of a serve lie in their ranges
+pub record IsServeInRange (serve : ServeCommand) : Type 0 where
+  pub some_port : 1 ≤ serve.port
+  pub is_port : serve.port ≤ MOST_PORT
+  pub some_workers : 1 ≤ serve.workers
+  pub few_workers : serve.workers ≤ MOST_PASSES
+  pub some_connections : 1 ≤ serve.connections
+  pub few_connections : serve.connections ≤ MOST_CONNECTIONS
+
+-- the numbers of a load lie in theirs
+pub record IsLoadInRange (load : LoadCommand) : Type 0 where
+  pub some_docs : 1 ≤ load.docs
+  pub few_docs : load.docs ≤ MOST_DOCS
+  pub few_words : load.words ≤ MOST_WORDS
 
 -- and so do those of a command
 abbrev pub HasNumbersInRange : Command → Type 0
 HasNumbersInRange command.Run = ⊤
-HasNumbersInRange (command.Load load) = IsInRange load
+HasNumbersInRange (command.Serve serve) = IsServeInRange serve
+HasNumbersInRange (command.Load load) = IsLoadInRange load
 
 -- the command that a subcommand is, with what was found for its options
 abbrev pub subcommand_as : Text × List Row → Option Command
 subcommand_as (name, found) =
     if bytes_eq name (codes "run") then Some command.Run
-    else (if bytes_eq name (codes "load") then Some (command.Load (load_of found)) else None)
+    else (if bytes_eq name (codes "serve") then Some (command.Serve (serve_of found))
+    else (if bytes_eq name (codes "load") then Some (command.Load (load_of found)) else None))
 
 -- the words of a call, after the name of the program
 abbrev pub call_words : List Text → List Text
@@ -96,6 +147,15 @@ abbrev pub command_of : List Text → Option Command
 command_of words =
     if takes funnel_app (call_words words)
     then option_and_then subcommand_as (subcommand_of funnel_app (call_words words)) else None
+
+abbrev pub is_serve : Option Command → Bool
+is_serve (Some (command.Serve serve)) = true
+is_serve _ = false
+
+-- the ports on which a command listens: one for each worker of a serve, from the stated one up, also where there is no such port
+abbrev pub ports_of : Option Command → List ℕ
+ports_of (Some (command.Serve serve)) = range_with_len serve.port serve.workers
+ports_of _ = []
 
 -- why no command was read, by what `clap` says went wrong
 abbrev pub fault_by : ErrorKind → CommandFault

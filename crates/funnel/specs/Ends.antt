@@ -15,6 +15,7 @@ status_of (why_of.Config fault) = 2
 status_of why_of.ReadFault = 3
 status_of why_of.WriteFault = 4
 status_of why_of.Memory = 5
+status_of why_of.GateFault = 6
 status_of (why_of.ByteLimit count) = 7
 status_of (why_of.Misfit misfit) = 8
 

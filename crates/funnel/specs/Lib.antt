@@ -1,8 +1,12 @@
 pub mod Commands
 pub mod Ends
+pub mod Laws
 pub mod LoadRuns
 pub mod Loading
 pub mod Misfits
 pub mod Programs
 pub mod Runs
+pub mod Served
 pub mod Serving
+pub mod Turns
+pub mod Workers

@@ -1,9 +1,10 @@
--- What a program of funnel does, from its words to its end.
-use Rattle.std.specs.Prelude.{◌≡◌, ◌≢◌, ◌⊎◌, ⊤, ℕ, List, Option, Some, None, IsSome, Ok, Err}
+-- What a program of funnel does, from its words to its end. How each end is told stands in `Ends`, and the laws in `Laws`.
+use Rattle.std.specs.Prelude.{◌≡◌, ◌⊎◌, ℕ, List, length, Option, Some, None, IsSome, Ok, Err}
 use Rattle.engine.specs.Engines.{ClosedState}
-use Rattle.funnel_io.specs.Counts.{Rose, counted}
+use Rattle.funnel_io.specs.Counts.{counted}
 use Rattle.funnel_io.specs.Streams.{Incoming, Outgoing}
 use Rattle.funnel_model.specs.declared.config.Config.{Config}
+use Rattle.funnel_server.specs.Gates.{GateState}
 use Rattle.funnel_stats.specs.declared.fault.ConfigFault.{ConfigFault}
 use Rattle.funnel_stats.specs.Reading.{IsConfigRead, is_failed_read}
 use Rattle.funnel.specs.Commands.{command_of}
@@ -11,19 +12,21 @@ use Rattle.funnel.specs.Ends.{why_of_config}
 use Rattle.funnel.specs.LoadRuns.{EndsLoad}
 use Rattle.funnel.specs.Misfits.{misfit_of}
 use Rattle.funnel.specs.Runs.{RanOrNot}
+use Rattle.funnel.specs.Served.{EndsServe}
 use Rattle.funnel.specs.declared.command.Command.{Command}
 use Rattle.funnel.specs.declared.command.Command.TheVariants as command
 use Rattle.funnel.specs.declared.command.LoadCommand.{LoadCommand}
+use Rattle.funnel.specs.declared.command.ServeCommand.{ServeCommand}
 use Rattle.funnel.specs.declared.ended.Misfit.{Misfit}
-use Rattle.funnel.specs.declared.running.TheConstants.{MOST_BYTES}
 use Rattle.funnel.specs.declared.ended.Why.{Why}
 use Rattle.funnel.specs.declared.ended.Why.TheVariants as why_of
 
--- what a program reads and writes: its configuration, its input and its output
+-- what a program reads and writes: its configuration, its input and its output, and the gates that it was handed
 pub record Streams : Type 0 where
   pub config : Incoming
   pub input : Incoming
   pub output : Outgoing
+  pub gates : List GateState
 
 -- the words are no command, or there was no memory to read them
 pub record EndsAtWords (words : List (List ℕ)) (before after : Streams) (why : Why) (closed : Option ClosedState) : Type 0 where
@@ -46,13 +49,13 @@ pub record IsConfigured (words : List (List ℕ)) (before after : Streams) (comm
   pub read : IsConfigRead (Ok config) before.config after.config
   pub faults : after.config.faults ≡ before.config.faults
 
--- the command's numbers don't fit the configuration
+-- a number of the command doesn't fit the gates or the configuration, or is no port
 pub record EndsAtMisfit (words : List (List ℕ)) (before after : Streams) (why : Why) (closed : Option ClosedState) : Type 0 where
   pub command : Command
   pub config : Config
   pub configured : IsConfigured words before after command config
   pub misfit : Misfit
-  pub misfits : misfit_of command config ≡ Some misfit
+  pub misfits : misfit_of command (length before.gates) config ≡ Some misfit
   pub cause : why ≡ why_of.Misfit misfit
   pub none : closed ≡ None
 
@@ -62,36 +65,28 @@ pub record EndsAfterRun (words : List (List ℕ)) (before after : Streams) (why 
   pub configured : IsConfigured words before after command.Run config
   pub ran : RanOrNot config before.input after.input before.output after.output why closed
 
+-- the serve that the words ask for fits, and the connections of the gates are answered by an engine with the configuration
+pub record EndsAfterServe (words : List (List ℕ)) (before after : Streams) (why : Why) (closed : Option ClosedState) : Type 0 where
+  pub serve : ServeCommand
+  pub config : Config
+  pub configured : IsConfigured words before after (command.Serve serve) config
+  pub fits : misfit_of (command.Serve serve) (length before.gates) config ≡ None
+  pub input : after.input ≡ before.input
+  pub output : after.output ≡ before.output
+  pub served : EndsServe config serve.connections before.gates after.gates why closed
+
 -- the load that the words ask for fits, and is put to an engine with the configuration
 pub record EndsAfterLoad (words : List (List ℕ)) (before after : Streams) (why : Why) (closed : Option ClosedState) : Type 0 where
   pub load : LoadCommand
   pub config : Config
   pub configured : IsConfigured words before after (command.Load load) config
-  pub fits : misfit_of (command.Load load) config ≡ None
+  pub fits : misfit_of (command.Load load) (length before.gates) config ≡ None
   pub input : after.input ≡ before.input
   pub ends : EndsLoad config load before.output after.output why closed
 
--- a program ends at its words, or at its configuration, or at numbers that don't fit, or after its run or its load
+-- a program ends at its words, or at its configuration, or at numbers that don't fit, or after its run, its serve or its load
 abbrev pub Ends : List (List ℕ) → Streams → Streams → Why → Option ClosedState → Type 0
 Ends words before after why closed =
     EndsAtWords words before after why closed ⊎ EndsAtConfig words before after why closed ⊎ EndsAtMisfit words before after why closed
-    ⊎ EndsAfterRun words before after why closed ⊎ EndsAfterLoad words before after why closed
-
--- no read and no write failed
-pub record NoFault (before after : Streams) : Type 0 where
-  pub config : Rose before.config.faults after.config.faults → ⊥
-  pub input : Rose before.input.faults after.input.faults → ⊥
-  pub output : Rose before.output.faults after.output.faults → ⊥
-
--- the words are a command, and neither the configuration nor the command's numbers are refused
-pub record IsAccepted (words : List (List ℕ)) (why : Why) : Type 0 where
-  pub command : IsSome (command_of words)
-  pub config : (fault : ConfigFault) → why ≢ why_of.Config fault
-  pub fits : (misfit : Misfit) → why ≢ why_of.Misfit misfit
-
--- the program did all, or memory ran out, or as many bytes were read as may be
-abbrev pub EndsWell : Why → Type 0
-EndsWell why_of.Done = ⊤
-EndsWell why_of.Memory = ⊤
-EndsWell (why_of.ByteLimit count) = count ≡ MOST_BYTES
-EndsWell _ = ⊥
+    ⊎ EndsAfterRun words before after why closed ⊎ EndsAfterServe words before after why closed
+    ⊎ EndsAfterLoad words before after why closed

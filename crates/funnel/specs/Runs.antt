@@ -14,7 +14,7 @@ use Rattle.slice_rule.specs.Pools.{limits_of}
 use Rattle.funnel.specs.Ends.{why_of_end}
 use Rattle.funnel.specs.declared.ended.Why.{Why}
 use Rattle.funnel.specs.declared.ended.Why.TheVariants as why_of
-use Rattle.funnel.specs.declared.running.TheConstants.{MOST_BYTES}
+use Rattle.session.specs.declared.serving.TheConstants.{MOST_BYTES}
 
 -- the limits of an engine with this configuration
 abbrev pub limits_by : Config → Limits
@@ -24,6 +24,12 @@ limits_by config = limits_of config (words_of_slice config)
 abbrev pub first_caller : Limits → Caller
 first_caller limits = record { limits = limits; pass = 0 }
 
+-- the history is legal, each document has exactly its own bits, and all events are the first pass's
+pub record IsOfFirst (config : Config) (closed : ClosedState) : Type 0 where
+  pub legal : IsLegal (limits_by config) closed.history
+  pub sound : IsSound config closed.history
+  pub alone : All (λ e. pass_of e ≡ 0) closed.history
+
 -- what a session of the first pass takes and writes, over a history that is all its own: it begins with none, and this is what it leaves
 pub record Ran (config : Config) (incoming later_incoming : Incoming) (outgoing later_outgoing : Outgoing) (why : Why) (closed : ClosedState) : Type 0 where
   pub end : End
@@ -31,9 +37,7 @@ pub record Ran (config : Config) (incoming later_incoming : Incoming) (outgoing 
   pub serves : Serves (first_caller (limits_by config)) MOST_BYTES
       (record { front = []; incoming = incoming; outgoing = outgoing })
       (record { front = closed.history; incoming = later_incoming; outgoing = later_outgoing }) end
-  pub legal : IsLegal (limits_by config) closed.history
-  pub sound : IsSound config closed.history
-  pub alone : All (λ e. pass_of e ≡ 0) closed.history
+  pub of_first : IsOfFirst config closed
 
 -- the run left its history, or there was no memory to open its engine
 abbrev pub RanOrNot : Config → Incoming → Incoming → Outgoing → Outgoing → Why → Option ClosedState → Type 0

@@ -1,9 +1,14 @@
 -- Where the passes of a new engine stand after the first of them was used.
 use Rattle.std.specs.Prelude.{◌≡◌, ℕ, ◌<◌, List, [], map, All, Contains}
+use Rattle.std.specs.List.{range_with_len}
 use Rattle.commit_desk.specs.Passes.{IsResting}
 use Rattle.funnel_model.specs.declared.event.Event.{Event}
 use Rattle.slice_rule.specs.Pools.{PoolId}
-use Rattle.slice_rule.specs.Seats.{PassState}
+use Rattle.slice_rule.specs.Seats.{PassState, new_pass_state}
+
+-- so many passes of a new engine, from this number on
+abbrev pub new_passes : PoolId → ℕ → ℕ → List PassState
+new_passes pool from count = map (new_pass_state pool) (range_with_len from count)
 
 -- the first pass has seen this history, and each other one nothing
 pub record HasSeen (front : List Event) (pass : PassState) : Type 0 where

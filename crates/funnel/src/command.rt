@@ -1,23 +1,44 @@
 //! The words after the program's name: which command they are, with its numbers. `clap` reads them, and the command
 //! line that it reads is written out in `specs/Commands.antt`.
-ghost use Rattle.std.specs.Prelude.{◌≡◌, ◌↔◌, ℕ, List, [], codes, map, option_and_then, IfOk, IfSome, IsErrOf, IsSome, Some, None, false, true};
+ghost use Rattle.std.specs.Prelude.{◌≡◌, ◌↔◌, ℕ, List, [], map, option_and_then, IfOk, IfSome, IsErrOf, IsSome, Some, None, false, true};
 ghost use Rattle.clap.specs.Words.{app_of, found_of, kind_of, rows_of, rule_of, subcommand_rows_of, takes};
 ghost use Rattle.clap.specs.declared.builder.command.Command.TheViews.{out-Command as fields_of};
-ghost use Rattle.funnel.specs.Commands.{HasNumbers, HasNumbersInRange, IsInRange, call_words, command_of, fault_by, funnel_app, load_form, load_of, number_option, subcommand_as};
+ghost use Rattle.funnel.specs.Commands.{HasLoadNumbers, HasNumbers, HasNumbersInRange, HasServeNumbers, IsLoadInRange, IsServeInRange, call_words, command_of, fault_by, funnel_app, load_form, load_of, number_option, serve_form, serve_of, subcommand_as};
 ghost use Rattle.funnel.specs.declared.command.CommandFault.TheVariants.{Memory};
 
 use clap::builder::ValueParser;
 use clap::error::ErrorKind;
 use clap::{Arg, ArgAction, ArgMatches, value_parser};
+use funnel_model::MOST_PASSES;
+use load_gen::{MOST_DOCS, MOST_WORDS};
 use std::alloc::{AllocError, AllocFailed, Global};
+
+/// The last port that there is.
+pub const MOST_PORT: u32 = 65_535;
+
+/// A worker serves at most so many connections.
+pub const MOST_CONNECTIONS: u64 = 1 << 32;
 
 /// What the program is to do.
 #[derive(Clone, Copy, Debug, PartialEq, Eq)]
 pub enum Command {
     /// Answers the lines of standard input on standard output.
     Run,
+    /// Answers the lines of connections, which come by a gate for each worker.
+    Serve(ServeCommand),
     /// Adds, deletes and finds made up documents, and prints a summary.
     Load(LoadCommand),
+}
+
+/// Where connections come from, and how many are served.
+#[derive(Clone, Copy, Debug, PartialEq, Eq)]
+pub struct ServeCommand {
+    /// The port of the first worker, from 1 to 65,535. Each other worker has the next one.
+    pub port: u32,
+    /// The number of workers, from 1 to 64.
+    pub workers: u32,
+    /// How many connections each worker serves, from 1 to 4,294,967,296.
+    pub connections: u64,
 }
 
 /// How a load is made up.
@@ -98,19 +119,39 @@ fn funnel_app<'a>(alloc: Global) -> Result<clap::Command<'a>, AllocError>
     ensures { IfOk result (λ app. app_of app ≡ funnel_app) }
 {
     let run = clap::Command::new(alloc, "run");
+    let serve = serve_app(alloc)?;
     let load = load_app(alloc)?;
     clap::Command::new(alloc, "funnel")
         .subcommand_required(true)
         .subcommand(run)?
+        .subcommand(serve)?
         .subcommand(load)
+}
+
+fn serve_app<'a>(alloc: Global) -> Result<clap::Command<'a>, AllocError>
+    ensures app { IfOk result (λ app. (app_of app ≡ record { top = serve_form; subs = [] })) }
+    ensures local { IfOk result (λ app. (fields_of app).has_globals ≡ false) }
+{
+    let ports = value_parser!(u32).range(1..=i64::from(MOST_PORT));
+    let port = number_option(alloc, "port", ports);
+    let numbers = value_parser!(u32).range(1..=i64::from(MOST_PASSES));
+    let workers = number_option(alloc, "workers", numbers);
+    let counts = value_parser!(u64).range(1..=MOST_CONNECTIONS as i64);
+    let connections = number_option(alloc, "connections", counts);
+    clap::Command::new(alloc, "serve")
+        .arg(port.required(true))?
+        .arg(workers.required(true))?
+        .arg(connections.default_value("1000000"))
 }
 
 fn load_app<'a>(alloc: Global) -> Result<clap::Command<'a>, AllocError>
     ensures app { IfOk result (λ app. (app_of app ≡ record { top = load_form; subs = [] })) }
     ensures local { IfOk result (λ app. (fields_of app).has_globals ≡ false) }
 {
-    let docs = number_option(alloc, "docs", value_parser!(u32).range(1..=4_194_304));
-    let words = number_option(alloc, "words", value_parser!(u32).range(0..=1_000));
+    let numbers = value_parser!(u32).range(1..=i64::from(MOST_DOCS));
+    let docs = number_option(alloc, "docs", numbers);
+    let counts = value_parser!(u32).range(0..=i64::from(MOST_WORDS));
+    let words = number_option(alloc, "words", counts);
     let seed = number_option(alloc, "seed", value_parser!(u64));
     clap::Command::new(alloc, "load")
         .arg(docs.required(true))?
@@ -130,21 +171,34 @@ fn number_option<'a>(alloc: Global, name: &'a str, numbers: ValueParser<'a>) -> 
 }
 
 fn command_in(matches: &ArgMatches) -> Option<Command>
-    requires { IfSome (subcommand_rows_of matches.now) (λ found. found.0 ≡ codes "load" → HasNumbers found.1) }
+    requires { IfSome (subcommand_rows_of matches.now) HasNumbers }
     ensures found { result ≡ option_and_then subcommand_as (subcommand_rows_of matches.now) }
     ensures in_range { IfSome result HasNumbersInRange }
 {
     match matches.subcommand()? {
         ("run", _) => Some(Command::Run),
+        ("serve", found) => Some(Command::Serve(serve_in(found))),
         ("load", found) => Some(Command::Load(load_in(found))),
         _ => None,
     }
 }
 
+fn serve_in(found: &ArgMatches) -> ServeCommand
+    requires { HasServeNumbers (rows_of (found_of found.now)) }
+    ensures serve { result ≡ serve_of (rows_of (found_of found.now)) }
+    ensures in_range { IsServeInRange result }
+{
+    ServeCommand {
+        port: found.get_one("port").unwrap(),
+        workers: found.get_one("workers").unwrap(),
+        connections: found.get_one("connections").unwrap(),
+    }
+}
+
 fn load_in(found: &ArgMatches) -> LoadCommand
-    requires { HasNumbers (rows_of (found_of found.now)) }
+    requires { HasLoadNumbers (rows_of (found_of found.now)) }
     ensures load { result ≡ load_of (rows_of (found_of found.now)) }
-    ensures in_range { IsInRange result }
+    ensures in_range { IsLoadInRange result }
 {
     LoadCommand {
         docs: found.get_one("docs").unwrap(),

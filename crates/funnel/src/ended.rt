@@ -1,4 +1,4 @@
-ghost use Rattle.std.specs.Prelude.{◌≡◌};
+ghost use Rattle.std.specs.Prelude.{◌≡◌, None};
 ghost use Rattle.funnel.specs.Ends.{status_of, why_of_config, why_of_end};
 
 use engine::Closed;
@@ -9,7 +9,8 @@ use std::fmt;
 /// How a program of funnel ended.
 #[derive(Debug, Drop)]
 pub enum Why {
-    /// `run`: the input was read to its end and every reply was written. `load`: the whole summary was written.
+    /// `run`: the input was read to its end and every reply was written. `serve`: each worker's gate has no more connections,
+    /// or the worker served as many as it may. `load`: the whole summary was written.
     Done,
     /// The words are no command.
     Usage,
@@ -19,17 +20,26 @@ pub enum Why {
     ReadFault,
     /// A write failed.
     WriteFault,
-    /// Memory ran out: in a run before any line was read, in a load at any time. Nothing was written.
+    /// Memory ran out: in a run before any line was read and in a load at any time, and nothing was written; in a serve
+    /// before any connection came, or in a session of one.
     Memory,
+    /// A gate of a serve failed.
+    GateFault,
     /// So many bytes of the input were read, and no more may be.
     ByteLimit(u64),
-    /// The command's numbers don't fit the configuration.
+    /// A number of the command doesn't fit.
     Misfit(Misfit),
 }
 
-/// A number of the command that the configuration has no room for.
+/// A number of the command that doesn't fit the configuration or the gates that the program was handed, or is no port.
 #[derive(Clone, Copy, Debug, PartialEq, Eq)]
 pub enum Misfit {
+    /// A serve has another number of workers than there are gates.
+    Gates { stated: u32, given: u64 },
+    /// A serve has more workers than there are passes.
+    Workers { asked: u32, passes: u32 },
+    /// The last worker of a serve would listen on a port that there isn't.
+    Ports { last: u32 },
     /// A load has more documents than there are columns in all slices.
     Columns { docs: u64, columns: u64 },
     /// A load makes more commits than the journal holds.
@@ -48,6 +58,7 @@ impl Why {
             Why::ReadFault => 3,
             Why::WriteFault => 4,
             Why::Memory => 5,
+            Why::GateFault => 6,
             Why::ByteLimit(_) => 7,
             Why::Misfit(_) => 8,
         }
@@ -64,6 +75,7 @@ impl fmt::Display for Why {
             Why::ReadFault => f.write_str("read fault"),
             Why::WriteFault => f.write_str("write fault"),
             Why::Memory => f.write_str("out of memory"),
+            Why::GateFault => f.write_str("gate fault"),
             Why::ByteLimit(_) => f.write_str("byte limit"),
             Why::Misfit(_) => f.write_str("does not fit"),
         }
@@ -106,6 +118,14 @@ pub struct Ended<G> {
 }
 
 impl<G> Ended<G> {
+    /// Ends without an engine, with the gates as they came.
+    pub(crate) fn unopened(why: Why, gates: Vec<G>) -> Ended<G>
+        ensures { result ≡ record { why = why; gates = gates; closed = None } }
+    {
+        let closed = None;
+        Ended { why, gates, closed }
+    }
+
     /// The exit status.
     pub fn status(&self) -> u8
         ensures { result ≡ status_of self.now.why }

@@ -1,22 +1,48 @@
 ghost use Rattle.std.specs.Prelude.{◌≡◌};
 ghost use Rattle.funnel_model.specs.Configuration.{IsInRange};
-ghost use Rattle.funnel.specs.Misfits.{misfit_of, misfit_of_load};
+ghost use Rattle.funnel.specs.Commands.{HasNumbersInRange, IsServeInRange};
+ghost use Rattle.funnel.specs.Misfits.{misfit_of, misfit_of_load, misfit_of_serve};
 
-use crate::command::{Command, LoadCommand};
+use crate::command::{Command, LoadCommand, MOST_PORT, ServeCommand};
 use crate::ended::Misfit;
 use funnel_model::Config;
 use load_gen::DELETED_ONE_IN;
 use treatment::sizes;
 
-/// The first of the command's numbers that the configuration has no room for.
-pub(crate) fn misfit(command: Command, config: &Config) -> Option<Misfit>
-    requires { IsInRange config.now }
-    ensures { result ≡ misfit_of command config.now }
+/// The first of the command's numbers that does not fit this number of gates, or the configuration.
+pub(crate) fn misfit(command: Command, gates: usize, config: &Config) -> Option<Misfit>
+    requires numbers { HasNumbersInRange command }
+    requires config { IsInRange config.now }
+    ensures { result ≡ misfit_of command gates config.now }
 {
     match command {
         Command::Run => None,
+        Command::Serve(serve) => misfit_of_serve(serve, gates, config),
         Command::Load(load) => misfit_of_load(load, config),
     }
+}
+
+fn misfit_of_serve(serve: ServeCommand, gates: usize, config: &Config) -> Option<Misfit>
+    requires { IsServeInRange serve }
+    ensures { result ≡ misfit_of_serve serve gates config.now }
+{
+    let stated = serve.workers;
+    let given = gates as u64;
+    if given != u64::from(stated) {
+        return Some(Misfit::Gates { stated, given });
+    }
+    let passes = config.passes;
+    if passes < stated {
+        return Some(Misfit::Workers {
+            asked: stated,
+            passes,
+        });
+    }
+    let last = serve.port + stated - 1;
+    if MOST_PORT < last {
+        return Some(Misfit::Ports { last });
+    }
+    None
 }
 
 fn misfit_of_load(load: LoadCommand, config: &Config) -> Option<Misfit>

@@ -1,11 +1,38 @@
-//! A law of programs, over their definitions alone. It is the contract of a function that does nothing.
-ghost use Rattle.std.specs.Prelude.{ℕ, List, Option};
+//! Laws of programs, over their definitions alone. Each is the contract of a function that does nothing.
+ghost use Rattle.std.specs.Prelude.{ℕ, List, [], Option};
 ghost use Rattle.engine.specs.Engines.{ClosedState};
-ghost use Rattle.funnel.specs.Programs.{Ends, EndsWell, IsAccepted, NoFault, Streams};
+ghost use Rattle.funnel_io.specs.Streams.{Incoming, Outgoing};
+ghost use Rattle.funnel_model.specs.declared.config.Config.{Config};
+ghost use Rattle.funnel.specs.declared.command.Command.TheVariants as command;
+ghost use Rattle.funnel.specs.declared.command.LoadCommand.{LoadCommand};
+ghost use Rattle.funnel.specs.declared.command.ServeCommand.{ServeCommand};
 ghost use Rattle.funnel.specs.declared.ended.Why.{Why};
+ghost use Rattle.funnel.specs.Laws.{CompletesLoad, CompletesRun, CompletesServe, EndsWell, IsAccepted, NoFault, RepliesAreDue, TellsFew};
+ghost use Rattle.funnel.specs.Programs.{Ends, Streams};
+ghost use Rattle.funnel.specs.Runs.{Ran, first_caller, limits_by};
 
-/// Without a failed read or write, a command that is accepted ends well.
+/// Let the words be a command, the configuration valid, the command fit it, and no read, no write and no call of a gate fail.
+/// Then a run whose input has fewer bytes than it may take answers all its lines, a serve gives each connection of its gates a session,
+/// and a load is made and told, where none of them runs out of memory. A longer run ends at its limit of bytes.
 pub fn programs_without_a_fault_end_well()
-    ensures { (words : List (List ℕ)) (before after : Streams) (why : Why) (closed : Option ClosedState) →
-        Ends words before after why closed → NoFault before after → IsAccepted words why → EndsWell why }
+    ensures run { (words : List (List ℕ)) (before after : Streams) (why : Why) (closed : Option ClosedState) (config : Config) (bytes : List ℕ) →
+        Ends words before after why closed → NoFault before after → IsAccepted words before command.Run config →
+        TellsFew before.input bytes → CompletesRun config bytes before.output after.output why closed }
+    ensures any_run { (words : List (List ℕ)) (before after : Streams) (why : Why) (closed : Option ClosedState) (config : Config) →
+        Ends words before after why closed → NoFault before after → IsAccepted words before command.Run config → EndsWell why }
+    ensures serve { (words : List (List ℕ)) (before after : Streams) (why : Why) (closed : Option ClosedState) (config : Config) (serve : ServeCommand) →
+        Ends words before after why closed → NoFault before after → IsAccepted words before (command.Serve serve) config →
+        CompletesServe config serve.connections before.gates after.gates why closed }
+    ensures load { (words : List (List ℕ)) (before after : Streams) (why : Why) (closed : Option ClosedState) (config : Config) (load : LoadCommand) →
+        Ends words before after why closed → NoFault before after → IsAccepted words before (command.Load load) config →
+        CompletesLoad config load before.output after.output why closed }
+{}
+
+/// No reply of a run is that the history is spent, since a run can't take so many bytes. Only the lines that ask for an add, a
+/// find or a journal can be refused for want of memory; every other reply is the one of its event in the history, or that of a
+/// line which is no call.
+pub fn runs_take_every_call()
+    ensures { (config : Config) (incoming later_incoming : Incoming) (outgoing later_outgoing : Outgoing) (why : Why) (closed : ClosedState)
+        (ran : Ran config incoming later_incoming outgoing later_outgoing why closed) →
+        RepliesAreDue (first_caller (limits_by config)) [] closed.history ran.serves.taken ran.serves.written ran.end ran.serves.session }
 {}

@@ -5,7 +5,7 @@ ghost use Rattle.line_proto.specs.Services.{AnswersCall};
 ghost use Rattle.load_gen.specs.Documents.{name_of};
 ghost use Rattle.load_gen.specs.Jobs.{adds_of, deletes_of, queries_of};
 ghost use Rattle.funnel.specs.Loading.{AreAnswered, AreMade, AreStopped, HasFound, IsPut, calls_of};
-ghost use Rattle.load_laws.specs.Replies.{add_and_check, result_in};
+ghost use Rattle.load_laws.specs.Replies.{lone_add, result_in};
 
 use funnel_model::{Memory, Reply};
 use itoa::Buffer;
@@ -58,8 +58,8 @@ fn add_document<S: Service>(
     name: &mut String,
 ) -> Result<(), Memory>
     ensures caller { S.caller service.new ≡ S.caller service.old }
-    ensures made { OnOk result (AreMade (S.caller service.old) (S.front service.old) (S.front service.new) (add_and_check (id, text.now))) }
-    ensures stopped { OnErr result (AreStopped (S.caller service.old) (S.front service.old) (S.front service.new) (add_and_check (id, text.now))) }
+    ensures made { OnOk result (AreMade (S.caller service.old) (S.front service.old) (S.front service.new) (lone_add (id, text.now))) }
+    ensures stopped { OnErr result (AreStopped (S.caller service.old) (S.front service.old) (S.front service.new) (lone_add (id, text.now))) }
 {
     ask(service, &Request::Add { id, text })?;
     if id % u64::from(CHECKED_ONE_IN) == 0 {
@@ -103,7 +103,7 @@ fn find_all<S: Service>(alloc: Global, service: &mut S) -> Result<Vec<(u64, u64)
     for j in 0..QUERY_COUNT {
         let query = query(j);
         let reply = ask(service, &Request::Find { query })?;
-        results.push(result_of(&reply))?;
+        results.push(query_result(&reply))?;
     }
     Ok(results)
 }
@@ -121,7 +121,7 @@ fn ask<S: Service>(service: &mut S, request: &Request<'_>) -> Result<Reply, Memo
 }
 
 /// How many documents a query found by its reply, and the sum of their numbers in 64 bits.
-fn result_of(reply: &Reply) -> (u64, u64)
+fn query_result(reply: &Reply) -> (u64, u64)
     ensures { result ≡ result_in reply.now }
 {
     match reply {

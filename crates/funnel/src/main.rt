@@ -3,15 +3,20 @@
 
 mod command;
 mod ended;
+mod first_pass;
 mod fitting;
 mod laws;
+mod listening;
 mod loading;
+mod port_list;
 mod program;
 mod running;
+mod serving;
 mod workload;
 
 use ended::Why;
-use funnel_io::{FileSource, MemGate, StdinSource, StdoutSink};
+use funnel_io::{FileSource, StdinSource, StdoutSink};
+use listening::{gates_on, ports};
 use program::funnel_main;
 use std::env;
 use std::io::ErrorKind;
@@ -29,10 +34,15 @@ fn main(rt: HostRuntime) -> ExitCode {
     let Ok(words): Result<Vec<&str>, _> = args.iter().map(|arg| arg.as_str()).collect(alloc) else {
         return report(&rt, Why::Memory);
     };
+    let Ok(ports) = ports(alloc, words.as_slice()) else {
+        return report(&rt, Why::Memory);
+    };
+    let Ok(gates) = gates_on(&rt, alloc, ports.as_slice()) else {
+        return report(&rt, Why::Memory);
+    };
     let mut config = FileSource::open(&rt, CONFIG_PATH);
     let mut input = StdinSource::new(rt.stdin());
     let mut output = StdoutSink::new(rt.stdout());
-    let gates: Vec<MemGate> = Vec::new(alloc);
     let ended = funnel_main(
         &rt,
         alloc,

@@ -1,25 +1,33 @@
-ghost use Rattle.std.specs.Prelude.{◌≡◌, map, IfNone};
+ghost use Rattle.std.specs.Prelude.{◌≡◌, Some, true, false, length, map, IfNone};
+ghost use Rattle.funnel_server.specs.Gates.{gate_state};
+ghost use Rattle.funnel.specs.Commands.{command_of, is_serve};
 ghost use Rattle.funnel.specs.Programs.{Ends};
+ghost use Rattle.funnel.specs.Turns.{RunsInTurns};
+ghost use Rattle.funnel.specs.declared.command.Command.TheVariants as command;
+ghost use Rattle.funnel.specs.declared.command.LoadCommand.{LoadCommand};
 
 use crate::command::{Command, CommandFault, read_command};
 use crate::ended::{Ended, Why};
 use crate::fitting::misfit;
 use crate::running::run;
+use crate::serving::serve_gates;
 use crate::workload::make_load;
-use engine::{Blank, Closed};
+use engine::Blank;
 use funnel_io::{Gate, Sink, Source};
 use funnel_stats::read_config;
 use std::alloc::Global;
 use std::marker::Brand;
 use std::sync::Wait;
+use std::thread::Threads;
 
 /// Runs the command that the words are, by an engine with the configuration. `run` answers the lines of `input` on `output`.
-/// `load` makes its documents, adds, deletes and finds them, and writes its summary on `output`; it reads nothing from
-/// `input`. `gates` come back as they came.
+/// `serve` answers the connections of each gate by a pass and a thread of its own. `load` makes its documents, adds, deletes
+/// and finds them, and writes its summary on `output`. The last two read nothing from `input`. `gates` come back in their
+/// order.
 ///
-/// The words are judged first, then the configuration, then whether a load fits it. Nothing is left of an engine where one
-/// of these is refused, or where memory ran out before the engine was open.
-pub fn funnel_main<R: Wait, C: Source, S: Source, K: Sink, G: Gate + Send>(
+/// The words are judged first, then the configuration, then whether the command's numbers fit it and the gates. Nothing is
+/// left of an engine where one of these is refused, or where memory ran out before the engine was open.
+pub fn funnel_main<R: Threads + Wait + Sync, C: Source, S: Source, K: Sink, G: Gate + Send + Drop>(
     rt: &R,
     alloc: Global,
     words: &[&str],
@@ -28,59 +36,63 @@ pub fn funnel_main<R: Wait, C: Source, S: Source, K: Sink, G: Gate + Send>(
     output: &mut K,
     gates: Vec<G>,
 ) -> Ended<G>
-    ensures gates { result.gates ≡ gates }
+where
+    G::Conn: Send,
     ensures ends { Ends (map (λ word. word.now) words.now)
-        record { config = C.incoming config.old; input = S.incoming input.old; output = K.outgoing output.old }
-        record { config = C.incoming config.new; input = S.incoming input.new; output = K.outgoing output.new }
+        record {
+          config = C.incoming config.old;
+          input = S.incoming input.old;
+          output = K.outgoing output.old;
+          gates = map (gate_state G.gate_faults G.waiting G.Conn.incoming G.Conn.outgoing G.served) gates.items;
+        }
+        record {
+          config = C.incoming config.new;
+          input = S.incoming input.new;
+          output = K.outgoing output.new;
+          gates = map (gate_state G.gate_faults G.waiting G.Conn.incoming G.Conn.outgoing G.served) result.gates.items;
+        }
         result.why result.closed }
+    ensures in_turns { command_of (map (λ word. word.now) words.now) ≡ Some command.Run →
+        RunsInTurns S.read_gives K.write_gives (input.old, output.old) (input.new, output.new) }
+    ensures load_reads_nothing { (load : LoadCommand) → command_of (map (λ word. word.now) words.now) ≡ Some (command.Load load) → input.new ≡ input.old }
+    ensures serve_uses_gates { is_serve (command_of (map (λ word. word.now) words.now)) ≡ true → (input.new ≡ input.old) × (output.new ≡ output.old) }
+    ensures without_memory { result.why ≡ Why.Memory → (input.new ≡ input.old) × (output.new ≡ output.old) }
     ensures config_untouched { result.why ≡ Why.Usage → config.new ≡ config.old }
     ensures input_untouched { IfNone result.closed (input.new ≡ input.old) }
     ensures output_untouched { IfNone result.closed (output.new ≡ output.old) }
-    ensures config_borrowed { C.borrowed config.new ≡ C.borrowed config.old }
-    ensures input_borrowed { S.borrowed input.new ≡ S.borrowed input.old }
-    ensures output_borrowed { K.borrowed output.new ≡ K.borrowed output.old }
-{
-    let (why, closed) = run_command(rt, alloc, words, config, input, output);
-    Ended { why, gates, closed }
-}
-
-// How the program ends, and what is left of its engine.
-fn run_command<R: Wait, C: Source, S: Source, K: Sink>(
-    rt: &R,
-    alloc: Global,
-    words: &[&str],
-    config: &mut C,
-    input: &mut S,
-    output: &mut K,
-) -> (Why, Option<Closed>)
-    ensures ends { Ends (map (λ word. word.now) words.now)
-        record { config = C.incoming config.old; input = S.incoming input.old; output = K.outgoing output.old }
-        record { config = C.incoming config.new; input = S.incoming input.new; output = K.outgoing output.new }
-        result.0 result.1 }
-    ensures config_untouched { result.0 ≡ Why.Usage → config.new ≡ config.old }
-    ensures input_untouched { IfNone result.1 (input.new ≡ input.old) }
-    ensures output_untouched { IfNone result.1 (output.new ≡ output.old) }
+    ensures gates_untouched { IfNone result.closed (result.gates ≡ gates) }
+    ensures gates_unused { is_serve (command_of (map (λ word. word.now) words.now)) ≡ false → result.gates ≡ gates }
+    ensures gates_count { length result.gates.items ≡ length gates.items }
     ensures config_borrowed { C.borrowed config.new ≡ C.borrowed config.old }
     ensures input_borrowed { S.borrowed input.new ≡ S.borrowed input.old }
     ensures output_borrowed { K.borrowed output.new ≡ K.borrowed output.old }
 {
     let command = match read_command(alloc, words) {
         Ok(command) => command,
-        Err(CommandFault::Usage) => return (Why::Usage, None),
-        Err(CommandFault::Memory) => return (Why::Memory, None),
+        Err(CommandFault::Usage) => return Ended::unopened(Why::Usage, gates),
+        Err(CommandFault::Memory) => return Ended::unopened(Why::Memory, gates),
     };
     let config = match read_config(alloc, config) {
         Ok(config) => config,
-        Err(fault) => return (Why::from(fault), None),
+        Err(fault) => return Ended::unopened(Why::from(fault), gates),
     };
-    if let Some(misfit) = misfit(command, &config) {
-        return (Why::Misfit(misfit), None);
+    if let Some(misfit) = misfit(command, gates.len(), &config) {
+        return Ended::unopened(Why::Misfit(misfit), gates);
     }
     let Ok(blank) = Blank::new(alloc, &config) else {
-        return (Why::Memory, None);
+        return Ended::unopened(Why::Memory, gates);
     };
     match command {
-        Command::Run => run::<Brand, _, _, _>(rt, alloc, &config, blank, input, output),
-        Command::Load(load) => { make_load::<Brand, _, _>(rt, alloc, &config, blank, load, output) }
+        Command::Run => {
+            let (why, closed) = run::<Brand, _, _, _>(rt, alloc, &config, blank, input, output);
+            Ended { why, gates, closed }
+        }
+        Command::Serve(serve) => {
+            serve_gates::<Brand, _, _>(rt, alloc, &config, blank, serve.connections, gates)
+        }
+        Command::Load(load) => {
+            let (why, closed) = make_load::<Brand, _, _>(rt, alloc, &config, blank, load, output);
+            Ended { why, gates, closed }
+        }
     }
 }

@@ -1,23 +1,20 @@
-//! One session over a new engine.
-ghost use Rattle.std.specs.Prelude.{◌≡◌, ◌≤◌, [], map, IfNone};
-ghost use Rattle.std.specs.List.{range_with_len};
+//! One session over a new engine, by its first pass.
+ghost use Rattle.std.specs.Prelude.{◌≡◌, ◌≤◌, [], IfNone};
 ghost use Rattle.funnel_model.specs.Configuration.{IsValid};
-ghost use Rattle.slice_rule.specs.Seats.{new_pass_state};
 ghost use Rattle.funnel.specs.Runs.{RanOrNot, first_caller, limits_by};
-ghost use Rattle.funnel.specs.Serving.{FirstDid};
-ghost use Rattle.funnel.specs.declared.running.TheConstants.{MOST_BYTES};
+ghost use Rattle.funnel.specs.Serving.{FirstDid, new_passes};
+ghost use Rattle.funnel.specs.Turns.{RunsInTurns};
+ghost use Rattle.session.specs.declared.serving.TheConstants.{MOST_BYTES};
 ghost use Rattle.session.specs.Ends.{Serves};
 
 use crate::ended::Why;
-use engine::{Blank, Client, Closed, Engine, Pass, PoolName};
+use crate::first_pass::{first_client, hand_back};
+use engine::{Blank, Closed, Engine, Pass, PoolName};
 use funnel_io::{End, Pair, Sink, Source};
 use funnel_model::Config;
-use session::serve_session;
+use session::{MOST_BYTES, serve_session};
 use std::alloc::Global;
 use std::sync::Wait;
-
-/// A session takes at most so many bytes.
-pub const MOST_BYTES: u64 = 1 << 40;
 
 /// Opens an engine over the blank, answers the lines of the input by its first pass, and closes it. Nothing of it is left
 /// where there was no memory to open it; then nothing was read or written.
@@ -34,8 +31,10 @@ pub(crate) fn run<N: PoolName, R: Wait, S: Source, K: Sink>(
     requires limits { blank.limits ≡ limits_by config.now }
     requires named { blank ≡ N.pool }
     ensures ran { RanOrNot config.now (S.incoming input.old) (S.incoming input.new) (K.outgoing output.old) (K.outgoing output.new) result.0 result.1 }
+    ensures in_turns { RunsInTurns S.read_gives K.write_gives (input.old, output.old) (input.new, output.new) }
     ensures input_untouched { IfNone result.1 (input.new ≡ input.old) }
     ensures output_untouched { IfNone result.1 (output.new ≡ output.old) }
+    ensures without_memory { result.0 ≡ Why.Memory → (input.new ≡ input.old) × (output.new ≡ output.old) }
     ensures source_borrowed { S.borrowed input.new ≡ S.borrowed input.old }
     ensures sink_borrowed { K.borrowed output.new ≡ K.borrowed output.old }
 {
@@ -57,32 +56,22 @@ fn serve<N: PoolName, R: Wait, S: Source, K: Sink>(
 ) -> (End, Vec<Pass>)
     requires named { engine.now ≡ N.pool }
     requires some { 1 ≤ engine.now.limits.passes }
-    requires passes { engine.now.limits.passes ≡ engine.now.config.passes }
-    requires new { passes.items ≡ map (new_pass_state engine.now) (range_with_len 0 engine.now.config.passes) }
+    requires counted { engine.now.limits.passes ≡ engine.now.config.passes }
+    requires new { passes.items ≡ new_passes engine.now 0 engine.now.config.passes }
     ensures served { FirstDid engine.now result.1.items (λ front. Serves (first_caller engine.now.limits) MOST_BYTES
         record { front = []; incoming = S.incoming input.old; outgoing = K.outgoing output.old }
         record { front = front; incoming = S.incoming input.new; outgoing = K.outgoing output.new }
         result.0) }
+    ensures in_turns { RunsInTurns S.read_gives K.write_gives (input.old, output.old) (input.new, output.new) }
+    ensures without_memory { result.0 ≡ End.Memory → (input.new ≡ input.old) × (output.new ≡ output.old) }
     ensures source_borrowed { S.borrowed input.new ≡ S.borrowed input.old }
     ensures sink_borrowed { K.borrowed output.new ≡ K.borrowed output.old }
 {
-    let mut passes = passes;
-    let pass = passes.remove(0);
-    let mut client = Client {
-        engine,
-        pass,
-        rt,
-        alloc,
-    };
+    let (mut client, others) = first_client(rt, alloc, engine, passes);
     let mut conn = Pair {
         source: input,
         sink: output,
     };
     let end = serve_session(alloc, &mut client, &mut conn, MOST_BYTES);
-    let Client { pass, .. } = client;
-    // The room of the pass that was taken out is still there.
-    if passes.push(pass).is_err() {
-        unreachable!()
-    }
-    (end, passes)
+    (end, hand_back(client, others))
 }

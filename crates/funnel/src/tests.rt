@@ -1,4 +1,6 @@
 //! The program, from its words to its end.
+mod misfits;
+mod serving;
 mod words;
 
 use crate::ended::Why;
@@ -8,6 +10,7 @@ use std::alloc::{AllocError, Global};
 use std::process::Abort;
 use std::sync::Wait;
 use std::test::Fail;
+use std::thread::Threads;
 
 fn source_of(alloc: Global, pieces: &[&[u8]], fails: &[u64]) -> Result<MemSource, AllocError> {
     let mut owned = Vec::new(alloc);
@@ -18,7 +21,7 @@ fn source_of(alloc: Global, pieces: &[&[u8]], fails: &[u64]) -> Result<MemSource
 }
 
 // What the words do with a configuration.
-fn program<R: Wait>(
+fn program<R: Threads + Wait + Sync>(
     rt: &R,
     alloc: Global,
     words: &[&str],
@@ -32,7 +35,7 @@ fn program<R: Wait>(
 }
 
 // Runs the lines with a configuration, and expects the replies.
-fn expect_replies<R: Wait + Abort>(
+fn expect_replies<R: Threads + Wait + Abort + Sync>(
     rt: &R,
     alloc: Global,
     config: &[u8],
@@ -176,7 +179,12 @@ impl Script {
         Ok(())
     }
 
-    fn check<R: Wait + Abort>(&self, rt: &R, alloc: Global, config: &[u8]) -> Result<(), Fail> {
+    fn check<R: Threads + Wait + Abort + Sync>(
+        &self,
+        rt: &R,
+        alloc: Global,
+        config: &[u8],
+    ) -> Result<(), Fail> {
         expect_replies(
             rt,
             alloc,
@@ -258,7 +266,7 @@ fn the_longest_line_is_answered(rt: HostRuntime) -> Result<(), Fail> {
 }
 
 // Runs two lines, each in a piece of its own, with a read or a write that fails.
-fn expect_fault<R: Wait + Abort>(
+fn expect_fault<R: Threads + Wait + Abort + Sync>(
     rt: &R,
     alloc: Global,
     reads: &[u64],

@@ -1,20 +1,19 @@
 //! A load over a new engine, and its summary.
-ghost use Rattle.std.specs.Prelude.{◌≡◌, ◌≤◌, [], None, MatchResult, length, map};
-ghost use Rattle.std.specs.List.{range_with_len};
+ghost use Rattle.std.specs.Prelude.{◌≡◌, ◌≤◌, [], None, MatchResult, length};
 ghost use Rattle.funnel_model.specs.Configuration.{IsValid};
 ghost use Rattle.load_gen.specs.declared.limits.TheConstants.{MOST_DOCS, MOST_WORDS};
 ghost use Rattle.load_gen.specs.Summary.{summary_text};
-ghost use Rattle.slice_rule.specs.Seats.{new_pass_state};
 ghost use Rattle.funnel.specs.LoadRuns.{EndsLoad, Tells};
 ghost use Rattle.funnel.specs.Loading.{AreStopped, IsPut, calls_of};
 ghost use Rattle.funnel.specs.Misfits.{misfit_of_load};
 ghost use Rattle.funnel.specs.Runs.{first_caller, limits_by};
-ghost use Rattle.funnel.specs.Serving.{FirstDid};
+ghost use Rattle.funnel.specs.Serving.{FirstDid, new_passes};
 
 use crate::command::LoadCommand;
 use crate::ended::Why;
+use crate::first_pass::{first_client, hand_back};
 use crate::loading::put_load;
-use engine::{Blank, Client, Closed, Engine, Pass, PoolName};
+use engine::{Blank, Closed, Engine, Pass, PoolName};
 use funnel_io::{Sink, write_all};
 use funnel_model::{Config, Memory};
 use load_gen::{Load, make, summary};
@@ -42,6 +41,7 @@ pub(crate) fn make_load<N: PoolName, R: Wait, K: Sink>(
     ensures ends { EndsLoad config.now command (K.outgoing output.old) (K.outgoing output.new) result.0 result.1 }
     ensures borrowed { K.borrowed output.new ≡ K.borrowed output.old }
     ensures untouched { result.1 ≡ None → output.new ≡ output.old }
+    ensures without_memory { result.0 ≡ Why.Memory → output.new ≡ output.old }
 {
     let LoadCommand { docs, words, seed } = command;
     let Ok(load) = make(alloc, seed, docs, words) else {
@@ -68,33 +68,22 @@ fn put<N: PoolName, R: Wait>(
 ) -> (Result<Vec<(u64, u64)>, Memory>, Vec<Pass>)
     requires named { engine.now ≡ N.pool }
     requires some { 1 ≤ engine.now.limits.passes }
-    requires passes { engine.now.limits.passes ≡ engine.now.config.passes }
-    requires new { passes.items ≡ map (new_pass_state engine.now) (range_with_len 0 engine.now.config.passes) }
+    requires counted { engine.now.limits.passes ≡ engine.now.config.passes }
+    requires new { passes.items ≡ new_passes engine.now 0 engine.now.config.passes }
     ensures put { FirstDid engine.now result.1.items (λ front.
         MatchResult result.0 (λ results. IsPut (first_caller engine.now.limits) [] front load.now results.items)
         (λ _. AreStopped (first_caller engine.now.limits) [] front (calls_of load.now))) }
 {
-    let mut passes = passes;
-    let pass = passes.remove(0);
-    let mut client = Client {
-        engine,
-        pass,
-        rt,
-        alloc,
-    };
+    let (mut client, others) = first_client(rt, alloc, engine, passes);
     let results = put_load(alloc, &mut client, load);
-    let Client { pass, .. } = client;
-    // The room of the pass that was taken out is still there.
-    if passes.push(pass).is_err() {
-        unreachable!()
-    }
-    (results, passes)
+    (results, hand_back(client, others))
 }
 
 /// Writes the summary with these results.
 fn tell<K: Sink>(alloc: Global, docs: u32, results: &[(u64, u64)], output: &mut K) -> Why
     requires { length results.now ≡ 8 }
     ensures told { Tells (summary_text docs results.now) (K.outgoing output.old) (K.outgoing output.new) result }
+    ensures without_memory { result ≡ Why.Memory → output.new ≡ output.old }
     ensures borrowed { K.borrowed output.new ≡ K.borrowed output.old }
 {
     let mut text = Vec::new(alloc);

@@ -2,12 +2,16 @@
 use Rattle.std.specs.Prelude.{◌≡◌, ◌↔◌, ℕ, ◌+◌, List, [], ◌∷◌, Contains}
 use Rattle.funnel_io.specs.Counts.{raised, counted}
 use Rattle.funnel_io.specs.Answers.{MatchNext, gate_failed}
-use Rattle.funnel_io.specs.Memory.{incoming_of, outgoing_of}
+use Rattle.funnel_io.specs.Memory.{SourceState, SinkState, incoming_of, outgoing_of}
 use Rattle.funnel_io.specs.declared.gate.Next.{Next}
 use Rattle.funnel_io.specs.declared.gate.Next.TheVariants as next
 use Rattle.funnel_io.specs.Served.{Served, served_as, IsFresh}
-use Rattle.funnel_io.specs.declared.mem_conn.MemConn.{MemConn}
+use Rattle.funnel_io.specs.declared.duplex.Duplex.{Duplex}
 use Rattle.funnel_io.specs.declared.served_conn.ServedConn.{ServedConn}
+
+-- a connection of a source and a sink in memory
+abbrev pub MemConn : Type 0
+MemConn = Duplex SourceState SinkState
 
 -- a gate: the connections that wait, how many are out, those that came back, the number of calls
 -- of `next` made, the numbers of those that fail, and the count of those that failed

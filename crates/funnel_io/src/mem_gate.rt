@@ -2,9 +2,9 @@ ghost use Rattle.std.specs.Prelude.{◌≡◌, ◌<◌, ◌≤◌, ◌+◌, ◌-
 ghost use Rattle.funnel_io.specs.MemGates.{GateState, IsNext, IsUnused, served_of};
 ghost use Rattle.funnel_io.specs.Answers.{MatchNext};
 
+use crate::duplex::MemConn;
 use crate::end::End;
 use crate::gate::{Gate, Next};
-use crate::mem_conn::MemConn;
 use crate::memory::Memory;
 use crate::served_conn::ServedConn;
 use std::alloc::Global;

@@ -1,5 +1,5 @@
+use crate::duplex::MemConn;
 use crate::end::End;
-use crate::mem_conn::MemConn;
 
 /// A connection that came back, with the end of its session.
 #[derive(Debug, Drop)]

@@ -161,33 +161,49 @@ fn a_gate_hands_out_its_connections_in_order(rt: HostRuntime) -> Result<(), Fail
     Ok(())
 }
 
-// A reader and a writer of which every call fails.
+// A reader and a writer of which every call is interrupted, and the number of its calls.
 #[derive(Drop)]
-struct Broken;
+struct Broken {
+    calls: u64,
+}
+
+impl Broken {
+    fn interrupt(&mut self) -> io::Error {
+        self.calls = self.calls.saturating_add(1);
+        io::Error::from(io::ErrorKind::Interrupted)
+    }
+}
 
 impl Read for Broken {
     fn read(&mut self, _buf: &mut [u8]) -> io::Result<usize> {
-        Err(io::Error::from(io::ErrorKind::Interrupted))
+        Err(self.interrupt())
     }
 }
 
 impl Write for Broken {
     fn write(&mut self, _buf: &[u8]) -> io::Result<usize> {
-        Err(io::Error::from(io::ErrorKind::Interrupted))
+        Err(self.interrupt())
     }
 
     fn flush(&mut self) -> io::Result<()> {
-        Ok(())
+        Err(self.interrupt())
     }
 }
 
 #[test]
 fn each_error_of_std_is_a_failure(rt: HostRuntime) {
     let mut room = [0u8; 4];
-    let mut source = ReaderSource::new(Broken);
-    assert_eq!(rt; source.read(&mut room), Got::Failed);
-    assert_eq!(rt; source.read(&mut room), Got::Failed);
-    assert_eq!(rt; WriterSink::new(Broken).write(b"a"), Put::Failed);
+    let mut reader = Broken { calls: 0 };
+    let mut writer = Broken { calls: 0 };
+    let sink = WriterSink::new(&mut writer);
+    let mut conn = Duplex::new(ReaderSource::new(&mut reader), sink);
+    assert_eq!(rt; conn.read(&mut room), Got::Failed);
+    assert_eq!(rt; conn.read(&mut room), Got::Failed);
+    assert_eq!(rt; conn.write(b"a"), Put::Failed);
+    drop(conn);
+
+    // None was made again.
+    assert_eq!(rt; (reader.calls, writer.calls), (2, 1));
 }
 
 // Reads with room for four bytes until something else than bytes is answered.
@@ -222,6 +238,23 @@ fn a_writer_of_std_takes_what_fits(rt: HostRuntime) {
     assert_eq!(rt; sink.write(b"def"), Put::Bytes(2));
     assert_eq!(rt; sink.write(b"f"), Put::Failed);
     assert_eq!(rt; room.as_slice(), b"abcde".as_slice());
+}
+
+#[test]
+fn bytes_go_both_ways(rt: HostRuntime) {
+    let bytes: &[u8] = b"abcdef";
+    let mut room = [b'-'; 5];
+    let sink = WriterSink::new(room.as_mut_slice());
+    let mut conn = Duplex::new(ReaderSource::new(bytes), sink);
+    expect_reads(&rt, &mut conn, &[(Got::Bytes(4), b"abcd")]);
+    assert_eq!(rt; write_all(&mut conn, b"ghi"), Ok(()));
+    expect_reads(
+        &rt,
+        &mut conn,
+        &[(Got::Bytes(2), b"ef--"), (Got::End, b"ef--")],
+    );
+    assert_eq!(rt; write_all(&mut conn, b"jkl"), Err(WriteFailed));
+    assert_eq!(rt; room.as_slice(), b"ghijk".as_slice());
 }
 
 #[test]

@@ -33,6 +33,12 @@ impl<W> WriterSink<W> {
     {
         WriterSink { writer, faults: 0 }
     }
+
+    pub(crate) fn get_ref(&self) -> &W
+        ensures { result.now ≡ self.now.inner }
+    {
+        &self.writer
+    }
 }
 
 impl<W> Borrower for WriterSink<W> {}

@@ -16,9 +16,14 @@ share items workers worker = filter (λ item. item.0 % workers == worker) (enume
 abbrev pub is_deleted : ℕ → Bool
 is_deleted id = id % DELETED_ONE_IN == 0
 
--- a worker's n-th add, which is of this document, and after each 100th one a find of its name
+-- the calls for a document of this number and text, which is the n-th of its worker: its add, and after each 100th one a find
+-- of its name
+abbrev pub add_and_check : ℕ → ℕ × List ℕ → List Call
+add_and_check n (id, text) = call.Add id text ∷ (if n % CHECKED_ONE_IN == 0 then call.Find (name_of id) ∷ [] else [])
+
+-- a worker's n-th add, which is of the document at this place
 abbrev pub nth_add : ℕ × (ℕ × List ℕ) → List Call
-nth_add (n, (i, text)) = call.Add (i + 1) text ∷ (if n % CHECKED_ONE_IN == 0 then call.Find (name_of (i + 1)) ∷ [] else [])
+nth_add (n, (i, text)) = add_and_check n (i + 1, text)
 
 -- the first part: the worker adds its documents
 abbrev pub adds_of : List (List ℕ) → ℕ → ℕ → List Call

@@ -12,7 +12,7 @@ use Rattle.funnel_model.specs.Words.{meets}
 use Rattle.load_gen.specs.declared.limits.TheConstants.{CHECKED_ONE_IN}
 use Rattle.load_gen.specs.Documents.{name_of}
 use Rattle.load_laws.specs.Loads.{AreInTurn, answers_from, found_in, held_after, holds}
-use Rattle.load_laws.specs.Replies.{add_and_check, replies_to_add}
+use Rattle.load_laws.specs.Replies.{lone_add, replies_to_add}
 
 -- a document that is found by its own name alone
 abbrev pub IsNamed : ℕ × List ℕ → Type 0
@@ -80,9 +80,9 @@ checked_in_turn false held query calls turn = turn
 
 -- the adds of documents whose numbers go on from the place, and the finds between them
 pub record AddsAnswered (place : ℕ) (held texts : List (ℕ × List ℕ)) : Type 0 where
-  pub replies : answers_from place held (flat_map add_and_check texts) ≡ flat_map replies_to_add (range_with_len (place + 1) (length texts))
-  pub after : held_after held (flat_map add_and_check texts) ≡ held ++ texts
-  pub in_turn : AreInTurn held (flat_map add_and_check texts)
+  pub replies : answers_from place held (flat_map lone_add texts) ≡ flat_map replies_to_add (range_with_len (place + 1) (length texts))
+  pub after : held_after held (flat_map lone_add texts) ≡ held ++ texts
+  pub in_turn : AreInTurn held (flat_map lone_add texts)
 
 pub adds_answered : (place : ℕ) (held : List (ℕ × List ℕ)) (texts : List (List ℕ)) → place + length texts < 2 ^ 64 → All (IsBelow (place + 1)) held →
     All IsNamed held → All IsNamed (enumerate_from (place + 1) texts) → AddsAnswered place held (enumerate_from (place + 1) texts)
@@ -92,7 +92,7 @@ adds_answered place held (text ∷ texts) small below named own =
     let first = All-head IsNamed (id, text) (enumerate_from (id + 1) texts) own in
     let later = All-tail IsNamed (id, text) (enumerate_from (id + 1) texts) own in
     let grown = held ++ (id, text) ∷ [] in
-    let calls = flat_map add_and_check (enumerate_from (id + 1) texts) in
+    let calls = flat_map lone_add (enumerate_from (id + 1) texts) in
     let checked = id % CHECKED_ONE_IN == 0 in
     let finds = last_is_found id text held (omega (arith, small)) below named first in
     let rest = adds_answered id grown texts (omega (arith, small)) (all_below id text held below)

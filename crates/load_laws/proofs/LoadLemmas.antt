@@ -16,7 +16,7 @@ use Rattle.funnel_model.specs.Legal.{Limits}
 use Rattle.funnel_model.specs.Steps.{Linear}
 use Rattle.funnel_model.specs.Words.{meets}
 use Rattle.load_laws.specs.LonePass.{IsAlone, LoneStep, takes_in}
-use Rattle.load_laws.specs.Loads.{AreInTurn, Fits, IsLoaded, answers_from, answers_of, adds_in, commits_in, found_in, held_after, holds, is_add, is_commit, without}
+use Rattle.load_laws.specs.Loads.{AreInTurn, Fits, HasDocuments, answers_from, answers_of, adds_in, commits_in, found_in, held_after, holds, is_add, is_commit, without}
 use Rattle.load_laws.proofs.LoneSteps.{adds, deletes_it, finds}
 use Rattle.load_laws.proofs.Quiet.{alone_front}
 
@@ -208,7 +208,7 @@ load_is_answered limits pass after calls replies run alone unspent memory fits =
 
 pub load_is_held : (limits : Limits) (pass : ℕ) (after : List Event) (calls : List Call) (replies : List Reply) → Linear limits pass [] after calls replies →
     IsAlone pass after → length after < limits.events → All (λ r. r ≢ reply.Memory) replies → Fits limits calls →
-    IsLoaded after (held_after [] calls) (commits_in calls)
+    HasDocuments after (held_after [] calls) (commits_in calls)
 load_is_held limits pass after calls replies run alone unspent memory fits =
     let answers = from_nothing limits pass after calls replies (record { run = run; alone = alone; unspent = unspent; memory = memory }) fits in
     let at = answers.at_place in

@@ -22,7 +22,7 @@ use Rattle.load_gen.specs.Summary.{found, result_of, results_of}
 use Rattle.load_gen.proofs.Deletes.{each_tenth}
 use Rattle.load_laws.specs.LonePass.{IsAlone}
 use Rattle.load_laws.specs.Loads.{AreInTurn, Fits, adds_in, answers_from, answers_of, commits_in, found_in, held_after, is_add, is_commit}
-use Rattle.load_laws.specs.Replies.{add_and_check, replies_to_adds, replies_to_deletes, replies_to_jobs, replies_to_queries, result_in}
+use Rattle.load_laws.specs.Replies.{lone_add, replies_to_adds, replies_to_deletes, replies_to_jobs, replies_to_queries, result_in}
 use Rattle.load_laws.proofs.AddsPart.{AddsAnswered, IsBelow, IsNamed, adds_answered}
 use Rattle.load_laws.proofs.DeletesPart.{deletes_answered, deletes_in_turn, deletes_leave}
 use Rattle.load_laws.proofs.EventCounts.{four_events_a_call}
@@ -33,7 +33,7 @@ use Rattle.load_laws.proofs.PlainQueries.{meets-document}
 
 -- the three parts
 abbrev first_part : List (List ℕ) → List Call
-first_part texts = flat_map add_and_check (enumerate_from 1 texts)
+first_part texts = flat_map lone_add (enumerate_from 1 texts)
 
 abbrev second_part : List (List ℕ) → List Call
 second_part texts = map call.Delete (filter is_deleted (range_with_len 1 (length texts)))
@@ -84,13 +84,13 @@ count_of p calls = sum_by (λ c. cond (p c) 1 0) calls
 
 -- of a kind of which each add is and no find is there is one call for each document that is added
 adds_counted : (p : Call → Bool) → ((id : ℕ) (text : List ℕ) → p (call.Add id text) ≡ true) → ((query : List ℕ) → p (call.Find query) ≡ false) →
-    (n : ℕ) (texts : List (List ℕ)) → count_of p (flat_map add_and_check (enumerate_from n texts)) ≡ length texts
+    (n : ℕ) (texts : List (List ℕ)) → count_of p (flat_map lone_add (enumerate_from n texts)) ≡ length texts
 adds_counted p add find n [] = refl
 adds_counted p add find n (text ∷ texts) =
-    let rest = flat_map add_and_check (enumerate_from (n + 1) texts) in
+    let rest = flat_map lone_add (enumerate_from (n + 1) texts) in
     let later = adds_counted p add find (n + 1) texts in
     let first = one (n % CHECKED_ONE_IN == 0) in
-    sum_by-append (λ c. cond (p c) 1 0) (add_and_check (n, text)) rest ∙ omega (arith, first, later)
+    sum_by-append (λ c. cond (p c) 1 0) (lone_add (n, text)) rest ∙ omega (arith, first, later)
   where
     one : (b : Bool) → count_of p (call.Add n text ∷ cond b (call.Find (name_of n) ∷ []) []) ≡ 1
     one true = ap₂ (λ a f. sum_by (λ b. cond b 1 0) (a ∷ f ∷ [])) (add n text) (find (name_of n))
@@ -200,13 +200,13 @@ load_answers docs words seed few =
     ∙ sym (append_assoc (replies_to_adds docs) (replies_to_deletes docs) (replies_to_queries texts))
 
 -- the adds and the finds between them are at most two for a document
-adds_are_few : (n : ℕ) (texts : List (List ℕ)) → length (flat_map add_and_check (enumerate_from n texts)) ≤ 2 * length texts
+adds_are_few : (n : ℕ) (texts : List (List ℕ)) → length (flat_map lone_add (enumerate_from n texts)) ≤ 2 * length texts
 adds_are_few n [] = omega arith
 adds_are_few n (text ∷ texts) =
-    let rest = flat_map add_and_check (enumerate_from (n + 1) texts) in
+    let rest = flat_map lone_add (enumerate_from (n + 1) texts) in
     let later = adds_are_few (n + 1) texts in
     let first = two (n % CHECKED_ONE_IN == 0) in
-    let both = length-append (add_and_check (n, text)) rest in
+    let both = length-append (lone_add (n, text)) rest in
     omega (arith, first, later, both)
   where
     two : (b : Bool) → length (call.Add n text ∷ cond b (call.Find (name_of n) ∷ []) []) ≤ 2

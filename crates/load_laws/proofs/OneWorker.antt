@@ -12,7 +12,7 @@ use Rattle.funnel_model.specs.declared.call.Call.{Call}
 use Rattle.funnel_model.specs.declared.call.Call.TheVariants as call
 use Rattle.load_gen.specs.Jobs.{adds_of, deletes_of, is_deleted, nth_add, queries_of, share}
 use Rattle.load_gen.specs.Queries.{queries}
-use Rattle.load_laws.specs.Replies.{add_and_check}
+use Rattle.load_laws.specs.Replies.{lone_add}
 
 -- of one worker the share is all
 all_mine : (n : ℕ) → (n % 1 == 0) ≡ true
@@ -28,11 +28,11 @@ pub share-one : {A : Type 0} → (items : List A) → share items 1 0 ≡ enumer
 share-one items = share_from 0 items
 
 -- its n-th add is that of the n-th document
-adds_from : (n : ℕ) (texts : List (List ℕ)) → flat_map nth_add (enumerate_from (n + 1) (enumerate_from n texts)) ≡ flat_map add_and_check (enumerate_from (n + 1) texts)
+adds_from : (n : ℕ) (texts : List (List ℕ)) → flat_map nth_add (enumerate_from (n + 1) (enumerate_from n texts)) ≡ flat_map lone_add (enumerate_from (n + 1) texts)
 adds_from n [] = refl
-adds_from n (text ∷ texts) = ap (λ calls. add_and_check (n + 1, text) ++ calls) (adds_from (n + 1) texts)
+adds_from n (text ∷ texts) = ap (λ calls. lone_add (n + 1, text) ++ calls) (adds_from (n + 1) texts)
 
-pub adds-one : (texts : List (List ℕ)) → adds_of texts 1 0 ≡ flat_map add_and_check (enumerate_from 1 texts)
+pub adds-one : (texts : List (List ℕ)) → adds_of texts 1 0 ≡ flat_map lone_add (enumerate_from 1 texts)
 adds-one texts = ap (λ (items : List (ℕ × List ℕ)). flat_map nth_add (enumerate_from 1 items)) (share-one texts) ∙ adds_from 0 texts
 
 -- it deletes those of all numbers that are to be deleted
@@ -61,13 +61,13 @@ enumerate_from-push n (first ∷ items) item =
     ap (λ rest. (n, first) ∷ rest) (enumerate_from-push (n + 1) items item ∙ ap (λ k. enumerate_from (n + 1) items ++ (k, item) ∷ []) at)
 
 -- one more document is added
-pub adds-push : (texts : List (List ℕ)) (text : List ℕ) → adds_of (texts ++ text ∷ []) 1 0 ≡ adds_of texts 1 0 ++ add_and_check (length texts + 1, text)
+pub adds-push : (texts : List (List ℕ)) (text : List ℕ) → adds_of (texts ++ text ∷ []) 1 0 ≡ adds_of texts 1 0 ++ lone_add (length texts + 1, text)
 adds-push texts text =
     let at : 1 + length texts ≡ length texts + 1 = omega arith in
     adds-one (texts ++ text ∷ [])
-    ∙ ap (λ (items : List (ℕ × List ℕ)). flat_map add_and_check items) (enumerate_from-push 1 texts text)
-    ∙ flat_map-append add_and_check (enumerate_from 1 texts) ((1 + length texts, text) ∷ [])
-    ∙ ap₂ (λ (calls more : List Call). calls ++ more) (sym (adds-one texts)) (append-nil (add_and_check (1 + length texts, text)) ∙ ap (λ id. add_and_check (id, text)) at)
+    ∙ ap (λ (items : List (ℕ × List ℕ)). flat_map lone_add items) (enumerate_from-push 1 texts text)
+    ∙ flat_map-append lone_add (enumerate_from 1 texts) ((1 + length texts, text) ∷ [])
+    ∙ ap₂ (λ (calls more : List Call). calls ++ more) (sym (adds-one texts)) (append-nil (lone_add (1 + length texts, text)) ∙ ap (λ id. lone_add (id, text)) at)
 
 -- a list up to a place and the item there
 up_to_next : (texts : List (List ℕ)) (i : ℕ) (text : List ℕ) → slice_get texts i ≡ Some text → take (i + 1) texts ≡ take i texts ++ text ∷ []
@@ -76,11 +76,11 @@ up_to_next texts i text at =
 
 -- once the document at a place is added too
 pub adds-next : (texts : List (List ℕ)) (i : ℕ) (text : List ℕ) → slice_get texts i ≡ Some text →
-    adds_of (take (i + 1) texts) 1 0 ≡ adds_of (take i texts) 1 0 ++ add_and_check (i + 1, text)
+    adds_of (take (i + 1) texts) 1 0 ≡ adds_of (take i texts) 1 0 ++ lone_add (i + 1, text)
 adds-next texts i text at =
     let within = slice_get_within texts i text at in
     ap (λ (ts : List (List ℕ)). adds_of ts 1 0) (up_to_next texts i text at) ∙ adds-push (take i texts) text
-    ∙ ap (λ n. adds_of (take i texts) 1 0 ++ add_and_check (n + 1, text)) (length-take-le i texts (omega (arith, within)))
+    ∙ ap (λ n. adds_of (take i texts) 1 0 ++ lone_add (n + 1, text)) (length-take-le i texts (omega (arith, within)))
 
 -- once one more document is deleted
 pub deletes-next : (k : ℕ) → map (λ j. call.Delete (10 * j)) (range_with_len 1 (k + 1)) ≡ map (λ j. call.Delete (10 * j)) (range_with_len 1 k) ++ call.Delete (10 * (k + 1)) ∷ []

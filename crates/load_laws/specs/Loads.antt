@@ -75,6 +75,6 @@ pub record Fits (limits : Limits) (calls : List Call) : Type 0 where
   pub commits : commits_in calls ≤ limits.commits
 
 -- the history of an engine to which a load was put: these documents are live, and so many commits were made
-pub record IsLoaded (history : List Event) (documents : List (ℕ × List ℕ)) (commits : ℕ) : Type 0 where
+pub record HasDocuments (history : List Event) (documents : List (ℕ × List ℕ)) (commits : ℕ) : Type 0 where
   pub held : map (λ d. (d.id, d.text)) (live history) ≡ documents
   pub at_place : place history ≡ commits

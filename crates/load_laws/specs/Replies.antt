@@ -2,17 +2,17 @@
 use Rattle.std.specs.Prelude.{ℕ, ◌+◌, ◌/◌, ◌%◌, ◌==◌, List, [], ◌∷◌, ◌++◌, map, flat_map, if◌then◌else◌}
 use Rattle.std.specs.List.{range_with_len}
 use Rattle.funnel_model.specs.declared.call.Call.{Call}
-use Rattle.funnel_model.specs.declared.call.Call.TheVariants as call
 use Rattle.funnel_model.specs.declared.reply.Reply.{Reply}
 use Rattle.funnel_model.specs.declared.reply.Reply.TheVariants as reply
 use Rattle.load_gen.specs.declared.limits.TheConstants.{CHECKED_ONE_IN, DELETED_ONE_IN}
-use Rattle.load_gen.specs.Documents.{documents, name_of}
+use Rattle.load_gen.specs.Documents.{documents}
+use Rattle.load_gen.specs.Jobs.{add_and_check}
 use Rattle.load_gen.specs.Queries.{queries}
 use Rattle.load_gen.specs.Summary.{found, result_of}
 
--- the calls for a document of this number and text: its add, and after each 100th one a find of its name
-abbrev pub add_and_check : ℕ × List ℕ → List Call
-add_and_check (id, text) = call.Add id text ∷ (if id % CHECKED_ONE_IN == 0 then call.Find (name_of id) ∷ [] else [])
+-- the calls for a document of this number and text where one worker adds all: it is then the worker's document of this number
+abbrev pub lone_add : ℕ × List ℕ → List Call
+lone_add (id, text) = add_and_check id (id, text)
 
 -- the add of the document of this number is the commit of this number, and the find of its name finds this document alone
 abbrev pub replies_to_add : ℕ → List Reply

@@ -13,7 +13,7 @@ ghost use Rattle.funnel_model.specs.Steps.{Linear};
 ghost use Rattle.funnel_model.specs.Words.{meets};
 ghost use Rattle.load_laws.specs.LonePass.{IsAlone, LoneStep, Adds, Deletes, Finds, takes_in};
 ghost use Rattle.load_laws.specs.LoadExample.{small_load, small_load_events, small_load_replies};
-ghost use Rattle.load_laws.specs.Loads.{AreInTurn, Fits, IsLoaded, answers_from, answers_of, commits_in, found_in, held_after};
+ghost use Rattle.load_laws.specs.Loads.{AreInTurn, Fits, HasDocuments, answers_from, answers_of, commits_in, found_in, held_after};
 
 /// A document whose number is not live is added where the journal has room and fewer columns were claimed than the engine has.
 pub fn adds_are_committed()
@@ -42,7 +42,7 @@ pub fn loads_are_answered_as_by_a_list()
         All (λ r. r ≢ reply.Memory) replies → Fits limits calls → replies ≡ answers_of [] calls }
     ensures loaded { (limits : Limits) (pass : ℕ) (after : List Event) (calls : List Call) (replies : List Reply) →
         Linear limits pass [] after calls replies → IsAlone pass after → length after < limits.events →
-        All (λ r. r ≢ reply.Memory) replies → Fits limits calls → IsLoaded after (held_after [] calls) (commits_in calls) }
+        All (λ r. r ≢ reply.Memory) replies → Fits limits calls → HasDocuments after (held_after [] calls) (commits_in calls) }
 {}
 
 /// Further calls are answered as the documents tell that are held by then, and are in turn where they are for those.

@@ -10,7 +10,7 @@ pub use laws::{
     a_last_line_leaves_nothing, a_session_is_one_run_of_calls, failed_writes_cut_the_text,
     finds_without_memory_are_over, sessions_end_by_their_bytes, spent_fronts_take_no_call,
 };
-pub use serving::serve_session;
+pub use serving::{MOST_BYTES, serve_session};
 
 #[cfg(test)]
 mod tests;

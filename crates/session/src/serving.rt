@@ -1,14 +1,18 @@
-ghost use Rattle.std.specs.Prelude.{◌≡◌, ◌<◌, ◌≤◌, ◌+◌, ◌^◌, OnOk, IfOk, IfErr, MatchOption, MatchResult, IfNone, is_ok, vec_capacity};
+ghost use Rattle.std.specs.Prelude.{◌≡◌, ◌<◌, ◌≤◌, ◌+◌, OnOk, IfOk, IfErr, MatchOption, MatchResult, IfNone, is_ok, vec_capacity};
 ghost use Rattle.funnel_io.specs.LineReading.{most_lines, unused};
 ghost use Rattle.session.specs.Ends.{Serves, Stand, is_read_fault, is_write_fault};
 ghost use Rattle.session.specs.Steps.{AnswersNext, EndsNext, HasGone, HasServed, ReadsOn};
 ghost use Rattle.session.specs.Turns.{GoesInTurns};
+ghost use Rattle.session.specs.declared.serving.TheConstants.{MOST_BYTES};
 
 use crate::answering::{TEXT_ROOM, answer, render};
 use funnel_io::{Connection, End, Line, LineReader, write_all};
 use funnel_model::Reply;
 use line_proto::Service;
 use std::alloc::Global;
+
+/// A session takes at most so many bytes.
+pub const MOST_BYTES: u64 = 1 << 40;
 
 /// Answers the lines of a connection, until its input is at its end, or `limit` bytes were taken, or
 /// a read or a write fails. Each reply goes out whole before more than the present read is taken, and
@@ -21,7 +25,7 @@ pub fn serve_session<S: Service, C: Connection>(
     limit: u64,
 ) -> End
     requires some { 1 ≤ limit }
-    requires few { limit ≤ 2 ^ 40 }
+    requires few { limit ≤ MOST_BYTES }
     ensures caller { S.caller service.new ≡ S.caller service.old }
     ensures borrowed { C.borrowed conn.new ≡ C.borrowed conn.old }
     ensures serves { Serves (S.caller service.old) limit

@@ -1,6 +1,6 @@
 ghost use Rattle.std.specs.Prelude.{◌≡◌, IfOk};
 
-use crate::serve_session;
+use crate::{MOST_BYTES, serve_session};
 use funnel_io::{End, Got, MemConn, MemSink, MemSource, Source};
 use funnel_model::{Call, Event, Reply};
 use line_proto::{Request, Service};
@@ -107,7 +107,7 @@ fn expect_session(
     end: End,
     output: &str,
 ) {
-    if limit == 0 || limit > 1 << 40 {
+    if limit == 0 || limit > MOST_BYTES {
         return;
     }
     assert_eq!(rt; serve_session(alloc, &mut SpentPass, conn, limit), end);
@@ -119,13 +119,13 @@ const FIVE: &[&[u8]] = &[b"place\n", b"fi", b"nd\nplaces\nadd 1 a\n", b"del ", b
 #[test]
 fn each_line_is_answered(rt: HostRuntime) -> Result<(), Fail> {
     let mut none = conn_of(rt.alloc(), &[], &[], &[])?;
-    expect_session(&rt, rt.alloc(), &mut none, 1 << 40, End::Done, "");
+    expect_session(&rt, rt.alloc(), &mut none, MOST_BYTES, End::Done, "");
     let mut five = conn_of(rt.alloc(), FIVE, &[], &[])?;
     expect_session(
         &rt,
         rt.alloc(),
         &mut five,
-        1 << 40,
+        MOST_BYTES,
         End::Done,
         "refused spent\nrefused spent\nrefused line\nrefused spent\nrefused spent\n",
     );
@@ -187,7 +187,14 @@ fn a_failed_read_ends_it_and_cuts_its_line(rt: HostRuntime) -> Result<(), Fail> 
         ),
     ] {
         let mut conn = conn_of(rt.alloc(), FIVE, &[number], &[])?;
-        expect_session(&rt, rt.alloc(), &mut conn, 1 << 40, End::ReadFault, output);
+        expect_session(
+            &rt,
+            rt.alloc(),
+            &mut conn,
+            MOST_BYTES,
+            End::ReadFault,
+            output,
+        );
     }
     Ok(())
 }
@@ -205,7 +212,14 @@ fn a_failed_write_ends_it(rt: HostRuntime) -> Result<(), Fail> {
         ),
     ] {
         let mut conn = conn_of(rt.alloc(), FIVE, &[], &[number])?;
-        expect_session(&rt, rt.alloc(), &mut conn, 1 << 40, End::WriteFault, output);
+        expect_session(
+            &rt,
+            rt.alloc(),
+            &mut conn,
+            MOST_BYTES,
+            End::WriteFault,
+            output,
+        );
     }
     Ok(())
 }
@@ -213,7 +227,7 @@ fn a_failed_write_ends_it(rt: HostRuntime) -> Result<(), Fail> {
 #[test]
 fn after_a_failed_write_nothing_more_is_read(rt: HostRuntime) -> Result<(), Fail> {
     let mut conn = conn_of(rt.alloc(), &[b"place\n", b"next"], &[], &[1])?;
-    expect_session(&rt, rt.alloc(), &mut conn, 1 << 40, End::WriteFault, "");
+    expect_session(&rt, rt.alloc(), &mut conn, MOST_BYTES, End::WriteFault, "");
     let mut room = [0u8; 8];
     assert_eq!(rt; conn.read(&mut room), Got::Bytes(4));
     assert_eq!(rt; room.as_slice(), b"next\0\0\0\0".as_slice());
@@ -249,7 +263,7 @@ fn a_line_of_more_than_65536_bytes_is_refused(rt: HostRuntime) -> Result<(), Fai
     ] {
         for size in [1, 4_096, 100_000] {
             let mut conn = long_add(rt.alloc(), letters, ending, size)?;
-            expect_session(&rt, rt.alloc(), &mut conn, 1 << 40, End::Done, output);
+            expect_session(&rt, rt.alloc(), &mut conn, MOST_BYTES, End::Done, output);
         }
     }
     Ok(())

@@ -1,7 +1,7 @@
 //! Engines for the tests, and calls whose answers are compared.
 ghost use Rattle.std.specs.Prelude.{◌≡◌, [], IfOk};
 ghost use Rattle.commit_desk.specs.Passes.{IsResting};
-ghost use Rattle.engine.specs.Tested.{AreTwo};
+ghost use Rattle.engine.specs.Tested.{AreTwo, RestsAs};
 ghost use Rattle.funnel_model.specs.Configuration.{IsBetween, IsInRange, IsValid};
 
 use crate::{Blank, Closed, Direct, Engine, Pass, PoolName, Work};
@@ -95,6 +95,30 @@ pub(super) fn open_three<N: PoolName>(
     Ok((engine, first, second, third))
 }
 
+/// An engine with four passes.
+pub(super) fn open_four<N: PoolName>(
+    alloc: Global,
+    config: &Config,
+    blank: Blank,
+) -> Result<(Engine<N>, Pass, Pass, Pass, Pass), Fail>
+    requires valid { IsValid config.now }
+    requires made_with { blank.config ≡ config.now }
+    requires named { blank ≡ N.pool }
+    requires passes { config.now.passes ≡ 4 }
+    ensures passes { IfOk result (λ opened. opened.0.limits.passes ≡ 4) }
+    ensures first { IfOk result (λ opened. RestsAs opened.0 0 opened.1) }
+    ensures second { IfOk result (λ opened. RestsAs opened.0 1 opened.2) }
+    ensures third { IfOk result (λ opened. RestsAs opened.0 2 opened.3) }
+    ensures fourth { IfOk result (λ opened. RestsAs opened.0 3 opened.4) }
+{
+    let (engine, mut passes) = Engine::open(alloc, config, blank)?;
+    let fourth = passes.pop().ok_or("a fourth pass")?;
+    let third = passes.pop().ok_or("a third pass")?;
+    let second = passes.pop().ok_or("a second pass")?;
+    let first = passes.pop().ok_or("a first pass")?;
+    Ok((engine, first, second, third, fourth))
+}
+
 /// Adds documents with these numbers and one text, which are answered by the places after `before`.
 pub(super) fn add_all<N: PoolName, R: Wait>(
     rt: &R,
@@ -169,6 +193,29 @@ pub(super) fn close_two<N: PoolName>(
     let mut passes = Vec::with_capacity(alloc, 2)?;
     passes.push(first)?;
     passes.push(second)?;
+    Ok(engine.close(passes))
+}
+
+/// Closes an engine with four passes.
+pub(super) fn close_four<N: PoolName>(
+    alloc: Global,
+    engine: Engine<N>,
+    first: Pass,
+    second: Pass,
+    third: Pass,
+    fourth: Pass,
+) -> Result<Closed, Fail>
+    requires passes { engine.limits.passes ≡ 4 }
+    requires first { RestsAs engine 0 first }
+    requires second { RestsAs engine 1 second }
+    requires third { RestsAs engine 2 third }
+    requires fourth { RestsAs engine 3 fourth }
+{
+    let mut passes = Vec::with_capacity(alloc, 4)?;
+    passes.push(first)?;
+    passes.push(second)?;
+    passes.push(third)?;
+    passes.push(fourth)?;
     Ok(engine.close(passes))
 }
 

@@ -1,5 +1,15 @@
 //! Which command some words are.
-use crate::command::{Command, CommandFault, LoadCommand, read_command};
+use crate::command::{Command, CommandFault, LoadCommand, ServeCommand, read_command};
+use crate::listening::ports;
+use std::test::Fail;
+
+const fn serve(port: u32, workers: u32, connections: u64) -> Result<Command, CommandFault> {
+    Ok(Command::Serve(ServeCommand {
+        port,
+        workers,
+        connections,
+    }))
+}
 
 const fn load(docs: u32, words: u32, seed: u64) -> Result<Command, CommandFault> {
     Ok(Command::Load(LoadCommand { docs, words, seed }))
@@ -10,8 +20,126 @@ const fn usage() -> Result<Command, CommandFault> {
 }
 
 #[test]
+fn words_are_read_as_a_serve(rt: HostRuntime) {
+    let rows: [(&[&str], Result<Command, CommandFault>); 22] = [
+        (
+            &["serve", "--port", "7000", "--workers", "2"],
+            serve(7_000, 2, 1_000_000),
+        ),
+        (
+            &["serve", "--workers=1", "--connections=3", "--port=1"],
+            serve(1, 1, 3),
+        ),
+        (
+            &[
+                "serve",
+                "--port",
+                "65535",
+                "--workers",
+                "64",
+                "--connections",
+                "4294967296",
+            ],
+            serve(65_535, 64, 4_294_967_296),
+        ),
+        (
+            &[
+                "serve",
+                "--port",
+                "1",
+                "--workers",
+                "1",
+                "--connections",
+                "1",
+            ],
+            serve(1, 1, 1),
+        ),
+        (
+            &[
+                "serve",
+                "--port",
+                "007",
+                "--workers",
+                "+5",
+                "--connections",
+                "+9",
+            ],
+            serve(7, 5, 9),
+        ),
+        // out of range
+        (&["serve", "--port", "0", "--workers", "1"], usage()),
+        (&["serve", "--port", "65536", "--workers", "1"], usage()),
+        (&["serve", "--port=-1", "--workers", "1"], usage()),
+        (&["serve", "--port", "1", "--workers", "0"], usage()),
+        (&["serve", "--port", "1", "--workers", "65"], usage()),
+        (
+            &["serve", "--port=1", "--workers=1", "--connections=0"],
+            usage(),
+        ),
+        (
+            &[
+                "serve",
+                "--port=1",
+                "--workers=1",
+                "--connections=4294967297",
+            ],
+            usage(),
+        ),
+        (
+            &["serve", "--port=1", "--workers=1", "--connections=-0"],
+            usage(),
+        ),
+        // left out, twice, or another command's
+        (&["serve"], usage()),
+        (&["serve", "--port", "1"], usage()),
+        (&["serve", "--workers", "1"], usage()),
+        (
+            &["serve", "--port=1", "--port=1", "--workers", "1"],
+            usage(),
+        ),
+        (
+            &["serve", "--port=1", "--workers=1", "--connections"],
+            usage(),
+        ),
+        (&["serve", "--port=1", "--workers=1", "--docs=1"], usage()),
+        (&["serve", "--port", "1", "--workers", "1", "9"], usage()),
+        (&["run", "--port", "1"], usage()),
+        (&["serve", "--help"], usage()),
+    ];
+    for (words, command) in rows {
+        assert_eq!(rt; read_command(rt.alloc(), words), command, "{words:?}");
+    }
+}
+
+#[test]
+fn a_serve_listens_on_a_port_for_each_worker(rt: HostRuntime) -> Result<(), Fail> {
+    let rows: [(&[&str], &[u32]); 6] = [
+        (
+            &["serve", "--port", "7000", "--workers", "2"],
+            &[7_000, 7_001],
+        ),
+        (&["serve", "--port", "1", "--workers", "1"], &[1]),
+        // also beyond the last port
+        (
+            &["serve", "--port", "65535", "--workers", "3"],
+            &[65_535, 65_536, 65_537],
+        ),
+        (&["serve", "--port", "7000"], &[]),
+        (&["run"], &[]),
+        (&["load", "--docs", "7"], &[]),
+    ];
+    for (words, numbers) in rows {
+        let ports = ports(rt.alloc(), words)?;
+        assert_eq!(rt; ports.as_slice(), numbers, "{words:?}");
+        assert_eq!(rt; ports.len(), numbers.len());
+        assert_eq!(rt; ports.into_inner().as_slice(), numbers);
+    }
+    Ok(())
+}
+
+#[test]
 fn words_are_read_as_their_command(rt: HostRuntime) {
-    let rows: [(&[&str], Result<Command, CommandFault>); 47] = [
+    let rows: [(&[&str], Result<Command, CommandFault>); 46] = [
         (&["run"], Ok(Command::Run)),
         (&["load", "--docs", "5"], load(5, 80, 0)),
         (&["load", "--docs=5"], load(5, 80, 0)),
@@ -66,7 +194,6 @@ fn words_are_read_as_their_command(rt: HostRuntime) {
         (&["--docs", "5", "load"], usage()),
         // not yet
         (&["load", "--workers", "2", "--docs", "5"], usage()),
-        (&["serve", "--port", "1", "--workers", "1"], usage()),
         // requests
         (&["help"], usage()),
         (&["--help"], usage()),

@@ -1,13 +1,14 @@
 use Rattle.std.proofs.Common.{rules, ◌≡◌, ◌∙◌, ap, ap₂, codes, true, false, [], ◌∷◌, ◌||◌}
 use Rattle.std.proofs.lemmas.Result.{IfOk-weaker}
+use Rattle.load_gen.specs.declared.limits.TheConstants.{MOST_DOCS, MOST_WORDS}
 use Rattle.clap.specs.Words.{Rule, rule_of, with_rule}
 use Rattle.funnel.specs.Commands.{docs_option, number_option, numbers_between, seed_option, words_option}
 use Rattle.funnel.proofs.command.load_app.Goals as goal
 
 pub returns-clause-app : goal.returns-clause-app
 returns-clause-app c =
-    let docs_numbers : c.range.result ≡ numbers_between 1 4194304 = rw (c.value_parser.ensures, c.new.ensures.start, c.new.ensures.end) at c.range.ensures in
-    let words_numbers : c.range-2.result ≡ numbers_between 0 1000 = rw (c.value_parser-2.ensures, c.new-2.ensures.start, c.new-2.ensures.end) at c.range-2.ensures in
+    let docs_numbers : c.range-numbers.result ≡ numbers_between 1 MOST_DOCS = rw (c.value_parser.ensures, c.new.ensures.start, c.new.ensures.end, c.from.ensures) at c.range-numbers.ensures in
+    let words_numbers : c.range-counts.result ≡ numbers_between 0 MOST_WORDS = rw (c.value_parser-2.ensures, c.new-2.ensures.start, c.new-2.ensures.end, c.from-2.ensures) at c.range-counts.ensures in
     let docs_is : rule_of c.required.result ≡ docs_option = ap rule_of c.required.ensures
     ∙ ap (λ (r : Rule). record r { required = true }) (c.number_option-docs.ensures.rule ∙ ap (number_option (codes "docs")) docs_numbers) in
     let words_is : rule_of c.default_value.result ≡ words_option = ap rule_of c.default_value.ensures

@@ -1,8 +1,8 @@
 use Rattle.std.proofs.Common.{rules, ◌≡◌, ◌∙◌, map, ap, subst, sym, List, IfSome, IsErrAnd}
 use Rattle.std.specs.Prelude.{option_and_then}
 use Rattle.clap.specs.Words.{Text, kind_of}
-use Rattle.funnel.specs.Commands.{HasNumbersInRange, call_words, command_of, fault_by, subcommand_as}
-use Rattle.funnel.proofs.TakenWords.{IsLoadWithNumbers, answered, answered_has, command_is, failed_is, handed_up, parsed_is, refused, taken_numbers}
+use Rattle.funnel.specs.Commands.{HasNumbers, HasNumbersInRange, call_words, command_of, fault_by, subcommand_as}
+use Rattle.funnel.proofs.TakenWords.{answered, answered_has, command_is, failed_is, handed_up, parsed_is, refused, taken_numbers}
 use Rattle.funnel.proofs.command.read_command.Goals as goal
 
 pub returns-in_err-matches-clause-usage : goal.returns-in_err-matches-clause-usage
@@ -18,7 +18,7 @@ command_in-requires c =
     let words : List Text = map (λ word. word.now) c.args.words.now in
     let words_are : map (λ s. s.now) c.as_slice.result.now ≡ call_words words = search rules in
     let is = parsed_is words _ _ c.in_ok-matches.matches c.in_ok-funnel_app.ensures words_are c.in_ok-matches.ensures.matches c.in_ok-matches.ensures.kinds in
-    subst (λ found. IfSome found IsLoadWithNumbers) (sym is.1) (taken_numbers (call_words words) is.0)
+    subst (λ found. IfSome found HasNumbers) (sym is.1) (taken_numbers (call_words words) is.0)
 
 -- the command that was found is the words'
 found_is : (c : goal.After-drop-words-2) → command_of (map (λ word. word.now) c.args.words.now) ≡ c.command_in.result

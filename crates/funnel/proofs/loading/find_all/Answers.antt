@@ -30,6 +30,6 @@ loop-j-preserved g c = record {
   room = omega (arith, c.loop-j.invariant.room, c.in_ok-push.ensures.capacity);
   count = c.in_ok-push.ensures.len ∙ ap (λ n. n + 1) c.loop-j.invariant.count;
   results_are =
-      c.in_ok-push.ensures.items ∙ ap₂ (λ results result. results ++ result ∷ []) c.loop-j.invariant.results_are c.result_of.ensures
+      c.in_ok-push.ensures.items ∙ ap₂ (λ results result. results ++ result ∷ []) c.loop-j.invariant.results_are c.query_result.ensures
       ∙ sym (map-append result_in c.loop-j.invariant.replies (c.in_ok-reply.reply ∷ []));
 }

@@ -1,7 +1,11 @@
 use Rattle.std.proofs.Common.{◌≡◌, ◌≤◌, rules}
 use Rattle.funnel.proofs.Alone.{have_run}
+use Rattle.funnel.proofs.Turns.{runs_nowhere}
 use Rattle.funnel.specs.Runs.{limits_by}
 use Rattle.funnel.proofs.running.run.Goals as goal
+
+pub returns-in_default-clause-in_turns : goal.returns-in_default-clause-in_turns
+returns-in_default-clause-in_turns g c = runs_nowhere g.S.Source.read_gives g.K.Sink.write_gives (c.args.input.now, c.args.output.now)
 
 pub returns-clause-ran : goal.returns-clause-ran
 returns-clause-ran g c =

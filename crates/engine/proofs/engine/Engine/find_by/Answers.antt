@@ -1,6 +1,6 @@
 use Rattle.std.proofs.Common.{◌∙◌, subst}
 use Rattle.std.proofs.lemmas.Result.{err_from_is_err_and}
-use Rattle.engine.proofs.Finds.{dropped_step, dropped_turns, found_step, found_turns, refused_step}
+use Rattle.engine.proofs.Finds.{dropped_step, ended_turns, found_step, found_turns, refused_step}
 use Rattle.funnel_model.specs.Legal.{IsIdle}
 use Rattle.engine.proofs.engine.Engine.find_by.Goals as goal
 
@@ -42,4 +42,4 @@ returns-in-Err-clause-step g c =
     let began = c.in_ok-begun.ensures in
     let did = c.in-Err.ensures in
     dropped_step limits pass.number query pass.front end.front c.requires.pass.idle did.legal (subst (λ n. IsIdle n end.front) (did.number ∙ began.number) did.rests.idle)
-    (dropped_turns limits pass.number query pass.front c.begin.new.pass began.number began.turns end.front did.ended)
+    (ended_turns limits pass.number query pass.front c.begin.new.pass began.number began.turns end.front did.ended)

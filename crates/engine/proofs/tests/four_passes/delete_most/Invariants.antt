@@ -1,0 +1,10 @@
+use Rattle.std.proofs.Common.{◌≡◌}
+use Rattle.commit_desk.specs.Passes.{IsResting}
+use Rattle.engine.proofs.tests.four_passes.delete_most.Given as goal
+
+-- the pass rests, and is the same one
+abbrev pub invariant-loop-i : goal.invariant-loop-i
+invariant-loop-i g l = record {
+  pass : IsResting l.engine l.pass;
+  number : l.pass.number ≡ l.fn.pass.number;
+}

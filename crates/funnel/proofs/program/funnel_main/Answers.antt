@@ -1,0 +1,35 @@
+use Rattle.std.proofs.Common.{rules, ◌≡◌, List, length, map, None, refl, sym, subst}
+use Rattle.std.proofs.lemmas.List.{length-map}
+use Rattle.funnel_server.specs.Gates.{gate_state}
+use Rattle.funnel.specs.Misfits.{misfit_of}
+use Rattle.funnel.specs.Programs.{Ends, Streams}
+use Rattle.funnel.proofs.Endings.{ends_without_engine}
+use Rattle.funnel.proofs.Turns.{runs_nowhere}
+use Rattle.funnel.proofs.program.funnel_main.Goals as goal
+
+pub returns-in_default-new-clause-ends : goal.returns-in_default-new-clause-ends
+returns-in_default-new-clause-ends g c =
+    let state = gate_state g.G.Gate.gate_faults g.G.Gate.waiting g.G.Conn.Source.incoming g.G.Conn.Sink.outgoing g.G.Gate.served in
+    let command = c.in-Ok.command in
+    let config = c.in-Ok-read_config.config in
+    let words : List (List _) = map (λ word. word.now) c.args.words.now in
+    let before : Streams = record {
+      config = g.C.Source.incoming c.args.config.now;
+      input = g.S.Source.incoming c.args.input.now;
+      output = g.K.Sink.outgoing c.args.output.now;
+      gates = map state c.args.gates.items;
+    } in
+    let after : Streams = record before { config = g.C.Source.incoming c.read_config.new.source } in
+    let fits : misfit_of command (length c.args.gates.items) config ≡ None = search rules in
+    subst (λ e. Ends words before (record after { gates = map state e.gates.items }) e.why e.closed) (sym c.unopened-in_default-new.ensures)
+    (ends_without_engine words before after command config (record { words_are = search rules; read = search rules; faults = search rules })
+    (subst (λ n. misfit_of command n config ≡ None) (sym (length-map c.args.gates.items state)) fits) refl refl refl)
+
+pub returns-in-Err-Memory-clause-in_turns : goal.returns-in-Err-Memory-clause-in_turns
+returns-in-Err-Memory-clause-in_turns g c is_run = runs_nowhere g.S.Source.read_gives g.K.Sink.write_gives (c.args.input.now, c.args.output.now)
+
+pub returns-in-Err-clause-in_turns : goal.returns-in-Err-clause-in_turns
+returns-in-Err-clause-in_turns g c is_run = runs_nowhere g.S.Source.read_gives g.K.Sink.write_gives (c.args.input.now, c.args.output.now)
+
+pub returns-in_default-new-clause-in_turns : goal.returns-in_default-new-clause-in_turns
+returns-in_default-new-clause-in_turns g c is_run = runs_nowhere g.S.Source.read_gives g.K.Sink.write_gives (c.args.input.now, c.args.output.now)

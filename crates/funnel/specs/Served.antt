@@ -1,0 +1,60 @@
+-- A serve: the connections of each gate are answered by a pass of its own of one new engine.
+use Rattle.std.specs.Prelude.{◌≡◌, ⊤, ℕ, ◌+◌, ◌<◌, false, List, [], ◌∷◌, length, map, All, Option, Some, None, if◌then◌else◌}
+use Rattle.std.specs.List.{list_any}
+use Rattle.engine.specs.Engines.{ClosedState}
+use Rattle.funnel_model.specs.declared.config.Config.{Config}
+use Rattle.funnel_model.specs.Events.{pass_of}
+use Rattle.funnel_model.specs.History.{IsFrontOf}
+use Rattle.funnel_model.specs.Legal.{IsLegal, Limits}
+use Rattle.funnel_server.specs.Gates.{GateState}
+use Rattle.funnel_server.specs.Workers.{WorkerState, Works}
+use Rattle.row_layout.specs.Sound.{IsSound}
+use Rattle.funnel.specs.Runs.{limits_by}
+use Rattle.funnel.specs.declared.ended.Why.{Why}
+use Rattle.funnel.specs.declared.ended.Why.TheVariants as why_of
+
+-- the worker of a gate before its first connection
+abbrev pub new_worker : Limits → ℕ → ℕ → GateState → WorkerState
+new_worker limits connections pass gate = record {
+  gate = gate;
+  caller = record { limits = limits; pass = pass };
+  front = [];
+  left = connections;
+  fault = false;
+  memory = false;
+}
+
+-- the workers of the gates, each on a pass of its own, from this one up
+abbrev pub new_workers : Limits → ℕ → ℕ → List GateState → List WorkerState
+new_workers limits connections pass [] = []
+new_workers limits connections pass (gate ∷ gates) = new_worker limits connections pass gate ∷ new_workers limits connections (pass + 1) gates
+
+-- each worker did its work, and there is no other one
+abbrev pub AllWork : List WorkerState → List WorkerState → Type 0
+AllWork [] [] = ⊤
+AllWork (before ∷ befores) (after ∷ afters) = Works before after × AllWork befores afters
+AllWork [] (after ∷ afters) = ⊥
+AllWork (before ∷ befores) [] = ⊥
+
+-- why a serve ends, where its workers ended so: a fault of a gate goes before want of memory
+abbrev pub why_of_workers : List WorkerState → Why
+why_of_workers workers =
+    if list_any (λ worker. worker.fault) workers then why_of.GateFault
+    else (if list_any (λ worker. worker.memory) workers then why_of.Memory else why_of.Done)
+
+-- each gate had a worker, and all workers had their sessions in one history, which goes on from what each has seen without a
+-- further event of its pass
+pub record HasServed (config : Config) (connections : ℕ) (before after : List GateState) (why : Why) (closed : ClosedState) : Type 0 where
+  pub legal : IsLegal (limits_by config) closed.history
+  pub sound : IsSound config closed.history
+  pub passes : All (λ e. pass_of e < length before) closed.history
+  pub workers : List WorkerState
+  pub work : AllWork (new_workers (limits_by config) connections 0 before) workers
+  pub fronts : All (λ worker. IsFrontOf worker.caller.pass worker.front closed.history) workers
+  pub gates : after ≡ map (λ worker. worker.gate) workers
+  pub cause : why ≡ why_of_workers workers
+
+-- the gates were served, or there was no memory for the engine or for its workers, and no gate was called
+abbrev pub EndsServe : Config → ℕ → List GateState → List GateState → Why → Option ClosedState → Type 0
+EndsServe config connections before after why (Some closed) = HasServed config connections before after why closed
+EndsServe config connections before after why None = (why ≡ why_of.Memory) × (after ≡ before)

@@ -1,0 +1,47 @@
+//! Which ports a serve listens on, and its gates, which are made before the program is run.
+ghost use Rattle.std.specs.Prelude.{◌≡◌, ◌+◌, ◌<◌, map, IfOk};
+ghost use Rattle.std.specs.List.{range_with_len};
+ghost use Rattle.funnel.specs.Commands.{command_of, ports_of};
+
+use crate::command::{Command, CommandFault, read_command};
+use crate::port_list::Ports;
+use funnel_io::TcpGate;
+use funnel_model::Memory;
+use std::alloc::{AllocError, Global};
+use std::net::{Net, TcpStream};
+
+/// The ports that the words ask for: one for each worker of a serve, from the stated one up, also where there is no such
+/// port. All other words ask for none.
+pub fn ports(alloc: Global, words: &[&str]) -> Result<Ports, Memory>
+    ensures { IfOk result (λ ports. ports ≡ ports_of (command_of (map (λ word. word.now) words.now))) }
+{
+    let ports = match read_command(alloc, words) {
+        Ok(Command::Serve(serve)) => numbers_from(alloc, serve.port, serve.workers)?,
+        Ok(_) | Err(CommandFault::Usage) => Vec::new(alloc),
+        Err(CommandFault::Memory) => return Err(Memory),
+    };
+    Ok(Ports::new(ports))
+}
+
+// So many numbers, from this one on.
+fn numbers_from(alloc: Global, first: u32, count: u32) -> Result<Vec<u32>, AllocError>
+    requires { first + count < 4294967296 }
+    ensures { IfOk result (λ numbers. numbers.items ≡ range_with_len first count) }
+{
+    (first..first + count).collect(alloc)
+}
+
+/// A gate on each of the ports, which doesn't listen yet.
+pub(crate) fn gates_on<'a, R: Net<Stream = TcpStream>>(
+    net: &'a R,
+    alloc: Global,
+    ports: &[u32],
+) -> Result<Vec<TcpGate<'a, R>>, AllocError>
+    ensures { IfOk result (λ gates. gates.items ≡ map (λ port. record { port = port; faults = 0 }) ports.now) }
+{
+    let mut gates = Vec::with_capacity(alloc, ports.len())?;
+    for port in ports {
+        gates.push(TcpGate::new(net, *port))?;
+    }
+    Ok(gates)
+}

@@ -1,0 +1,184 @@
+//! A serve: the connections of each gate are answered by a pass of its own of one new engine.
+ghost use Rattle.std.specs.Prelude.{◌≡◌, ◌≤◌, ◌+◌, ◌-◌, ◌++◌, [], length, map, IfNone, vec_capacity};
+ghost use Rattle.std.specs.List.{list_any};
+ghost use Rattle.funnel_model.specs.Configuration.{IsValid};
+ghost use Rattle.funnel_server.specs.Gates.{gate_state};
+ghost use Rattle.funnel.specs.Runs.{limits_by};
+ghost use Rattle.funnel.specs.Served.{EndsServe, new_workers, why_of_workers};
+ghost use Rattle.funnel.specs.Serving.{new_passes};
+ghost use Rattle.funnel.specs.Workers.{ComeBack, HaveWorked};
+
+use crate::ended::{Ended, Why};
+use engine::{Blank, Client, Engine, Pass, PoolName};
+use funnel_io::Gate;
+use funnel_model::Config;
+use funnel_server::{Worker, run_workers};
+use std::alloc::Global;
+use std::sync::Wait;
+use std::thread::Threads;
+
+/// Opens an engine over the blank, answers the connections of each gate by a pass of its own, up to so many, and closes it.
+/// Nothing of it is left where there was no memory to open it or for the workers; then no gate was called.
+pub(crate) fn serve_gates<
+    N: PoolName + Send + Sync,
+    R: Threads + Wait + Sync,
+    G: Gate + Send + Drop,
+>(rt: &R, alloc: Global, config: &Config, blank: Blank, connections: u64, gates: Vec<G>) -> Ended<G>
+where
+    G::Conn: Send,
+    requires valid { IsValid config.now }
+    requires made_with { blank.config ≡ config.now }
+    requires limits { blank.limits ≡ limits_by config.now }
+    requires named { blank ≡ N.pool }
+    requires enough { length gates.items ≤ config.now.passes }
+    ensures ends { EndsServe config.now connections
+        (map (gate_state G.gate_faults G.waiting G.Conn.incoming G.Conn.outgoing G.served) gates.items)
+        (map (gate_state G.gate_faults G.waiting G.Conn.incoming G.Conn.outgoing G.served) result.gates.items)
+        result.why result.closed }
+    ensures untouched { IfNone result.closed (result.gates ≡ gates) }
+    ensures count { length result.gates.items ≡ length gates.items }
+{
+    let Ok(room) = Vec::with_capacity(alloc, gates.len()) else {
+        return Ended::unopened(Why::Memory, gates);
+    };
+    let Ok((engine, passes)) = Engine::<N>::open(alloc, config, blank) else {
+        return Ended::unopened(Why::Memory, gates);
+    };
+    let (why, gates, passes) = answer_all(rt, alloc, &engine, passes, connections, gates, room);
+    let closed = Some(engine.close(passes));
+    Ended { why, gates, closed }
+}
+
+/// Answers the connections of each gate by one of the engine's passes, which are new. Gives why that ended, and all gates and
+/// passes back.
+fn answer_all<'a, N: PoolName + Send + Sync, R: Threads + Wait + Sync, G: Gate + Send + Drop>(
+    rt: &'a R,
+    alloc: Global,
+    engine: &'a Engine<N>,
+    passes: Vec<Pass>,
+    connections: u64,
+    gates: Vec<G>,
+    room: Vec<Worker<'a, G, N, R>>,
+) -> (Why, Vec<G>, Vec<Pass>)
+where
+    G::Conn: Send,
+    requires named { engine.now ≡ N.pool }
+    requires new { passes.items ≡ new_passes engine.now 0 engine.now.config.passes }
+    requires enough { length gates.items ≤ engine.now.config.passes }
+    requires empty { room.items ≡ [] }
+    requires room { length gates.items ≤ vec_capacity room }
+    ensures worked { HaveWorked engine.now connections
+        (map (gate_state G.gate_faults G.waiting G.Conn.incoming G.Conn.outgoing G.served) gates.items)
+        (map (gate_state G.gate_faults G.waiting G.Conn.incoming G.Conn.outgoing G.served) result.1.items)
+        result.0 result.2.items }
+{
+    let mut gates = gates;
+    let mut passes = passes;
+    let mut workers = room;
+    equip(
+        rt,
+        alloc,
+        engine,
+        connections,
+        &mut gates,
+        &mut passes,
+        &mut workers,
+    );
+    let workers = run_workers(rt, workers);
+    let why = why_of_workers(&workers);
+    take_back(workers, &mut gates, &mut passes);
+    (why, gates, passes)
+}
+
+/// Makes a worker of each gate and the next pass, all of which are new.
+fn equip<'a, N: PoolName, R: Wait, G: Gate + Drop>(
+    rt: &'a R,
+    alloc: Global,
+    engine: &'a Engine<N>,
+    connections: u64,
+    gates: &mut Vec<G>,
+    passes: &mut Vec<Pass>,
+    workers: &mut Vec<Worker<'a, G, N, R>>,
+)
+    requires named { engine.now ≡ N.pool }
+    requires new { passes.old.items ≡ new_passes engine.now 0 engine.now.config.passes }
+    requires enough { length gates.old.items ≤ engine.now.config.passes }
+    requires empty { workers.old.items ≡ [] }
+    requires room { length gates.old.items ≤ vec_capacity workers.old }
+    ensures workers { workers.new.items ≡ new_workers engine.now.limits connections 0
+        (map (gate_state G.gate_faults G.waiting G.Conn.incoming G.Conn.outgoing G.served) gates.old.items) }
+    ensures gates { gates.new.items ≡ [] }
+    ensures passes { passes.new.items ≡ new_passes engine.now (length gates.old.items)
+        (engine.now.config.passes - length gates.old.items) }
+    ensures room_of_gates { vec_capacity gates.new ≡ vec_capacity gates.old }
+    ensures room_of_passes { vec_capacity passes.new ≡ vec_capacity passes.old }
+{
+    while !gates.is_empty() {
+        let gate = gates.remove(0);
+        let client = Client {
+            engine,
+            pass: passes.remove(0),
+            rt,
+            alloc,
+        };
+        let worker = Worker {
+            gate,
+            client,
+            left: connections,
+            fault: false,
+            memory: false,
+        };
+        // There is room for each.
+        if workers.push(worker).is_err() {
+            unreachable!()
+        }
+    }
+}
+
+/// Why a serve ends, where its workers ended so.
+fn why_of_workers<N: PoolName, R: Wait, G: Gate>(workers: &[Worker<G, N, R>]) -> Why
+    ensures { result ≡ why_of_workers workers.now }
+{
+    if any_gate_failed(workers) {
+        Why::GateFault
+    } else if any_found_no_memory(workers) {
+        Why::Memory
+    } else {
+        Why::Done
+    }
+}
+
+fn any_gate_failed<N: PoolName, R: Wait, G: Gate>(workers: &[Worker<G, N, R>]) -> bool
+    ensures { result ≡ list_any (λ worker. worker.fault) workers.now }
+{
+    workers.iter().any(|worker| worker.fault)
+}
+
+fn any_found_no_memory<N: PoolName, R: Wait, G: Gate>(workers: &[Worker<G, N, R>]) -> bool
+    ensures { result ≡ list_any (λ worker. worker.memory) workers.now }
+{
+    workers.iter().any(|worker| worker.memory)
+}
+
+/// Takes the gates and the passes of the workers back.
+fn take_back<N: PoolName, R: Wait, G: Gate + Drop>(
+    workers: Vec<Worker<'_, G, N, R>>,
+    gates: &mut Vec<G>,
+    passes: &mut Vec<Pass>,
+)
+    requires room_of_gates { length gates.old.items + length workers.items ≤ vec_capacity gates.old }
+    requires room_of_passes { length passes.old.items + length workers.items ≤ vec_capacity passes.old }
+    ensures gates { map (gate_state G.gate_faults G.waiting G.Conn.incoming G.Conn.outgoing G.served) gates.new.items
+        ≡ map (gate_state G.gate_faults G.waiting G.Conn.incoming G.Conn.outgoing G.served) gates.old.items
+        ++ map (λ worker. worker.gate) workers.entry.items }
+    ensures passes { ComeBack N.pool workers.entry.items passes.old.items passes.new.items }
+{
+    for worker in workers {
+        let Worker { gate, client, .. } = worker;
+        let Client { pass, .. } = client;
+        // The room of those that were taken out is still there.
+        if gates.push(gate).is_err() || passes.push(pass).is_err() {
+            unreachable!()
+        }
+    }
+}

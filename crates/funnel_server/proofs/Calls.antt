@@ -1,0 +1,129 @@
+-- The calls that sessions add to those of their pass.
+use Rattle.std.proofs.Common.{◌≡◌, ◌≢◌, List, [], ◌∷◌, ◌++◌, ℕ, flat_map, append_assoc, append-nil, sym, refl, ap, ◌∙◌, subst, inl, inr, ⊎_elim}
+use Rattle.std.specs.List.{All}
+use Rattle.std.proofs.lemmas.List.Elements.{All-cons, All-head, All-nil, All-tail}
+use mathlib.Core.List.{IsPrefix}
+use Rattle.funnel_io.specs.declared.end.End.{End}
+use Rattle.funnel_io.specs.declared.end.End.TheVariants as end_of
+use Rattle.funnel_model.proofs.StepCauses.{memory_cause, spent_cause}
+use Rattle.funnel_model.proofs.StepLemmas.{linear-grows, prefix_refl, prefix_trans}
+use Rattle.funnel_model.specs.declared.call.Call.{Call}
+use Rattle.funnel_model.specs.declared.call.Call.TheVariants as call
+use Rattle.funnel_model.specs.declared.event.Event.{Event}
+use Rattle.funnel_model.specs.declared.reply.Reply.{Reply}
+use Rattle.funnel_model.specs.declared.reply.Reply.TheVariants as reply
+use Rattle.funnel_model.specs.History.{own}
+use Rattle.funnel_model.specs.Legal.{Limits}
+use Rattle.funnel_model.specs.Steps.{AddsCall, AddsNone, FindsNoMemory, Linear, Step}
+use Rattle.line_proto.specs.Services.{Caller}
+use Rattle.session.proofs.SessionLaws.{linear}
+use Rattle.session.specs.Laws.{calls_of, replies_to_calls}
+use Rattle.session.specs.Sessions.{Answers, Session}
+use Rattle.funnel_server.specs.Laws.{AreMade, GoesOnByCalls, HasSeen, IsMadeAs, MakesCalls, answered, replies_in}
+use Rattle.funnel_server.specs.Workers.{AreInOrder, IsVisit, Visit}
+
+-- the calls of a pass after these are those before and then these
+abbrev Adds : ℕ → List Event → List Event → List Call → Type 0
+Adds pass before after made = own pass after ≡ own pass before ++ made
+
+adds_nothing : (pass : ℕ) (before after : List Event) → AddsNone pass before after → Adds pass before after []
+adds_nothing pass before after none = none ∙ sym (append-nil (own pass before))
+
+-- what one call makes
+record OneMade (pass : ℕ) (before after : List Event) (asked : Call) (given : Reply) : Type 0 where
+  made : List Call
+  is : IsMadeAs given asked made
+  adds : Adds pass before after made
+
+-- a call that is answered by its event was made
+made_call : (limits : Limits) (pass : ℕ) (before after : List Event) (asked : Call) (given : Reply) → given ≢ reply.Spent → given ≢ reply.Memory
+    → Step limits pass before after asked given → AddsCall pass before after asked
+made_call limits pass before after asked given not_spent not_memory step =
+    ⊎_elim (λ made. made.call) (λ rest. ⊎_elim (λ lacks. absurd (not_memory lacks.reply)) (λ spent. absurd (not_spent spent.reply)) rest) step.outcome
+
+-- a call without memory was made or not
+without_memory : (pass : ℕ) (before after : List Event) (asked : Call) → FindsNoMemory pass before after asked → OneMade pass before after asked reply.Memory
+without_memory pass before after (call.Add id text) none = record { made = []; is = refl; adds = adds_nothing pass before after none }
+without_memory pass before after (call.Find query) (inl none) = record { made = []; is = inl refl; adds = adds_nothing pass before after none }
+without_memory pass before after (call.Find query) (inr adds) = record { made = call.Find query ∷ []; is = inr refl; adds = adds }
+without_memory pass before after (call.Journal from) (inl none) = record { made = []; is = inl refl; adds = adds_nothing pass before after none }
+without_memory pass before after (call.Journal from) (inr adds) = record { made = call.Journal from ∷ []; is = inr refl; adds = adds }
+without_memory pass before after asked found = absurd found
+
+one_made : (limits : Limits) (pass : ℕ) (before after : List Event) (asked : Call) (given : Reply) → Step limits pass before after asked given → OneMade pass before after asked given
+one_made limits pass before after asked reply.Spent step =
+    record { made = []; is = refl; adds = adds_nothing pass before after (spent_cause limits pass before after asked step).1 }
+one_made limits pass before after asked reply.Memory step = without_memory pass before after asked (memory_cause limits pass before after asked step)
+one_made limits pass before after asked given step =
+    record { made = asked ∷ []; is = refl; adds = made_call limits pass before after asked given (λ is. cc) (λ is. cc) step }
+
+-- what calls make, one after another
+all_made : (limits : Limits) (pass : ℕ) (before after : List Event) (calls : List Call) (replies : List Reply) → Linear limits pass before after calls replies
+    → (made : List Call) × AreMade calls replies made × Adds pass before after made
+all_made limits pass before after [] [] run = ([], refl, adds_nothing pass before after (ap (own pass) (sym run)))
+all_made limits pass before after (asked ∷ calls) (given ∷ replies) run =
+    let one = one_made limits pass before run.0 asked given run.1 in
+    let later = all_made limits pass run.0 after calls replies run.2 in (
+      one.made ++ later.0,
+      (one.made, later.0, one.is, later.1, refl),
+      later.2 ∙ ap (λ calls. calls ++ later.0) one.adds ∙ append_assoc (own pass before) one.made later.0,
+    )
+all_made limits pass before after [] (given ∷ replies) run = absurd run
+all_made limits pass before after (asked ∷ calls) [] run = absurd run
+
+-- a session's items are answered, one after another
+session_answers : (caller : Caller) (before after : List Event) (taken written : List ℕ) (end : End) (session : Session caller before after taken written end)
+    → Answers caller before (answered caller before after taken written end session) (replies_in caller before after taken written end session) after
+session_answers caller before after taken written end_of.Done session = session.answers
+session_answers caller before after taken written end_of.ReadFault session = session.answers
+session_answers caller before after taken written (end_of.ByteLimit limit) session = session.1.answers
+session_answers caller before after taken written end_of.WriteFault session = session.answers
+session_answers caller before after taken written end_of.Memory session = sym session.2
+
+-- what a session makes
+record OneSession (caller : Caller) (visit : Visit) : Type 0 where
+  made : List Call
+  makes : MakesCalls caller visit made
+  adds : Adds caller.pass visit.before.front visit.after.front made
+
+one_session : (caller : Caller) (visit : Visit) → IsVisit caller visit → OneSession caller visit
+one_session caller visit session =
+    let serves = session.serves in
+    let asked = answered caller visit.before.front visit.after.front serves.taken serves.written visit.end serves.session in
+    let replies = replies_in caller visit.before.front visit.after.front serves.taken serves.written visit.end serves.session in
+    let steps = linear caller visit.before.front visit.after.front asked replies
+    (session_answers caller visit.before.front visit.after.front serves.taken serves.written visit.end serves.session) in
+    let made = all_made caller.limits caller.pass visit.before.front visit.after.front (calls_of asked) (replies_to_calls asked replies) steps in
+    record {
+      made = made.0;
+      makes = record { session = session; asked = asked; asked_are = refl; replies = replies; replies_are = refl; steps = steps; are = made.1 };
+      adds = made.2;
+    }
+
+-- the front of a pass goes on over a session
+session_grows : (caller : Caller) (visit : Visit) (made : List Call) → MakesCalls caller visit made → IsPrefix visit.before.front visit.after.front
+session_grows caller visit made makes =
+    linear-grows caller.limits caller.pass visit.before.front visit.after.front (calls_of makes.asked) (replies_to_calls makes.asked makes.replies) makes.steps
+
+pub go_on_by_calls : (caller : Caller) (before after : List Event) (visits : List Visit) → All (IsVisit caller) visits → AreInOrder before visits after
+    → GoesOnByCalls caller before after visits
+go_on_by_calls caller before after [] sessions order = record {
+  made = [];
+  sessions = tt;
+  calls = adds_nothing caller.pass before after (ap (own caller.pass) (sym order));
+  grows = subst (IsPrefix before) order (prefix_refl before);
+  seen = All-nil (HasSeen after);
+}
+go_on_by_calls caller before after (visit ∷ visits) sessions order =
+    let one = one_session caller visit (All-head (IsVisit caller) visit visits sessions) in
+    let later = go_on_by_calls caller visit.after.front after visits (All-tail (IsVisit caller) visit visits sessions) order.1 in
+    let grows = prefix_trans visit.before.front visit.after.front after (session_grows caller visit one.made one.makes) later.grows in
+    record {
+      made = one.made ∷ later.made;
+      sessions = (one.makes, later.sessions);
+      calls = later.calls ∙ ap (λ calls. calls ++ flat_map (λ (made : List Call). made) later.made) one.adds
+          ∙ append_assoc (own caller.pass visit.before.front) one.made (flat_map (λ (made : List Call). made) later.made)
+          ∙ ap (λ front. own caller.pass front ++ (one.made ++ flat_map (λ (made : List Call). made) later.made)) order.0;
+      grows = subst (λ front. IsPrefix front after) order.0 grows;
+      seen = All-cons (HasSeen after) visit visits (record { before = grows; after = later.grows }) later.seen;
+    }

@@ -1,0 +1,161 @@
+-- How sessions end.
+use Rattle.std.proofs.Common.{◌≡◌, ◌⊎◌, ◌<◌, ◌||◌, ℕ, Bool, true, false, List, [], ◌∷◌, ◌++◌, length, map, take, take_all, Option, Some, None, IfSome, append-nil, arith, sym, refl, ap, ◌∙◌, subst, inl, inr, length-append}
+use Rattle.std.specs.Io.KnownBytes.{Appends, Consumes, IsAtEnd}
+use Rattle.std.specs.List.{All, list_any}
+use Rattle.std.specs.Option.{option_map}
+use Rattle.std.proofs.Math.Seq.{take-append_seam}
+use Rattle.std.proofs.lemmas.List.{length-map}
+use Rattle.std.proofs.lemmas.List.Elements.{All-cons, All-head, All-nil, All-tail}
+use mathlib.Core.List.{IsPrefix}
+use Rattle.funnel_io.specs.Counts.{counted}
+use Rattle.funnel_io.specs.declared.end.End.{End}
+use Rattle.funnel_io.specs.declared.end.End.TheVariants as end_of
+use Rattle.line_proto.specs.Services.{Caller}
+use Rattle.session.specs.Ends.{Serves, Stand, is_read_fault, is_write_fault}
+use Rattle.session.specs.declared.serving.TheConstants.{MOST_BYTES}
+use Rattle.funnel_server.specs.Gates.{Sides}
+use Rattle.funnel_server.specs.Laws.{CountsAs, EndsWell, HasCause, HasFewBytes, HasNoFault, KeepsInput, TakesAs, TellsInput}
+use Rattle.funnel_server.specs.Workers.{IsVisit, Visit, WorkerState, Works, is_memory, served_by, sides_before}
+
+-- bytes that were taken of an input are its first ones, and all of it where nothing is left
+taken_first : (input taken : List ℕ) (left : Option (List ℕ)) → Consumes (Some input) left taken → IsPrefix taken input
+taken_first input taken None takes = absurd takes
+taken_first input taken (Some rest) takes = (rest, sym takes)
+
+taken_whole : (input taken : List ℕ) (left : Option (List ℕ)) → Consumes (Some input) left taken → IsAtEnd left → taken ≡ input
+taken_whole input taken None takes none = absurd takes
+taken_whole input taken (Some rest) takes none = sym (takes ∙ ap (λ bytes. taken ++ bytes) none ∙ append-nil taken)
+
+kept_whole : (taken : List ℕ) (kept : Option (List ℕ)) → Appends (Some []) kept taken → kept ≡ Some taken
+kept_whole taken None appends = absurd appends
+kept_whole taken (Some bytes) appends = ap Some appends
+
+-- counts from 0 on
+counts_as : (end : End) (reads writes : ℕ) → reads ≡ counted (is_read_fault end) 0 → writes ≡ counted (is_write_fault end) 0 → CountsAs end reads writes
+counts_as end_of.Done reads writes r w = (r, w)
+counts_as end_of.ReadFault reads writes r w = (r, w)
+counts_as end_of.WriteFault reads writes r w = (r, w)
+counts_as (end_of.ByteLimit limit) reads writes r w = (r, w)
+counts_as end_of.Memory reads writes r w = (r, w)
+
+visit_counts : (caller : Caller) (visit : Visit) → IsVisit caller visit → CountsAs visit.end visit.after.incoming.faults visit.after.outgoing.faults
+visit_counts caller visit session = counts_as visit.end visit.after.incoming.faults visit.after.outgoing.faults
+    (session.serves.faults.reads ∙ ap (counted (is_read_fault visit.end)) session.fresh.no_read_fault)
+    (session.serves.faults.writes ∙ ap (counted (is_write_fault visit.end)) session.fresh.no_write_fault)
+
+takes_as : (caller : Caller) (old new : Stand) (end : End) (served : Serves caller MOST_BYTES old new end) (input : List ℕ)
+    → Consumes (Some input) new.incoming.left served.taken → TakesAs end input served.taken
+takes_as caller old new end_of.Done served input takes = (taken_whole input served.taken new.incoming.left takes served.leaves, served.within)
+takes_as caller old new end_of.ReadFault served input takes = tt
+takes_as caller old new end_of.WriteFault served input takes = tt
+takes_as caller old new (end_of.ByteLimit limit) served input takes = served.within
+takes_as caller old new end_of.Memory served input takes = served.session.0
+
+keeps_input : (caller : Caller) (visit : Visit) (session : IsVisit caller visit) (input : List ℕ) → TellsInput visit.before.incoming input
+    → KeepsInput input (served_by visit)
+keeps_input caller visit session input tells =
+    let served = session.serves in
+    let takes = subst (λ left. Consumes left visit.after.incoming.left served.taken) tells.left served.takes.left in record {
+      bytes = served.taken;
+      kept = kept_whole served.taken visit.after.incoming.taken (subst (λ taken. Appends taken visit.after.incoming.taken served.taken) tells.taken served.takes.taken);
+      first = taken_first input served.taken visit.after.incoming.left takes;
+      by_end = takes_as caller visit.before visit.after visit.end served input takes;
+    }
+
+pub kept_ends : (caller : Caller) (visit : Visit) → IsVisit caller visit → HasCause (sides_before visit) (served_by visit)
+kept_ends caller visit session = record {
+  counts = visit_counts caller visit session;
+  input = keeps_input caller visit session;
+  nothing_read = λ memory. subst (λ (stand : Stand). IfSome stand.incoming.taken (λ bytes. bytes ≡ [])) (sym (session.untouched memory)) session.fresh.nothing_read;
+  nothing_written = λ memory. subst (λ (stand : Stand). IfSome stand.outgoing.written (λ bytes. bytes ≡ [])) (sym (session.untouched memory)) session.fresh.nothing_written;
+}
+
+-- those that left the waiting ones, and those that still wait, are all that waited
+record AreAll (left : Option (List Sides)) (waiting gone : List Sides) : Type 0 where
+  rest : List Sides
+  still : left ≡ Some rest
+  whole : waiting ≡ gone ++ rest
+
+are_all : (before left : Option (List Sides)) (waiting gone : List Sides) → before ≡ Some waiting → before ≡ option_map (λ rest. gone ++ rest) left
+    → AreAll left waiting gone
+are_all before None waiting gone is waited = let none : Some waiting ≡ None = sym is ∙ waited in cc
+are_all before (Some rest) waiting gone is waited = let both : Some waiting ≡ Some (gone ++ rest) = sym is ∙ waited in record { rest = rest; still = refl; whole = cc }
+
+pub serve_all : (before after : WorkerState) (works : Works before after) (waiting : List Sides) → after.fault ≡ false → before.gate.waiting ≡ Some waiting
+    → map sides_before works.visits ≡ take before.left waiting
+serve_all before after works waiting no_fault is =
+    let gone = map sides_before works.visits in
+    let all = are_all before.gate.waiting after.gate.waiting waiting gone is works.serves.waited in
+    by_stop all works.stopped where
+      by_stop : AreAll after.gate.waiting waiting (map sides_before works.visits) → (after.left ≡ 0) ⊎ (after.fault ≡ true) ⊎ IfSome after.gate.waiting (λ sides. sides ≡ [])
+          → map sides_before works.visits ≡ take before.left waiting
+      by_stop all (inl none) =
+          sym (ap (take before.left) all.whole
+          ∙ ap (λ n. take n (map sides_before works.visits ++ all.rest)) (omega (arith, none, works.serves.count, length-map works.visits sides_before))
+          ∙ take-append_seam (map sides_before works.visits) all.rest)
+      by_stop all (inr (inl fault)) = let other : true ≡ false = sym fault ∙ no_fault in cc
+      by_stop all (inr (inr none)) =
+          let whole = all.whole ∙ ap (λ rest. map sides_before works.visits ++ rest) (subst (λ left. IfSome left (λ sides. sides ≡ [])) all.still none) ∙ append-nil (map sides_before works.visits) in
+          sym (ap (take before.left) whole ∙ take_all before.left (map sides_before works.visits) (omega (arith, works.serves.count, length-map works.visits sides_before)))
+
+pub none_left : (before after : WorkerState) (works : Works before after) → after.fault ≡ false → 0 < after.left → IfSome after.gate.waiting (λ sides. sides ≡ [])
+none_left before after works no_fault more = by_stop works.stopped where
+  by_stop : (after.left ≡ 0) ⊎ (after.fault ≡ true) ⊎ IfSome after.gate.waiting (λ sides. sides ≡ []) → IfSome after.gate.waiting (λ sides. sides ≡ [])
+  by_stop (inl none) = absurd (omega (arith, none, more))
+  by_stop (inr (inl fault)) = let other : true ≡ false = sym fault ∙ no_fault in cc
+  by_stop (inr (inr none)) = none
+
+-- fewer bytes can't reach the limit
+below_limit : (caller : Caller) (old new : Stand) (end : End) (served : Serves caller MOST_BYTES old new end) (input : List ℕ) → old.incoming.left ≡ Some input
+    → length input < MOST_BYTES → length served.taken < MOST_BYTES
+below_limit caller old new end served input is few =
+    let first = taken_first input served.taken new.incoming.left (subst (λ left. Consumes left new.incoming.left served.taken) is served.takes.left) in
+    omega (arith, few, ap length first.1, length-append served.taken first.0)
+
+ends_well : (caller : Caller) (before after : Stand) (end : End) (served : Serves caller MOST_BYTES before after end) → CountsAs end after.incoming.faults after.outgoing.faults
+    → length served.taken < MOST_BYTES → after.incoming.faults ≡ 0 → after.outgoing.faults ≡ 0 → (end ≡ end_of.Done) ⊎ (end ≡ end_of.Memory)
+ends_well caller before after end_of.Done served counts few reads writes = inl refl
+ends_well caller before after end_of.ReadFault served counts few reads writes = absurd (omega (arith, counts.0, reads))
+ends_well caller before after end_of.WriteFault served counts few reads writes = absurd (omega (arith, counts.1, writes))
+ends_well caller before after (end_of.ByteLimit limit) served counts few reads writes = absurd (omega (arith, served.within.1, few))
+ends_well caller before after end_of.Memory served counts few reads writes = inr refl
+
+all_end_well : (caller : Caller) (visits : List Visit) (rest : List Sides) → All (IsVisit caller) visits → All HasFewBytes (map sides_before visits ++ rest)
+    → All HasNoFault visits → All EndsWell visits
+all_end_well caller [] rest sessions few none = All-nil EndsWell
+all_end_well caller (visit ∷ visits) rest sessions few none =
+    let session = All-head (IsVisit caller) visit visits sessions in
+    let small = All-head HasFewBytes (sides_before visit) (map sides_before visits ++ rest) few in
+    let well = All-head HasNoFault visit visits none in
+    All-cons EndsWell visit visits
+    (ends_well caller visit.before visit.after visit.end session.serves (visit_counts caller visit session)
+    (below_limit caller visit.before visit.after visit.end session.serves small.input small.left small.few) well.reads well.writes)
+    (all_end_well caller visits rest (All-tail (IsVisit caller) visit visits sessions) (All-tail HasFewBytes (sides_before visit) (map sides_before visits ++ rest) few)
+    (All-tail HasNoFault visit visits none))
+
+pub without_a_fault : (before after : WorkerState) (works : Works before after) (waiting : List Sides) → before.gate.waiting ≡ Some waiting
+    → All HasFewBytes waiting → All HasNoFault works.visits → All EndsWell works.visits
+without_a_fault before after works waiting is few none =
+    let all = are_all before.gate.waiting after.gate.waiting waiting (map sides_before works.visits) is works.serves.waited in
+    all_end_well before.caller works.visits all.rest works.serves.sessions (subst (All HasFewBytes) all.whole few) none
+
+-- where no session found no memory, each is done
+done_one : (visit : Visit) → EndsWell visit → is_memory visit.end ≡ false → visit.end ≡ end_of.Done
+done_one visit (inl done) none = done
+done_one visit (inr memory) none = let other : true ≡ false = sym (ap is_memory memory) ∙ none in cc
+
+neither : (a b : Bool) → (a || b) ≡ false → (a ≡ false) × (b ≡ false)
+neither false b none = (refl, none)
+neither true b none = cc
+
+all_done : (visits : List Visit) → list_any (λ visit. is_memory visit.end) visits ≡ false → All EndsWell visits → All (λ visit. visit.end ≡ end_of.Done) visits
+all_done [] none well = All-nil (λ (visit : Visit). visit.end ≡ end_of.Done)
+all_done (visit ∷ visits) none well =
+    let neither = neither (is_memory visit.end) (list_any (λ (v : Visit). is_memory v.end) visits) none in
+    All-cons (λ (visit : Visit). visit.end ≡ end_of.Done) visit visits
+    (done_one visit (All-head EndsWell visit visits well) neither.0)
+    (all_done visits neither.1 (All-tail EndsWell visit visits well))
+
+pub with_memory : (before after : WorkerState) (works : Works before after) → after.memory ≡ false → All EndsWell works.visits
+    → All (λ visit. visit.end ≡ end_of.Done) works.visits
+with_memory before after works none well = all_done works.visits (sym works.serves.memory ∙ none) well

@@ -1,0 +1,43 @@
+use Rattle.std.proofs.Common.{◌≡◌, ◌<◌, ◌||◌, ◌∷◌, ◌++◌, false, List, [], IfSome, ◌∙◌, ap, sym, refl, subst, inr, arith}
+use Rattle.std.specs.Option.{option_map}
+use Rattle.funnel_io.specs.Served.{Served}
+use Rattle.funnel_server.specs.Workers.{Visit, served_by}
+use Rattle.funnel_server.proofs.Visits.{first_waited, none_wait}
+use Rattle.funnel_io.specs.Counts.{counted}
+use Rattle.funnel_server.proofs.worker.Worker.serve_next.Goals as goal
+
+pub returns-in-Closed : goal.returns-in-Closed
+returns-in-Closed g c = rw (← c.self.view_is) (record {
+  others = refl;
+  waited = ap (option_map _) c.in-Closed.ensures.waiting;
+  served = c.in-Closed.ensures.served;
+  faults = c.in-Closed.ensures.faults ∙ ap (λ b. counted b (g.G.Gate.gate_faults c.self.inside.gate)) (subst (λ w. false ≡ w.fault) (sym c.self.view_is) (sym c.requires.no_fault));
+  why = inr (none_wait _ _ (subst (λ conns. IfSome conns (λ list. list ≡ [])) (sym c.in-Closed.ensures.waiting) c.in-Closed.ensures.closed));
+})
+
+pub returns : goal.returns
+returns g c =
+    let visit : Visit = record {
+      before = record { front = c.self.inside.client.front; incoming = g.G.Conn.Source.incoming c.in-Conn.conn; outgoing = g.G.Conn.Sink.outgoing c.in-Conn.conn };
+      after = record { front = c.answer-end.new.client.front; incoming = g.G.Conn.Source.incoming c.answer-end.new.conn; outgoing = g.G.Conn.Sink.outgoing c.answer-end.new.conn };
+      end = c.answer-end.result;
+    } in
+    rw (← c.self.view_is) (record {
+      visit = visit;
+      session = record {
+        fresh = c.in-Conn.ensures.fresh;
+        serves = c.answer-end.ensures.serves;
+        untouched = λ memory.
+            let same = c.answer-end.ensures.untouched memory in
+            λ i. record { front = (same.1 i).front; incoming = g.G.Conn.Source.incoming (same.0 i); outgoing = g.G.Conn.Sink.outgoing (same.0 i) };
+      };
+      begins = refl;
+      ends = refl;
+      same_pass = c.answer-end.ensures.caller;
+      count = omega (arith, subst (λ w. 0 < w.left) (sym c.self.view_is) c.requires.some);
+      waited = first_waited _ c.in-Conn.conn (g.G.Gate.waiting c.self.inside.gate) (g.G.Gate.waiting c.next.new.self) (g.G.Gate.waiting c.done.new.self) c.in-Conn.ensures.waiting c.done.ensures.waiting;
+      served = c.done.ensures.served ∙ ap (option_map (λ (earlier : List Served). earlier ++ served_by visit ∷ [])) c.in-Conn.ensures.served;
+      faults = c.done.ensures.count ∙ c.in-Conn.ensures.faults;
+      no_fault = refl;
+      memory = ap (λ b. c.self.inside.memory || b) c.found_no_memory.ensures;
+    })

@@ -1,0 +1,125 @@
+-- What the laws of workers say.
+use Rattle.std.specs.Prelude.{◌≡◌, ◌<◌, ◌⊎◌, ⊤, ℕ, true, false, List, [], ◌∷◌, ◌++◌, length, Some, IfSome}
+use Rattle.std.specs.List.{All, AllZip, flat_map}
+use mathlib.Core.List.{IsPrefix}
+use Rattle.funnel_io.specs.Served.{Served}
+use Rattle.funnel_io.specs.Streams.{Incoming}
+use Rattle.funnel_io.specs.declared.end.End.{End}
+use Rattle.funnel_io.specs.declared.end.End.TheVariants as end_of
+use Rattle.funnel_model.specs.declared.call.Call.{Call}
+use Rattle.funnel_model.specs.declared.call.Call.TheVariants as call
+use Rattle.funnel_model.specs.declared.event.Event.{Event}
+use Rattle.funnel_model.specs.declared.reply.Reply.{Reply}
+use Rattle.funnel_model.specs.declared.reply.Reply.TheVariants as reply
+use Rattle.funnel_model.specs.History.{own}
+use Rattle.funnel_model.specs.Steps.{Linear}
+use Rattle.line_proto.specs.Forms.{Item, items}
+use Rattle.line_proto.specs.Services.{Caller}
+use Rattle.session.specs.Laws.{calls_of, replies_to_calls}
+use Rattle.session.specs.Sessions.{Session}
+use Rattle.session.specs.declared.serving.TheConstants.{MOST_BYTES}
+use Rattle.funnel_server.specs.Gates.{Sides}
+use Rattle.funnel_server.specs.Workers.{IsVisit, Visit}
+
+-- the items that a session answered, of those that the bytes which it took have
+abbrev pub answered : (caller : Caller) (before after : List Event) (taken written : List ℕ) (end : End) → Session caller before after taken written end → List Item
+answered caller before after taken written end_of.Done session = items taken true
+answered caller before after taken written end_of.ReadFault session = items taken false
+answered caller before after taken written (end_of.ByteLimit limit) session = items taken false
+answered caller before after taken written end_of.WriteFault session = session.first
+answered caller before after taken written end_of.Memory session = []
+
+-- the replies that it gave to them
+abbrev pub replies_in : (caller : Caller) (before after : List Event) (taken written : List ℕ) (end : End) → Session caller before after taken written end → List Reply
+replies_in caller before after taken written end_of.Done session = session.replies
+replies_in caller before after taken written end_of.ReadFault session = session.replies
+replies_in caller before after taken written (end_of.ByteLimit limit) session = session.1.replies
+replies_in caller before after taken written end_of.WriteFault session = session.replies
+replies_in caller before after taken written end_of.Memory session = []
+
+-- of the calls that a pass made, those that come of a call which was answered so: the call itself; but none where it was refused
+-- as spent, or an add found no memory; and the call or none where another one found no memory
+abbrev pub IsMadeAs : Reply → Call → List Call → Type 0
+IsMadeAs reply.Spent asked made = made ≡ []
+IsMadeAs reply.Memory (call.Add id text) made = made ≡ []
+IsMadeAs reply.Memory asked made = (made ≡ []) ⊎ (made ≡ asked ∷ [])
+IsMadeAs given asked made = made ≡ asked ∷ []
+
+-- the calls, each as far as its reply says that it was made
+abbrev pub AreMade : List Call → List Reply → List Call → Type 0
+AreMade [] [] made = made ≡ []
+AreMade (asked ∷ calls) (given ∷ replies) made =
+    (first rest : List Call) × IsMadeAs given asked first × AreMade calls replies rest × (made ≡ first ++ rest)
+AreMade [] (given ∷ replies) made = ⊥
+AreMade (asked ∷ calls) [] made = ⊥
+
+-- the calls of a connection's lines, each answered by one step from front to front, and those of them that the pass made
+pub record MakesCalls (caller : Caller) (visit : Visit) (made : List Call) : Type 0 where
+  pub session : IsVisit caller visit
+  pub asked : List Item
+  pub asked_are : asked ≡ answered caller visit.before.front visit.after.front session.serves.taken session.serves.written visit.end session.serves.session
+  pub replies : List Reply
+  pub replies_are : replies ≡ replies_in caller visit.before.front visit.after.front session.serves.taken session.serves.written visit.end session.serves.session
+  pub steps : Linear caller.limits caller.pass visit.before.front visit.after.front (calls_of asked) (replies_to_calls asked replies)
+  pub are : AreMade (calls_of asked) (replies_to_calls asked replies) made
+
+-- the front goes on from those before and after the session
+pub record HasSeen (front : List Event) (visit : Visit) : Type 0 where
+  pub before : IsPrefix visit.before.front front
+  pub after : IsPrefix visit.after.front front
+
+-- the calls of a pass are those before its sessions, and then those that the sessions made, in order; and its front goes on from
+-- where it was, over all that the sessions saw
+pub record GoesOnByCalls (caller : Caller) (before after : List Event) (visits : List Visit) : Type 0 where
+  pub made : List (List Call)
+  pub sessions : AllZip (MakesCalls caller) visits made
+  pub calls : own caller.pass after ≡ own caller.pass before ++ flat_map (λ calls. calls) made
+  pub grows : IsPrefix before after
+  pub seen : All (HasSeen after) visits
+
+-- an end with the counts of failed reads and failed writes that are kept with it
+abbrev pub CountsAs : End → ℕ → ℕ → Type 0
+CountsAs end_of.ReadFault reads writes = (reads ≡ 1) × (writes ≡ 0)
+CountsAs end_of.WriteFault reads writes = (reads ≡ 0) × (writes ≡ 1)
+CountsAs _ reads writes = (reads ≡ 0) × (writes ≡ 0)
+
+-- an end with the bytes that came in, which were taken of these
+abbrev pub TakesAs : End → (input bytes : List ℕ) → Type 0
+TakesAs end_of.Done input bytes = (bytes ≡ input) × (length bytes < MOST_BYTES)
+TakesAs (end_of.ByteLimit limit) input bytes = (limit ≡ MOST_BYTES) × (length bytes ≡ MOST_BYTES)
+TakesAs end_of.Memory input bytes = bytes ≡ []
+TakesAs _ input bytes = ⊤
+
+-- a connection tells its bytes: none was read, and these are there to be read
+pub record TellsInput (incoming : Incoming) (input : List ℕ) : Type 0 where
+  pub taken : incoming.taken ≡ Some []
+  pub left : incoming.left ≡ Some input
+
+-- the bytes that came in, which are kept, are the first of the input
+pub record KeepsInput (input : List ℕ) (served : Served) : Type 0 where
+  pub bytes : List ℕ
+  pub kept : served.bytes_in ≡ Some bytes
+  pub first : IsPrefix bytes input
+  pub by_end : TakesAs served.session_end input bytes
+
+-- the end that is kept of a connection has its cause in what else is kept of it
+pub record HasCause (sides : Sides) (served : Served) : Type 0 where
+  pub counts : CountsAs served.session_end served.read_faults served.write_faults
+  pub input : (input : List ℕ) → TellsInput sides.incoming input → KeepsInput input served
+  pub nothing_read : served.session_end ≡ end_of.Memory → IfSome served.bytes_in (λ bytes. bytes ≡ [])
+  pub nothing_written : served.session_end ≡ end_of.Memory → IfSome served.bytes_out (λ bytes. bytes ≡ [])
+
+-- a connection has fewer bytes to be read than a session may take
+pub record HasFewBytes (sides : Sides) : Type 0 where
+  pub input : List ℕ
+  pub left : sides.incoming.left ≡ Some input
+  pub few : length input < MOST_BYTES
+
+-- no read and no write of a connection failed
+pub record HasNoFault (visit : Visit) : Type 0 where
+  pub reads : visit.after.incoming.faults ≡ 0
+  pub writes : visit.after.outgoing.faults ≡ 0
+
+-- a session answered all lines of its input, or found no memory to begin
+abbrev pub EndsWell : Visit → Type 0
+EndsWell visit = (visit.end ≡ end_of.Done) ⊎ (visit.end ≡ end_of.Memory)

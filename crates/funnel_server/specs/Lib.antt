@@ -1,0 +1,4 @@
+pub mod Gates
+pub mod Workers
+pub mod Turns
+pub mod Laws

@@ -1,0 +1,33 @@
+-- What a worker does in one turn, for the clauses of functions that are not public.
+use Rattle.std.specs.Prelude.{◌≡◌, ◌+◌, ◌||◌, true, false, List, [], ◌∷◌, ◌++◌, IfSome, ◌⊎◌}
+use Rattle.std.specs.Option.{option_map}
+use Rattle.funnel_io.specs.Counts.{counted}
+use Rattle.funnel_server.specs.Workers.{HasServed, IsVisit, Visit, WorkerState, is_memory, served_by, sides_before}
+
+-- a worker served the first of the connections that waited
+pub record ServesNext (before after : WorkerState) : Type 0 where
+  pub visit : Visit
+  pub session : IsVisit before.caller visit
+  pub begins : visit.before.front ≡ before.front
+  pub ends : visit.after.front ≡ after.front
+  pub same_pass : after.caller ≡ before.caller
+  pub count : after.left + 1 ≡ before.left
+  pub waited : before.gate.waiting ≡ option_map (λ rest. sides_before visit ∷ rest) after.gate.waiting
+  pub served : after.gate.served ≡ option_map (λ earlier. earlier ++ served_by visit ∷ []) before.gate.served
+  pub faults : after.gate.faults ≡ before.gate.faults
+  pub no_fault : after.fault ≡ before.fault
+  pub memory : after.memory ≡ (before.memory || is_memory visit.end)
+
+-- a worker got no connection of its gate, which is closed or failed
+pub record GetsNone (before after : WorkerState) : Type 0 where
+  pub others : after ≡ record before { gate = after.gate; fault = after.fault }
+  pub waited : after.gate.waiting ≡ before.gate.waiting
+  pub served : after.gate.served ≡ before.gate.served
+  pub faults : after.gate.faults ≡ counted after.fault before.gate.faults
+  pub why : (after.fault ≡ true) ⊎ IfSome after.gate.waiting (λ sides. sides ≡ [])
+
+-- so far a worker served these connections, and its gate did not fail
+pub record WorksOn (before now : WorkerState) : Type 0 where
+  pub visits : List Visit
+  pub serves : HasServed before now visits
+  pub no_fault : now.fault ≡ false

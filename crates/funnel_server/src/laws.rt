@@ -1,0 +1,38 @@
+//! Laws of workers, over their definitions alone. Each is the contract of a function that does nothing.
+ghost use Rattle.std.specs.Prelude.{◌≡◌, ◌<◌, false, List, [], Some, IfSome, map, take};
+ghost use Rattle.std.specs.List.{All};
+ghost use Rattle.line_proto.specs.Services.{Caller};
+ghost use Rattle.funnel_io.specs.declared.end.End.TheVariants as end_of;
+ghost use Rattle.funnel_server.specs.Gates.{Sides};
+ghost use Rattle.funnel_server.specs.Laws.{EndsWell, GoesOnByCalls, HasCause, HasFewBytes, HasNoFault};
+ghost use Rattle.funnel_server.specs.Workers.{HasServed, IsVisit, Visit, WorkerState, Works, served_by, sides_before};
+
+/// The calls of a worker's pass are those that it had made before and then those of its sessions, in order; and the front of
+/// the pass goes on from where it was, over all that its sessions saw.
+pub fn a_workers_calls_are_those_of_its_sessions()
+    ensures { (before after : WorkerState) (visits : List Visit) → HasServed before after visits →
+        GoesOnByCalls before.caller before.front after.front visits }
+{}
+
+/// Each end that a gate keeps has its cause in the counts and the bytes that the gate keeps with it.
+pub fn kept_ends_have_their_cause()
+    ensures { (caller : Caller) (visit : Visit) → IsVisit caller visit → HasCause (sides_before visit) (served_by visit) }
+{}
+
+/// A worker whose gate didn't fail served the first of the connections that waited: as many as it may, or all. So where it may
+/// serve more, none waits.
+pub fn workers_without_a_fault_serve_all()
+    ensures first { (before after : WorkerState) (works : Works before after) (waiting : List Sides) →
+        after.fault ≡ false → before.gate.waiting ≡ Some waiting → map sides_before works.visits ≡ take before.left waiting }
+    ensures none { (before after : WorkerState) (works : Works before after) →
+        after.fault ≡ false → 0 < after.left → IfSome after.gate.waiting (λ sides. sides ≡ []) }
+{}
+
+/// Where each connection has fewer bytes than a session may take, and no read and no write failed, each session ends with Done
+/// or for want of memory; and with Done alone where the worker found memory for each.
+pub fn sessions_without_a_fault_end_well()
+    ensures ends { (before after : WorkerState) (works : Works before after) (waiting : List Sides) →
+        before.gate.waiting ≡ Some waiting → All HasFewBytes waiting → All HasNoFault works.visits → All EndsWell works.visits }
+    ensures done { (before after : WorkerState) (works : Works before after) →
+        after.memory ≡ false → All EndsWell works.visits → All (λ visit. visit.end ≡ end_of.Done) works.visits }
+{}

@@ -1,0 +1,28 @@
+//! Workers: passes of an engine that answer connections beside each other.
+//!
+//! A [`Worker`] has a gate, from which its connections come, and a client, by whose pass it answers them. It answers one
+//! connection after another: one session for each, which takes at most `MOST_BYTES` of `session`. It hands the connection
+//! back to its gate with the end of its session, and asks for the next one. It stops where it has served as many as it may,
+//! or its gate is closed or fails.
+//!
+//! A fault of a connection ends that connection's session alone: its worker goes on with the next one. So does a worker
+//! whose session found no memory, and notes it. A fault of a gate ends its worker and no other.
+//!
+//! [`run_workers`] runs each worker in a thread of its own, and waits for all of them. A worker waits for its gate, for the
+//! bytes of its connection, and for the engine's lock. Where no thread can be made, workers run one after another; so no
+//! worker may wait for another one.
+#![tactic(auto)]
+
+mod laws;
+mod worker;
+mod workers;
+
+pub use laws::{
+    a_workers_calls_are_those_of_its_sessions, kept_ends_have_their_cause,
+    sessions_without_a_fault_end_well, workers_without_a_fault_serve_all,
+};
+pub use worker::Worker;
+pub use workers::run_workers;
+
+#[cfg(test)]
+mod tests;

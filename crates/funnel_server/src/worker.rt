@@ -1,0 +1,97 @@
+ghost use Rattle.std.specs.Prelude.{◌≡◌, ◌<◌, false, MatchBool};
+ghost use Rattle.engine.specs.Clients.{caller_of};
+ghost use Rattle.session.specs.Ends.{Serves};
+ghost use Rattle.session.specs.declared.serving.TheConstants.{MOST_BYTES};
+ghost use Rattle.funnel_server.specs.Turns.{GetsNone, ServesNext};
+ghost use Rattle.funnel_server.specs.Workers.{IsReady, Works, is_memory};
+
+use engine::{Client, PoolName};
+use funnel_io::{Connection, End, Gate, Next};
+use session::{MOST_BYTES, serve_session};
+use std::marker::Model;
+use std::sync::Wait;
+
+/// What answers the connections of a gate by one pass of an engine. Contracts see what the gate and the client tell.
+#[derive(Drop)]
+pub struct Worker<'a, G: Gate, N: PoolName, R: Wait> {
+    pub gate: G,
+    pub client: Client<'a, N, R>,
+    /// How many more connections it serves.
+    pub left: u64,
+    /// Whether the gate failed.
+    pub fault: bool,
+    /// Whether a session found no memory.
+    pub memory: bool,
+}
+
+impl<'a, G: Gate, N: PoolName, R: Wait> Model for Worker<'a, G, N, R> {
+    ghost use Rattle.engine.specs.Clients.{caller_of};
+    ghost use Rattle.funnel_server.specs.Gates.{gate_state};
+    ghost use Rattle.funnel_server.specs.Workers.{WorkerState};
+
+    ghost Value = { WorkerState };
+
+    ghost view = { λ w. record {
+      gate = gate_state G.gate_faults G.waiting G.Conn.incoming G.Conn.outgoing G.served w.gate;
+      caller = caller_of w.client;
+      front = w.client.front;
+      left = w.left;
+      fault = w.fault;
+      memory = w.memory;
+    } };
+}
+
+impl<'a, G: Gate, N: PoolName, R: Wait> Worker<'a, G, N, R> {
+    /// Serves the connections of its gate, until it stops.
+    pub(crate) fn work(&mut self)
+        requires { IsReady self.old }
+        ensures { Works self.old self.new }
+    {
+        while self.left > 0 {
+            if !self.serve_next() {
+                return;
+            }
+        }
+    }
+
+    /// Serves the next connection, or says that there is none.
+    fn serve_next(&mut self) -> bool
+        requires some { 0 < self.old.left }
+        requires no_fault { self.old.fault ≡ false }
+        ensures { MatchBool result (ServesNext self.old self.new) (GetsNone self.old self.new) }
+    {
+        let mut conn = match self.gate.next() {
+            Next::Conn(conn) => conn,
+            Next::Closed => return false,
+            Next::Fault => {
+                self.fault = true;
+                return false;
+            }
+        };
+        let end = answer(&mut self.client, &mut conn);
+        self.gate.done(conn, end);
+        self.left -= 1;
+        self.memory |= found_no_memory(end);
+        true
+    }
+}
+
+/// Answers the lines of a connection.
+fn answer<N: PoolName, R: Wait, C: Connection>(client: &mut Client<'_, N, R>, conn: &mut C) -> End
+    ensures caller { caller_of client.new ≡ caller_of client.old }
+    ensures serves { Serves (caller_of client.old) MOST_BYTES
+        record { front = client.old.front; incoming = C.incoming conn.old; outgoing = C.outgoing conn.old }
+        record { front = client.new.front; incoming = C.incoming conn.new; outgoing = C.outgoing conn.new }
+        result }
+    ensures untouched { result ≡ End.Memory → (conn.new ≡ conn.old) × (client.new ≡ client.old) }
+{
+    let alloc = client.alloc;
+    serve_session(alloc, client, conn, MOST_BYTES)
+}
+
+/// Whether a session that ended so found no memory.
+fn found_no_memory(end: End) -> bool
+    ensures { result ≡ is_memory end }
+{
+    matches!(end, End::Memory)
+}
