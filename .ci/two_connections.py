@@ -1,32 +1,10 @@
-"""Serves two connections at the same time, one a worker, and then two more, and prints what each got: two_connections.py PROGRAM."""
+"""Serves two connections at the same time, one a worker, then two more, and prints what each got: two_connections.py PROGRAM."""
 
 import socket
 import subprocess
 import sys
-import time
 
-
-def free_port():
-    """Returns a port that is free, with the one after it."""
-    while True:
-        with socket.socket() as first, socket.socket() as second:
-            first.bind(("127.0.0.1", 0))
-            port = first.getsockname()[1]
-            try:
-                second.bind(("127.0.0.1", port + 1))
-            except OSError:
-                continue
-            return port
-
-
-def connect(port):
-    """Connects to the port, for which the program listens before long."""
-    for _ in range(600):
-        try:
-            return socket.create_connection(("127.0.0.1", port), timeout=60)
-        except ConnectionRefusedError:
-            time.sleep(0.1)
-    sys.exit(f"nobody listens on port {port}")
+from ports import connect, free_port
 
 
 class Client:

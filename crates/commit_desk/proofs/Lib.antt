@@ -26,6 +26,7 @@ pub mod Sorting
 pub mod StageFacts
 pub mod StageReadings
 pub mod StagesKept
+pub mod TestScans
 pub mod TestSteps
 pub mod TokenEvents
 pub mod Turns

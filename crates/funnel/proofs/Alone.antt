@@ -68,7 +68,7 @@ module _ (limits : Limits) (history front : List Event) (passes : List PassState
       whole ∙ ap (λ h. front ++ h) (none_left 0 ended.later later_of_first (subst (λ n. list_any (λ e. pass_of e == n) ended.later ≡ false) (sym pass.2) ended.silent)) ∙ append-nil front
 
 -- so what the first pass did was all that the engine did
-pub have_done : (pool : PoolId) (config : Config) (passes : List PassState) (did : List Event → Type 0) (closed : ClosedState) →
+have_done : (pool : PoolId) (config : Config) (passes : List PassState) (did : List Event → Type 0) (closed : ClosedState) →
     pool.limits ≡ limits_by config → pool.config ≡ config → 1 ≤ pool.limits.passes → FirstDid pool passes did →
     IsLegal pool.limits closed.history → IsSound pool.config closed.history → All (EndsIn closed.history) passes →
     did closed.history × IsOfFirst config closed

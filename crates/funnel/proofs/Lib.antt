@@ -4,13 +4,12 @@ pub mod Endings
 pub mod Faultless
 pub mod FoundValues
 pub mod GoodEnds
+pub mod LoadEnds
+pub mod LoadPasses
 pub mod Loaded
 pub mod NumberLemmas
-pub mod Parts
 pub mod Passes
-pub mod Runs
 pub mod Served
-pub mod Sums
 pub mod TakenNames
 pub mod TakenWords
 pub mod Turns

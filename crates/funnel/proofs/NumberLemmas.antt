@@ -97,7 +97,9 @@ serve_in_range found has =
 pub load_in_range : (found : List Row) → HasLoadNumbers found → IsLoadInRange (load_of found)
 load_in_range found has =
     let docs = number_in_range 1 MOST_DOCS (codes "docs") found has.docs in
-    record { some_docs = docs.0; few_docs = docs.1; few_words = (number_in_range 0 MOST_WORDS (codes "words") found has.words).1 }
+    let workers = number_in_range 1 MOST_PASSES (codes "workers") found has.workers in
+    let words = number_in_range 0 MOST_WORDS (codes "words") found has.words in
+    record { some_docs = docs.0; few_docs = docs.1; some_workers = workers.0; few_workers = workers.1; few_words = words.1 }
 
 -- a serve with the numbers of its options is the one that was found
 pub serve_is : (found : List Row) (port workers connections : ℕ) → port ≡ number_of (codes "port") found → workers ≡ number_of (codes "workers") found →
@@ -106,6 +108,7 @@ pub serve_is : (found : List Row) (port workers connections : ℕ) → port ≡ 
 serve_is found port workers connections p w c = λ i. record { port = p i; workers = w i; connections = c i }
 
 -- and so is a load
-pub load_is : (found : List Row) (docs words seed : ℕ) → docs ≡ number_of (codes "docs") found → words ≡ number_of (codes "words") found → seed ≡ number_of (codes "seed") found
-    → ◌≡◌ {A = LoadCommand} (record { docs = docs; words = words; seed = seed }) (load_of found)
-load_is found docs words seed d w s = λ i. record { docs = d i; words = w i; seed = s i }
+pub load_is : (found : List Row) (docs workers words seed : ℕ) → docs ≡ number_of (codes "docs") found → workers ≡ number_of (codes "workers") found →
+    words ≡ number_of (codes "words") found → seed ≡ number_of (codes "seed") found →
+    ◌≡◌ {A = LoadCommand} (record { docs = docs; workers = workers; words = words; seed = seed }) (load_of found)
+load_is found docs workers words seed d k w s = λ i. record { docs = d i; workers = k i; words = w i; seed = s i }

@@ -1,13 +1,18 @@
 -- The passes of a new engine, of which the first was taken out, had a session, and was put back behind the others.
-use Rattle.std.proofs.Common.{◌≡◌, ℕ, zero, suc, ◌+◌, ◌-◌, ◌<◌, ◌≤◌, ◌⊎◌, List, [], ◌∷◌, ◌++◌, map, sym, refl, ap, ◌∙◌, subst, inl, inr, arith}
+use Rattle.std.proofs.Common.{◌≡◌, ℕ, zero, suc, ◌+◌, ◌-◌, ◌<◌, ◌≤◌, ◌⊎◌, false, List, [], ◌∷◌, ◌++◌, map, sym, refl, ap, ◌∙◌, subst, inl, inr, rules, arith, slice_index_or}
 use Rattle.std.proofs.lemmas.List.{map-append}
-use Rattle.std.proofs.lemmas.Bool.{cases_eq}
+use Rattle.std.proofs.lemmas.Bool.{cases_eq, cases_lt}
 use Rattle.std.proofs.lemmas.List.Elements.{All-cons, All-nil, All-push, Contains-append_left, Contains-push}
-use Rattle.std.specs.List.{All, Contains, remove}
+use Rattle.std.specs.List.{All, Contains, list_any}
+use Rattle.std.specs.Prelude.{◌==◌}
 use Rattle.commit_desk.specs.Passes.{IsResting}
+use Rattle.funnel_model.proofs.Invariants.{passes_in_range}
 use Rattle.funnel_model.specs.declared.event.Event.{Event}
+use Rattle.funnel_model.specs.Events.{pass_of}
+use Rattle.funnel_model.specs.Legal.{IsLegal, Limits}
 use Rattle.slice_rule.specs.Pools.{PoolId}
 use Rattle.slice_rule.specs.Seats.{PassState, new_pass_state}
+use Rattle.funnel.proofs.Alone.{none_with}
 use Rattle.funnel.specs.Serving.{HasSeen, OnlyFirstUsed, new_passes}
 
 abbrev pub number_of : PassState → ℕ
@@ -61,3 +66,13 @@ only_first_used pool others all last some counted new back rests number =
       rest = subst (All (IsResting pool)) (sym all_are) (All-push (IsResting pool) (new_passes pool 1 (count - 1)) last (others_rest pool 1 (count - 1)) rests);
       every = λ pass small. subst (λ xs. Contains (map number_of xs) pass) (sym all_are) (all_are_there pool count pass last number (omega arith));
     }
+
+-- where each pass from a number on has no event, all events are of those below it
+pub of_first_passes : (limits : Limits) (n : ℕ) (history : List Event) → IsLegal limits history →
+    ((pass : ℕ) → n ≤ pass → pass < limits.passes → list_any (λ e. pass_of e == pass) history ≡ false) → All (λ e. pass_of e < n) history
+of_first_passes limits n history legal others k d small =
+    let e = slice_index_or history k d in
+    by_case e (k, small, search rules) (passes_in_range limits history legal k d small) (cases_lt (pass_of e) n) where
+      by_case : (e : Event) → Contains history e → pass_of e < limits.passes → (pass_of e < n) ⊎ (n ≤ pass_of e) → pass_of e < n
+      by_case e there within (inl low) = low
+      by_case e there within (inr high) = absurd (search (rules, none_with (λ x. pass_of x == pass_of e) history e (others (pass_of e) high within) there))

@@ -10,7 +10,6 @@ use Rattle.std.specs.Prelude.{◌==◌}
 use Rattle.commit_desk.specs.Passes.{IsResting}
 use Rattle.engine.specs.Clients.{caller_of}
 use Rattle.engine.specs.Engines.{ClosedState, EndsIn}
-use Rattle.funnel_model.proofs.Invariants.{passes_in_range}
 use Rattle.funnel_model.specs.declared.config.Config.{Config}
 use Rattle.funnel_model.specs.declared.event.Event.{Event}
 use Rattle.funnel_model.specs.Events.{pass_of}
@@ -21,8 +20,7 @@ use Rattle.funnel_server.specs.Workers.{IsReady, WorkerState, Works}
 use Rattle.row_layout.specs.Sound.{IsSound}
 use Rattle.slice_rule.specs.Pools.{PoolId}
 use Rattle.slice_rule.specs.Seats.{PassState, new_pass_state}
-use Rattle.funnel.proofs.Alone.{none_with}
-use Rattle.funnel.proofs.Passes.{new_pass_rests, number_of, others_are_there, others_rest}
+use Rattle.funnel.proofs.Passes.{new_pass_rests, number_of, of_first_passes, others_are_there, others_rest}
 use Rattle.funnel.specs.declared.ended.Why.{Why}
 use Rattle.funnel.specs.Runs.{limits_by}
 use Rattle.funnel.specs.Served.{AllWork, HasServed, new_worker, new_workers, why_of_workers}
@@ -281,14 +279,7 @@ module _ (pool : PoolId) (connections : ℕ) (before after : List GateState) (wh
         ap (list_any (λ e. pass_of e == pass)) ended.whole ∙ ended.silent
 
     pub of_workers : All (λ e. pass_of e < length before) history
-    of_workers k d small =
-        by_case (cases_lt (pass_of (slice_index_or history k d)) (length before)) where
-          by_case : (pass_of (slice_index_or history k d) < length before) ⊎ (length before ≤ pass_of (slice_index_or history k d)) → pass_of (slice_index_or history k d) < length before
-          by_case (inl low) = low
-          by_case (inr high) =
-              let e = slice_index_or history k d in
-              let silent = other_silent (pass_of e) high (passes_in_range pool.limits history legal k d small) in
-              absurd (search (rules, none_with (λ x. pass_of x == pass_of e) history e silent (k, small, search rules)))
+    of_workers = of_first_passes pool.limits (length before) history legal other_silent
 
     -- the history goes on from what each worker has seen
     fronts : (used : List PassState) (workers : List WorkerState) → map stand_of used ≡ map stand_of_worker workers → All (EndsIn history) used →

@@ -24,7 +24,7 @@ use Rattle.funnel.specs.declared.command.Command.{Command}
 use Rattle.funnel.specs.declared.command.CommandFault.{CommandFault}
 use Rattle.funnel.specs.declared.command.CommandFault.TheVariants.{Memory, Usage}
 use Rattle.funnel.proofs.NumberLemmas.{IsNumber, number_in, signed_number}
-use Rattle.funnel.specs.Commands.{HasLoadNumbers, HasNumber, HasNumbers, HasServeNumbers, call_words, command_of, connections_option, docs_option, fault_by, funnel_app, load_form, numbers_between, port_option, run_form, seed_option, serve_form, subcommand_as, words_option, workers_option}
+use Rattle.funnel.specs.Commands.{HasLoadNumbers, HasNumber, HasNumbers, HasServeNumbers, call_words, command_of, connections_option, docs_option, fault_by, funnel_app, load_form, load_workers_option, numbers_between, port_option, run_form, seed_option, serve_form, subcommand_as, words_option, workers_option}
 use Rattle.funnel.proofs.Faultless.{all_of_two, both, built_taken, is_open}
 use Rattle.funnel.proofs.FoundValues.{AllFit, Belongs, defaults-fit, defaults-there, found_has, given-there, has_value, settled-fits, walk-fits}
 
@@ -146,6 +146,9 @@ load_rules = (built_form load_form).rules
 abbrev docs : Rule
 docs = filled docs_option
 
+abbrev sharers : Rule
+sharers = filled load_workers_option
+
 abbrev words_in_each : Rule
 words_in_each = filled words_option
 
@@ -159,7 +162,10 @@ load_rules_belong = (
     record { own = refl; kind = inl (refl, omega arith) },
     (
       record { own = refl; kind = inl (refl, omega arith) },
-      (record { own = refl; kind = inr refl }, tt),
+      (
+        record { own = refl; kind = inl (refl, omega arith) },
+        (record { own = refl; kind = inr refl }, tt),
+      ),
     ),
   ),
 )
@@ -172,10 +178,12 @@ load_numbers words e =
     let found = are_found (built_form load_form) words load_rules_belong e in
     let rows = rows_after load_rules [] words in
     let before = rows_given (built_form load_form) words in
-    let words_default = defaults-there (docs ∷ []) (seed ∷ filled help_rule ∷ []) words_in_each before (omega arith) in
-    let seed_default = defaults-there (docs ∷ words_in_each ∷ []) (filled help_rule ∷ []) seed before (omega arith) in
+    let workers_default = defaults-there (docs ∷ []) (words_in_each ∷ seed ∷ filled help_rule ∷ []) sharers before (omega arith) in
+    let words_default = defaults-there (docs ∷ sharers ∷ []) (seed ∷ filled help_rule ∷ []) words_in_each before (omega arith) in
+    let seed_default = defaults-there (docs ∷ sharers ∷ words_in_each ∷ []) (filled help_rule ∷ []) seed before (omega arith) in
     record {
       docs = signed load_rules rows found.fit 1 MOST_DOCS docs (codes "docs") refl refl (λ text pass. pass) (given-there (codes "docs") rows (docs_is_given rows found.valid));
+      workers = signed load_rules rows found.fit 1 MOST_PASSES sharers (codes "workers") refl refl (λ text pass. pass) workers_default;
       words = signed load_rules rows found.fit 0 MOST_WORDS words_in_each (codes "words") refl refl (λ text pass. pass) words_default;
       seed = unsigned load_rules rows found.fit 0 18446744073709551615 seed (codes "seed") refl refl (λ text pass. pass) seed_default;
     }

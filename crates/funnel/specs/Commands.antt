@@ -45,6 +45,10 @@ connections_option = record (number_option (codes "connections") (vp.Unsigned 1 
 abbrev pub docs_option : Rule
 docs_option = record (number_option (codes "docs") (numbers_between 1 MOST_DOCS)) { required = true }
 
+-- how many workers make the load, or else 1
+abbrev pub load_workers_option : Rule
+load_workers_option = record (number_option (codes "workers") (numbers_between 1 MOST_PASSES)) { defaults = codes "1" ∷ [] }
+
 -- a number of words for each document, or else 80
 abbrev pub words_option : Rule
 words_option = record (number_option (codes "words") (numbers_between 0 MOST_WORDS)) { defaults = codes "80" ∷ [] }
@@ -61,7 +65,7 @@ abbrev pub serve_form : Shape
 serve_form = record (new_shape (codes "serve")) { rules = port_option ∷ workers_option ∷ connections_option ∷ [] }
 
 abbrev pub load_form : Shape
-load_form = record (new_shape (codes "load")) { rules = docs_option ∷ words_option ∷ seed_option ∷ [] }
+load_form = record (new_shape (codes "load")) { rules = docs_option ∷ load_workers_option ∷ words_option ∷ seed_option ∷ [] }
 
 -- the command line: `funnel`, and one of its subcommands, which has to be there
 abbrev pub funnel_app : App
@@ -84,6 +88,7 @@ pub record HasServeNumbers (found : List Row) : Type 0 where
 -- each option of `load` has one
 pub record HasLoadNumbers (found : List Row) : Type 0 where
   pub docs : HasNumber 1 MOST_DOCS (codes "docs") found
+  pub workers : HasNumber 1 MOST_PASSES (codes "workers") found
   pub words : HasNumber 0 MOST_WORDS (codes "words") found
   pub seed : HasNumber 0 18446744073709551615 (codes "seed") found
 
@@ -106,6 +111,7 @@ serve_of found = record {
 abbrev pub load_of : List Row → LoadCommand
 load_of found = record {
   docs = number_of (codes "docs") found;
+  workers = number_of (codes "workers") found;
   words = number_of (codes "words") found;
   seed = number_of (codes "seed") found;
 }
@@ -123,6 +129,8 @@ pub record IsServeInRange (serve : ServeCommand) : Type 0 where
 pub record IsLoadInRange (load : LoadCommand) : Type 0 where
   pub some_docs : 1 ≤ load.docs
   pub few_docs : load.docs ≤ MOST_DOCS
+  pub some_workers : 1 ≤ load.workers
+  pub few_workers : load.workers ≤ MOST_PASSES
   pub few_words : load.words ≤ MOST_WORDS
 
 -- and so do those of a command

@@ -21,7 +21,7 @@ use Rattle.load_gen.specs.Summary.{summary}
 use Rattle.session.specs.Laws.{asked_by}
 use Rattle.session.specs.Sessions.{Answers, Session}
 use Rattle.funnel.specs.Commands.{command_of}
-use Rattle.funnel.specs.LoadRuns.{IsLoaded}
+use Rattle.funnel.specs.LoadRuns.{IsWholeLoad}
 use Rattle.funnel.specs.Misfits.{misfit_of}
 use Rattle.funnel.specs.Programs.{Streams}
 use Rattle.funnel.specs.Runs.{IsOfFirst, first_caller, limits_by}
@@ -104,7 +104,7 @@ CompletesRun config bytes before after _ closed = ⊥
 -- a load is done when it is made and its summary written, and ends otherwise for want of memory alone
 abbrev pub CompletesLoad : Config → LoadCommand → Outgoing → Outgoing → Why → Option ClosedState → Type 0
 CompletesLoad config load before after why_of.Done closed =
-    IsSomeAnd closed (IsLoaded config load) × Writes (summary load.docs load.words load.seed) before after
+    IsSomeAnd closed (IsWholeLoad config load) × Writes (summary load.docs load.words load.seed) before after
 CompletesLoad config load before after why_of.Memory closed = ⊤
 CompletesLoad config load before after _ closed = ⊥
 

@@ -2,7 +2,6 @@ pub mod Commands
 pub mod Ends
 pub mod Laws
 pub mod LoadRuns
-pub mod Loading
 pub mod Misfits
 pub mod Programs
 pub mod Runs

@@ -1,19 +1,25 @@
--- A load: its calls by the first pass of a new engine, and the summary.
-use Rattle.std.specs.Prelude.{◌≡◌, ℕ, List, [], true, Option, Some, None, ◌⊎◌}
+-- A load: the calls of its workers, each by a pass of its own of one new engine, and the summary.
+use Rattle.std.specs.Prelude.{◌≡◌, ◌≢◌, ◌<◌, ℕ, List, [], ◌++◌, true, All, Option, Some, None, ◌⊎◌}
 use Rattle.engine.specs.Engines.{ClosedState}
 use Rattle.funnel_io.specs.Counts.{counted}
 use Rattle.funnel_io.specs.Streams.{Outgoing, Writes, WritesPart}
+use Rattle.funnel_model.specs.declared.call.Call.{Call}
 use Rattle.funnel_model.specs.declared.config.Config.{Config}
-use Rattle.funnel_model.specs.History.{own}
-use Rattle.funnel_model.specs.Steps.{Linear}
+use Rattle.funnel_model.specs.declared.event.Event.{Event}
+use Rattle.funnel_model.specs.declared.reply.Reply.{Reply}
+use Rattle.funnel_model.specs.Events.{pass_of}
+use Rattle.funnel_model.specs.History.{IsFrontOf, own}
+use Rattle.funnel_model.specs.Legal.{IsLegal, Limits}
+use Rattle.funnel_server.specs.Loads.{StopsAfter, worker_of}
+use Rattle.load_gen.specs.Documents.{documents}
 use Rattle.load_gen.specs.Jobs.{jobs}
 use Rattle.load_gen.specs.Summary.{summary}
-use Rattle.load_laws.specs.Replies.{replies_to_jobs}
+use Rattle.load_laws.specs.Workers.{IsAnsweredAsTold, IsLoaded}
+use Rattle.row_layout.specs.Sound.{IsSound}
 use Rattle.funnel.specs.declared.command.LoadCommand.{LoadCommand}
 use Rattle.funnel.specs.declared.ended.Why.{Why}
 use Rattle.funnel.specs.declared.ended.Why.TheVariants as why_of
-use Rattle.funnel.specs.Loading.{AreStopped}
-use Rattle.funnel.specs.Runs.{IsOfFirst, first_caller, limits_by}
+use Rattle.funnel.specs.Runs.{limits_by}
 
 -- the text is written whole, or a write failed before its end, or there was no memory and nothing is written
 abbrev pub Tells : List ℕ → Outgoing → Outgoing → Why → Type 0
@@ -22,22 +28,39 @@ Tells text before after why_of.WriteFault = WritesPart text before after × (aft
 Tells text before after why_of.Memory = after ≡ before
 Tells text before after _ = ⊥
 
--- the first pass made the calls of the load, each once, and they are answered as the load is to be: no add and no delete is
--- refused, and no document is missed
-pub record IsLoaded (config : Config) (load : LoadCommand) (closed : ClosedState) : Type 0 where
-  pub of_first : IsOfFirst config closed
-  pub calls : own 0 closed.history ≡ jobs load.docs load.words load.seed 1 0
-  pub answers : Linear (limits_by config) 0 [] closed.history (jobs load.docs load.words load.seed 1 0) (replies_to_jobs load.docs load.words load.seed)
+-- the workers put the whole load: each made the calls of its share, each once, and is answered as the load is to be. No add and no
+-- delete is refused, no document is missed, and the queries have the results of the summary. Each document has exactly its own bits
+pub record IsWholeLoad (config : Config) (load : LoadCommand) (closed : ClosedState) : Type 0 where
+  pub sound : IsSound config closed.history
+  pub replies : ℕ → List Reply
+  pub loaded : IsLoaded (limits_by config) load.docs load.words load.seed load.workers closed.history replies
+  pub calls : (worker : ℕ) → worker < load.workers → own worker closed.history ≡ jobs load.docs load.words load.seed load.workers worker
+  pub answers : (worker : ℕ) → worker < load.workers →
+      IsAnsweredAsTold (documents load.docs load.words load.seed) load.workers worker (replies worker)
 
--- the first pass made the first calls of the load, and no memory was found for the next
-pub record IsCutShort (config : Config) (load : LoadCommand) (closed : ClosedState) : Type 0 where
-  pub of_first : IsOfFirst config closed
-  pub stopped : AreStopped (first_caller (limits_by config)) [] closed.history (jobs load.docs load.words load.seed 1 0)
+-- a worker made the first of its calls, went no further with those that are left, and made no event since
+pub record HasStopped (limits : Limits) (history : List Event) (worker : ℕ) (made left : List Call) : Type 0 where
+  pub front : List Event
+  pub seen : IsFrontOf worker front history
+  pub stops : StopsAfter (worker_of limits worker) [] front made left
 
--- A load is made, and its summary told. For want of memory it may end before it is begun, with one of its calls, or where its
+-- memory ran out: each worker made the first calls of its share and went no further, and some calls are left
+pub record IsPartOfLoad (config : Config) (load : LoadCommand) (closed : ClosedState) : Type 0 where
+  pub legal : IsLegal (limits_by config) closed.history
+  pub sound : IsSound config closed.history
+  pub no_other : All (λ e. pass_of e < load.workers) closed.history
+  pub made : ℕ → List Call
+  pub left : ℕ → List Call
+  pub calls : (worker : ℕ) → worker < load.workers → jobs load.docs load.words load.seed load.workers worker ≡ made worker ++ left worker
+  pub stops : (worker : ℕ) → worker < load.workers → HasStopped (limits_by config) closed.history worker (made worker) (left worker)
+  pub stopped : ℕ
+  pub is_worker : stopped < load.workers
+  pub some_left : left stopped ≢ []
+
+-- A load is made, and its summary told. For want of memory it may end before it is begun, with some of its calls, or where its
 -- summary is to be told; then nothing is written.
 abbrev pub EndsLoad : Config → LoadCommand → Outgoing → Outgoing → Why → Option ClosedState → Type 0
 EndsLoad config load before after why_of.Memory None = after ≡ before
-EndsLoad config load before after why_of.Memory (Some closed) = (after ≡ before) × (IsCutShort config load closed ⊎ IsLoaded config load closed)
-EndsLoad config load before after why (Some closed) = IsLoaded config load closed × Tells (summary load.docs load.words load.seed) before after why
+EndsLoad config load before after why_of.Memory (Some closed) = (after ≡ before) × (IsPartOfLoad config load closed ⊎ IsWholeLoad config load closed)
+EndsLoad config load before after why (Some closed) = IsWholeLoad config load closed × Tells (summary load.docs load.words load.seed) before after why
 EndsLoad config load before after why None = ⊥

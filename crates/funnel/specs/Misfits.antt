@@ -15,11 +15,12 @@ use Rattle.funnel.specs.declared.ended.Misfit.TheVariants as misfit
 abbrev pub commits_of_load : ℕ → ℕ
 commits_of_load docs = docs + docs / DELETED_ONE_IN
 
--- each document needs a column, and each add and each delete a place in the journal
+-- each worker needs a pass of its own, each document a column, and each add and each delete a place in the journal
 abbrev pub misfit_of_load : LoadCommand → Config → Option Misfit
 misfit_of_load load config =
-    if nat_lt (columns_of_pool config) load.docs then Some (misfit.Columns load.docs (columns_of_pool config))
-    else (if nat_lt config.commits (commits_of_load load.docs) then Some (misfit.Commits (commits_of_load load.docs) config.commits) else None)
+    if nat_lt config.passes load.workers then Some (misfit.Workers load.workers config.passes)
+    else (if nat_lt (columns_of_pool config) load.docs then Some (misfit.Columns load.docs (columns_of_pool config))
+    else (if nat_lt config.commits (commits_of_load load.docs) then Some (misfit.Commits (commits_of_load load.docs) config.commits) else None))
 
 -- the port of the last worker
 abbrev pub last_port_of : ServeCommand → ℕ

@@ -46,6 +46,8 @@ pub struct ServeCommand {
 pub struct LoadCommand {
     /// The number of documents, from 1 to 4,194,304.
     pub docs: u32,
+    /// The number of workers that make it, from 1 to 64.
+    pub workers: u32,
     /// The number of words in each document, from 0 to 1,000.
     pub words: u32,
     /// Where the generator of the documents starts.
@@ -150,11 +152,14 @@ fn load_app<'a>(alloc: Global) -> Result<clap::Command<'a>, AllocError>
 {
     let numbers = value_parser!(u32).range(1..=i64::from(MOST_DOCS));
     let docs = number_option(alloc, "docs", numbers);
+    let passes = value_parser!(u32).range(1..=i64::from(MOST_PASSES));
+    let workers = number_option(alloc, "workers", passes);
     let counts = value_parser!(u32).range(0..=i64::from(MOST_WORDS));
     let words = number_option(alloc, "words", counts);
     let seed = number_option(alloc, "seed", value_parser!(u64));
     clap::Command::new(alloc, "load")
         .arg(docs.required(true))?
+        .arg(workers.default_value("1"))?
         .arg(words.default_value("80"))?
         .arg(seed.default_value("0"))
 }
@@ -202,6 +207,7 @@ fn load_in(found: &ArgMatches) -> LoadCommand
 {
     LoadCommand {
         docs: found.get_one("docs").unwrap(),
+        workers: found.get_one("workers").unwrap(),
         words: found.get_one("words").unwrap(),
         seed: found.get_one("seed").unwrap(),
     }

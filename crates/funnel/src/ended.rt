@@ -36,7 +36,7 @@ pub enum Why {
 pub enum Misfit {
     /// A serve has another number of workers than there are gates.
     Gates { stated: u32, given: u64 },
-    /// A serve has more workers than there are passes.
+    /// A serve or a load has more workers than there are passes.
     Workers { asked: u32, passes: u32 },
     /// The last worker of a serve would listen on a port that there isn't.
     Ports { last: u32 },

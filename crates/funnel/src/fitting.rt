@@ -49,6 +49,11 @@ fn misfit_of_load(load: LoadCommand, config: &Config) -> Option<Misfit>
     requires { IsInRange config.now }
     ensures { result ≡ misfit_of_load load config.now }
 {
+    let passes = config.passes;
+    if passes < load.workers {
+        let asked = load.workers;
+        return Some(Misfit::Workers { asked, passes });
+    }
     let docs = u64::from(load.docs);
     let columns = sizes(config).columns;
     if columns < docs {

@@ -7,7 +7,6 @@ mod first_pass;
 mod fitting;
 mod laws;
 mod listening;
-mod loading;
 mod port_list;
 mod program;
 mod running;

@@ -21,9 +21,9 @@ use std::sync::Wait;
 use std::thread::Threads;
 
 /// Runs the command that the words are, by an engine with the configuration. `run` answers the lines of `input` on `output`.
-/// `serve` answers the connections of each gate by a pass and a thread of its own. `load` makes its documents, adds, deletes
-/// and finds them, and writes its summary on `output`. The last two read nothing from `input`. `gates` come back in their
-/// order.
+/// `serve` answers the connections of each gate by a pass and a thread of its own. `load` makes its documents, has its workers
+/// add, delete and find them, each by a pass and a thread of its own, and writes its summary on `output`. The last two read
+/// nothing from `input`. `gates` come back in their order.
 ///
 /// The words are judged first, then the configuration, then whether the command's numbers fit it and the gates. Nothing is
 /// left of an engine where one of these is refused, or where memory ran out before the engine was open.

@@ -393,14 +393,42 @@ fn a_configuration_that_cannot_be_read_is_a_read_fault(rt: HostRuntime) -> Resul
     Ok(())
 }
 
+const SMALL_SUMMARY: &str =
+    "documents 2\ndeleted 0\nlive 2\nmisses 0\nquery w0: 0 0\nquery w0 w1: 0 0\nquery w1: 1 1\n\
+     query w1 w2: 0 0\nquery w2: 0 0\nquery w2 w3: 0 0\nquery w3: 0 0\nquery w3 w4: 0 0\n";
+
+// Of 300 documents of 5 words, from the seed 7.
+const SUMMARY: &str =
+    "documents 300\ndeleted 30\nlive 270\nmisses 0\nquery w0: 105 16326\nquery w0 w1: 34 4866\nquery w1: 99 14492\n\
+     query w1 w2: 13 2016\nquery w2: 44 6332\nquery w2 w3: 11 1673\nquery w3: 52 8465\nquery w3 w4: 5 797\n";
+
+// They fit in 5 slices, and have 3 passes.
+const ROOM: &str = r#"{"passes":3,"slices":5}"#;
+
 #[test]
 fn a_load_is_summed_up(rt: HostRuntime) -> Result<(), Fail> {
-    let rows: [(&[&str], &str, &str); 2] = [
+    let rows: [(&[&str], &str, &str); 6] = [
+        (&["load", "--docs", "2", "--words", "1"], "", SMALL_SUMMARY),
+        // more workers than documents
         (
-            &["load", "--docs", "2", "--words", "1"],
-            "",
-            "documents 2\ndeleted 0\nlive 2\nmisses 0\nquery w0: 0 0\nquery w0 w1: 0 0\nquery w1: 1 1\n\
-             query w1 w2: 0 0\nquery w2: 0 0\nquery w2 w3: 0 0\nquery w3: 0 0\nquery w3 w4: 0 0\n",
+            &["load", "--docs", "2", "--words", "1", "--workers", "3"],
+            r#"{"passes":3}"#,
+            SMALL_SUMMARY,
+        ),
+        (
+            &["load", "--docs", "300", "--words", "5", "--seed", "7"],
+            ROOM,
+            SUMMARY,
+        ),
+        (
+            &["load", "--docs=300", "--workers=2", "--words=5", "--seed=7"],
+            ROOM,
+            SUMMARY,
+        ),
+        (
+            &["load", "--docs=300", "--workers=3", "--words=5", "--seed=7"],
+            ROOM,
+            SUMMARY,
         ),
         (
             &["load", "--docs", "128", "--words", "0"],

@@ -11,7 +11,7 @@ use Rattle.funnel_model.specs.declared.call.Call.TheVariants as call
 use Rattle.funnel_model.specs.declared.event.Event.{Event}
 use Rattle.funnel_model.specs.declared.reply.Reply.{Reply}
 use Rattle.funnel_model.specs.declared.reply.Reply.TheVariants as reply
-use Rattle.funnel_model.specs.History.{own}
+use Rattle.funnel_model.specs.History.{IsFrontOf, own}
 use Rattle.funnel_model.specs.Steps.{Linear}
 use Rattle.line_proto.specs.Forms.{Item, items}
 use Rattle.line_proto.specs.Services.{Caller}
@@ -19,6 +19,7 @@ use Rattle.session.specs.Laws.{calls_of, replies_to_calls}
 use Rattle.session.specs.Sessions.{Session}
 use Rattle.session.specs.declared.serving.TheConstants.{MOST_BYTES}
 use Rattle.funnel_server.specs.Gates.{Sides}
+use Rattle.funnel_server.specs.Loads.{AreAsked, Course, calls_of_share}
 use Rattle.funnel_server.specs.Workers.{IsVisit, Visit}
 
 -- the items that a session answered, of those that the bytes which it took have
@@ -123,3 +124,10 @@ pub record HasNoFault (visit : Visit) : Type 0 where
 -- a session answered all lines of its input, or found no memory to begin
 abbrev pub EndsWell : Visit → Type 0
 EndsWell visit = (visit.end ≡ end_of.Done) ⊎ (visit.end ≡ end_of.Memory)
+
+-- a worker of a load asked all calls of its share, one after another, and found memory for each; what it has seen since has no
+-- event of its pass
+pub record AsksShare (caller : Caller) (before after : List Event) (texts : List (List ℕ)) (workers : ℕ) (course : Course) : Type 0 where
+  pub front : List Event
+  pub asked : AreAsked caller before front (calls_of_share texts workers caller.pass) (course.to_adds ++ course.to_deletes ++ course.to_queries)
+  pub seen : IsFrontOf caller.pass front after

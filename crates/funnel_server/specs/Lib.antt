@@ -2,3 +2,6 @@ pub mod Gates
 pub mod Workers
 pub mod Turns
 pub mod Laws
+pub mod Loads
+pub mod Shares
+pub mod Parts

@@ -1,10 +1,12 @@
 //! Laws of workers, over their definitions alone. Each is the contract of a function that does nothing.
-ghost use Rattle.std.specs.Prelude.{◌≡◌, ◌<◌, false, List, [], Some, IfSome, map, take};
+ghost use Rattle.std.specs.Prelude.{◌≡◌, ◌<◌, ℕ, false, List, [], Some, IfSome, map, take};
 ghost use Rattle.std.specs.List.{All};
 ghost use Rattle.line_proto.specs.Services.{Caller};
 ghost use Rattle.funnel_io.specs.declared.end.End.TheVariants as end_of;
+ghost use Rattle.funnel_model.specs.declared.event.Event.{Event};
 ghost use Rattle.funnel_server.specs.Gates.{Sides};
-ghost use Rattle.funnel_server.specs.Laws.{EndsWell, GoesOnByCalls, HasCause, HasFewBytes, HasNoFault};
+ghost use Rattle.funnel_server.specs.Laws.{AsksShare, EndsWell, GoesOnByCalls, HasCause, HasFewBytes, HasNoFault};
+ghost use Rattle.funnel_server.specs.Loads.{Course, PutsShare};
 ghost use Rattle.funnel_server.specs.Workers.{HasServed, IsVisit, Visit, WorkerState, Works, served_by, sides_before};
 
 /// The calls of a worker's pass are those that it had made before and then those of its sessions, in order; and the front of
@@ -35,4 +37,11 @@ pub fn sessions_without_a_fault_end_well()
         before.gate.waiting ≡ Some waiting → All HasFewBytes waiting → All HasNoFault works.visits → All EndsWell works.visits }
     ensures done { (before after : WorkerState) (works : Works before after) →
         after.memory ≡ false → All EndsWell works.visits → All (λ visit. visit.end ≡ end_of.Done) works.visits }
+{}
+
+/// A worker that puts its share of a load asks the calls of all three parts one after another, as a lone caller does: what it
+/// sees while it meets the others belongs to the call that comes next.
+pub fn workers_of_a_load_ask_their_share()
+    ensures { (caller : Caller) (before after : List Event) (texts : List (List ℕ)) (workers : ℕ) (course : Course) →
+        PutsShare caller before after texts workers course → AsksShare caller before after texts workers course }
 {}

@@ -11,16 +11,27 @@
 //! [`run_workers`] runs each worker in a thread of its own, and waits for all of them. A worker waits for its gate, for the
 //! bytes of its connection, and for the engine's lock. Where no thread can be made, workers run one after another; so no
 //! worker may wait for another one.
+//!
+//! [`run_load`] puts a load to an engine by several workers of another kind: each has a share of the load's documents and
+//! queries in place of a gate, and a thread and a pass of its own too. They work in three parts, and meet after each of the
+//! first two.
 #![tactic(auto)]
 
 mod laws;
+mod loader;
+mod loads;
+mod meeting;
+mod parts;
+mod share;
 mod worker;
 mod workers;
 
 pub use laws::{
     a_workers_calls_are_those_of_its_sessions, kept_ends_have_their_cause,
-    sessions_without_a_fault_end_well, workers_without_a_fault_serve_all,
+    sessions_without_a_fault_end_well, workers_of_a_load_ask_their_share,
+    workers_without_a_fault_serve_all,
 };
+pub use loads::run_load;
 pub use worker::Worker;
 pub use workers::run_workers;
 

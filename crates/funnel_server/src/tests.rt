@@ -4,6 +4,8 @@ ghost use Rattle.commit_desk.specs.Passes.{IsResting};
 ghost use Rattle.funnel_io.specs.MemGates.{IsUnused};
 ghost use Rattle.funnel_server.specs.Workers.{IsReady};
 
+mod loads;
+
 use crate::{Worker, run_workers};
 use engine::{Blank, Client, Engine, Pass, PoolName};
 use funnel_io::{MemConn, MemGate, MemSink, MemSource};

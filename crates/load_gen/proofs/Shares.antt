@@ -58,7 +58,7 @@ weigh-cond count true item items = refl
 weigh-cond count false item items = omega arith
 
 -- each item counts for one worker
-weigh-shares : (count : ℕ × List ℕ → ℕ) (items : List (ℕ × List ℕ)) (workers : ℕ) → 0 < workers →
+pub weigh-shares : (count : ℕ × List ℕ → ℕ) (items : List (ℕ × List ℕ)) (workers : ℕ) → 0 < workers →
     total (λ worker. weigh count (filter (λ item. item.0 % workers == worker) items)) workers ≡ weigh count items
 weigh-shares count [] workers some = total-none workers
 weigh-shares count (item ∷ items) workers some =

@@ -20,7 +20,7 @@ use Rattle.load_laws.proofs.Quiet.{Quiet, alone_front, alone_rest, filled, fille
 use Rattle.load_laws.proofs.Takes.{takes_filled}
 
 -- a front that isn't longer than another begins it
-shorter_begins : {A : Type 0} (front rest longer later : List A) → front ++ rest ≡ longer ++ later → length front ≤ length longer →
+pub shorter_begins : {A : Type 0} (front rest longer later : List A) → front ++ rest ≡ longer ++ later → length front ≤ length longer →
     (between : List A) × (longer ≡ front ++ between)
 shorter_begins [] rest longer later is within = (longer, refl)
 shorter_begins (x ∷ xs) rest [] later is within = absurd (omega arith)
@@ -30,7 +30,7 @@ shorter_begins (x ∷ xs) rest (y ∷ ys) later is within =
     (more.0, cc (more.1))
 
 -- a list of length 0 is empty
-none_of_length : {A : Type 0} (xs : List A) → length xs ≡ 0 → xs ≡ []
+pub none_of_length : {A : Type 0} (xs : List A) → length xs ≡ 0 → xs ≡ []
 none_of_length [] is = refl
 none_of_length (x ∷ xs) is = absurd (omega arith)
 

@@ -1,5 +1,5 @@
 -- By which event a call is answered where there is no cause to refuse it.
-use Rattle.std.proofs.Common.{◌≡◌, ℕ, ◌+◌, ⊎_elim, Bool, true, false, cond, List, Some, None, sym, ap, ◌∙◌}
+use Rattle.std.proofs.Common.{◌≡◌, ℕ, ⊎_elim, Bool, true, false, cond, List, Some, None, sym, ap, ◌∙◌}
 use Rattle.std.proofs.lemmas.Bool.{both_ways}
 use Rattle.funnel_model.specs.declared.bit_list.Bit.{Bit}
 use Rattle.funnel_model.specs.declared.call.Call.{Call}
@@ -9,7 +9,7 @@ use Rattle.funnel_model.specs.declared.event.Event.TheVariants as event
 use Rattle.funnel_model.specs.declared.reply.Reply.{Reply}
 use Rattle.funnel_model.specs.declared.reply.Reply.TheVariants as reply
 use Rattle.funnel_model.specs.Events.{call_of, pass_of}
-use Rattle.funnel_model.specs.History.{answer, is_live, place}
+use Rattle.funnel_model.specs.History.{answer, is_live}
 use Rattle.funnel_model.specs.Legal.{Limits, IsAllowed, IsFull, IsIdle, is_journal_full}
 use Rattle.funnel_model.specs.Steps.{IsReply}
 
@@ -31,46 +31,43 @@ find_event limits history (event.Opened pass slice alone) query given is replied
 find_event limits history _ query given is replied = cc
 
 -- a delete of a live number is answered by its event, where the journal has room
-pub delete_event : (limits : Limits) (history : List Event) (e : Event) (id : ℕ) (given : Reply) → is_live id history ≡ true →
-    (is_journal_full limits history ≡ true → ⊥) → IsAllowed limits history e → call_of e ≡ Some (call.Delete id) →
-    IsReply limits history e given → (pass : ℕ) × (e ≡ event.Del pass id) × (given ≡ reply.Deleted (place history + 1))
-delete_event limits history (event.Del pass deleted) id given present room allowed is replied = (pass, cc, replied)
-delete_event limits history (event.No pass (call.Delete deleted)) id given present room allowed is replied =
+pub delete_event : (limits : Limits) (history : List Event) (e : Event) (id : ℕ) → is_live id history ≡ true →
+    (is_journal_full limits history ≡ true → ⊥) → IsAllowed limits history e → call_of e ≡ Some (call.Delete id) → (pass : ℕ) × (e ≡ event.Del pass id)
+delete_event limits history (event.Del pass deleted) id present room allowed is = (pass, cc)
+delete_event limits history (event.No pass (call.Delete deleted)) id present room allowed is =
     let same : deleted ≡ id = cc in
     ⊎_elim
     (λ absent. absurd (both_ways (is_live id history) (ap (λ i. is_live i history) (sym same) ∙ absent) present))
     (λ full. absurd (room full))
     allowed.rule.refused
-delete_event limits history (event.No pass _) id given present room allowed is replied = cc
-delete_event limits history (event.Read pass (call.Delete deleted)) id given present room allowed is replied = absurd replied
-delete_event limits history (event.Read pass _) id given present room allowed is replied = cc
-delete_event limits history (event.Opened pass slice alone) id given present room allowed is replied =
+delete_event limits history (event.No pass _) id present room allowed is = cc
+delete_event limits history (event.Read pass (call.Delete deleted)) id present room allowed is = absurd allowed.rule.reads
+delete_event limits history (event.Read pass _) id present room allowed is = cc
+delete_event limits history (event.Opened pass slice alone) id present room allowed is =
     absurd (not_recycle alone (call.Delete id) (λ same. let h : call.Recycle ≡ call.Delete id = same in cc) is)
-delete_event limits history _ id given present room allowed is replied = cc
+delete_event limits history _ id present room allowed is = cc
 
 -- an add that isn't live is answered by its event, where the journal has room and the engine isn't full
-pub add_event : (limits : Limits) (history : List Event) (e : Event) (id : ℕ) (text : List ℕ) (given : Reply) → is_live id history ≡ false →
+pub add_event : (limits : Limits) (history : List Event) (e : Event) (id : ℕ) (text : List ℕ) → is_live id history ≡ false →
     (is_journal_full limits history ≡ true → ⊥) → (IsIdle (pass_of e) history → IsFull limits history → ⊥) → IsAllowed limits history e →
-    call_of e ≡ Some (call.Add id text) → IsReply limits history e given →
+    call_of e ≡ Some (call.Add id text) →
     (pass : ℕ) × (slice : ℕ) × (column : ℕ) × (bits : List Bit) × (e ≡ event.Add pass id text slice column bits)
-    × (given ≡ reply.Added (place history + 1))
-add_event limits history (event.Add pass added of slice column bits) id text given absent room no_room allowed is replied =
-    (pass, slice, column, bits, cc, replied)
-add_event limits history (event.Drop pass dropped of slice column) id text given absent room no_room allowed is replied =
+add_event limits history (event.Add pass added of slice column bits) id text absent room no_room allowed is = (pass, slice, column, bits, cc)
+add_event limits history (event.Drop pass dropped of slice column) id text absent room no_room allowed is =
     let same : dropped ≡ id = cc in
     ⊎_elim
     (λ present. absurd (both_ways (is_live id history) absent (ap (λ i. is_live i history) (sym same) ∙ present)))
     (λ full. absurd (room full))
     allowed.rule.refused
-add_event limits history (event.No pass (call.Add refused of)) id text given absent room no_room allowed is replied =
+add_event limits history (event.No pass (call.Add refused of)) id text absent room no_room allowed is =
     let same : refused ≡ id = cc in
     ⊎_elim
     (λ present. absurd (both_ways (is_live id history) absent (ap (λ i. is_live i history) (sym same) ∙ present)))
     (λ rest. ⊎_elim (λ full. absurd (room full)) (λ full. absurd (no_room allowed.rule.idle full)) rest)
     allowed.rule.refused
-add_event limits history (event.No pass _) id text given absent room no_room allowed is replied = cc
-add_event limits history (event.Read pass (call.Add added of)) id text given absent room no_room allowed is replied = absurd replied
-add_event limits history (event.Read pass _) id text given absent room no_room allowed is replied = cc
-add_event limits history (event.Opened pass slice alone) id text given absent room no_room allowed is replied =
+add_event limits history (event.No pass _) id text absent room no_room allowed is = cc
+add_event limits history (event.Read pass (call.Add added of)) id text absent room no_room allowed is = absurd allowed.rule.reads
+add_event limits history (event.Read pass _) id text absent room no_room allowed is = cc
+add_event limits history (event.Opened pass slice alone) id text absent room no_room allowed is =
     absurd (not_recycle alone (call.Add id text) (λ same. let h : call.Recycle ≡ call.Add id text = same in cc) is)
-add_event limits history _ id text given absent room no_room allowed is replied = cc
+add_event limits history _ id text absent room no_room allowed is = cc

@@ -1,11 +1,11 @@
--- A pass that is alone makes at most four events a call: an add that clears a slice makes a Clear, an Opened, a Take and an Add.
+-- A pass makes at most four events a call: an add that clears a slice makes a Clear, an Opened, a Take and an Add.
 use Rattle.std.proofs.Common.{◌≡◌, ℕ, ◌+◌, ◌*◌, ◌≤◌, ⊎_elim, true, false, List, [], ◌∷◌, ◌++◌, length, Option, Some, None, sym, refl, ap, ◌∙◌, subst, arith}
+use Rattle.std.proofs.lemmas.Bool.{cases_eq}
 use Rattle.std.proofs.lemmas.List.{length-append}
-use Rattle.std.proofs.lemmas.List.Elements.{All-head}
 use Rattle.std.specs.List.{cons_option}
 use Rattle.std.specs.Option.{IfSome, option_map_or}
 use Rattle.funnel_model.proofs.Histories.{holds_of_legal}
-use Rattle.funnel_model.proofs.Spans.{last_by-own}
+use Rattle.funnel_model.proofs.Spans.{last_by-other, last_by-own}
 use Rattle.funnel_model.proofs.StepLemmas.{call_by-own, linear-legal, own-append}
 use Rattle.funnel_model.specs.declared.call.Call.{Call}
 use Rattle.funnel_model.specs.declared.call.Call.TheVariants as call
@@ -17,7 +17,7 @@ use Rattle.funnel_model.specs.History.{last_by, own}
 use Rattle.funnel_model.specs.Legal.{Limits, IsAllowed, IsIdle, IsLegal, MayFollow}
 use Rattle.funnel_model.specs.Steps.{FindsNoMemory, Linear, Step}
 use Rattle.load_laws.specs.LonePass.{IsAlone}
-use Rattle.load_laws.proofs.Quiet.{alone_front, alone_rest}
+use Rattle.load_laws.proofs.PassTotals.{length_is_sum, own-other, weigh_by, weigh_by-alone, weigh_by-other, weigh_by-own}
 
 -- how many events of a call there are at most up to this one, where it doesn't answer the call yet
 abbrev begun : Event → ℕ
@@ -81,15 +81,19 @@ goes_on_from limits history (event.Opened pass slice false) rule = subst (λ o. 
 goes_on_from limits history (event.No pass asked) rule = from_idle (last_by pass history) (event.No pass asked) rule.idle (omega arith)
 goes_on_from limits history (event.Read pass asked) rule = from_idle (last_by pass history) (event.Read pass asked) rule.idle (omega arith)
 
--- there are at most four events a call, and those of one that is not answered yet
-abbrev AreFew : ℕ → List Event → Type 0
-AreFew pass history = IsAlone pass history →
-    length history + due_last (last_by pass history) ≤ 4 * length (own pass history) + begun_last (last_by pass history)
+-- how many events of the pass are in the history
+abbrev pub events_of : ℕ → List Event → ℕ
+events_of pass history = weigh_by (λ e. 1) pass history
 
-few-push : (limits : Limits) (pass : ℕ) (history : List Event) (e : Event) → AreFew pass history → IsAllowed limits history e → AreFew pass (history ++ e ∷ [])
-few-push limits pass history e before allowed alone =
-    let is_own = All-head (λ x. pass_of x ≡ pass) e [] (alone_rest pass history (e ∷ []) alone) in
-    let few = before (alone_front pass history (e ∷ []) alone) in
+-- there are at most four events of the pass a call, and those of one that is not answered yet
+abbrev AreFew : ℕ → List Event → Type 0
+AreFew pass history =
+    events_of pass history + due_last (last_by pass history) ≤ 4 * length (own pass history) + begun_last (last_by pass history)
+
+-- with one more event of the pass
+few-own : (limits : Limits) (pass : ℕ) (history : List Event) (e : Event) → AreFew pass history → IsAllowed limits history e → pass_of e ≡ pass →
+    AreFew pass (history ++ e ∷ [])
+few-own limits pass history e few allowed is_own =
     let step : GoesOnFrom (last_by pass history) e = subst (λ p. GoesOnFrom (last_by p history) e) is_own (goes_on_from limits history e allowed.rule) in
     let last = last_by-own pass history e is_own in
     let begun_now : begun_last (last_by pass (history ++ e ∷ [])) ≡ begun e = ap begun_last last in
@@ -97,14 +101,28 @@ few-push limits pass history e before allowed alone =
     let calls : length (own pass (history ++ e ∷ [])) ≡ length (own pass history) + answered_by e =
     ap length (own-append pass history (e ∷ []) ∙ ap (λ o. own pass history ++ cons_option o []) (call_by-own pass e is_own))
     ∙ length-append (own pass history) (cons_option (call_of e) []) in
-    let events = length-append history (e ∷ []) in
+    let events = weigh_by-own (λ x. 1) pass history e is_own in
     omega arith
 
--- a pass that is alone and idle has made at most four events a call
-few_events : (limits : Limits) (pass : ℕ) (history : List Event) → IsLegal limits history → IsAlone pass history → IsIdle pass history →
-    length history ≤ 4 * length (own pass history)
-few_events limits pass history legal alone idle =
-    let few = holds_of_legal limits (AreFew pass) (λ none. omega arith) (λ h e is_legal before allowed. few-push limits pass h e before allowed) history legal alone in
+-- and with one of another
+few-other : (pass : ℕ) (history : List Event) (e : Event) → AreFew pass history → (pass_of e ≡ pass → ⊥) → AreFew pass (history ++ e ∷ [])
+few-other pass history e few other =
+    let last = last_by-other pass history e other in
+    let begun_now = ap begun_last last in
+    let due_now = ap due_last last in
+    let calls = ap length (own-other pass history e other) in
+    let events = weigh_by-other (λ x. 1) pass history e other in
+    omega arith
+
+few-push : (limits : Limits) (pass : ℕ) (history : List Event) (e : Event) → AreFew pass history → IsAllowed limits history e → AreFew pass (history ++ e ∷ [])
+few-push limits pass history e few allowed =
+    ⊎_elim (few-own limits pass history e few allowed) (few-other pass history e few) (cases_eq (pass_of e) pass)
+
+-- a pass that is idle has made at most four events a call
+pub few_events : (limits : Limits) (pass : ℕ) (history : List Event) → IsLegal limits history → IsIdle pass history →
+    events_of pass history ≤ 4 * length (own pass history)
+few_events limits pass history legal idle =
+    let few = holds_of_legal limits (AreFew pass) (omega arith) (λ h e is_legal before allowed. few-push limits pass h e before allowed) history legal in
     let none = idle_last (last_by pass history) idle in
     omega arith
 
@@ -132,11 +150,11 @@ calls_of_step limits pass before after asked given step =
     step.outcome
 
 -- the pass is idle after its calls, and its history has no more calls than it made
-record Ends (pass : ℕ) (before after : List Event) (calls : List Call) : Type 0 where
-  idle : IsIdle pass after
-  few : length (own pass after) ≤ length (own pass before) + length calls
+pub record Ends (pass : ℕ) (before after : List Event) (calls : List Call) : Type 0 where
+  pub idle : IsIdle pass after
+  pub few : length (own pass after) ≤ length (own pass before) + length calls
 
-ends : (limits : Limits) (pass : ℕ) (before after : List Event) (calls : List Call) (replies : List Reply) → IsIdle pass before →
+pub ends : (limits : Limits) (pass : ℕ) (before after : List Event) (calls : List Call) (replies : List Reply) → IsIdle pass before →
     Linear limits pass before after calls replies → Ends pass before after calls
 ends limits pass before after [] [] idle is = record {
   idle = subst (IsIdle pass) is idle;
@@ -155,6 +173,7 @@ pub four_events_a_call : (limits : Limits) (pass : ℕ) (after : List Event) (ca
     Linear limits pass [] after calls replies → IsAlone pass after → length after ≤ 4 * length calls
 four_events_a_call limits pass after calls replies run alone =
     let end = ends limits pass [] after calls replies tt run in
-    let few = few_events limits pass after (linear-legal limits pass [] after calls replies tt run) alone end.idle in
+    let few = few_events limits pass after (linear-legal limits pass [] after calls replies tt run) end.idle in
+    let all = weigh_by-alone (λ e. 1) pass after alone ∙ sym (length_is_sum after) in
     let made = end.few in
     omega arith

@@ -1,5 +1,6 @@
 pub mod Quiet
 pub mod Alone
+pub mod PassTotals
 pub mod Takes
 pub mod Room
 pub mod Answering
@@ -15,3 +16,14 @@ pub mod OneWorker
 pub mod AddsPart
 pub mod DeletesPart
 pub mod OneLoad
+pub mod JobCounts
+pub mod Balance
+pub mod WorkerEvents
+pub mod JobFacts
+pub mod Committed
+pub mod RunEvents
+pub mod FoundLive
+pub mod WorkersAnswered
+pub mod LeftOver
+pub mod TwoWorkers
+pub mod Meetings

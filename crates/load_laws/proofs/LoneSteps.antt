@@ -14,6 +14,7 @@ use Rattle.funnel_model.specs.declared.reply.Reply.TheVariants as reply
 use Rattle.funnel_model.specs.Events.{pass_of}
 use Rattle.funnel_model.specs.History.{Document, is_live, live, place}
 use Rattle.funnel_model.specs.Legal.{Limits, IsFull, IsIdle, is_journal_full}
+use Rattle.funnel_model.specs.Steps.{IsReply}
 use Rattle.funnel_model.specs.Words.{meets}
 use Rattle.load_laws.specs.LonePass.{LoneStep, Adds, Deletes, Finds, takes_in}
 use Rattle.load_laws.proofs.Quiet.{Quiet, fills_column}
@@ -61,14 +62,15 @@ deletes_it_by : (limits : Limits) (pass : ℕ) (before after : List Event) (id :
     is_live id before ≡ true → place before < limits.commits → Deletes before after id given
 deletes_it_by limits pass before after id given is present room =
     let h = is.earlier in
-    let by = delete_event limits h is.event id given (live_same id before h true is.first present)
-    (room_not_full limits before h is.first room) is.allowed is.call is.reply in
+    let by = delete_event limits h is.event id (live_same id before h true is.first present)
+    (room_not_full limits before h is.first room) is.allowed is.call in
+    let told : given ≡ reply.Deleted (place h + 1) = subst (λ x. IsReply limits h x given) by.1 is.reply in
     let one_commit : place (is.event ∷ []) ≡ 1 = ap (λ x. place (x ∷ [])) by.1 in
     let commits = place_after limits pass before after (call.Delete id) given is in
     let takes : takes_in after ≡ takes_in before + 0 =
     takes_after limits pass before after (call.Delete id) given is ∙ ap (λ x. takes_in before + cond (fills_column x) 1 0) by.1 in
     record {
-      reply = by.2 ∙ ap (λ n. reply.Deleted (n + 1)) is.first.at_place;
+      reply = told ∙ ap (λ n. reply.Deleted (n + 1)) is.first.at_place;
       documents = is.last.documents ∙ ap (λ x. live (h ++ x ∷ [])) by.1 ∙ live-deletes h by.0 id
           ∙ ap (λ (ds : List Document). filter (λ d. not (d.id == id)) ds) is.first.documents;
       at_place = omega arith;
@@ -106,14 +108,15 @@ adds_by : (limits : Limits) (pass : ℕ) (before after : List Event) (id : ℕ) 
     takes_in before < limits.slices * limits.columns → Adds before after id text given
 adds_by limits pass before after id text given is absent room few =
     let h = is.earlier in
-    let by = add_event limits h is.event id text given (live_same id before h false is.first absent) (room_not_full limits before h is.first room)
-    (room_left limits pass before after (call.Add id text) given is few) is.allowed is.call is.reply in
+    let by = add_event limits h is.event id text (live_same id before h false is.first absent) (room_not_full limits before h is.first room)
+    (room_left limits pass before after (call.Add id text) given is few) is.allowed is.call in
+    let told : given ≡ reply.Added (place h + 1) = subst (λ x. IsReply limits h x given) by.4 is.reply in
     let one_commit : place (is.event ∷ []) ≡ 1 = ap (λ x. place (x ∷ [])) by.4 in
     let commits = place_after limits pass before after (call.Add id text) given is in
     let takes : takes_in after ≡ takes_in before + 1 =
     takes_after limits pass before after (call.Add id text) given is ∙ ap (λ x. takes_in before + cond (fills_column x) 1 0) by.4 in
     record {
-      reply = by.5 ∙ ap (λ n. reply.Added (n + 1)) is.first.at_place;
+      reply = told ∙ ap (λ n. reply.Added (n + 1)) is.first.at_place;
       documents = is.last.documents ∙ ap (λ x. live (h ++ x ∷ [])) by.4 ∙ live_added before h by.0 id text by.1 by.2 by.3 is.first;
       at_place = omega arith;
       takes = omega arith;

@@ -2,9 +2,9 @@
 use Rattle.std.proofs.Common.{◌≡◌, ◌≢◌, ℕ, zero, suc, ◌+◌, ◌*◌, ◌/◌, ◌%◌, ◌^◌, ◌==◌, ◌<◌, ◌≤◌, Bool, true, false, cond, not, ◌&&◌, List, [], ◌∷◌, ◌++◌, length, map, filter, flat_map, drop, refl, sym, ap, ap₂, ◌∙◌, subst, arith}
 use Rattle.std.specs.List.{All, enumerate_from, range_with_len, sum_by}
 use Rattle.std.proofs.Math.Seq.{drop-append_seam}
-use Rattle.std.proofs.lemmas.List.{append_assoc, length-append, length-map}
+use Rattle.std.proofs.lemmas.List.{append_assoc, length-append}
 use Rattle.std.proofs.lemmas.List.Elements.{All-cons, All-nil}
-use Rattle.std.proofs.lemmas.List.FromFn.{length-enumerate_from, length-map-range_with_len}
+use Rattle.std.proofs.lemmas.List.FromFn.{length-enumerate_from}
 use Rattle.std.proofs.lemmas.List.Sums.{sum_by-append, sum_by-cons}
 use Rattle.funnel_model.specs.declared.call.Call.{Call}
 use Rattle.funnel_model.specs.declared.call.Call.TheVariants as call
@@ -28,8 +28,10 @@ use Rattle.load_laws.proofs.DeletesPart.{deletes_answered, deletes_in_turn, dele
 use Rattle.load_laws.proofs.EventCounts.{four_events_a_call}
 use Rattle.load_laws.proofs.ListLemmas.{answers-append, in_turn-append}
 use Rattle.load_laws.proofs.LoadLemmas.{load_is_answered}
-use Rattle.load_laws.proofs.OneWorker.{adds-one, deletes-one, queries-one}
+use Rattle.load_laws.proofs.OneWorker.{adds-one, deletes-one, length-documents, queries-one}
 use Rattle.load_laws.proofs.PlainQueries.{meets-document}
+use Rattle.load_laws.proofs.WorkerEvents.{calls_are_few}
+use Rattle.load_laws.specs.Workers.{calls_of_load}
 
 -- the three parts
 abbrev first_part : List (List ℕ) → List Call
@@ -139,9 +141,6 @@ named_from words seed n (suc docs) small =
 documents_are_named : (docs words seed : ℕ) → docs ≤ MOST_DOCS → All IsNamed (enumerate_from 1 (documents docs words seed))
 documents_are_named docs words seed few = named_from words seed 0 docs (omega (arith, few))
 
-pub length-documents : (docs words seed : ℕ) → length (documents docs words seed) ≡ docs
-length-documents docs words seed = length-map-range_with_len (document words seed) 0 docs
-
 -- the first part of a load
 first_answered : (docs words seed : ℕ) → docs ≤ MOST_DOCS → AddsAnswered 0 [] (enumerate_from 1 (documents docs words seed))
 first_answered docs words seed few =
@@ -199,32 +198,12 @@ load_answers docs words seed few =
     ∙ ap (λ n. replies_to_deletes n ++ replies_to_queries texts) count)
     ∙ sym (append_assoc (replies_to_adds docs) (replies_to_deletes docs) (replies_to_queries texts))
 
--- the adds and the finds between them are at most two for a document
-adds_are_few : (n : ℕ) (texts : List (List ℕ)) → length (flat_map lone_add (enumerate_from n texts)) ≤ 2 * length texts
-adds_are_few n [] = omega arith
-adds_are_few n (text ∷ texts) =
-    let rest = flat_map lone_add (enumerate_from (n + 1) texts) in
-    let later = adds_are_few (n + 1) texts in
-    let first = two (n % CHECKED_ONE_IN == 0) in
-    let both = length-append (lone_add (n, text)) rest in
-    omega (arith, first, later, both)
-  where
-    two : (b : Bool) → length (call.Add n text ∷ cond b (call.Find (name_of n) ∷ []) []) ≤ 2
-    two true = omega arith
-    two false = omega arith
-
--- so a load is far too short to spend the events
+-- a load is far too short to spend the events
 pub load_is_short : (docs words seed : ℕ) → docs ≤ MOST_DOCS → 4 * length (jobs docs words seed 1 0) < 2 ^ 62
 load_is_short docs words seed few =
-    let texts = documents docs words seed in
-    let count = length-documents docs words seed in
-    let first = adds_are_few 1 texts in
-    let second = length-map (filter is_deleted (range_with_len 1 (length texts))) call.Delete ∙ each_tenth (length texts) in
-    let third : length third_part ≡ 8 = refl in
-    let others = length-append (second_part texts) third_part in
-    let all = length-append (first_part texts) (second_part texts ++ third_part) in
-    let same = ap (λ (calls : List Call). length calls) (parts docs words seed) in
-    omega (arith, few, count, first, second, third, others, all, same)
+    let calls = calls_are_few docs words seed 1 (omega arith) in
+    let one : calls_of_load docs words seed 1 ≡ 0 + length (jobs docs words seed 1 0) = refl in
+    omega (arith, few, calls, one)
 
 -- a pass that is alone and finds memory is answered so
 pub load_is_replied : (limits : Limits) (pass docs words seed : ℕ) (after : List Event) (replies : List Reply) → docs ≤ MOST_DOCS →

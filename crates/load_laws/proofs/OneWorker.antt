@@ -6,13 +6,18 @@ use Rattle.std.proofs.lemmas.Grind.{flat_map-append}
 use Rattle.std.proofs.lemmas.List.{length-take-le, map-append, take_more}
 use Rattle.std.proofs.lemmas.Option.{get_or_from_slice_get, slice_get_within}
 use Rattle.std.proofs.lemmas.List.Elements.{filter-append}
-use Rattle.std.proofs.lemmas.List.FromFn.{map-range_with_len_more}
+use Rattle.std.proofs.lemmas.List.FromFn.{length-map-range_with_len, map-range_with_len_more}
 use Rattle.funnel_model.proofs.ClaimLemmas.{range_with_len-push}
 use Rattle.funnel_model.specs.declared.call.Call.{Call}
 use Rattle.funnel_model.specs.declared.call.Call.TheVariants as call
+use Rattle.load_gen.specs.Documents.{document, documents}
 use Rattle.load_gen.specs.Jobs.{adds_of, deletes_of, is_deleted, nth_add, queries_of, share}
 use Rattle.load_gen.specs.Queries.{queries}
 use Rattle.load_laws.specs.Replies.{lone_add}
+
+-- there are as many texts as documents
+pub length-documents : (docs words seed : ℕ) → length (documents docs words seed) ≡ docs
+length-documents docs words seed = length-map-range_with_len (document words seed) 0 docs
 
 -- of one worker the share is all
 all_mine : (n : ℕ) → (n % 1 == 0) ≡ true

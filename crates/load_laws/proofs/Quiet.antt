@@ -3,7 +3,7 @@ use Rattle.std.proofs.Common.{◌≡◌, ℕ, ◌+◌, Bool, true, false, cond, 
 use Rattle.std.proofs.lemmas.List.{append-nil}
 use Rattle.std.proofs.lemmas.List.Elements.{All-cons, All-head, All-nil, All-tail}
 use Rattle.std.proofs.lemmas.List.Sums.{sum_by_push}
-use Rattle.std.specs.List.{cons_option, count_by}
+use Rattle.std.specs.List.{All, cons_option, count_by}
 use Rattle.funnel_model.proofs.LiveLemmas.{live-silent, place-append}
 use Rattle.funnel_model.proofs.StepLemmas.{call_by-own}
 use Rattle.funnel_model.specs.declared.call.Call.{Call}
@@ -81,13 +81,18 @@ quiet_calls pass history (e ∷ later) alone none =
     (quiet_event history e (sym (call_by-own pass e is_own) ∙ both.0))
     (quiet_calls pass (history ++ e ∷ []) later (All-tail (λ x. pass_of x ≡ pass) e later alone) both.1))
 
--- a pass that is alone in two parts of a history together is alone in each
+-- what holds of all of two lists holds of all of each
+pub all_first : {A : Type 0} → (P : A → Type 0) (xs ys : List A) → All P (xs ++ ys) → All P xs
+all_first P [] ys all = All-nil P
+all_first P (x ∷ xs) ys all = All-cons P x xs (All-head P x (xs ++ ys) all) (all_first P xs ys (All-tail P x (xs ++ ys) all))
+
+pub all_second : {A : Type 0} → (P : A → Type 0) (xs ys : List A) → All P (xs ++ ys) → All P ys
+all_second P [] ys all = all
+all_second P (x ∷ xs) ys all = all_second P xs ys (All-tail P x (xs ++ ys) all)
+
+-- so a pass that is alone in two parts of a history together is alone in each
 pub alone_front : (pass : ℕ) (xs ys : List Event) → IsAlone pass (xs ++ ys) → IsAlone pass xs
-alone_front pass [] ys all = All-nil (λ e. pass_of e ≡ pass)
-alone_front pass (x ∷ xs) ys all =
-    All-cons (λ e. pass_of e ≡ pass) x xs (All-head (λ e. pass_of e ≡ pass) x (xs ++ ys) all)
-    (alone_front pass xs ys (All-tail (λ e. pass_of e ≡ pass) x (xs ++ ys) all))
+alone_front pass xs ys all = all_first (λ e. pass_of e ≡ pass) xs ys all
 
 pub alone_rest : (pass : ℕ) (xs ys : List Event) → IsAlone pass (xs ++ ys) → IsAlone pass ys
-alone_rest pass [] ys all = all
-alone_rest pass (x ∷ xs) ys all = alone_rest pass xs ys (All-tail (λ e. pass_of e ≡ pass) x (xs ++ ys) all)
+alone_rest pass xs ys all = all_second (λ e. pass_of e ≡ pass) xs ys all

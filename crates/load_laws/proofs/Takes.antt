@@ -1,17 +1,18 @@
--- A pass that is alone and idle has added or dropped a document for each column that it claimed.
+-- A pass that is idle has added or dropped a document for each column that it claimed.
 use Rattle.std.proofs.Common.{◌≡◌, ℕ, ◌+◌, ⊎_elim, false, cond, List, [], ◌∷◌, ◌++◌, Option, Some, None, sym, refl, ap, ◌∙◌, arith}
-use Rattle.std.proofs.lemmas.List.Elements.{All-head}
+use Rattle.std.proofs.lemmas.Bool.{cases_eq}
 use Rattle.std.proofs.lemmas.List.Sums.{sum_by_push}
 use Rattle.std.specs.Option.{IfSome, option_map_or}
 use Rattle.funnel_model.proofs.Histories.{holds_of_legal}
-use Rattle.funnel_model.proofs.Spans.{last_by-own}
+use Rattle.funnel_model.proofs.Spans.{last_by-other, last_by-own}
 use Rattle.funnel_model.specs.declared.event.Event.{Event}
 use Rattle.funnel_model.specs.declared.event.Event.TheVariants as event
 use Rattle.funnel_model.specs.Events.{leaves_open, pass_of}
 use Rattle.funnel_model.specs.History.{last_by}
 use Rattle.funnel_model.specs.Legal.{Limits, IsAllowed, IsIdle, IsLegal, MayFollow}
 use Rattle.load_laws.specs.LonePass.{IsAlone, is_take, takes_in}
-use Rattle.load_laws.proofs.Quiet.{alone_front, alone_rest, filled, filled-push, fills_column}
+use Rattle.load_laws.proofs.PassTotals.{weigh_by, weigh_by-alone, weigh_by-other, weigh_by-own}
+use Rattle.load_laws.proofs.Quiet.{filled, fills_column}
 
 -- one where the last event of a pass is a take
 abbrev pub open_take : Option Event → ℕ
@@ -22,12 +23,12 @@ idle_event : (e : Event) → leaves_open e ≡ false → open_take (Some e) ≡ 
 idle_event (event.Take pass slice column) shut = cc
 idle_event _ shut = refl
 
-idle_open : (last : Option Event) → IfSome last (λ e. leaves_open e ≡ false) → open_take last ≡ 0
+pub idle_open : (last : Option Event) → IfSome last (λ e. leaves_open e ≡ false) → open_take last ≡ 0
 idle_open None idle = refl
 idle_open (Some e) idle = idle_event e idle
 
 -- an add or a drop comes after a take, and no other event does
-before_event : (limits : Limits) (history : List Event) (e : Event) → MayFollow limits history e →
+pub before_event : (limits : Limits) (history : List Event) (e : Event) → MayFollow limits history e →
     open_take (last_by (pass_of e) history) ≡ cond (fills_column e) 1 0
 before_event limits history (event.Take pass slice column) rule =
     ⊎_elim (λ r. idle_open (last_by pass history) r.idle) (λ r. ap open_take r.opened) rule
@@ -45,26 +46,50 @@ before_event limits history (event.Read pass asked) rule = idle_open (last_by pa
 pub takes-push : (history : List Event) (e : Event) → takes_in (history ++ e ∷ []) ≡ takes_in history + cond (is_take e) 1 0
 takes-push history e = sum_by_push (λ x. cond (is_take x) 1 0) history e
 
--- the takes are those that were followed by an add or a drop, and one that is the last event
-abbrev AreCounted : ℕ → List Event → Type 0
-AreCounted pass history = IsAlone pass history → takes_in history ≡ filled history + open_take (last_by pass history)
+-- one for a take, and for an add or a drop
+abbrev pub take_weight : Event → ℕ
+take_weight e = cond (is_take e) 1 0
 
-counted-push : (limits : Limits) (pass : ℕ) (history : List Event) (e : Event) → AreCounted pass history → IsAllowed limits history e →
+abbrev pub fill_weight : Event → ℕ
+fill_weight e = cond (fills_column e) 1 0
+
+-- the takes of a pass are those that were followed by an add or a drop, and one that is its last event
+abbrev AreCounted : ℕ → List Event → Type 0
+AreCounted pass history =
+    weigh_by take_weight pass history ≡ weigh_by fill_weight pass history + open_take (last_by pass history)
+
+counted-own : (limits : Limits) (pass : ℕ) (history : List Event) (e : Event) → AreCounted pass history → IsAllowed limits history e → pass_of e ≡ pass →
     AreCounted pass (history ++ e ∷ [])
-counted-push limits pass history e before allowed alone =
-    let is_own = All-head (λ x. pass_of x ≡ pass) e [] (alone_rest pass history (e ∷ []) alone) in
-    let counted = before (alone_front pass history (e ∷ []) alone) in
+counted-own limits pass history e counted allowed is_own =
     let was : open_take (last_by pass history) ≡ cond (fills_column e) 1 0 =
     ap (λ p. open_take (last_by p history)) (sym is_own) ∙ before_event limits history e allowed.rule in
     let now : open_take (last_by pass (history ++ e ∷ [])) ≡ cond (is_take e) 1 0 = ap open_take (last_by-own pass history e is_own) in
-    let takes = takes-push history e in
-    let fills = filled-push history e in
+    let takes = weigh_by-own take_weight pass history e is_own in
+    let fills = weigh_by-own fill_weight pass history e is_own in
     omega arith
 
--- a pass that is alone and idle has added or dropped a document for each take
+counted-other : (pass : ℕ) (history : List Event) (e : Event) → AreCounted pass history → (pass_of e ≡ pass → ⊥) → AreCounted pass (history ++ e ∷ [])
+counted-other pass history e counted other =
+    let now = ap open_take (last_by-other pass history e other) in
+    let takes = weigh_by-other take_weight pass history e other in
+    let fills = weigh_by-other fill_weight pass history e other in
+    omega arith
+
+counted-push : (limits : Limits) (pass : ℕ) (history : List Event) (e : Event) → AreCounted pass history → IsAllowed limits history e →
+    AreCounted pass (history ++ e ∷ [])
+counted-push limits pass history e counted allowed =
+    ⊎_elim (counted-own limits pass history e counted allowed) (counted-other pass history e counted) (cases_eq (pass_of e) pass)
+
+-- a pass that is idle has added or dropped a document for each of its takes
+pub pass_takes_filled : (limits : Limits) (pass : ℕ) (history : List Event) → IsLegal limits history → IsIdle pass history →
+    weigh_by take_weight pass history ≡ weigh_by fill_weight pass history
+pass_takes_filled limits pass history legal idle =
+    let counted = holds_of_legal limits (AreCounted pass) refl (λ h e is_legal before allowed. counted-push limits pass h e before allowed) history legal in
+    let none = idle_open (last_by pass history) idle in
+    omega arith
+
+-- so where it is alone there are as many adds and drops as takes
 pub takes_filled : (limits : Limits) (pass : ℕ) (history : List Event) → IsLegal limits history → IsAlone pass history → IsIdle pass history →
     takes_in history ≡ filled history
 takes_filled limits pass history legal alone idle =
-    let counted = holds_of_legal limits (AreCounted pass) (λ none. refl) (λ h e is_legal before allowed. counted-push limits pass h e before allowed) history legal alone in
-    let none = idle_open (last_by pass history) idle in
-    omega arith
+    sym (weigh_by-alone take_weight pass history alone) ∙ pass_takes_filled limits pass history legal idle ∙ weigh_by-alone fill_weight pass history alone

@@ -3,3 +3,5 @@ pub mod Loads
 pub mod LonePass
 pub mod PlainTexts
 pub mod Replies
+pub mod Workers
+pub mod WorkersExample

@@ -2,12 +2,14 @@
 //!
 //! The calls of a load that one worker makes are answered as the load's summary tells, where the worker's pass is alone in its
 //! history: `whole_load` says so. It rests on two other parts. `lone_pass` says that a pass that is alone is answered as by a
-//! plain list of documents, and `plain_texts` which words the generated texts have.
+//! plain list of documents, and `plain_texts` which words the generated texts have. `workers` says of any number of workers that
+//! they are answered as the summary tells, where each part of the load came whole before the next one.
 #![tactic(auto)]
 
 mod lone_pass;
 mod plain_texts;
 mod whole_load;
+mod workers;
 
 pub use lone_pass::{
     a_call_makes_at_most_four_events, a_pass_is_alone_where_no_other_has_events,
@@ -18,4 +20,9 @@ pub use plain_texts::{names_find_their_own_text, plain_texts_have_their_pieces_a
 pub use whole_load::{
     example_replies, loads_are_answered_as_told, loads_are_short, loads_fit, loads_miss_nothing,
     one_more_document_is_walked, one_worker_walks_the_documents,
+};
+pub use workers::{
+    a_load_of_two_workers_is_made, loads_of_workers_are_short, shares_tell_the_results,
+    workers_are_answered_as_told, workers_leave_what_is_not_deleted,
+    workers_that_meet_keep_to_the_parts,
 };

@@ -39,7 +39,7 @@ fn end_with<R: Threads + Wait + Sync>(
 
 #[test]
 fn the_first_misfit_is_told(rt: HostRuntime) -> Result<(), Fail> {
-    let rows: [(&[&str], u64, &str, Misfit); 8] = [
+    let rows: [(&[&str], u64, &str, Misfit); 10] = [
         (
             &["serve", "--port", "7000", "--workers", "2"],
             1,
@@ -78,6 +78,24 @@ fn the_first_misfit_is_told(rt: HostRuntime) -> Result<(), Fail> {
             64,
             r#"{"passes":64}"#,
             Misfit::Ports { last: 65_536 },
+        ),
+        (
+            &["load", "--docs", "129", "--workers", "3"],
+            0,
+            "",
+            Misfit::Workers {
+                asked: 3,
+                passes: 2,
+            },
+        ),
+        (
+            &["load", "--docs", "1", "--workers", "64"],
+            64,
+            r#"{"passes":63}"#,
+            Misfit::Workers {
+                asked: 64,
+                passes: 63,
+            },
         ),
         (
             &["load", "--docs", "129"],

@@ -11,8 +11,13 @@ const fn serve(port: u32, workers: u32, connections: u64) -> Result<Command, Com
     }))
 }
 
-const fn load(docs: u32, words: u32, seed: u64) -> Result<Command, CommandFault> {
-    Ok(Command::Load(LoadCommand { docs, words, seed }))
+const fn load(docs: u32, workers: u32, words: u32, seed: u64) -> Result<Command, CommandFault> {
+    Ok(Command::Load(LoadCommand {
+        docs,
+        workers,
+        words,
+        seed,
+    }))
 }
 
 const fn usage() -> Result<Command, CommandFault> {
@@ -139,33 +144,33 @@ fn a_serve_listens_on_a_port_for_each_worker(rt: HostRuntime) -> Result<(), Fail
 
 #[test]
 fn words_are_read_as_their_command(rt: HostRuntime) {
-    let rows: [(&[&str], Result<Command, CommandFault>); 46] = [
+    let rows: [(&[&str], Result<Command, CommandFault>); 53] = [
         (&["run"], Ok(Command::Run)),
-        (&["load", "--docs", "5"], load(5, 80, 0)),
-        (&["load", "--docs=5"], load(5, 80, 0)),
-        (&["load", "--docs", "1", "--words", "0"], load(1, 0, 0)),
+        (&["load", "--docs", "5"], load(5, 1, 80, 0)),
+        (&["load", "--docs=5"], load(5, 1, 80, 0)),
+        (&["load", "--docs", "1", "--words", "0"], load(1, 1, 0, 0)),
         (
             &[
                 "load", "--docs", "4194304", "--words", "1000", "--seed", "1",
             ],
-            load(4_194_304, 1_000, 1),
+            load(4_194_304, 1, 1_000, 1),
         ),
         (
             &["load", "--seed", "7", "--docs", "5", "--words=9"],
-            load(5, 9, 7),
+            load(5, 1, 9, 7),
         ),
         (
             &["load", "--docs", "5", "--seed", "18446744073709551615"],
-            load(5, 80, 18_446_744_073_709_551_615),
+            load(5, 1, 80, 18_446_744_073_709_551_615),
         ),
         (
             &["load", "--docs", "5", "--seed", "18446744073709551616"],
             usage(),
         ),
         // numbers as Rust's `from_str` takes them
-        (&["load", "--docs", "007"], load(7, 80, 0)),
-        (&["load", "--docs", "+5"], load(5, 80, 0)),
-        (&["load", "--docs=5", "--words=-0"], load(5, 0, 0)),
+        (&["load", "--docs", "007"], load(7, 1, 80, 0)),
+        (&["load", "--docs", "+5"], load(5, 1, 80, 0)),
+        (&["load", "--docs=5", "--words=-0"], load(5, 1, 0, 0)),
         (&["load", "--docs=5", "--words", "-0"], usage()),
         (&["load", "--docs=-5"], usage()),
         (&["load", "--docs", "5", "--seed=-0"], usage()),
@@ -192,8 +197,21 @@ fn words_are_read_as_their_command(rt: HostRuntime) {
         (&["load", "--doc", "5"], usage()),
         (&["load", "-d", "5"], usage()),
         (&["--docs", "5", "load"], usage()),
-        // not yet
-        (&["load", "--workers", "2", "--docs", "5"], usage()),
+        // workers
+        (
+            &["load", "--docs", "5", "--workers", "2"],
+            load(5, 2, 80, 0),
+        ),
+        (
+            &["load", "--workers=64", "--seed=7", "--words=9", "--docs=5"],
+            load(5, 64, 9, 7),
+        ),
+        (&["load", "--docs", "5", "--workers", "0"], usage()),
+        (&["load", "--docs", "5", "--workers", "65"], usage()),
+        (&["load", "--docs", "5", "--workers=-0"], usage()),
+        (&["load", "--docs", "5", "--workers"], usage()),
+        (&["load", "--workers", "2"], usage()),
+        (&["run", "--workers", "2"], usage()),
         // requests
         (&["help"], usage()),
         (&["--help"], usage()),
@@ -201,7 +219,7 @@ fn words_are_read_as_their_command(rt: HostRuntime) {
         (&["load", "--help"], usage()),
         // the end of the options
         (&["run", "--"], Ok(Command::Run)),
-        (&["load", "--docs", "5", "--"], load(5, 80, 0)),
+        (&["load", "--docs", "5", "--"], load(5, 1, 80, 0)),
         (&["run", "--", "extra"], usage()),
         (&["load", "--", "--docs", "5"], usage()),
         (&["load", "--docs", "--", "5"], usage()),

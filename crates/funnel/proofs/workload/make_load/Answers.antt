@@ -1,34 +1,99 @@
-use Rattle.std.proofs.Common.{◌≡◌, ◌≤◌, rules, refl, subst, inl}
-use Rattle.load_gen.specs.Summary.{summary_text}
-use Rattle.funnel.proofs.Alone.{have_done}
-use Rattle.funnel.proofs.Loaded.{cut_short, ends_load, have_load, put_at}
-use Rattle.funnel.specs.LoadRuns.{Tells}
+use Rattle.std.proofs.Common.{◌≡◌, length, rules, refl, subst, inl, arith, sym, ap, ◌∙◌}
+use Rattle.std.proofs.lemmas.List.FromFn.{length-map-range_with_len}
+use Rattle.std.specs.List.{All, range_with_len}
+use Rattle.std.specs.Prelude.{map}
+use Rattle.commit_desk.specs.Passes.{IsResting}
+use Rattle.funnel_server.specs.Loads.{IsCutShort, IsPut, front_at}
+use Rattle.slice_rule.specs.Seats.{new_pass_state}
+use Rattle.funnel.proofs.LoadEnds.{HasClosed, ends_load, load_fits, on_fault, on_ok, part_of_load, whole_load}
+use Rattle.funnel.proofs.LoadPasses.{AreUsedBy, every_pass, new_numbers}
+use Rattle.funnel.proofs.Passes.{number_of, others_rest}
 use Rattle.funnel.specs.Runs.{limits_by}
+use Rattle.funnel.specs.Serving.{new_passes}
 use Rattle.funnel.proofs.workload.make_load.Goals as goal
+
+pub run_load-passes-requires-clause-enough : goal.run_load-passes-requires-clause-enough
+run_load-passes-requires-clause-enough g c κs within =
+    let pool = c.in-Ok-open.engine in
+    let new : c.in-Ok-open.passes.items ≡ new_passes pool 0 pool.config.passes = search rules in
+    let config_is : pool.config ≡ c.args.config.now = search rules in
+    let fits = load_fits c.args.command c.args.config.now c.requires.fits in
+    let count = ap length new ∙ length-map-range_with_len (new_pass_state pool) 0 pool.config.passes in
+    omega (arith, fits.passes, count, ap (λ k. k.passes) config_is)
+
+pub run_load-passes-requires-clause-rest : goal.run_load-passes-requires-clause-rest
+run_load-passes-requires-clause-rest g c κs within =
+    let pool = c.in-Ok-open.engine in
+    let new : c.in-Ok-open.passes.items ≡ new_passes pool 0 pool.config.passes = search rules in
+    subst (All (IsResting pool)) (sym new) (others_rest pool 0 pool.config.passes)
+
+pub run_load-passes-requires-clause-numbers : goal.run_load-passes-requires-clause-numbers
+run_load-passes-requires-clause-numbers g c κs within =
+    let pool = c.in-Ok-open.engine in
+    let new : c.in-Ok-open.passes.items ≡ new_passes pool 0 pool.config.passes = search rules in
+    ap (map number_of) new ∙ new_numbers pool 0 pool.config.passes
+    ∙ ap (range_with_len 0) (sym (ap length new ∙ length-map-range_with_len (new_pass_state pool) 0 pool.config.passes))
+
+pub close-closed-requires-clause-every : goal.close-closed-requires-clause-every
+close-closed-requires-clause-every g c =
+    let pool = c.in-Ok-open.engine in
+    let new : c.in-Ok-open.passes.items ≡ new_passes pool 0 pool.config.passes = search rules in
+    let counted : pool.limits.passes ≡ pool.config.passes = search rules in
+    every_pass pool c.args.command.workers c.in-Ok-open.passes.items c.run_load-passes.result.0.items
+    (record { counted = counted; new = new; numbers = c.run_load-passes.ensures.numbers; others = c.run_load-passes.ensures.others })
 
 pub returns-in-Ok-results-clause-ends : goal.returns-in-Ok-results-clause-ends
 returns-in-Ok-results-clause-ends g c =
     let pool = c.in-Ok-open.engine in
+    let workers = c.args.command.workers in
+    let before = c.in-Ok-open.passes.items in
+    let after = c.run_load-passes.result.0.items in
+    let new : c.in-Ok-open.passes.items ≡ new_passes pool 0 pool.config.passes = search rules in
+    let counted : pool.limits.passes ≡ pool.config.passes = search rules in
     let limits_are : pool.limits ≡ limits_by c.args.config.now = search rules in
     let config_is : pool.config ≡ c.args.config.now = search rules in
-    let some : 1 ≤ pool.limits.passes = search rules in
-    let loaded = have_done pool c.args.config.now c.put-results.result.1.items _ c.close-closed.result limits_are config_is some
-    c.put-results.ensures.put c.close-closed.ensures.legal c.close-closed.ensures.sound c.close-closed.ensures.passes in
-    let history = c.close-closed.result.history in
-    let results = c.in-Ok-results.results in
-    let put = put_at (λ v. v.items) c.put-results.result.0 results pool.limits (limits_by c.args.config.now) history c.in-Ok.load (search rules) limits_are loaded.0 in
-    let handed : c.deref.result.now ≡ results.items = search rules in
-    ends_load c.args.config.now c.args.command (g.K.Sink.outgoing c.args.output.now) (g.K.Sink.outgoing c.tell.new.output) c.tell.result c.close-closed.result results.items
-    (have_load c.args.config.now c.args.command c.close-closed.result c.in-Ok.load results.items c.requires.docs c.requires.fits c.in-Ok.ensures loaded.1 put)
-    (subst (λ rs. Tells (summary_text c.args.command.docs rs) (g.K.Sink.outgoing c.args.output.now) (g.K.Sink.outgoing c.tell.new.output) c.tell.result) handed c.tell.ensures.told)
+    let used : AreUsedBy pool c.args.command.workers c.in-Ok-open.passes.items c.run_load-passes.result.0.items =
+    record { counted = counted; new = new; numbers = c.run_load-passes.ensures.numbers; others = c.run_load-passes.ensures.others } in
+    let ended : HasClosed pool c.args.config.now c.args.command c.in-Ok-open.passes.items c.run_load-passes.result.0.items c.close-closed.result = record {
+      limits = limits_are;
+      config_is = config_is;
+      some = c.requires.workers;
+      few = c.requires.docs;
+      fits = c.requires.fits;
+      used = used;
+      legal = c.close-closed.ensures.legal;
+      sound = c.close-closed.ensures.sound;
+      ends = c.close-closed.ensures.passes;
+    } in
+    let put = on_ok (λ results. IsPut pool.limits c.in-Ok.load workers (front_at before) (front_at after) results)
+    (λ _. IsCutShort pool.limits c.in-Ok.load workers (front_at before) (front_at after)) c.run_load-passes.result.1 c.in-Ok-results.results c.in-Ok-results.is
+    c.run_load-passes.ensures.put in
+    ends_load c.args.config.now c.args.command (g.K.Sink.outgoing c.args.output.now) (g.K.Sink.outgoing c.tell.new.output) c.tell.result c.close-closed.result c.in-Ok-results.results
+    (whole_load pool c.args.config.now c.args.command before after c.close-closed.result ended c.in-Ok.load c.in-Ok-results.results c.in-Ok.ensures put) c.tell.ensures.told
 
 pub returns-clause-ends : goal.returns-clause-ends
 returns-clause-ends g c =
     let pool = c.in-Ok-open.engine in
+    let workers = c.args.command.workers in
+    let before = c.in-Ok-open.passes.items in
+    let after = c.run_load-passes.result.0.items in
+    let new : c.in-Ok-open.passes.items ≡ new_passes pool 0 pool.config.passes = search rules in
+    let counted : pool.limits.passes ≡ pool.config.passes = search rules in
     let limits_are : pool.limits ≡ limits_by c.args.config.now = search rules in
     let config_is : pool.config ≡ c.args.config.now = search rules in
-    let some : 1 ≤ pool.limits.passes = search rules in
-    let loaded = have_done pool c.args.config.now c.put-results.result.1.items _ c.close-closed.result limits_are config_is some
-    c.put-results.ensures.put c.close-closed.ensures.legal c.close-closed.ensures.sound c.close-closed.ensures.passes in
-    let cut = cut_short (λ v. v.items) c.put-results.result.0 c.args.config.now c.args.command c.close-closed.result pool.limits c.in-Ok.load c.in-Err.field-0 c.in-Err.is limits_are c.in-Ok.ensures loaded.1 loaded.0 in
-    (refl, inl cut)
+    let used : AreUsedBy pool c.args.command.workers c.in-Ok-open.passes.items c.run_load-passes.result.0.items =
+    record { counted = counted; new = new; numbers = c.run_load-passes.ensures.numbers; others = c.run_load-passes.ensures.others } in
+    let ended : HasClosed pool c.args.config.now c.args.command c.in-Ok-open.passes.items c.run_load-passes.result.0.items c.close-closed.result = record {
+      limits = limits_are;
+      config_is = config_is;
+      some = c.requires.workers;
+      few = c.requires.docs;
+      fits = c.requires.fits;
+      used = used;
+      legal = c.close-closed.ensures.legal;
+      sound = c.close-closed.ensures.sound;
+      ends = c.close-closed.ensures.passes;
+    } in
+    let cut = on_fault (λ results. IsPut pool.limits c.in-Ok.load workers (front_at before) (front_at after) results)
+    (λ _. IsCutShort pool.limits c.in-Ok.load workers (front_at before) (front_at after)) c.run_load-passes.result.1 c.in-Err.field-0 c.in-Err.is c.run_load-passes.ensures.put in
+    (refl, inl (part_of_load pool c.args.config.now c.args.command before after c.close-closed.result ended c.in-Ok.load c.in-Ok.ensures cut))

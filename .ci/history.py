@@ -1,0 +1,112 @@
+"""A plain model of the line protocol: what a line may be answered after so many commits of one history.
+
+Its words are those of ASCII letters alone, its journal is never full, and memory is never wanting."""
+
+import re
+
+LONGEST_LINE = 65_536
+FORMS = [
+    re.compile(form, re.DOTALL)
+    for form in (
+        "(add) ([0-9]{1,20})(?: (.*))?",
+        "(del) ([0-9]{1,20})",
+        "(find)(?: (.*))?",
+        "(place)",
+        "(journal) ([0-9]{1,20})",
+        "(recycle)",
+    )
+]
+# The word of the reply to a request that is made, and the sign of its commit.
+COMMITS = {"add": ("added", "+"), "del": ("deleted", "-")}
+
+
+def request_of(line):
+    """Takes a line apart: its command and what stands after it. For a line that is no request it is the refusal alone."""
+    if len(line) > LONGEST_LINE:
+        return ("refused long",)
+    try:
+        text = line.removesuffix(b"\r").decode()
+    except UnicodeDecodeError:
+        return ("refused line",)
+    match = next(filter(None, (form.fullmatch(text) for form in FORMS)), None)
+    if match is None:
+        return ("refused line",)
+    command, *rest = (part or "" for part in match.groups())
+    if command in ("add", "del", "journal"):
+        rest[0] = int(rest[0])
+        if rest[0] >= 2**64:
+            return ("refused line",)
+    return (command, *rest)
+
+
+def commit_told(request, reply):
+    """The place and the commit that this reply to the request tells, or none."""
+    word, sign = COMMITS.get(request[0], ("", ""))
+    match = word and re.fullmatch(f"{word} ([0-9]+)", reply)
+    return (int(match[1]), f"{sign}{request[1]}") if match else None
+
+
+def words_of(text):
+    return frozenset(re.findall("[a-z]+", text.lower()))
+
+
+class History:
+    """The commits, each a sign with a number, and what is live after each count of them."""
+
+    def __init__(self, commits, texts):
+        """Takes the text of each add too, by its place."""
+        self.commits = commits
+        # After 0, 1, 2, ... commits: the live numbers in the order of their adds, each with its place and its words.
+        self.live = [{}]
+        for place, commit in enumerate(commits, 1):
+            adds, number = commit[0] == "+", int(commit[1:])
+            live = dict(self.live[-1])
+            if adds == (number in live):
+                raise ValueError(f"commit {place} is {commit}, which the commits before it don't allow")
+            if adds:
+                live[number] = (place, words_of(texts[place]))
+            else:
+                del live[number]
+            self.live.append(live)
+
+    def reply(self, request, count):
+        """The reply to the request after so many commits, or none where it would be a commit itself."""
+        live = self.live[count]
+        match request:
+            case ("add", number, _):
+                return f"refused present {live[number][0]}" if number in live else None
+            case ("del", number):
+                return None if number in live else "refused absent"
+            case ("find", query):
+                words = words_of(query)
+                found = [number for number, (_, has) in live.items() if words <= has]
+                return " ".join(map(str, ["found", len(found), *found]))
+            case ("place",):
+                return f"place {count}"
+            case ("journal", first):
+                told = self.commits[first:count]
+                return " ".join(["commits", str(len(told)), *told])
+            case (refusal,):
+                return refusal
+
+    def fits(self, request, reply, count):
+        """Whether a request that is no commit may have this reply after so many commits. Where none is known, any will do.
+
+        Of slices the model knows nothing: a recycle may be answered by each of its replies, and any add may find them full."""
+        if request == ("recycle",):
+            return reply is None or re.fullmatch("nothing retired|recycled [0-9]+|guarded [0-9]+ [0-9]+", reply)
+        wanted = self.reply(request, count)
+        if wanted is None:
+            return request[0] == "add" and reply in (None, "refused full")
+        return reply in (None, wanted)
+
+    def count_after(self, request, reply, least):
+        """The least count of commits, from `least` on, with which the request had this reply and is counted itself, or none.
+
+        To take the least is enough, since all that a later line asks of it is that the count doesn't fall."""
+        told = commit_told(request, reply) if reply else None
+        if told:
+            place, commit = told
+            return place if self.commits[place - 1 : place] == [commit] and least < place else None
+        counts = range(least, len(self.live))
+        return next((count for count in counts if self.fits(request, reply, count)), None)

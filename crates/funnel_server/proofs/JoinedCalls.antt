@@ -1,0 +1,81 @@
+-- How calls join that a pass makes one after another, where it sees events of other passes in between.
+use Rattle.std.proofs.Common.{◌≡◌, ◌⊎◌, ℕ, false, cond, List, [], ◌∷◌, ◌++◌, None, refl, sym, ap, ◌∙◌, subst, inl, inr, append_assoc, append-nil}
+use Rattle.std.proofs.lemmas.Bool.{or_from, or_parts}
+use Rattle.std.proofs.lemmas.List.Folds.{list_any-append}
+use Rattle.std.specs.List.{cons_option, list_any}
+use Rattle.std.specs.Prelude.{◌==◌, IfSome}
+use Rattle.funnel_model.proofs.Clears.{last_by-front}
+use Rattle.funnel_model.proofs.StepLemmas.{own-append, prefix_trans}
+use Rattle.funnel_model.specs.declared.call.Call.{Call}
+use Rattle.funnel_model.specs.declared.call.Call.TheVariants as call
+use Rattle.funnel_model.specs.declared.event.Event.{Event}
+use Rattle.funnel_model.specs.declared.reply.Reply.{Reply}
+use Rattle.funnel_model.specs.Events.{call_of, leaves_open, pass_of}
+use Rattle.funnel_model.specs.History.{IsFrontOf, own}
+use Rattle.funnel_model.specs.Legal.{Limits}
+use Rattle.funnel_model.specs.Steps.{FindsNoMemory, IsMade, IsSpent, LacksMemory, Linear, Step}
+
+-- events of other passes make no call of this one
+no_call : (pass : ℕ) (later : List Event) → list_any (λ e. pass_of e == pass) later ≡ false → own pass later ≡ []
+no_call pass [] silent = refl
+no_call pass (e ∷ later) silent =
+    let parts = or_parts (pass_of e == pass) (list_any (λ x. pass_of x == pass) later) silent in
+    ap (λ b. cons_option (cond b (call_of e) None) (own pass later)) parts.0 ∙ no_call pass later parts.1
+
+-- so the calls of a pass are those in a front of it
+pub calls_in_front : (pass : ℕ) (front history : List Event) → IsFrontOf pass front history → own pass history ≡ own pass front
+calls_in_front pass front history seen =
+    ap (own pass) seen.whole ∙ own-append pass front seen.later
+    ∙ ap (λ cs. own pass front ++ cs) (no_call pass seen.later seen.silent) ∙ append-nil (own pass front)
+
+-- a front of a front is one
+pub front_trans : (pass : ℕ) (front middle history : List Event) → IsFrontOf pass front middle → IsFrontOf pass middle history →
+    IsFrontOf pass front history
+front_trans pass front middle history first second = record {
+  later = first.later ++ second.later;
+  whole = second.whole ∙ ap (λ (h : List Event). h ++ second.later) first.whole ∙ append_assoc front first.later second.later;
+  silent =
+      list_any-append (λ e. pass_of e == pass) first.later second.later
+      ∙ or_from (list_any (λ e. pass_of e == pass) first.later) (list_any (λ e. pass_of e == pass) second.later) first.silent second.silent;
+}
+
+-- a want of memory after a history is one after each with the same calls
+memory_from : (pass : ℕ) (front before after : List Event) (asked : Call) → own pass before ≡ own pass front →
+    FindsNoMemory pass before after asked → FindsNoMemory pass front after asked
+memory_from pass front before after (call.Add id text) same none = none ∙ same
+memory_from pass front before after (call.Find query) same (inl none) = inl (none ∙ same)
+memory_from pass front before after (call.Find query) same (inr made) = inr (made ∙ ap (λ cs. cs ++ call.Find query ∷ []) same)
+memory_from pass front before after (call.Journal from) same (inl none) = inl (none ∙ same)
+memory_from pass front before after (call.Journal from) same (inr made) = inr (made ∙ ap (λ cs. cs ++ call.Journal from ∷ []) same)
+memory_from pass front before after _ same none = absurd none
+
+-- a step from a history is one from each front of it
+pub step_from_front : (limits : Limits) (pass : ℕ) (front before after : List Event) (asked : Call) (given : Reply) → IsFrontOf pass front before →
+    Step limits pass before after asked given → Step limits pass front after asked given
+step_from_front limits pass front before after asked given seen step = record {
+  grows = prefix_trans front before after (seen.later, sym seen.whole) step.grows;
+  legal = step.legal;
+  idle_before = subst (λ o. IfSome o (λ e. leaves_open e ≡ false)) (last_by-front pass front before seen) step.idle_before;
+  idle_after = step.idle_after;
+  outcome = outcome step.outcome;
+}
+  where
+    same : own pass before ≡ own pass front
+    same = calls_in_front pass front before seen
+
+    outcome : IsMade limits pass before after asked given ⊎ LacksMemory pass before after asked given ⊎ IsSpent limits pass before after given →
+        IsMade limits pass front after asked given ⊎ LacksMemory pass front after asked given ⊎ IsSpent limits pass front after given
+    outcome (inl made) = inl (record { call = made.call ∙ ap (λ cs. cs ++ asked ∷ []) same; answered = made.answered })
+    outcome (inr (inl lacks)) = inr (inl (record { reply = lacks.reply; call = memory_from pass front before after asked same lacks.call }))
+    outcome (inr (inr spent)) = inr (inr (record { reply = spent.reply; call = spent.call ∙ same; many = spent.many }))
+
+-- calls that lead on from where others ended
+pub linear-append : (limits : Limits) (pass : ℕ) (before middle after : List Event) (calls more : List Call) (replies given : List Reply) →
+    Linear limits pass before middle calls replies → Linear limits pass middle after more given →
+    Linear limits pass before after (calls ++ more) (replies ++ given)
+linear-append limits pass before middle after [] more [] given run next =
+    subst (λ (h : List Event). Linear limits pass h after more given) (sym run) next
+linear-append limits pass before middle after (c ∷ cs) more (r ∷ rs) given run next =
+    (run.0, run.1, linear-append limits pass run.0 middle after cs more rs given run.2 next)
+linear-append limits pass before middle after [] more (r ∷ rs) given run next = absurd run
+linear-append limits pass before middle after (c ∷ cs) more [] given run next = absurd run

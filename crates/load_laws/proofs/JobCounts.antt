@@ -1,0 +1,138 @@
+-- What the calls of all workers weigh together.
+use Rattle.std.proofs.Common.{◌≡◌, ℕ, zero, suc, ◌+◌, ◌/◌, ◌%◌, ◌<◌, ◌==◌, Bool, true, false, cond, List, [], ◌∷◌, length, map, filter, flat_map, refl, sym, ap, ap₂, ◌∙◌, arith}
+use Rattle.std.proofs.lemmas.List.Sums.{sum_by-append, sum_by-cons}
+use Rattle.std.specs.List.{enumerate_from, range_with_len, sum_by}
+use Rattle.funnel_model.specs.declared.call.Call.{Call}
+use Rattle.funnel_model.specs.declared.call.Call.TheVariants as call
+use Rattle.load_gen.specs.declared.limits.TheConstants.{CHECKED_ONE_IN}
+use Rattle.load_gen.specs.Documents.{documents, name_of}
+use Rattle.load_gen.specs.Jobs.{add_and_check, adds_of, deletes_of, is_deleted, nth_add, queries_of, share}
+use Rattle.load_gen.specs.Queries.{queries}
+use Rattle.load_gen.proofs.Deletes.{each_tenth, length-cond}
+use Rattle.load_gen.proofs.Shares.{weigh, weigh-shares}
+use Rattle.load_gen.proofs.Totals.{total, total-none, total-same}
+use Rattle.load_laws.proofs.OneWorker.{length-documents}
+
+-- an add weighs what its number does, and so does a delete
+abbrev pub add_weight : (ℕ → ℕ) → Call → ℕ
+add_weight g (call.Add id text) = g id
+add_weight g _ = 0
+
+abbrev pub delete_weight : (ℕ → ℕ) → Call → ℕ
+delete_weight g (call.Delete id) = g id
+delete_weight g _ = 0
+
+-- where checks weigh nothing a worker's first part weighs what its adds do
+adds_weigh : (w : Call → ℕ) → ((query : List ℕ) → w (call.Find query) ≡ 0) → (n : ℕ) (items : List (ℕ × List ℕ)) →
+    sum_by w (flat_map nth_add (enumerate_from n items)) ≡ weigh (λ item. w (call.Add (item.0 + 1) item.1)) items
+adds_weigh w none n [] = refl
+adds_weigh w none n ((i, text) ∷ items) =
+    sum_by-append w (add_and_check n (i + 1, text)) (flat_map nth_add (enumerate_from (n + 1) items))
+    ∙ ap₂ (λ a b. a + b) (one (n % CHECKED_ONE_IN == 0)) (adds_weigh w none (n + 1) items)
+  where
+    one : (b : Bool) → sum_by w (call.Add (i + 1) text ∷ cond b (call.Find (name_of (i + 1)) ∷ []) []) ≡ w (call.Add (i + 1) text)
+    one true = let nothing = none (name_of (i + 1)) in omega arith
+    one false = omega arith
+
+-- and its second part what its deletes do
+deletes_weigh : (w : Call → ℕ) (items : List (ℕ × List ℕ)) →
+    sum_by w (map call.Delete (filter is_deleted (map (λ item. item.0 + 1) items)))
+    ≡ weigh (λ item. cond (is_deleted (item.0 + 1)) (w (call.Delete (item.0 + 1))) 0) items
+deletes_weigh w [] = refl
+deletes_weigh w (item ∷ items) = by_test (is_deleted (item.0 + 1)) (deletes_weigh w items) where
+  rest : List ℕ
+  rest = filter is_deleted (map (λ x. x.0 + 1) items)
+
+  by_test : (b : Bool) → sum_by w (map call.Delete rest) ≡ weigh (λ x. cond (is_deleted (x.0 + 1)) (w (call.Delete (x.0 + 1))) 0) items →
+      sum_by w (map call.Delete (cond b ((item.0 + 1) ∷ rest) rest))
+      ≡ cond b (w (call.Delete (item.0 + 1))) 0 + weigh (λ x. cond (is_deleted (x.0 + 1)) (w (call.Delete (x.0 + 1))) 0) items
+  by_test true later = sum_by-cons w (call.Delete (item.0 + 1)) (map call.Delete rest) ∙ ap (λ n. w (call.Delete (item.0 + 1)) + n) later
+  by_test false later = omega (arith, later)
+
+-- queries weigh nothing where finds do
+queries_weigh : (w : Call → ℕ) → ((query : List ℕ) → w (call.Find query) ≡ 0) → (items : List (ℕ × List ℕ)) → sum_by w (map (λ item. call.Find item.1) items) ≡ 0
+queries_weigh w none [] = refl
+queries_weigh w none (item ∷ items) =
+    let first = none item.1 in
+    let later = queries_weigh w none items in
+    sum_by-cons w (call.Find item.1) (map (λ x. call.Find x.1) items) ∙ omega arith
+
+-- the documents weigh what their numbers do
+weigh-numbers : (g : ℕ → ℕ) (n : ℕ) (texts : List (List ℕ)) → weigh (λ item. g (item.0 + 1)) (enumerate_from n texts) ≡ sum_by g (range_with_len (n + 1) (length texts))
+weigh-numbers g n [] = refl
+weigh-numbers g n (text ∷ texts) =
+    ap (λ m. g (n + 1) + m) (weigh-numbers g (n + 1) texts) ∙ sym (sum_by-cons g (n + 1) (range_with_len (n + 1 + 1) (length texts)))
+
+-- what a number weighs, where it is deleted
+abbrev pub where_deleted : (ℕ → ℕ) → ℕ → ℕ
+where_deleted g id = cond (is_deleted id) (g id) 0
+
+-- what the numbers of all documents weigh
+abbrev pub over : ℕ → (ℕ → ℕ) → ℕ
+over docs g = sum_by g (range_with_len 1 docs)
+
+nothing_weighs : (items : List (ℕ × List ℕ)) → weigh (λ item. 0) items ≡ 0
+nothing_weighs [] = refl
+nothing_weighs (item ∷ items) = let later = nothing_weighs items in omega arith
+
+nothing_weighs_deleted : (items : List (ℕ × List ℕ)) → weigh (λ item. cond (is_deleted (item.0 + 1)) 0 0) items ≡ 0
+nothing_weighs_deleted [] = refl
+nothing_weighs_deleted (item ∷ items) = by_test (is_deleted (item.0 + 1)) (nothing_weighs_deleted items) where
+  by_test : (b : Bool) → weigh (λ x. cond (is_deleted (x.0 + 1)) 0 0) items ≡ 0 → cond b 0 0 + weigh (λ x. cond (is_deleted (x.0 + 1)) 0 0) items ≡ 0
+  by_test true later = omega (arith, later)
+  by_test false later = omega (arith, later)
+
+-- the adds and the deletes of all workers, in each part
+pub adds_in_adds : (g : ℕ → ℕ) (docs words seed workers : ℕ) → 0 < workers →
+    total (λ worker. sum_by (add_weight g) (adds_of (documents docs words seed) workers worker)) workers ≡ over docs g
+adds_in_adds g docs words seed workers some =
+    let texts = documents docs words seed in
+    total-same (λ worker. sum_by (add_weight g) (adds_of texts workers worker)) (λ worker. weigh (λ item. g (item.0 + 1)) (share texts workers worker)) workers
+    (λ worker. adds_weigh (add_weight g) (λ query. refl) 1 (share texts workers worker))
+    ∙ weigh-shares (λ item. g (item.0 + 1)) (enumerate_from 0 texts) workers some
+    ∙ weigh-numbers g 0 texts ∙ ap (λ n. over n g) (length-documents docs words seed)
+
+pub deletes_in_adds : (g : ℕ → ℕ) (texts : List (List ℕ)) (workers : ℕ) →
+    total (λ worker. sum_by (delete_weight g) (adds_of texts workers worker)) workers ≡ 0
+deletes_in_adds g texts workers =
+    total-same (λ worker. sum_by (delete_weight g) (adds_of texts workers worker)) (λ worker. 0) workers
+    (λ worker. adds_weigh (delete_weight g) (λ query. refl) 1 (share texts workers worker) ∙ nothing_weighs (share texts workers worker))
+    ∙ total-none workers
+
+pub adds_in_deletes : (g : ℕ → ℕ) (texts : List (List ℕ)) (workers : ℕ) →
+    total (λ worker. sum_by (add_weight g) (deletes_of texts workers worker)) workers ≡ 0
+adds_in_deletes g texts workers =
+    total-same (λ worker. sum_by (add_weight g) (deletes_of texts workers worker)) (λ worker. 0) workers
+    (λ worker. deletes_weigh (add_weight g) (share texts workers worker) ∙ nothing_weighs_deleted (share texts workers worker))
+    ∙ total-none workers
+
+pub deletes_in_deletes : (g : ℕ → ℕ) (docs words seed workers : ℕ) → 0 < workers →
+    total (λ worker. sum_by (delete_weight g) (deletes_of (documents docs words seed) workers worker)) workers ≡ over docs (where_deleted g)
+deletes_in_deletes g docs words seed workers some =
+    let texts = documents docs words seed in
+    total-same (λ worker. sum_by (delete_weight g) (deletes_of texts workers worker)) (λ worker. weigh (λ item. where_deleted g (item.0 + 1)) (share texts workers worker)) workers
+    (λ worker. deletes_weigh (delete_weight g) (share texts workers worker))
+    ∙ weigh-shares (λ item. where_deleted g (item.0 + 1)) (enumerate_from 0 texts) workers some
+    ∙ weigh-numbers (where_deleted g) 0 texts ∙ ap (λ n. over n (where_deleted g)) (length-documents docs words seed)
+
+pub none_in_queries : (w : Call → ℕ) → ((query : List ℕ) → w (call.Find query) ≡ 0) → (workers : ℕ) →
+    total (λ worker. sum_by w (queries_of workers worker)) workers ≡ 0
+none_in_queries w none workers =
+    total-same (λ worker. sum_by w (queries_of workers worker)) (λ worker. 0) workers (λ worker. queries_weigh w none (share queries workers worker))
+    ∙ total-none workers
+
+-- how many numbers there are, and how many are deleted
+pub over-one : (docs : ℕ) → over docs (λ id. 1) ≡ docs
+over-one docs = from 1 docs where
+  from : (n m : ℕ) → sum_by (λ id. 1) (range_with_len n m) ≡ m
+  from n zero = refl
+  from n (suc m) = let later = from (n + 1) m in sum_by-cons (λ (id : ℕ). 1) n (range_with_len (n + 1) m) ∙ omega arith
+
+pub over-deleted : (docs : ℕ) → over docs (where_deleted (λ id. 1)) ≡ docs / 10
+over-deleted docs = counted (range_with_len 1 docs) ∙ each_tenth docs where
+  counted : (ids : List ℕ) → sum_by (where_deleted (λ id. 1)) ids ≡ length (filter is_deleted ids)
+  counted [] = refl
+  counted (id ∷ ids) =
+      let later = counted ids in
+      let here = length-cond (is_deleted id) id (filter is_deleted ids) in
+      sum_by-cons (where_deleted (λ x. 1)) id ids ∙ omega arith

@@ -1,0 +1,57 @@
+//! Laws of a load that several workers make, each by a pass of its own: the history has the events of all of them, in any order
+//! within each part of the load.
+ghost use Rattle.std.specs.Prelude.{◌≡◌, ◌+◌, ◌*◌, ◌/◌, ◌^◌, ◌<◌, ◌≤◌, ℕ, List, ◌++◌, length, map};
+ghost use Rattle.funnel_model.specs.declared.event.Event.{Event};
+ghost use Rattle.funnel_model.specs.declared.reply.Reply.{Reply};
+ghost use Rattle.funnel_model.specs.Legal.{Limits};
+ghost use Rattle.load_gen.specs.declared.limits.TheConstants.{DELETED_ONE_IN, MOST_DOCS};
+ghost use Rattle.load_gen.specs.Documents.{documents};
+ghost use Rattle.load_gen.specs.Jobs.{share};
+ghost use Rattle.load_gen.specs.Summary.{results_of};
+ghost use Rattle.load_laws.specs.Workers.{AreLeft, HasParts, HasRoomFor, HaveMet, IsAnsweredAsTold, IsLoaded, calls_of_load};
+ghost use Rattle.load_laws.specs.WorkersExample.{both_added, both_queried, replies_to, two_passes};
+
+/// A load comes in parts where each worker, after each part, meets what every other had seen at that part's end.
+pub fn workers_that_meet_keep_to_the_parts()
+    ensures { (texts : List (List ℕ)) (workers : ℕ) (history : List Event) (added met_added deleted met_deleted : ℕ → List Event) → 0 < workers →
+        HaveMet texts workers history added met_added deleted met_deleted → HasParts texts workers history }
+{}
+
+/// All workers together make at most two calls a document, one for each that is deleted and one for each of the eight queries,
+/// and at most four events a call: far too few to spend the history.
+pub fn loads_of_workers_are_short()
+    ensures calls { (docs words seed workers : ℕ) → 0 < workers → calls_of_load docs words seed workers ≤ 2 * docs + docs / DELETED_ONE_IN + 8 }
+    ensures events { (limits : Limits) (docs words seed workers : ℕ) (history : List Event) (replies : ℕ → List Reply) →
+        IsLoaded limits docs words seed workers history replies → length history ≤ 4 * calls_of_load docs words seed workers }
+    ensures unspent { (limits : Limits) (docs words seed workers : ℕ) (history : List Event) (replies : ℕ → List Reply) → docs ≤ MOST_DOCS →
+        IsLoaded limits docs words seed workers history replies → length history < 2 ^ 62 }
+{}
+
+/// Once every worker has deleted, the live documents are those that are not to be deleted, whatever the order in which they came.
+pub fn workers_leave_what_is_not_deleted()
+    ensures { (limits : Limits) (docs words seed workers : ℕ) (history : List Event) (replies : ℕ → List Reply) →
+        (loaded : IsLoaded limits docs words seed workers history replies) → HasRoomFor limits docs →
+        AreLeft docs words seed (loaded.parts.adding ++ loaded.parts.deleting) }
+{}
+
+/// Whatever the order in which the workers' calls came within each part, each worker is answered as the summary tells: no add
+/// and no delete is refused, no find of a name misses, and its queries have their results.
+pub fn workers_are_answered_as_told()
+    ensures { (limits : Limits) (docs words seed workers : ℕ) (history : List Event) (replies : ℕ → List Reply) →
+        IsLoaded limits docs words seed workers history replies → HasRoomFor limits docs → (worker : ℕ) → worker < workers →
+        IsAnsweredAsTold (documents docs words seed) workers worker (replies worker) }
+{}
+
+/// Eight results are those of the summary where each worker's share of them is its share of the summary's.
+pub fn shares_tell_the_results()
+    ensures { (docs words seed workers : ℕ) (results : List (ℕ × ℕ)) → 0 < workers → length results ≡ 8 →
+        ((worker : ℕ) → worker < workers → map (λ item. item.1) (share results workers worker)
+        ≡ map (λ item. item.1) (share (results_of (documents docs words seed)) workers worker)) → results ≡ results_of (documents docs words seed) }
+{}
+
+/// There are loads of several workers in an engine with room for them. Two workers share two documents here; the second
+/// document is the first to be committed, and two finds run at the same time.
+pub fn a_load_of_two_workers_is_made()
+    ensures loaded { IsLoaded two_passes 2 1 0 2 (both_added ++ both_queried) replies_to }
+    ensures room { HasRoomFor two_passes 2 }
+{}
