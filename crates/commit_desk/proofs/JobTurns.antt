@@ -17,7 +17,7 @@ use Rattle.slice_rule.specs.Seats.{HasMade, HasNoneOutstanding, HoldsJob, HomeSt
 use Rattle.slice_stages.specs.Stages.{StageTable, empty_stage, stage_of, with_stage}
 use Rattle.slice_stages.specs.declared.stage.Stage.TheVariants as stage
 use Rattle.commit_desk.specs.Desks.{DeskState, IsCaughtUp, IsSeatOf, Makes}
-use Rattle.commit_desk.specs.Kept.{Books, IsDesk, IsKept, events_left}
+use Rattle.commit_desk.specs.Kept.{Books, IsDesk, AreBooksOf, events_left}
 use Rattle.commit_desk.proofs.Few.{few-next}
 use Rattle.commit_desk.proofs.FindTurns.{desk_is}
 use Rattle.commit_desk.proofs.MadeEvents.{desk_at, made_one}
@@ -87,7 +87,7 @@ module _ (before : DeskState) (most most_commits : ℕ) (caught : HomeState) (bo
     -- what is kept then
     pub opened_kept : (home : HomeState) (events : ℕ) (table : Table) (stages : StageTable) → IsSameHome (after_append caught (event.Opened pass slice alone)) home → events ≡ length caught.history + 1 →
         table ≡ with_free_slice books.table slice → stages ≡ with_stage books.stages slice empty_stage →
-        IsKept caught.pool.config caught.pool.limits most home.history (books_after books events table stages)
+        AreBooksOf caught.pool.config caught.pool.limits most home.history (books_after books events table stages)
     opened_kept home events table stages same events_are table_is stages_are =
         let e = event.Opened pass slice alone in
         let few = few-next most caught.pool.limits.passes caught.history e (event.Clear pass slice) turn.desk.kept.few opened_allowed.pass turn.last (few_left alone) in

@@ -20,7 +20,7 @@ use Rattle.slice_rule.specs.Pools.{PoolId}
 use Rattle.slice_stages.specs.Stages.{StageTable, empty_stage, stage_of, with_stage}
 use Rattle.slice_stages.specs.declared.stage.Stage.{Stage}
 use Rattle.slice_stages.specs.declared.stage.Stage.TheVariants as stage
-use Rattle.commit_desk.specs.Kept.{Books, HasFew, IsDesk, IsKept}
+use Rattle.commit_desk.specs.Kept.{Books, HasFew, IsDesk, AreBooksOf}
 use Rattle.commit_desk.specs.Records.{AreListed, AreRecorded}
 use Rattle.commit_desk.proofs.ListedKept.{listed-one, listed-opened}
 use Rattle.commit_desk.proofs.Marks.{mark-same}
@@ -37,11 +37,11 @@ pending_not_live pass added is = cc
 abbrev pub books_after : Books → ℕ → Table → StageTable → Books
 books_after books events table stages = record books { events = events; table = table; stages = stages }
 
-module _ (config : Config) (limits : Limits) (most : ℕ) (history : List Event) (books : Books) (is : IsKept config limits most history books) where
+module _ (config : Config) (limits : Limits) (most : ℕ) (history : List Event) (books : Books) (is : AreBooksOf config limits most history books) where
   -- an event that is no commit, and neither begins nor ends a find
   kept-event : (e : Event) → IsAllowed limits history e → commit_of e ≡ None → ((pass : ℕ) → finds_or_ends pass e ≡ false) → HasItsBits config e → HasFew most limits.passes (history ++ e ∷ []) →
       (table : Table) (stages : StageTable) → AreRecorded limits (history ++ e ∷ []) table → AreListed table books.live → length stages.stages ≡ limits.slices → stages.columns ≡ limits.columns →
-      stages.mark ≡ books.stages.mark → AreAtStages limits (history ++ e ∷ []) table stages → IsKept config limits most (history ++ e ∷ []) (books_after books (length history + 1) table stages)
+      stages.mark ≡ books.stages.mark → AreAtStages limits (history ++ e ∷ []) table stages → AreBooksOf config limits most (history ++ e ∷ []) (books_after books (length history + 1) table stages)
   kept-event e allowed no_commit no_find bits few table stages recorded listed size columns mark each = record {
     few = few;
     legal = legal-push limits history e is.legal allowed;
@@ -70,7 +70,7 @@ module _ (config : Config) (limits : Limits) (most : ℕ) (history : List Event)
   -- a pass takes the next column of a slice
   pub kept-take : (pass s first over : ℕ) → IsAllowed limits history (event.Take pass s first) → HasFew most limits.passes (history ++ event.Take pass s first ∷ []) →
       stage_of books.stages s ≡ stage.InUse first over →
-      IsKept config limits most (history ++ event.Take pass s first ∷ [])
+      AreBooksOf config limits most (history ++ event.Take pass s first ∷ [])
       (books_after books (length history + 1) (with_slot books.table s first (record { column = became.Pending pass; doc = None })) (with_stage books.stages s (stage.InUse (first + 1) over)))
   kept-take pass s first over allowed few at_stage =
       let e = event.Take pass s first in
@@ -87,7 +87,7 @@ module _ (config : Config) (limits : Limits) (most : ℕ) (history : List Event)
 
   -- a pass begins to clear a slice
   pub kept-clear : (pass s : ℕ) → IsAllowed limits history (event.Clear pass s) → HasFew most limits.passes (history ++ event.Clear pass s ∷ []) →
-      IsKept config limits most (history ++ event.Clear pass s ∷ []) (books_after books (length history + 1) books.table (with_stage books.stages s (stage.Clearing pass)))
+      AreBooksOf config limits most (history ++ event.Clear pass s ∷ []) (books_after books (length history + 1) books.table (with_stage books.stages s (stage.Clearing pass)))
   kept-clear pass s allowed few =
       let e = event.Clear pass s in
       kept-event e allowed refl (λ p. refl) tt few books.table (with_stage books.stages s (stage.Clearing pass))
@@ -97,7 +97,7 @@ module _ (config : Config) (limits : Limits) (most : ℕ) (history : List Event)
 
   -- a pass opens the slice that it cleared
   pub kept-opened : (pass s : ℕ) (alone : Bool) → 0 < limits.columns → IsAllowed limits history (event.Opened pass s alone) → HasFew most limits.passes (history ++ event.Opened pass s alone ∷ []) →
-      IsKept config limits most (history ++ event.Opened pass s alone ∷ []) (books_after books (length history + 1) (with_free_slice books.table s) (with_stage books.stages s empty_stage))
+      AreBooksOf config limits most (history ++ event.Opened pass s alone ∷ []) (books_after books (length history + 1) (with_free_slice books.table s) (with_stage books.stages s empty_stage))
   kept-opened pass s alone some allowed few =
       let e = event.Opened pass s alone in
       let in' = clears_in_range limits history is.legal pass s allowed.rule.cleared in
@@ -112,17 +112,17 @@ module _ (config : Config) (limits : Limits) (most : ℕ) (history : List Event)
 
 -- what is kept, under other names
 pub kept-as : (config : Config) (limits : Limits) (most : ℕ) (history later : List Event) (books : Books) (events : ℕ) (table : Table) (stages : StageTable) →
-    later ≡ history → events ≡ books.events → table ≡ books.table → stages ≡ books.stages → IsKept config limits most history books →
-    IsKept config limits most later (books_after books events table stages)
+    later ≡ history → events ≡ books.events → table ≡ books.table → stages ≡ books.stages → AreBooksOf config limits most history books →
+    AreBooksOf config limits most later (books_after books events table stages)
 kept-as config limits most history later books events table stages grown events_are table_is stages_are is =
-    subst (λ (h : List Event). IsKept config limits most h (books_after books events table stages)) (sym grown)
-    (subst (λ n. IsKept config limits most history (books_after books n table stages)) (sym events_are)
-    (subst (λ (t : Table). IsKept config limits most history (books_after books books.events t stages)) (sym table_is)
-    (subst (λ (s : StageTable). IsKept config limits most history (books_after books books.events books.table s)) (sym stages_are) is)))
+    subst (λ (h : List Event). AreBooksOf config limits most h (books_after books events table stages)) (sym grown)
+    (subst (λ n. AreBooksOf config limits most history (books_after books n table stages)) (sym events_are)
+    (subst (λ (t : Table). AreBooksOf config limits most history (books_after books books.events t stages)) (sym table_is)
+    (subst (λ (s : StageTable). AreBooksOf config limits most history (books_after books books.events books.table s)) (sym stages_are) is)))
 
 -- a desk with other books after an event that asks for no other
 pub desk-with : (pool next : PoolId) (most most_commits : ℕ) (was history later : List Event) (books books_now : Books) (e : Event) → next ≡ pool → later ≡ history ++ e ∷ [] → next_after e ≡ None →
-    IsDesk pool most most_commits was books → IsKept pool.config pool.limits most later books_now → IsDesk next most most_commits later books_now
+    IsDesk pool most most_commits was books → AreBooksOf pool.config pool.limits most later books_now → IsDesk next most most_commits later books_now
 desk-with pool next most most_commits was history later books books_now e same grown none is kept =
     subst (λ (p : PoolId). IsDesk p most most_commits later books_now) (sym same) (record {
       in_range = is.in_range;

@@ -89,7 +89,7 @@ pub record Books : Type 0 where
   pub stages : StageTable
 
 -- a history, and what is kept beside it
-pub record IsKept (config : Config) (limits : Limits) (most : ℕ) (history : List Event) (books : Books) : Type 0 where
+pub record AreBooksOf (config : Config) (limits : Limits) (most : ℕ) (history : List Event) (books : Books) : Type 0 where
   pub few : HasFew most limits.passes history
   pub legal : IsLegal limits history
   pub sound : IsSound config history
@@ -111,4 +111,4 @@ pub record IsDesk (pool : PoolId) (most most_commits : ℕ) (history : List Even
   pub bounded : most ≤ 2 ^ 62
   pub commits_are : most_commits ≡ pool.limits.commits
   pub none_awaited : awaited history ≡ None
-  pub kept : IsKept pool.config pool.limits most history books
+  pub kept : AreBooksOf pool.config pool.limits most history books

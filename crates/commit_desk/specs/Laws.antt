@@ -7,7 +7,7 @@ use Rattle.funnel_model.specs.declared.event.Event.{Event}
 use Rattle.funnel_model.specs.History.{commits}
 use Rattle.funnel_model.specs.Legal.{Limits}
 use Rattle.slice_stages.specs.Stages.{empty_stage}
-use Rattle.commit_desk.specs.Kept.{Books, IsKept}
+use Rattle.commit_desk.specs.Kept.{Books, AreBooksOf}
 
 -- nothing is kept yet: every column is free, no number is live, no find runs and no column of a slice is claimed
 pub record AreNew (limits : Limits) (books : Books) : Type 0 where
@@ -29,10 +29,10 @@ pub record AreNew (limits : Limits) (books : Books) : Type 0 where
 
 -- that is what a desk keeps of the history without events
 abbrev pub NewDesksAreKept : Type 0
-NewDesksAreKept = (config : Config) (limits : Limits) (most : ℕ) (books : Books) → 1 ≤ limits.columns → AreNew limits books → IsKept config limits most [] books
+NewDesksAreKept = (config : Config) (limits : Limits) (most : ℕ) (books : Books) → 1 ≤ limits.columns → AreNew limits books → AreBooksOf config limits most [] books
 
 -- what is kept is that of one list of commits and of one number of events
 abbrev pub DesksHaveTheirCommits : Type 0
 DesksHaveTheirCommits =
-    (config : Config) (limits : Limits) (most : ℕ) (history other : List Event) (books : Books) → IsKept config limits most history books → IsKept config limits most other books
+    (config : Config) (limits : Limits) (most : ℕ) (history other : List Event) (books : Books) → AreBooksOf config limits most history books → AreBooksOf config limits most other books
     → (commits history ≡ commits other) × (length history ≡ length other)

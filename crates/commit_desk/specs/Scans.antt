@@ -20,8 +20,8 @@ HasAllCommitted config seat words slice column =
     (bit : Bit) → IsDocumentBit config words slice column bit → IsCommitted seat.front slice bit
 
 -- the bit was set in a value that the pass read under the token
-abbrev pub WasReadSet : PassState → Token → Bit → Type 0
-WasReadSet seat token bit = (value : ℕ) × Contains seat.own (fact.WordRead token.opened_at bit.word value) × IsBitSet value bit.bit
+abbrev pub WasReadUnder : PassState → Token → Bit → Type 0
+WasReadUnder seat token bit = (value : ℕ) × Contains seat.own (fact.WordRead token.opened_at bit.word value) × IsBitSet value bit.bit
 
 -- The candidates of a find are columns that it may read, each once; each column of which all bits of the words are committed is one
 -- of them, and of each of them all bits of the words were read as set.
@@ -30,4 +30,4 @@ pub record AreScanned (config : Config) (seat : PassState) (token : Token) (word
   pub each_once : AllPairs (λ (candidate other : ℕ × ℕ). candidate ≡ other → ⊥) candidates
   pub every : (slice column : ℕ) → Contains token.slices slice → column < seat.pool.limits.columns → HasAllCommitted config seat words slice column →
       Contains candidates (slice, column)
-  pub read : (candidate : ℕ × ℕ) → Contains candidates candidate → (bit : Bit) → IsDocumentBit config words candidate.0 candidate.1 bit → WasReadSet seat token bit
+  pub read : (candidate : ℕ × ℕ) → Contains candidates candidate → (bit : Bit) → IsDocumentBit config words candidate.0 candidate.1 bit → WasReadUnder seat token bit

@@ -5,7 +5,7 @@ use Rattle.std.proofs.lemmas.Bool.{cases_eq, cases_Bool, cond-true, cond-false, 
 use Rattle.std.proofs.lemmas.Map.Steps.{length-le_from_distinct_below}
 use Rattle.std.proofs.lemmas.Nat.{and_le_r}
 use Rattle.document_store.specs.declared.live_list.Entry.{Entry}
-use Rattle.document_store.specs.Chains.{IsChain, IsChainFrom, IsOn, IsOnce, bucket_of, chain, mixed, entry_at, found_on, next_of, walk}
+use Rattle.document_store.specs.Chains.{IsChain, IsChainFrom, IsOn, IsOnce, bucket_of, chain, mixed_number, entry_at, found_on, next_of, walk}
 
 -- a chain that is not longer than the walk is what the walk gives
 pub walk-is : (next : ℕ → ℕ) (count at most : ℕ) (xs : List ℕ) → IsChain next count at xs → length xs ≤ most → walk next count most at ≡ xs
@@ -82,7 +82,7 @@ chain-end entries at out = walk-is (next_of entries) (length entries) at (length
 -- a bucket is one of so many
 pub bucket-below : (buckets id : ℕ) → 0 < buckets → bucket_of buckets id < buckets
 unfolding bucket_of
-bucket-below buckets id some = let least = and_le_r (mixed id) (buckets - 1) in omega (arith, least)
+bucket-below buckets id some = let least = and_le_r (mixed_number id) (buckets - 1) in omega (arith, least)
 
 abbrev pair : Option (ℕ × ℕ) → ℕ × ℕ
 pair None = (0, 0)

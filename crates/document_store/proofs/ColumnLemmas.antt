@@ -5,7 +5,7 @@ use Rattle.std.proofs.lemmas.Bool.{cases_lt, false_from_ne_true}
 use Rattle.std.proofs.lemmas.List.{get_or_default, get_or-replicate, length-map, length-replicate, map-set}
 use Rattle.std.proofs.lemmas.Nat.{mul-add-lt}
 use Rattle.document_store.specs.declared.live_list.Entry.{Entry}
-use Rattle.document_store.specs.Chains.{IsOn, IsTable, bucket_of, chain_of, end, entry_at, found_from, head_of, id_of, no_entry}
+use Rattle.document_store.specs.Chains.{IsOn, AreChains, bucket_of, chain_of, end, entry_at, found_from, head_of, id_of, no_entry}
 use Rattle.document_store.specs.Entries.{Entries, column_of}
 use Rattle.document_store.proofs.ChainLemmas.{none-found}
 use Rattle.document_store.proofs.EntryLemmas.{absent, column_at, column_of-add, column_of-remove, is-free, position-at}
@@ -36,7 +36,7 @@ search-is heads entries seen id bucket head count r o size its within value at e
           ∙ is;
     }
 
-module _ (slices columns : ℕ) (heads : List ℕ) (entries : List Entry) (is : IsTable slices columns heads entries) (id bucket : ℕ) where
+module _ (slices columns : ℕ) (heads : List ℕ) (entries : List Entry) (is : AreChains slices columns heads entries) (id bucket : ℕ) where
   -- a number that is found has the column of its entry
   pub column-found : (before at : ℕ) → IsSearch heads entries id bucket (Some (before, at)) →
       column_of (view slices columns entries) id ≡ Some (column_at columns at)
@@ -67,7 +67,7 @@ module _ (slices columns : ℕ) (heads : List ℕ) (entries : List Entry) (is : 
         by (suc n) less = omega arith
 
 -- a number is added in a column that no number has
-module _ (slices columns : ℕ) (heads : List ℕ) (entries : List Entry) (is : IsTable slices columns heads entries) (id slice column bucket : ℕ)
+module _ (slices columns : ℕ) (heads : List ℕ) (entries : List Entry) (is : AreChains slices columns heads entries) (id slice column bucket : ℕ)
     (bucket_is : bucket ≡ bucket_of (length heads) id) (inside : bucket < length heads)
     (slice_in : slice < slices) (column_in : column < columns)
     (free : (other : ℕ) → column_of (view slices columns entries) other ≡ Some (slice, column) → ⊥)
@@ -88,7 +88,7 @@ module _ (slices columns : ℕ) (heads : List ℕ) (entries : List Entry) (is : 
   not_live = false_from_ne_true (entry_at entries place).live (λ live.
       let both = sym (view-at entries place ∙ id_of-live (entry_at entries place) live) ∙ empty_there in cc)
 
-  pub add-keeps : IsTable slices columns (set heads bucket place) (set entries place added_entry)
+  pub add-keeps : AreChains slices columns (set heads bucket place) (set entries place added_entry)
   add-keeps =
       table-add slices columns heads entries is place id bucket place_in not_live
       (λ x live same. absent (view slices columns entries) id absent_before x (view-at entries x ∙ id_of-live (entry_at entries x) live ∙ ap Some same))
@@ -106,9 +106,9 @@ abbrev pub unmarked : Entry → Entry
 unmarked e = record { id = e.id; next = e.next; live = false }
 
 -- a number that was found is removed
-module _ (slices columns : ℕ) (heads : List ℕ) (entries : List Entry) (is : IsTable slices columns heads entries) (id bucket before at : ℕ)
+module _ (slices columns : ℕ) (heads : List ℕ) (entries : List Entry) (is : AreChains slices columns heads entries) (id bucket before at : ℕ)
     (s : IsSearch heads entries id bucket (Some (before, at))) where
-  pub remove-columns : (after_heads : List ℕ) (after : List Entry) → IsTable slices columns after_heads after → map id_of after ≡ set (map id_of entries) at None →
+  pub remove-columns : (after_heads : List ℕ) (after : List Entry) → AreChains slices columns after_heads after → map id_of after ≡ set (map id_of entries) at None →
       (other : ℕ) → column_of (view slices columns after) other ≡ cond (eqb other id) None (column_of (view slices columns entries) other)
   remove-columns after_heads after kept seen =
       column_of-remove (view slices columns entries) (view slices columns after) id at refl seen
@@ -120,7 +120,7 @@ module _ (slices columns : ℕ) (heads : List ℕ) (entries : List Entry) (is : 
 
   -- what a removal leaves: a table, in which the entry's number is gone
   pub record IsLeft (left_heads : List ℕ) (left : List Entry) : Type 0 where
-    pub kept : IsTable slices columns left_heads left
+    pub kept : AreChains slices columns left_heads left
     pub seen : map id_of left ≡ set (map id_of entries) at None
 
   pub left-first : (e : Entry) → e ≡ entry_at entries at → before ≡ end → IsLeft (set heads bucket e.next) (set entries at (unmarked e))
@@ -171,7 +171,7 @@ module _ (slices columns buckets : ℕ) (heads : List ℕ) (entries : List Entry
   size-none : length entries ≡ slices * columns
   size-none = ap length entries_are ∙ length-replicate (slices * columns) no_entry
 
-  pub new-keeps : IsTable slices columns heads entries
+  pub new-keeps : AreChains slices columns heads entries
   new-keeps =
       table-of slices columns buckets heads entries (λ bucket. []) (ap length heads_are ∙ length-replicate buckets end) some size-none
       (subst (λ n. n < end) (sym size-none) few)

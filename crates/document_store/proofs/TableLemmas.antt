@@ -5,7 +5,7 @@ use Rattle.std.proofs.lemmas.List.{get_or-set_same, get_or-set_other, length-set
 use Rattle.std.proofs.Math.ListN.{get_or-map}
 use Rattle.std.proofs.Math.Seq.{map-set_same}
 use Rattle.document_store.specs.declared.live_list.Entry.{Entry}
-use Rattle.document_store.specs.Chains.{IsBucket, IsChain, IsOf, IsOn, IsTable, bucket_of, chain, chain_of, end, entry_at, found_on, head_of, id_of, next_of, no_entry}
+use Rattle.document_store.specs.Chains.{IsBucket, IsChain, IsOf, IsOn, AreChains, bucket_of, chain, chain_of, end, entry_at, found_on, head_of, id_of, next_of, no_entry}
 use Rattle.document_store.proofs.ChainLemmas.{before-on, below, bucket-below, chain-is, chain-kept, found-first, found-later, found-on, unlinked, without, without-gone, without-on, without-once, without-still}
 use Rattle.document_store.proofs.EntryLemmas.{Apart, num}
 
@@ -25,7 +25,7 @@ pub id_of-live : (e : Entry) → e.live ≡ true → id_of e ≡ Some e.id
 id_of-live e live = cond-true e.live (Some e.id) None live
 
 -- no two numbers that contracts see are one
-pub apart-view : (slices columns : ℕ) (heads : List ℕ) (entries : List Entry) → IsTable slices columns heads entries → Apart (map id_of entries)
+pub apart-view : (slices columns : ℕ) (heads : List ℕ) (entries : List Entry) → AreChains slices columns heads entries → Apart (map id_of entries)
 apart-view slices columns heads entries is i j n at there =
     let first = live-is (entry_at entries i) n (sym (view-at entries i) ∙ at) in
     let second = live-is (entry_at entries j) n (sym (view-at entries j) ∙ there) in
@@ -56,7 +56,7 @@ pub table-of : (slices columns buckets : ℕ) (heads : List ℕ) (entries : List
     ((bucket : ℕ) → bucket < buckets → IsBucket entries buckets bucket (head_of heads bucket) (members bucket)) →
     ((x : ℕ) → (entry_at entries x).live ≡ true → IsOn (members (bucket_of buckets (entry_at entries x).id)) x) →
     ((x y : ℕ) → (entry_at entries x).live ≡ true → (entry_at entries y).live ≡ true → (entry_at entries x).id ≡ (entry_at entries y).id → x ≡ y) →
-    IsTable slices columns heads entries
+    AreChains slices columns heads entries
 table-of slices columns buckets heads entries members size some every few made on apart =
     record {
       every_column = every;
@@ -74,7 +74,7 @@ table-of slices columns buckets heads entries members size some every few made o
     }
 
 -- an add puts its entry before the others of its bucket
-module _ (slices columns : ℕ) (heads : List ℕ) (entries : List Entry) (is : IsTable slices columns heads entries) (at id bucket : ℕ)
+module _ (slices columns : ℕ) (heads : List ℕ) (entries : List Entry) (is : AreChains slices columns heads entries) (at id bucket : ℕ)
     (within : at < length entries) (empty : (entry_at entries at).live ≡ false)
     (absent : (x : ℕ) → (entry_at entries x).live ≡ true → (entry_at entries x).id ≡ id → ⊥)
     (inside : bucket < length heads) (bucket_is : bucket ≡ bucket_of (length heads) id) where
@@ -173,13 +173,13 @@ module _ (slices columns : ℕ) (heads : List ℕ) (entries : List Entry) (is : 
       (cases_eq y at))
       (cases_eq x at)
 
-  pub table-add : IsTable slices columns after_heads after
+  pub table-add : AreChains slices columns after_heads after
   table-add =
       table-of slices columns (length heads) after_heads after members (length-set heads bucket at) is.some
       (length-set entries at added ∙ is.every_column) (subst (λ n. n < end) (sym (length-set entries at added)) is.few) made on-its apart-after
 
 -- a removal leaves the others of its bucket
-module _ (slices columns : ℕ) (heads : List ℕ) (entries : List Entry) (is : IsTable slices columns heads entries) (at id bucket before : ℕ)
+module _ (slices columns : ℕ) (heads : List ℕ) (entries : List Entry) (is : AreChains slices columns heads entries) (at id bucket before : ℕ)
     (inside : bucket < length heads) (bucket_is : bucket ≡ bucket_of (length heads) id)
     (found : found_on entries id end (chain_of heads entries bucket) ≡ Some (before, at)) where
   abbrev members_then : List ℕ
@@ -242,7 +242,7 @@ module _ (slices columns : ℕ) (heads : List ℕ) (entries : List Entry) (is : 
         (λ (ne : b ≡ bucket → ⊥). subst (λ xs. IsOn xs x) (sym (now-other b ne)) listed)
         (cases_eq b bucket))
 
-    table-left : IsTable slices columns after_heads after
+    table-left : AreChains slices columns after_heads after
     table-left =
         table-of slices columns (length heads) after_heads after members_now same_heads is.some (same_size ∙ is.every_column)
         (subst (λ n. n < end) (sym same_size) is.few) made-now on-now
@@ -291,7 +291,7 @@ module _ (slices columns : ℕ) (heads : List ℕ) (entries : List Entry) (is : 
         let linked = (is.chains bucket inside).linked in
         first-is members_then (λ x on. let less = below (next_of entries) (length entries) (head_of heads bucket) members_then linked x on in let few = is.few in omega (arith, less, few)) found
 
-    pub table-first : IsTable slices columns (set heads bucket (next_of entries at)) unmarked
+    pub table-first : AreChains slices columns (set heads bucket (next_of entries at)) unmarked
     table-first =
         let whole = subst (IsBucket entries (length heads) bucket (head_of heads bucket)) split.1 (is.chains bucket inside) in
         let tail : IsBucket entries (length heads) bucket (next_of entries at) split.0 =
@@ -353,7 +353,7 @@ module _ (slices columns : ℕ) (heads : List ℕ) (entries : List Entry) (is : 
     lives-linked : (x : ℕ) → (x ≡ at → ⊥) → (entry_at linked_past x).live ≡ (entry_at entries x).live
     lives-linked x ne = kept-linked (λ e. e.live) refl x ∙ ap (λ e. e.live) (off-unmarked x ne)
 
-    pub table-later : IsTable slices columns heads linked_past
+    pub table-later : AreChains slices columns heads linked_past
     table-later =
         let s = starts members_then found in
         let whole : IsBucket entries (length heads) bucket (head_of heads bucket) (s.0 ∷ s.1) =

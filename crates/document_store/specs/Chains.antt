@@ -4,16 +4,16 @@ use Rattle.std.specs.Prelude.{ℕ, zero, suc, ◌-◌, ◌*◌, ◌/◌, ◌%◌
 use Rattle.document_store.specs.declared.live_list.Entry.{Entry}
 
 -- a number with its high bits mixed into its low ones
-abbrev pub folded : ℕ → ℕ
-folded n = bit_xor n (n / 2 ^ 33)
+abbrev pub folded_number : ℕ → ℕ
+folded_number n = bit_xor n (n / 2 ^ 33)
 
 -- a number with each of its bits mixed into all: the finalizer of the 64-bit MurmurHash3
-unfoldable pub mixed : ℕ → ℕ
-mixed id = folded (folded (folded id * 0xff51afd7ed558ccd % 2 ^ 64) * 0xc4ceb9fe1a85ec53 % 2 ^ 64)
+unfoldable pub mixed_number : ℕ → ℕ
+mixed_number id = folded_number (folded_number (folded_number id * 0xff51afd7ed558ccd % 2 ^ 64) * 0xc4ceb9fe1a85ec53 % 2 ^ 64)
 
 -- the bucket of a number among so many, which are a power of two
 unfoldable pub bucket_of : ℕ → ℕ → ℕ
-bucket_of buckets id = bit_and (mixed id) (buckets - 1)
+bucket_of buckets id = bit_and (mixed_number id) (buckets - 1)
 
 -- the end of a chain
 abbrev pub end : ℕ
@@ -89,7 +89,7 @@ chain_of heads entries bucket = chain entries (head_of heads bucket)
 
 -- a table of chains: each bucket has its chain, each live entry is on that of its number's bucket, and no two live
 -- entries have one number
-pub record IsTable (slices columns : ℕ) (heads : List ℕ) (entries : List Entry) : Type 0 where
+pub record AreChains (slices columns : ℕ) (heads : List ℕ) (entries : List Entry) : Type 0 where
   pub every_column : length entries ≡ slices * columns
   pub few : length entries < end
   pub some : 0 < length heads

@@ -12,7 +12,7 @@ use Rattle.document_store.specs.declared.column.Column.TheVariants as column
 use Rattle.document_store.specs.declared.records.Slot.{Slot}
 
 -- the place of the add, and the document's number; and the room that is left for more
-pub record Finds : Type 0 where
+pub record FoundState : Type 0 where
   pub found : List (ℕ × ℕ)
   pub room : ℕ
 

@@ -14,9 +14,9 @@ pub struct Found {
 
 impl Model for Found {
     ghost use Rattle.std.specs.Prelude.{◌-◌, vec_capacity, vec_len};
-    ghost use Rattle.document_store.specs.Finding.{Finds};
+    ghost use Rattle.document_store.specs.Finding.{FoundState};
 
-    ghost Value = { Finds };
+    ghost Value = { FoundState };
 
     ghost view = { λ f. record { found = f.found.items; room = vec_capacity f.found - vec_len f.found } };
 }

@@ -1,6 +1,6 @@
 ghost use Rattle.std.specs.Prelude.{◌≡◌, ◌≢◌, ℕ, ◌<◌, ◌==◌, if◌then◌else◌, IfOk, IsNone};
 ghost use Rattle.std.specs.declared.option.Option.TheVariants.{Some, None};
-ghost use Rattle.document_store.specs.Chains.{IsChainFrom, bucket_of, found_from, mixed};
+ghost use Rattle.document_store.specs.Chains.{IsChainFrom, bucket_of, found_from, mixed_number};
 ghost use Rattle.document_store.specs.Entries.{column_of};
 
 use funnel_model::Memory;
@@ -30,14 +30,14 @@ pub struct LiveList {
 
 impl Model for LiveList {
     ghost use Rattle.std.specs.Prelude.{map};
-    ghost use Rattle.document_store.specs.Chains.{IsTable, id_of};
+    ghost use Rattle.document_store.specs.Chains.{AreChains, id_of};
     ghost use Rattle.document_store.specs.Entries.{Entries};
 
     ghost Value = { Entries };
 
     ghost view = { λ l. record { slices = l.slices; columns = l.columns; entries = map id_of l.entries.items } };
 
-    ghost invariant = { λ l. IsTable l.slices l.columns l.heads.items l.entries.items };
+    ghost invariant = { λ l. AreChains l.slices l.columns l.heads.items l.entries.items };
 }
 
 impl LiveList {
@@ -152,7 +152,7 @@ fn bucket_of(id: u64, buckets: usize) -> usize
 /// The number with each of its bits mixed into all: the finalizer of the 64-bit MurmurHash3 of Austin Appleby. Numbers
 /// in a row, and multiples of a power of two, so spread over the buckets.
 fn mix(id: u64) -> u64
-    ensures { result ≡ mixed id }
+    ensures { result ≡ mixed_number id }
 {
     let mut mixed = id;
     mixed = (mixed ^ (mixed >> 33)).wrapping_mul(0xff51_afd7_ed55_8ccd);

@@ -4,7 +4,7 @@ use Rattle.std.specs.List.Sorted.{IsStrictlySortedBy}
 use Rattle.std.specs.Ordering.{nat_cmp}
 use Rattle.std.proofs.lemmas.Bool.{cases_lt, lt-ltb, ltb-true}
 use Rattle.std.proofs.lemmas.List.Elements.{All-contains, Contains-append_cases, Contains-append_left, Contains-append_right}
-use Rattle.commit_desk.specs.Scans.{AreScanned, HasAllCommitted, IsOfToken, WasReadSet}
+use Rattle.commit_desk.specs.Scans.{AreScanned, HasAllCommitted, IsOfToken, WasReadUnder}
 use Rattle.engine.specs.Scans.{AreScannedBelow, CanScan, token_below}
 use Rattle.engine.specs.Engines.{IsOfConfig}
 use Rattle.engine.proofs.Candidates.{candidate_is, candidate_of_column, candidates_once, pairs-append}
@@ -85,7 +85,7 @@ scanned_without config seat token words slice candidates lacks scanned = record 
 module _ (config : Config) (before after : PassState) (token : Token) (words : List (List ℕ)) (plan : List Row) (slice : ℕ) (old : List (ℕ × ℕ)) (columns : List ℕ)
     (same_pool : after.pool ≡ before.pool) (same_front : after.front ≡ before.front) (sizes : before.pool.limits.columns ≡ columns_of_slice config)
     (readable : Contains token.slices slice) (rows : HasRowsOf config words plan) (scanned : AreScannedBelow config before token words slice old)
-    (seen_stays : (bit : Bit) → WasReadSet before token bit → WasReadSet after token bit) where
+    (seen_stays : (bit : Bit) → WasReadUnder before token bit → WasReadUnder after token bit) where
   width : after.pool.limits.columns ≡ columns_of_slice config
   width = ap (λ (p : PoolId). p.limits.columns) same_pool ∙ sizes
 
@@ -118,19 +118,19 @@ module _ (config : Config) (before after : PassState) (token : Token) (words : L
       (λ bit of_document. (slice, readable, subst (λ (h : List Event). IsCommitted h slice bit) same_front (committed bit of_document))) plan rows))
 
   -- of each of them the bits of the words were seen
-  read_new : All (λ column. All (λ row. WasReadSet after token (bit_of_row (words_of_slice config) slice column row)) plan) columns →
-      (candidate : ℕ × ℕ) → Contains (candidates_of slice columns) candidate → (bit : Bit) → IsDocumentBit config words candidate.0 candidate.1 bit → WasReadSet after token bit
+  read_new : All (λ column. All (λ row. WasReadUnder after token (bit_of_row (words_of_slice config) slice column row)) plan) columns →
+      (candidate : ℕ × ℕ) → Contains (candidates_of slice columns) candidate → (bit : Bit) → IsDocumentBit config words candidate.0 candidate.1 bit → WasReadUnder after token bit
   read_new seen candidate has bit (row, of_words, is) =
       let of_slice = candidate_is slice columns candidate has in
-      let each = All-contains (λ column. All (λ row. WasReadSet after token (bit_of_row (words_of_slice config) slice column row)) plan) columns candidate.1 seen of_slice.1 in
-      let set = All-contains (λ row. WasReadSet after token (bit_of_row (words_of_slice config) slice candidate.1 row)) plan row each ((rows row).1 of_words) in
-      subst (WasReadSet after token) (sym (is ∙ ap (λ s. bit_of_row (words_of_slice config) s candidate.1 row) (low_new candidate has))) set
+      let each = All-contains (λ column. All (λ row. WasReadUnder after token (bit_of_row (words_of_slice config) slice column row)) plan) columns candidate.1 seen of_slice.1 in
+      let set = All-contains (λ row. WasReadUnder after token (bit_of_row (words_of_slice config) slice candidate.1 row)) plan row each ((rows row).1 of_words) in
+      subst (WasReadUnder after token) (sym (is ∙ ap (λ s. bit_of_row (words_of_slice config) s candidate.1 row) (low_new candidate has))) set
 
   pub scanned_more :
       ((column : ℕ) → column < columns_of_slice config →
       All (λ row. (s : ℕ) × Contains token.slices s × IsCommitted before.front s (bit_of_row (words_of_slice config) slice column row)) plan → Contains columns column) →
       All (λ column. column < columns_of_slice config) columns → IsStrictlySortedBy nat_cmp columns →
-      All (λ column. All (λ row. WasReadSet after token (bit_of_row (words_of_slice config) slice column row)) plan) columns →
+      All (λ column. All (λ row. WasReadUnder after token (bit_of_row (words_of_slice config) slice column row)) plan) columns →
       AreScannedBelow config after token words (slice + 1) (old ++ candidates_of slice columns)
   scanned_more covered in_slice rising seen = record {
     of_token = λ candidate has. ⊎_elim (of_old candidate) (of_new in_slice candidate) (Contains-append_cases old (candidates_of slice columns) candidate has);
@@ -210,6 +210,6 @@ scanned_slice layout before after words plan slice old new kept sizes readable r
     (subst (AreScannedBelow layout after.seat.now before.token.now words (slice + 1)) (sym appends)
     (scanned_more layout before.seat.now after.seat.now before.token.now words plan slice old (appended old new) (ap (λ (k : SharedKept). k.seat_pool) kept) (ap (λ (k : SharedKept). k.front) kept) sizes
     readable rows below
-    (subst (λ (t : Token). (bit : Bit) → WasReadSet before.seat.now before.token.now bit → WasReadSet after.seat.now t bit) token seen_stays)
+    (subst (λ (t : Token). (bit : Bit) → WasReadUnder before.seat.now before.token.now bit → WasReadUnder after.seat.now t bit) token seen_stays)
     covered in_slice rising
-    (subst (λ (t : Token). All (λ column. All (λ row. WasReadSet after.seat.now t (bit_of_row (words_of_slice layout) slice column row)) plan) (appended old new)) token seen)))
+    (subst (λ (t : Token). All (λ column. All (λ row. WasReadUnder after.seat.now t (bit_of_row (words_of_slice layout) slice column row)) plan) (appended old new)) token seen)))

@@ -8,7 +8,7 @@ use Rattle.funnel_model.specs.Events.{pass_of}
 use Rattle.funnel_model.specs.Legal.{IsLegal, Limits}
 use Rattle.funnel_model.proofs.Invariants.{passes_in_range}
 use Rattle.slice_rule.specs.Seats.{PassState}
-use Rattle.funnel.specs.Serving.{FirstDid, HasSeen}
+use Rattle.funnel.specs.Serving.{FirstDid, FirstHasSeen}
 use Rattle.engine.specs.Engines.{ClosedState}
 use Rattle.funnel_io.specs.declared.end.End.{End}
 use Rattle.funnel_io.specs.Streams.{Incoming, Outgoing}
@@ -38,7 +38,7 @@ none_left pass [] of_pass silent = refl
 none_left pass (e ∷ later) of_pass silent = absurd (search (rules, of_pass 0 e, silent))
 
 module _ (limits : Limits) (history front : List Event) (passes : List PassState) (legal : IsLegal limits history) (some : 1 ≤ limits.passes)
-    (ends : All (EndsIn history) passes) (seen : All (HasSeen front) passes)
+    (ends : All (EndsIn history) passes) (seen : All (FirstHasSeen front) passes)
     (every : (pass : ℕ) → pass < limits.passes → Contains (map (λ (seat : PassState). seat.number) passes) pass) where
   -- the pass with a number, as it is handed back
   back : (number : ℕ) → number < limits.passes → (pass : PassState) × Contains passes pass × (number ≡ pass.number)
@@ -48,9 +48,9 @@ module _ (limits : Limits) (history front : List Event) (passes : List PassState
   all_of_first k d small =
       let e = slice_index_or history k d in
       let pass = back (pass_of e) (passes_in_range limits history legal k d small) in
-      of_number (pass_of e) pass.0 refl pass.2 (All-contains (EndsIn history) passes pass.0 ends pass.1) (All-contains (HasSeen front) passes pass.0 seen pass.1) where
+      of_number (pass_of e) pass.0 refl pass.2 (All-contains (EndsIn history) passes pass.0 ends pass.1) (All-contains (FirstHasSeen front) passes pass.0 seen pass.1) where
         of_number : (number : ℕ) (pass : PassState) → pass_of (slice_index_or history k d) ≡ number → pass_of (slice_index_or history k d) ≡ pass.number →
-            EndsIn history pass → HasSeen front pass → pass_of (slice_index_or history k d) ≡ 0
+            EndsIn history pass → FirstHasSeen front pass → pass_of (slice_index_or history k d) ≡ 0
         of_number zero pass is number ended saw = is
         of_number (suc n) pass is number ended saw =
             let whole : history ≡ ended.later = ended.whole ∙ ap (λ h. h ++ ended.later) (saw.other (omega (arith, is, number))) in
@@ -61,7 +61,7 @@ module _ (limits : Limits) (history front : List Event) (passes : List PassState
   first_saw_all =
       let pass = back 0 some in
       let ended = All-contains (EndsIn history) passes pass.0 ends pass.1 in
-      let saw = All-contains (HasSeen front) passes pass.0 seen pass.1 in
+      let saw = All-contains (FirstHasSeen front) passes pass.0 seen pass.1 in
       let whole : history ≡ front ++ ended.later = ended.whole ∙ ap (λ h. h ++ ended.later) (saw.first (sym pass.2)) in
       let later_of_first : All (λ e. pass_of e ≡ 0) ended.later =
       subst (All (λ e. pass_of e ≡ 0)) (front_rest history front ended.later whole) (All-drop (λ e. pass_of e ≡ 0) (length front) history all_of_first) in

@@ -1,11 +1,11 @@
 -- Programs whose command is accepted, and whose reads, writes and gates do not fail.
-use Rattle.std.proofs.Common.{◌≡◌, ◌⊎◌, ℕ, ◌+◌, ◌≤◌, ◌||◌, Bool, true, false, cond, List, [], ◌∷◌, ◌++◌, length, map, Option, Some, None, Result, Ok, Err, IfSome, rules, sym, refl, ap, ◌∙◌, subst, inl, inr, arith, length-append}
+use Rattle.std.proofs.Common.{◌≡◌, ◌⊎◌, ℕ, ◌+◌, ◌||◌, Bool, true, false, cond, List, [], ◌∷◌, ◌++◌, length, map, Option, Some, None, Result, Ok, Err, IfSome, rules, sym, refl, ap, ◌∙◌, subst, inl, inr, arith, length-append}
 use Rattle.std.proofs.KnownBytes.{Consumes-all}
 use Rattle.std.proofs.lemmas.Bool.{lt-ltb}
 use Rattle.std.specs.Io.KnownBytes.{Consumes, IsAtEnd}
-use Rattle.std.specs.List.{list_any}
+use Rattle.std.specs.List.{AllZip, list_any}
 use Rattle.engine.specs.Engines.{ClosedState}
-use Rattle.funnel_io.specs.Counts.{Rose, counted, raised}
+use Rattle.funnel_io.specs.Counts.{Rose}
 use Rattle.funnel_io.specs.Streams.{Incoming, Outgoing, Takes, Writes}
 use Rattle.funnel_io.specs.declared.end.End.{End}
 use Rattle.funnel_io.specs.declared.end.End.TheVariants as end_of
@@ -30,17 +30,14 @@ use Rattle.funnel.specs.Commands.{command_of}
 use Rattle.funnel.specs.Ends.{why_of_config, why_of_end}
 use Rattle.line_proto.specs.Forms.{items}
 use Rattle.session.specs.Sessions.{Answers}
-use Rattle.funnel.specs.Laws.{AreDue, CompletesLoad, CompletesRun, CompletesServe, EndsWell, IsAccepted, NoFault, NoneFailed, RepliesAreDue, TellsFew}
+use Rattle.funnel.specs.Laws.{AreDue, CompletesLoad, CompletesRun, CompletesServe, EndsWell, GateIsServed, IsAccepted, IsServedUnlessFailed, NoStreamFailed, NoneFailed, RepliesAreDue, ServesAllGates, TellsFew}
 use Rattle.funnel.specs.LoadRuns.{EndsLoad}
 use Rattle.funnel.specs.Misfits.{misfit_of}
 use Rattle.funnel.specs.Programs.{Ends, EndsAtConfig, EndsAtMisfit, EndsAtWords, EndsAfterLoad, EndsAfterRun, EndsAfterServe, Streams}
 use Rattle.funnel.specs.Runs.{Ran, RanOrNot, first_caller, limits_by}
-use Rattle.funnel.specs.Served.{AllWork, EndsServe, HasServed, new_workers}
+use Rattle.funnel.specs.Served.{AllWork, EndsServe, new_workers}
 use Rattle.funnel.proofs.DueReplies.{replies_are_due}
-
--- a count that was raised rose
-raised_rose : (before after : ℕ) → after ≡ raised before → Rose before after
-raised_rose before after is = subst (λ n. raised before ≤ n) (sym is) (search rules)
+use Rattle.funnel.proofs.ServedGates.{gates_without_a_fault, not_failed, raised_rose}
 
 -- bytes that were taken up to the end of a source are all that it told
 all_taken : (before after : Incoming) (taken bytes : List ℕ) → Takes taken before after → IsAtEnd after.left → before.left ≡ Some bytes → taken ≡ bytes
@@ -112,10 +109,16 @@ record IsLoad (before after : Streams) (asked : Command) (value : Config) (why :
   is : asked ≡ command.Load load
   ends : EndsLoad value load before.output after.output why closed
 
+-- memory ran out before there was an engine
+record RanOut (before after : Streams) (why : Why) (closed : Option ClosedState) : Type 0 where
+  memory : why ≡ why_of.Memory
+  none : closed ≡ None
+  gates : after.gates ≡ before.gates
+
 -- memory ran out, or the command is one of these
 abbrev IsCarriedOut : Streams → Streams → Command → Config → Why → Option ClosedState → Type 0
 IsCarriedOut before after asked value why closed =
-    (why ≡ why_of.Memory) ⊎ IsRun before after asked value why closed ⊎ IsServe before after asked value why closed ⊎ IsLoad before after asked value why closed
+    RanOut before after why closed ⊎ IsRun before after asked value why closed ⊎ IsServe before after asked value why closed ⊎ IsLoad before after asked value why closed
 
 some_same : (x y : Command) → Some x ≡ Some y → x ≡ y
 some_same x y is = cc
@@ -124,7 +127,7 @@ no_misfit : (misfit : Misfit) → Some misfit ≡ None → ⊥
 no_misfit misfit is = cc
 
 module _ (words : List (List ℕ)) (before after : Streams) (why : Why) (closed : Option ClosedState) (asked : Command) (value : Config)
-    (none : NoFault before after) (accepted : IsAccepted words before asked value) where
+    (none : NoStreamFailed before after) (accepted : IsAccepted words before asked value) where
   at_words : EndsAtWords words before after why closed → why ≡ why_of.Memory
   at_words ends = by_cause ends.cause where
     no_words : command_of words ≡ None → ⊥
@@ -170,8 +173,8 @@ module _ (words : List (List ℕ)) (before after : Streams) (why : Why) (closed 
 
   -- a command that is accepted is carried out, or memory ran out
   carried_out : Ends words before after why closed → IsCarriedOut before after asked value why closed
-  carried_out (inl ends) = inl (at_words ends)
-  carried_out (inr (inl ends)) = inl (at_config ends)
+  carried_out (inl ends) = inl (record { memory = at_words ends; none = ends.none; gates = ap (λ (s : Streams). s.gates) ends.untouched })
+  carried_out (inr (inl ends)) = inl (record { memory = at_config ends; none = ends.none; gates = ap (λ (s : Streams). s.gates) ends.others })
   carried_out (inr (inr (inl ends))) = absurd (at_misfit ends)
   carried_out (inr (inr (inr (inl ends)))) = inr (inl (after_run ends))
   carried_out (inr (inr (inr (inr (inl ends))))) = inr (inr (inl (after_serve ends)))
@@ -193,7 +196,7 @@ same_load : (load other : LoadCommand) → command.Load load ≡ command.Load ot
 same_load load other is = cc
 
 -- a run that was begun
-module _ (value : Config) (before after : Streams) (why : Why) (closed : ClosedState) (none : NoFault before after)
+module _ (value : Config) (before after : Streams) (why : Why) (closed : ClosedState) (none : NoStreamFailed before after)
     (ran : Ran value before.input after.input before.output after.output why closed) where
   abbrev Served : End → Type 0
   Served end = Serves (first_caller (limits_by value)) MOST_BYTES (record { front = []; incoming = before.input; outgoing = before.output })
@@ -236,7 +239,7 @@ module _ (value : Config) (before after : Streams) (why : Why) (closed : ClosedS
 
 -- a run that is accepted and whose input is short enough answers all of it, or memory ran out
 pub run_completes : (words : List (List ℕ)) (before after : Streams) (why : Why) (closed : Option ClosedState) (value : Config) (bytes : List ℕ) →
-    Ends words before after why closed → NoFault before after → IsAccepted words before command.Run value → TellsFew before.input bytes →
+    Ends words before after why closed → NoStreamFailed before after → IsAccepted words before command.Run value → TellsFew before.input bytes →
     CompletesRun value bytes before.output after.output why closed
 run_completes words before after why closed value bytes ends none accepted input =
     by_case (carried_out words before after why closed command.Run value none accepted ends) where
@@ -250,14 +253,14 @@ run_completes words before after why closed value bytes ends none accepted input
 
       by_case : IsCarriedOut before after command.Run value why closed →
           CompletesRun value bytes before.output after.output why closed
-      by_case (inl memory) = lacking closed memory
+      by_case (inl lacks) = lacking closed lacks.memory
       by_case (inr (inl run)) = of_run closed run.ran
       by_case (inr (inr (inl serve))) = absurd (not_a_serve serve.serve serve.is)
       by_case (inr (inr (inr load))) = absurd (not_a_load load.load load.is)
 
 -- and one of any input ends well
 pub run_ends_well : (words : List (List ℕ)) (before after : Streams) (why : Why) (closed : Option ClosedState) (value : Config) →
-    Ends words before after why closed → NoFault before after → IsAccepted words before command.Run value → EndsWell why
+    Ends words before after why closed → NoStreamFailed before after → IsAccepted words before command.Run value → EndsWell why
 run_ends_well words before after why closed value ends none accepted =
     by_case (carried_out words before after why closed command.Run value none accepted ends) where
       of_run : (left : Option ClosedState) → RanOrNot value before.input after.input before.output after.output why left → EndsWell why
@@ -265,7 +268,7 @@ run_ends_well words before after why closed value ends none accepted =
       of_run (Some state) ran = ran_well value before after why state none ran
 
       by_case : IsCarriedOut before after command.Run value why closed → EndsWell why
-      by_case (inl memory) = subst EndsWell (sym memory) tt
+      by_case (inl lacks) = subst EndsWell (sym lacks.memory) tt
       by_case (inr (inl run)) = of_run closed run.ran
       by_case (inr (inr (inl serve))) = absurd (not_a_serve serve.serve serve.is)
       by_case (inr (inr (inr load))) = absurd (not_a_load load.load load.is)
@@ -293,13 +296,13 @@ of_load value load before after (why_of.Misfit misfit) None ends none = absurd e
 
 -- a load that is accepted is made and told, or memory ran out
 pub load_completes : (words : List (List ℕ)) (before after : Streams) (why : Why) (closed : Option ClosedState) (value : Config) (load : LoadCommand) →
-    Ends words before after why closed → NoFault before after → IsAccepted words before (command.Load load) value →
+    Ends words before after why closed → NoStreamFailed before after → IsAccepted words before (command.Load load) value →
     CompletesLoad value load before.output after.output why closed
 load_completes words before after why closed value load ends none accepted =
     by_case (carried_out words before after why closed (command.Load load) value none accepted ends) where
       by_case : IsCarriedOut before after (command.Load load) value why closed →
           CompletesLoad value load before.output after.output why closed
-      by_case (inl memory) = subst (λ (w : Why). CompletesLoad value load before.output after.output w closed) (sym memory) tt
+      by_case (inl lacks) = subst (λ (w : Why). CompletesLoad value load before.output after.output w closed) (sym lacks.memory) tt
       by_case (inr (inl run)) = absurd (not_a_load load (sym run.is))
       by_case (inr (inr (inl serve))) = absurd (no_load_serves load serve.serve serve.is)
       by_case (inr (inr (inr made))) =
@@ -314,34 +317,46 @@ no_worker_failed limits connections pass [] [] work none = refl
 no_worker_failed limits connections pass [] (worker ∷ workers) work none = absurd work
 no_worker_failed limits connections pass (gate ∷ gates) [] work none = absurd work
 no_worker_failed limits connections pass (gate ∷ gates) (worker ∷ workers) work none =
-    by_worker (no_worker_failed limits connections (pass + 1) gates workers work.1 none.1) worker.fault refl where
-      by_worker : list_any (λ (w : WorkerState). w.fault) workers ≡ false → (fault : Bool) → worker.fault ≡ fault →
-          list_any (λ (w : WorkerState). w.fault) (worker ∷ workers) ≡ false
-      by_worker others true is = absurd (none.0 (raised_rose gate.faults worker.gate.faults (work.0.serves.faults ∙ ap (λ b. counted b gate.faults) is)))
-      by_worker others false is = ap (λ b. b || list_any (λ (w : WorkerState). w.fault) workers) is ∙ others
+    ap (λ b. b || list_any (λ (w : WorkerState). w.fault) workers) (not_failed worker.fault gate.faults worker.gate.faults work.0.serves.faults none.0)
+    ∙ no_worker_failed limits connections (pass + 1) gates workers work.1 none.1
+
+-- and each gate was served as far as it may be
+none_failed : (connections : ℕ) (why : Why) (before after : List GateState) → AllZip (IsServedUnlessFailed connections why) before after → NoneFailed before after →
+    AllZip (GateIsServed connections why) before after
+none_failed connections why [] [] served none = tt
+none_failed connections why [] (later ∷ laters) served none = absurd served
+none_failed connections why (gate ∷ gates) [] served none = absurd served
+none_failed connections why (gate ∷ gates) (later ∷ laters) served none = (served.0 none.0, none_failed connections why gates laters served.1 none.1)
 
 -- how a serve ends, where no call of a gate failed
 of_serve : (value : Config) (connections : ℕ) (before after : List GateState) (why : Why) (closed : Option ClosedState) →
     EndsServe value connections before after why closed → NoneFailed before after → CompletesServe value connections before after why closed
-of_serve value connections before after why None ends none = subst (λ (w : Why). CompletesServe value connections before after w None) (sym ends.0) tt
+of_serve value connections before after why None ends none = subst (λ (w : Why). CompletesServe value connections before after w None) (sym ends.0) ends.1
 of_serve value connections before after why (Some state) served none =
     let faults = no_worker_failed (limits_by value) connections 0 before served.workers served.work (subst (NoneFailed before) served.gates none) in
     by_memory (list_any (λ (worker : WorkerState). worker.memory) served.workers)
     (served.cause ∙ ap (λ b. cond b why_of.GateFault (cond (list_any (λ (worker : WorkerState). worker.memory) served.workers) why_of.Memory why_of.Done)) faults) where
+      all : ServesAllGates value connections before after why state
+      all = (served, none_failed connections why before after (gates_without_a_fault value connections before after why state served) none)
+
       by_memory : (memory : Bool) → why ≡ cond memory why_of.Memory why_of.Done → CompletesServe value connections before after why (Some state)
-      by_memory true is = subst (λ (w : Why). CompletesServe value connections before after w (Some state)) (sym is) tt
+      by_memory true is =
+          subst (λ (w : Why). CompletesServe value connections before after w (Some state)) (sym is)
+          (subst (λ (w : Why). ServesAllGates value connections before after w state) is all)
       by_memory false is =
           subst (λ (w : Why). CompletesServe value connections before after w (Some state)) (sym is)
-          (subst (λ (w : Why). HasServed value connections before after w state) is served)
+          (subst (λ (w : Why). ServesAllGates value connections before after w state) is all)
 
--- a serve that is accepted answers the connections of its gates, or memory ran out
+-- a serve that is accepted answers the connections of its gates, or memory ran out before it could
 pub serve_completes : (words : List (List ℕ)) (before after : Streams) (why : Why) (closed : Option ClosedState) (value : Config) (serve : ServeCommand) →
-    Ends words before after why closed → NoFault before after → IsAccepted words before (command.Serve serve) value →
+    Ends words before after why closed → NoStreamFailed before after → IsAccepted words before (command.Serve serve) value →
     CompletesServe value serve.connections before.gates after.gates why closed
 serve_completes words before after why closed value serve ends none accepted =
     by_case (carried_out words before after why closed (command.Serve serve) value none accepted ends) where
       by_case : IsCarriedOut before after (command.Serve serve) value why closed → CompletesServe value serve.connections before.gates after.gates why closed
-      by_case (inl memory) = subst (λ (w : Why). CompletesServe value serve.connections before.gates after.gates w closed) (sym memory) tt
+      by_case (inl lacks) =
+          subst (λ (c : Option ClosedState). CompletesServe value serve.connections before.gates after.gates why c) (sym lacks.none)
+          (subst (λ (w : Why). CompletesServe value serve.connections before.gates after.gates w None) (sym lacks.memory) lacks.gates)
       by_case (inr (inl run)) = absurd (not_a_serve serve (sym run.is))
       by_case (inr (inr (inl served))) =
           of_serve value serve.connections before.gates after.gates why closed

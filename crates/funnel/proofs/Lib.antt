@@ -8,8 +8,11 @@ pub mod LoadEnds
 pub mod LoadPasses
 pub mod Loaded
 pub mod NumberLemmas
+pub mod OpenGates
 pub mod Passes
 pub mod Served
+pub mod ServedCalls
+pub mod ServedGates
 pub mod TakenNames
 pub mod TakenWords
 pub mod Turns

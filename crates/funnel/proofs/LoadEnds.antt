@@ -1,16 +1,18 @@
 -- How a load ends whose workers put it to a new engine, once this is closed.
-use Rattle.std.proofs.Common.{◌≡◌, ◌<◌, ◌≤◌, ℕ, List, [], None, Some, rules, ap, subst, arith, inr}
+use Rattle.std.proofs.Common.{◌≡◌, ◌<◌, ◌≤◌, ℕ, List, [], None, Some, rules, refl, ap, subst, arith, inr}
 use Rattle.std.specs.List.{All}
 use Rattle.std.specs.Prelude.{MatchResult, Result, Ok, Err}
 use Rattle.engine.specs.Engines.{ClosedState, EndsIn}
 use Rattle.funnel_io.specs.Streams.{Outgoing}
 use Rattle.funnel_model.specs.declared.config.Config.{Config}
 use Rattle.funnel_model.specs.declared.event.Event.{Event}
+use Rattle.funnel_model.specs.declared.memory.Memory.{Memory}
 use Rattle.funnel_model.specs.Events.{pass_of}
 use Rattle.funnel_model.specs.History.{IsFrontOf}
 use Rattle.funnel_model.specs.Legal.{IsLegal, Limits}
 use Rattle.funnel_model.specs.Sizes.{columns_of_pool}
-use Rattle.funnel_server.specs.Loads.{IsCutShort, IsPut, StopsAfter, front_at, worker_of}
+use Rattle.funnel_server.proofs.LoadPasses.{ends_along}
+use Rattle.funnel_server.specs.Loads.{IsCutShort, IsPut, front_at}
 use Rattle.load_gen.specs.declared.limits.TheConstants.{MOST_DOCS}
 use Rattle.load_gen.specs.Documents.{documents}
 use Rattle.load_gen.specs.Summary.{results_of, summary, summary_text}
@@ -47,6 +49,12 @@ load_fits load config none = record { passes = search (rules, none); columns = s
 pub record IsAsTold (config : Config) (load : LoadCommand) (closed : ClosedState) (results : List (ℕ × ℕ)) : Type 0 where
   pub loaded : IsWholeLoad config load closed
   pub results_are : results ≡ results_of (documents load.docs load.words load.seed)
+
+-- the load was put, or cut short, by workers that had seen nothing before, and these fronts since
+abbrev pub IsPutOrCutShort : Config → LoadCommand → (ℕ → List Event) → Result (List (ℕ × ℕ)) Memory → Type 0
+IsPutOrCutShort config load fronts answer =
+    MatchResult answer (λ results. IsPut (limits_by config) (documents load.docs load.words load.seed) load.workers (λ _. []) fronts results)
+    (λ _. IsCutShort (limits_by config) (documents load.docs load.words load.seed) load.workers (λ _. []) fronts)
 
 -- The workers of a load had the first passes of a new engine of this pool, which is closed now.
 pub record HasClosed (pool : PoolId) (config : Config) (load : LoadCommand) (before after : List PassState) (closed : ClosedState) : Type 0 where
@@ -85,53 +93,47 @@ module _ (pool : PoolId) (config : Config) (load : LoadCommand) (before after : 
       let counted = ap (λ (c : Config). c.passes) ended.config_is in
       seen_by pool load.workers before after ended.used closed.history ended.legal ended.ends worker (omega (arith, below, passes, counted))
 
+  -- what the load did, told of workers that had seen nothing
+  pub from_nothing : (texts : List (List ℕ)) (answer : Result (List (ℕ × ℕ)) Memory) → texts ≡ documents load.docs load.words load.seed →
+      MatchResult answer (λ results. IsPut pool.limits texts load.workers (front_at before) (front_at after) results)
+      (λ _. IsCutShort pool.limits texts load.workers (front_at before) (front_at after)) → IsPutOrCutShort config load (front_at after) answer
+  from_nothing texts answer made did =
+      ends_along (limits_by config) (documents load.docs load.words load.seed) load.workers (front_at before) (front_at after) (λ _. []) (front_at after)
+      (λ worker below. nothing worker) (λ worker below. refl) answer
+      (subst (λ (l : Limits). MatchResult answer (λ results. IsPut l (documents load.docs load.words load.seed) load.workers (front_at before) (front_at after) results)
+      (λ _. IsCutShort l (documents load.docs load.words load.seed) load.workers (front_at before) (front_at after))) ended.limits
+      (subst (λ ts. MatchResult answer (λ results. IsPut pool.limits ts load.workers (front_at before) (front_at after) results)
+      (λ _. IsCutShort pool.limits ts load.workers (front_at before) (front_at after))) made did))
+
   -- a load that was put is whole
-  pub whole_load : (texts : List (List ℕ)) (results : List (ℕ × ℕ)) → texts ≡ documents load.docs load.words load.seed →
-      IsPut pool.limits texts load.workers (front_at before) (front_at after) results → IsAsTold config load closed results
-  whole_load texts results made put =
-      let here : IsPut (limits_by config) (documents load.docs load.words load.seed) load.workers (front_at before) (front_at after) results =
-      subst (λ (l : Limits). IsPut l (documents load.docs load.words load.seed) load.workers (front_at before) (front_at after) results) ended.limits
-      (subst (λ ts. IsPut pool.limits ts load.workers (front_at before) (front_at after) results) made put) in
-      record {
-        loaded = record {
-          sound = sound_here;
-          replies = replies_to (limits_by config) load.docs load.words load.seed load.workers (front_at before) (front_at after) results closed.history ended.some room legal_here
-              of_workers_alone nothing seen here;
-          loaded = is_loaded (limits_by config) load.docs load.words load.seed load.workers (front_at before) (front_at after) results closed.history ended.some room legal_here
-              of_workers_alone nothing seen here;
-          calls = calls_are (limits_by config) load.docs load.words load.seed load.workers (front_at before) (front_at after) results closed.history ended.some room legal_here
-              of_workers_alone nothing seen here;
-          answers = are_answered (limits_by config) load.docs load.words load.seed load.workers (front_at before) (front_at after) results closed.history ended.some room legal_here
-              of_workers_alone nothing seen here;
-        };
-        results_are = results_told (limits_by config) load.docs load.words load.seed load.workers (front_at before) (front_at after) results closed.history ended.some room legal_here
-            of_workers_alone nothing seen here;
-      }
+  pub whole_load : (results : List (ℕ × ℕ)) → IsPut (limits_by config) (documents load.docs load.words load.seed) load.workers (λ _. []) (front_at after) results →
+      IsAsTold config load closed results
+  whole_load results put = record {
+    loaded = record {
+      sound = sound_here;
+      replies = replies_to (limits_by config) load.docs load.words load.seed load.workers (front_at after) results closed.history ended.some room legal_here
+          of_workers_alone seen put;
+      loaded = is_loaded (limits_by config) load.docs load.words load.seed load.workers (front_at after) results closed.history ended.some room legal_here
+          of_workers_alone seen put;
+      calls = calls_are (limits_by config) load.docs load.words load.seed load.workers (front_at after) results closed.history ended.some room legal_here
+          of_workers_alone seen put;
+      answers = are_answered (limits_by config) load.docs load.words load.seed load.workers (front_at after) results closed.history ended.some room legal_here
+          of_workers_alone seen put;
+    };
+    results_are = results_told (limits_by config) load.docs load.words load.seed load.workers (front_at after) results closed.history ended.some room legal_here
+        of_workers_alone seen put;
+  }
 
   -- and one that was cut short is a part of it
-  pub part_of_load : (texts : List (List ℕ)) → texts ≡ documents load.docs load.words load.seed →
-      IsCutShort pool.limits texts load.workers (front_at before) (front_at after) → IsPartOfLoad config load closed
-  part_of_load texts made put =
-      let here : IsCutShort (limits_by config) (documents load.docs load.words load.seed) load.workers (front_at before) (front_at after) =
-      subst (λ (l : Limits). IsCutShort l (documents load.docs load.words load.seed) load.workers (front_at before) (front_at after)) ended.limits
-      (subst (λ ts. IsCutShort pool.limits ts load.workers (front_at before) (front_at after)) made put) in
-      record {
-        legal = legal_here;
-        sound = sound_here;
-        no_other = of_workers_alone;
-        made = here.made;
-        left = here.left;
-        calls = here.calls;
-        stops = λ worker below. record {
-          front = front_at after worker;
-          seen = seen worker below;
-          stops = subst (λ (h : List Event). StopsAfter (worker_of (limits_by config) worker) h (front_at after worker) (here.made worker) (here.left worker)) (nothing worker)
-              (here.stops worker below);
-        };
-        stopped = here.stopped;
-        is_worker = here.is_worker;
-        some_left = here.some_left;
-      }
+  pub part_of_load : IsCutShort (limits_by config) (documents load.docs load.words load.seed) load.workers (λ _. []) (front_at after) → IsPartOfLoad config load closed
+  part_of_load cut = record {
+    legal = legal_here;
+    sound = sound_here;
+    no_other = of_workers_alone;
+    fronts = front_at after;
+    seen = seen;
+    cut = cut;
+  }
 
 -- its summary is told, or there was no memory for it
 pub ends_load : (config : Config) (load : LoadCommand) (before after : Outgoing) (why : Why) (closed : ClosedState) (results : List (ℕ × ℕ)) →

@@ -1,5 +1,5 @@
 -- A load that workers put to a new engine is answered as it is to be.
-use Rattle.std.proofs.Common.{◌≡◌, ◌≢◌, ◌⊎◌, ℕ, zero, suc, ◌+◌, ◌*◌, ◌^◌, ◌<◌, ◌≤◌, List, [], ◌∷◌, ◌++◌, length, drop, map, refl, sym, ap, ◌∙◌, subst, arith, inl, inr, append_assoc, append-nil}
+use Rattle.std.proofs.Common.{◌≡◌, ◌≢◌, ◌⊎◌, ℕ, suc, ◌+◌, ◌<◌, ◌≤◌, List, [], ◌∷◌, ◌++◌, length, drop, map, refl, sym, ap, ◌∙◌, arith, inl, inr, append_assoc, append-nil}
 use Rattle.std.proofs.lemmas.List.{drop_at, length-append}
 use Rattle.std.proofs.lemmas.List.Elements.{All-tail}
 use Rattle.std.specs.List.{All}
@@ -11,53 +11,22 @@ use Rattle.funnel_model.specs.declared.reply.Reply.{Reply}
 use Rattle.funnel_model.specs.declared.reply.Reply.TheVariants as reply
 use Rattle.funnel_model.specs.Events.{pass_of}
 use Rattle.funnel_model.specs.History.{IsFrontOf, own}
-use Rattle.funnel_model.specs.Legal.{IsLegal, Limits}
+use Rattle.funnel_model.specs.Legal.{IsIdle, IsLegal, Limits}
 use Rattle.funnel_model.specs.Steps.{IsMade, IsSpent, LacksMemory, Linear}
 use Rattle.funnel_server.proofs.AskedShares.{asks_share}
-use Rattle.funnel_server.proofs.JoinedCalls.{calls_in_front, front_trans}
+use Rattle.funnel_server.proofs.JoinedCalls.{front_trans}
 use Rattle.funnel_server.specs.Laws.{AsksShare}
-use Rattle.funnel_server.specs.Loads.{Course, IsPut, PutsShare, worker_of}
-use Rattle.load_gen.proofs.Totals.{sum_by-total, total}
-use Rattle.load_gen.specs.declared.limits.TheConstants.{MOST_DOCS}
+use Rattle.funnel_server.specs.Loads.{ComesToQueries, IsPut, worker_of}
 use Rattle.load_gen.specs.Documents.{documents}
-use Rattle.load_gen.specs.Jobs.{adds_of, deletes_of, jobs, queries_of, share}
+use Rattle.load_gen.specs.Jobs.{adds_of, calls_of_share, deletes_of, jobs, queries_of, share}
 use Rattle.load_gen.specs.Summary.{results_of}
-use Rattle.load_laws.proofs.EventCounts.{ends, events_of, few_events}
+use Rattle.load_laws.proofs.EventCounts.{ends}
+use Rattle.load_laws.proofs.FrontLemmas.{calls_in_front, idle_from_front}
 use Rattle.load_laws.proofs.Meetings.{parts_of_met}
-use Rattle.load_laws.proofs.PassTotals.{length_is_sum, total-below, total-weigh_by}
-use Rattle.load_laws.proofs.WorkerEvents.{calls_are_few, idle_in, own_of_load}
+use Rattle.load_laws.proofs.WorkerEvents.{load_is_unspent, own_of_load}
 use Rattle.load_laws.proofs.WorkersAnswered.{results_are_told, worker_is_answered}
 use Rattle.load_laws.specs.Replies.{result_in}
-use Rattle.load_laws.specs.Workers.{AreAnswered, HasMade, HasRoomFor, HaveMet, IsAnsweredAsTold, IsLoaded}
-
--- ---- how many events the workers made
-
-total-four : (f : ℕ → ℕ) (n : ℕ) → total (λ k. 4 * f k) n ≡ 4 * total f n
-total-four f zero = refl
-total-four f (suc n) = let lower = total-four f n in omega arith
-
--- workers that made their calls, found memory for each, and were not in each other's way made far too few events to spend the history
-few_events_of_workers : (limits : Limits) (docs words seed workers : ℕ) (history : List Event) (replies : ℕ → List Reply) → 0 < workers → docs ≤ MOST_DOCS →
-    IsLegal limits history → All (λ e. pass_of e < workers) history →
-    ((worker : ℕ) → worker < workers → HasMade limits history worker (jobs docs words seed workers worker) (replies worker)) → length history < 2 ^ 62
-few_events_of_workers limits docs words seed workers history replies some few legal no_other made =
-    let calls_of = λ (worker : ℕ). length (jobs docs words seed workers worker) in
-    let all : length history ≡ total (λ worker. events_of worker history) workers =
-    length_is_sum history ∙ sym (total-weigh_by (λ e. 1) workers history no_other) in
-    let each = total-below (λ worker. events_of worker history) (λ worker. 4 * length (jobs docs words seed workers worker)) workers one in
-    let four = total-four (λ worker. length (jobs docs words seed workers worker)) workers in
-    let calls = sum_by-total (λ worker. length (jobs docs words seed workers worker)) workers in
-    let few_calls = calls_are_few docs words seed workers some in
-    omega (arith, all, each, four, calls, few_calls, few)
-  where
-    one : (worker : ℕ) → worker < workers → events_of worker history ≤ 4 * length (jobs docs words seed workers worker)
-    one worker below =
-        let asked = jobs docs words seed workers worker in
-        let done = made worker below in
-        let events = few_events limits worker history legal (idle_in limits history worker asked (replies worker) done) in
-        let calls = (ends limits worker [] done.front asked (replies worker) tt done.run).few in
-        let seen = ap length (calls_in_front worker done.front history done.seen) in
-        omega (arith, events, calls, seen)
+use Rattle.load_laws.specs.Workers.{AreAnswered, Fronts, HasAsked, HasRoomFor, HaveMet, IsAnsweredAsTold, IsLoaded, KeepsToParts}
 
 -- ---- the calls that a pass made
 
@@ -100,114 +69,118 @@ same_last first second third other another last same one two =
 
 -- ---- a load that was put
 
--- Workers put a load to an engine with room for it, in which nothing was done before. The history goes on from what each of them has
--- seen, and no other pass has an event in it.
-module _ (limits : Limits) (docs words seed workers : ℕ) (before after : ℕ → List Event) (results : List (ℕ × ℕ)) (history : List Event)
+-- Workers that had seen nothing put a load to an engine with room for it. The history goes on from what each of them has seen since,
+-- and no other pass has an event in it.
+module _ (limits : Limits) (docs words seed workers : ℕ) (after : ℕ → List Event) (results : List (ℕ × ℕ)) (history : List Event)
     (some : 1 ≤ workers) (room : HasRoomFor limits docs) (legal : IsLegal limits history) (no_other : All (λ e. pass_of e < workers) history)
-    (nothing : (worker : ℕ) → before worker ≡ []) (seen : (worker : ℕ) → worker < workers → IsFrontOf worker (after worker) history)
-    (put : IsPut limits (documents docs words seed) workers before after results) where
+    (seen : (worker : ℕ) → worker < workers → IsFrontOf worker (after worker) history)
+    (put : IsPut limits (documents docs words seed) workers (λ _. []) after results) where
   abbrev texts : List (List ℕ)
   texts = documents docs words seed
 
+  abbrev fronts : ℕ → Fronts
+  fronts worker = (put.courses worker).fronts
+
   abbrev pub replies_to : ℕ → List Reply
-  replies_to worker = (put.courses worker).to_adds ++ (put.courses worker).to_deletes ++ (put.courses worker).to_queries
+  replies_to worker = (put.courses worker).to_adds ++ (put.courses worker).to_deletes ++ put.to_queries worker
 
-  asks : (worker : ℕ) → worker < workers → AsksShare (worker_of limits worker) (before worker) (after worker) texts workers (put.courses worker)
-  asks worker below = asks_share (worker_of limits worker) (before worker) (after worker) texts workers (put.courses worker) (put.puts worker below)
+  asks : (worker : ℕ) → worker < workers → AsksShare (worker_of limits worker) [] (after worker) texts workers (replies_to worker)
+  asks worker below =
+      asks_share (worker_of limits worker) [] (after worker) texts workers (put.courses worker) (put.to_queries worker) (put.come.each worker below) (put.asked worker below)
 
-  made : (worker : ℕ) → worker < workers → HasMade limits history worker (jobs docs words seed workers worker) (replies_to worker)
-  made worker below =
-      let asked = asks worker below in
+  has_asked : (worker : ℕ) → worker < workers → HasAsked limits history worker (jobs docs words seed workers worker) (replies_to worker)
+  has_asked worker below =
+      let share_asked = asks worker below in
       record {
-        front = asked.front;
-        seen = front_trans worker asked.front (after worker) history asked.seen (seen worker below);
-        run = subst (λ (h : List Event). Linear limits worker h asked.front (jobs docs words seed workers worker) (replies_to worker)) (nothing worker) asked.asked.run;
-        memory = asked.asked.memory;
+        front = share_asked.front;
+        seen = front_trans worker share_asked.front (after worker) history share_asked.seen (seen worker below);
+        run = share_asked.asked.run;
+        memory = share_asked.asked.memory;
       }
 
   few : length history < limits.events
   few =
-      let short = few_events_of_workers limits docs words seed workers history replies_to (omega (arith, some)) room.few legal no_other made in
-      omega (arith, short, room.events)
+      let unspent = load_is_unspent limits docs words seed workers history replies_to (omega (arith, some)) room.few legal no_other has_asked in
+      omega (arith, unspent, room.events)
 
   -- a worker's calls by the end of each part
   module _ (worker : ℕ) (below : worker < workers) where
-    course : Course
-    course = put.courses worker
-
-    puts : PutsShare (worker_of limits worker) (before worker) (after worker) texts workers (put.courses worker)
-    puts = put.puts worker below
+    comes : ComesToQueries (worker_of limits worker) [] texts workers (put.courses worker)
+    comes = put.come.each worker below
 
     before_after : IsPrefix (after worker) history
     before_after = front_grows worker (after worker) history (seen worker below)
 
-    before_met_deleted : IsPrefix (put.courses worker).met_deleted history
+    before_met_deleted : IsPrefix (fronts worker).met_deleted history
     before_met_deleted =
-        prefix_trans (put.courses worker).met_deleted (after worker) history
-        (linear-grows limits worker (put.courses worker).met_deleted (after worker) (queries_of workers worker) (put.courses worker).to_queries puts.queries.run) before_after
+        prefix_trans (fronts worker).met_deleted (after worker) history
+        (linear-grows limits worker (fronts worker).met_deleted (after worker) (queries_of workers worker) (put.to_queries worker) (put.asked worker below).run) before_after
 
-    before_deleted : IsPrefix (put.courses worker).deleted history
+    before_deleted : IsPrefix (fronts worker).deleted history
     before_deleted =
-        prefix_trans (put.courses worker).deleted (put.courses worker).met_deleted history
-        (front_grows worker (put.courses worker).deleted (put.courses worker).met_deleted puts.meets_deletes) before_met_deleted
+        prefix_trans (fronts worker).deleted (fronts worker).met_deleted history
+        (front_grows worker (fronts worker).deleted (fronts worker).met_deleted comes.meets_deletes) before_met_deleted
 
-    deleting : IsPrefix (put.courses worker).met_added (put.courses worker).deleted
+    deleting : IsPrefix (fronts worker).met_added (fronts worker).deleted
     deleting =
-        linear-grows limits worker (put.courses worker).met_added (put.courses worker).deleted (deletes_of texts workers worker) (put.courses worker).to_deletes puts.deletes.run
+        linear-grows limits worker (fronts worker).met_added (fronts worker).deleted (deletes_of texts workers worker) (put.courses worker).to_deletes comes.deletes.run
 
-    before_added : IsPrefix (put.courses worker).added history
+    before_added : IsPrefix (fronts worker).added history
     before_added =
-        prefix_trans (put.courses worker).added (put.courses worker).met_added history
-        (front_grows worker (put.courses worker).added (put.courses worker).met_added puts.meets_adds)
-        (prefix_trans (put.courses worker).met_added (put.courses worker).deleted history deleting before_deleted)
+        prefix_trans (fronts worker).added (fronts worker).met_added history
+        (front_grows worker (fronts worker).added (fronts worker).met_added comes.meets_adds)
+        (prefix_trans (fronts worker).met_added (fronts worker).deleted history deleting before_deleted)
 
-    by_added : own worker (put.courses worker).added ≡ adds_of texts workers worker
+    by_added : own worker (fronts worker).added ≡ adds_of texts workers worker
     by_added =
-        own_calls limits worker (before worker) (put.courses worker).added history (adds_of texts workers worker) (put.courses worker).to_adds puts.adds.run before_added few
-        puts.adds.memory
-        ∙ ap (λ (h : List Event). own worker h ++ adds_of texts workers worker) (nothing worker)
+        own_calls limits worker [] (fronts worker).added history (adds_of texts workers worker) (put.courses worker).to_adds comes.adds.run before_added few comes.adds.memory
 
-    by_met_added : own worker (put.courses worker).met_added ≡ adds_of texts workers worker
-    by_met_added = calls_in_front worker (put.courses worker).added (put.courses worker).met_added puts.meets_adds ∙ by_added
-
-    by_deleted : own worker (put.courses worker).deleted ≡ adds_of texts workers worker ++ deletes_of texts workers worker
+    by_deleted : own worker (fronts worker).deleted ≡ adds_of texts workers worker ++ deletes_of texts workers worker
     by_deleted =
-        own_calls limits worker (put.courses worker).met_added (put.courses worker).deleted history (deletes_of texts workers worker) (put.courses worker).to_deletes
-        puts.deletes.run before_deleted few puts.deletes.memory
-        ∙ ap (λ cs. cs ++ deletes_of texts workers worker) by_met_added
+        own_calls limits worker (fronts worker).met_added (fronts worker).deleted history (deletes_of texts workers worker) (put.courses worker).to_deletes
+        comes.deletes.run before_deleted few comes.deletes.memory
+        ∙ ap (λ cs. cs ++ deletes_of texts workers worker)
+        (calls_in_front worker (fronts worker).added (fronts worker).met_added comes.meets_adds ∙ by_added)
 
-    by_met_deleted : own worker (put.courses worker).met_deleted ≡ adds_of texts workers worker ++ deletes_of texts workers worker
-    by_met_deleted = calls_in_front worker (put.courses worker).deleted (put.courses worker).met_deleted puts.meets_deletes ∙ by_deleted
-
-    by_end : own worker history ≡ adds_of texts workers worker ++ deletes_of texts workers worker ++ queries_of workers worker
+    by_end : own worker history ≡ calls_of_share texts workers worker
     by_end =
         calls_in_front worker (after worker) history (seen worker below)
-        ∙ own_calls limits worker (put.courses worker).met_deleted (after worker) history (queries_of workers worker) (put.courses worker).to_queries puts.queries.run
-        before_after few puts.queries.memory
-        ∙ ap (λ cs. cs ++ queries_of workers worker) by_met_deleted
+        ∙ own_calls limits worker (fronts worker).met_deleted (after worker) history (queries_of workers worker) (put.to_queries worker) (put.asked worker below).run
+        before_after few (put.asked worker below).memory
+        ∙ ap (λ cs. cs ++ queries_of workers worker)
+        (calls_in_front worker (fronts worker).deleted (fronts worker).met_deleted comes.meets_deletes ∙ by_deleted)
 
-  met : HaveMet texts workers history (λ worker. (put.courses worker).added) (λ worker. (put.courses worker).met_added) (λ worker. (put.courses worker).deleted)
-      (λ worker. (put.courses worker).met_deleted)
-  met = record {
-    adds = by_added;
-    adds_alone = by_met_added;
-    deletes = by_deleted;
-    deletes_alone = by_met_deleted;
-    queries = by_end;
-    met_adds = put.met_adds;
-    goes_on = deleting;
-    met_deletes = put.met_deletes;
-    seen = before_met_deleted;
-  }
+    idle_added : IsIdle worker (fronts worker).added
+    idle_added = (ends limits worker [] (fronts worker).added (adds_of texts workers worker) (put.courses worker).to_adds tt comes.adds.run).idle
+
+    idle_deleted : IsIdle worker (fronts worker).deleted
+    idle_deleted =
+        (ends limits worker (fronts worker).met_added (fronts worker).deleted (deletes_of texts workers worker) (put.courses worker).to_deletes
+        (idle_from_front worker (fronts worker).added (fronts worker).met_added comes.meets_adds idle_added) comes.deletes.run).idle
+
+    keeps : KeepsToParts texts workers worker history (fronts worker)
+    keeps = record {
+      adds = by_added;
+      idle_after_adds = idle_added;
+      meets_adds = comes.meets_adds;
+      goes_on = deleting;
+      deletes = by_deleted;
+      idle_after_deletes = idle_deleted;
+      meets_deletes = comes.meets_deletes;
+      seen = before_met_deleted;
+      calls = by_end;
+    }
+
+  met : HaveMet texts workers history fronts
+  met = record { keeps = keeps; met_adds = put.come.met_adds; met_deletes = put.come.met_deletes }
 
   pub is_loaded : IsLoaded limits docs words seed workers history replies_to
   is_loaded = record {
     some = omega (arith, some);
     legal = legal;
     no_other = no_other;
-    parts = parts_of_met texts workers history (λ worker. (put.courses worker).added) (λ worker. (put.courses worker).met_added) (λ worker. (put.courses worker).deleted)
-        (λ worker. (put.courses worker).met_deleted) (omega (arith, some)) met;
-    made = made;
+    parts = parts_of_met texts workers history fronts (omega (arith, some)) met;
+    asked = has_asked;
   }
 
   pub calls_are : (worker : ℕ) → worker < workers → own worker history ≡ jobs docs words seed workers worker
@@ -222,10 +195,10 @@ module _ (limits : Limits) (docs words seed workers : ℕ) (before after : ℕ �
   told_by worker below =
       let told = are_answered worker below in
       let c = put.courses worker in
-      let way = puts worker below in
-      let adds = linear-answered limits worker (before worker) c.added (adds_of texts workers worker) c.to_adds way.adds.run in
-      let deletes = linear-answered limits worker c.met_added c.deleted (deletes_of texts workers worker) c.to_deletes way.deletes.run in
-      let last = same_last c.to_adds c.to_deletes c.to_queries told.to_adds told.to_deletes told.to_queries told.whole
+      let way = comes worker below in
+      let adds = linear-answered limits worker [] (fronts worker).added (adds_of texts workers worker) c.to_adds way.adds.run in
+      let deletes = linear-answered limits worker (fronts worker).met_added (fronts worker).deleted (deletes_of texts workers worker) c.to_deletes way.deletes.run in
+      let last = same_last c.to_adds c.to_deletes (put.to_queries worker) told.to_adds told.to_deletes told.to_queries told.whole
       (sym adds ∙ answered_count (adds_of texts workers worker) told.to_adds told.added)
       (sym deletes ∙ answered_count (deletes_of texts workers worker) told.to_deletes told.deleted) in
       put.results_are worker below ∙ ap (map result_in) last ∙ told.results

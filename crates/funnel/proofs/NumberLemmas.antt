@@ -12,7 +12,7 @@ use Rattle.clap.specs.Values.{IsSignedIn, read_as}
 use Rattle.clap.specs.Walk.{Row, Rule, Text, one_of, reading_by, rows_of}
 use Rattle.clap.specs.declared.parser.matches.Found.{Found}
 use Rattle.clap.proofs.WalkLemmas.{one_text-rows}
-use Rattle.funnel.specs.Commands.{HasLoadNumbers, HasNumber, HasServeNumbers, IsLoadInRange, IsServeInRange, load_of, number_of, serve_of}
+use Rattle.funnel.specs.Commands.{HasLoadNumbers, HasNumber, HasServeNumbers, IsLoadInRange, IsServeInRange, load_of, option_number, serve_of}
 use Rattle.funnel.specs.declared.command.LoadCommand.{LoadCommand}
 use Rattle.funnel.specs.declared.command.ServeCommand.{ServeCommand}
 use Rattle.funnel_model.specs.declared.config.TheConstants.{MOST_PASSES}
@@ -69,17 +69,17 @@ number_read G bits low high text None fits read only is =
 
 -- what `get_one` reads of an option that has a number
 pub option_read : {E : Type 0} (G : List ℕ → Result ℕ E → Type 0) (bits low high : ℕ) (id : Text) (found : Found) (r : Option ℕ) → high < 2 ^ bits → HasNumber low high id (rows_of found)
-    → ((t : List ℕ) → one_text found id ≡ Some t → ReadsOne G t r) → ((u : List ℕ) (x : Result ℕ E) → G u x → ParsesUnsigned bits 10 u x) → r ≡ Some (number_of id (rows_of found))
+    → ((t : List ℕ) → one_text found id ≡ Some t → ReadsOne G t r) → ((u : List ℕ) (x : Result ℕ E) → G u x → ParsesUnsigned bits 10 u x) → r ≡ Some (option_number id (rows_of found))
 option_read G bits low high id found r fits has reads only = go (one_of id (rows_of found)) refl has
   where
-    go : (o : Option Text) → one_of id (rows_of found) ≡ o → IsSomeAnd o (IsNumber low high) → r ≡ Some (number_of id (rows_of found))
+    go : (o : Option Text) → one_of id (rows_of found) ≡ o → IsSomeAnd o (IsNumber low high) → r ≡ Some (option_number id (rows_of found))
     go None is h = absurd h
     go (Some t) is h =
         number_read G bits low high t r fits (reads t (one_text-rows found id ∙ is)) only h
         ∙ ap (λ (o : Option Text). Some (digits_value 10 (without_leading_plus (unwrap_or o [])))) (sym is)
 
 -- the number that an option has lies in its range
-number_in_range : (low high : ℕ) (id : Text) (rows : List Row) → HasNumber low high id rows → (low ≤ number_of id rows) × (number_of id rows ≤ high)
+number_in_range : (low high : ℕ) (id : Text) (rows : List Row) → HasNumber low high id rows → (low ≤ option_number id rows) × (option_number id rows ≤ high)
 number_in_range low high id rows has = go (one_of id rows) has
   where
     go : (o : Option Text) → IsSomeAnd o (IsNumber low high)
@@ -102,13 +102,13 @@ load_in_range found has =
     record { some_docs = docs.0; few_docs = docs.1; some_workers = workers.0; few_workers = workers.1; few_words = words.1 }
 
 -- a serve with the numbers of its options is the one that was found
-pub serve_is : (found : List Row) (port workers connections : ℕ) → port ≡ number_of (codes "port") found → workers ≡ number_of (codes "workers") found →
-    connections ≡ number_of (codes "connections") found →
+pub serve_is : (found : List Row) (port workers connections : ℕ) → port ≡ option_number (codes "port") found → workers ≡ option_number (codes "workers") found →
+    connections ≡ option_number (codes "connections") found →
     ◌≡◌ {A = ServeCommand} (record { port = port; workers = workers; connections = connections }) (serve_of found)
 serve_is found port workers connections p w c = λ i. record { port = p i; workers = w i; connections = c i }
 
 -- and so is a load
-pub load_is : (found : List Row) (docs workers words seed : ℕ) → docs ≡ number_of (codes "docs") found → workers ≡ number_of (codes "workers") found →
-    words ≡ number_of (codes "words") found → seed ≡ number_of (codes "seed") found →
+pub load_is : (found : List Row) (docs workers words seed : ℕ) → docs ≡ option_number (codes "docs") found → workers ≡ option_number (codes "workers") found →
+    words ≡ option_number (codes "words") found → seed ≡ option_number (codes "seed") found →
     ◌≡◌ {A = LoadCommand} (record { docs = docs; workers = workers; words = words; seed = seed }) (load_of found)
 load_is found docs workers words seed d k w s = λ i. record { docs = d i; workers = k i; words = w i; seed = s i }

@@ -13,15 +13,15 @@ use Rattle.funnel_model.specs.Legal.{IsLegal, Limits}
 use Rattle.slice_rule.specs.Pools.{PoolId}
 use Rattle.slice_rule.specs.Seats.{PassState, new_pass_state}
 use Rattle.funnel.proofs.Alone.{none_with}
-use Rattle.funnel.specs.Serving.{HasSeen, OnlyFirstUsed, new_passes}
+use Rattle.funnel.specs.Serving.{FirstHasSeen, OnlyFirstUsed, new_passes}
 
 abbrev pub number_of : PassState → ℕ
 number_of pass = pass.number
 
-others_saw_nothing : (pool : PoolId) (front : List Event) (from count : ℕ) → 1 ≤ from → All (HasSeen front) (new_passes pool from count)
-others_saw_nothing pool front from zero some = All-nil (HasSeen front)
+others_saw_nothing : (pool : PoolId) (front : List Event) (from count : ℕ) → 1 ≤ from → All (FirstHasSeen front) (new_passes pool from count)
+others_saw_nothing pool front from zero some = All-nil (FirstHasSeen front)
 others_saw_nothing pool front from (suc count) some =
-    All-cons (HasSeen front) (new_pass_state pool from) (new_passes pool (from + 1) count)
+    All-cons (FirstHasSeen front) (new_pass_state pool from) (new_passes pool (from + 1) count)
     (record { first = λ is. absurd (omega (arith, is)); other = λ _. refl }) (others_saw_nothing pool front (from + 1) count (omega arith))
 
 pub new_pass_rests : (pool : PoolId) (number : ℕ) → IsResting pool (new_pass_state pool number)
@@ -61,7 +61,7 @@ only_first_used pool others all last some counted new back rests number =
     let count = pool.config.passes in
     let all_are : all ≡ new_passes pool 1 (count - 1) ++ last ∷ [] = back ∙ ap (λ xs. xs ++ last ∷ []) new in
     record {
-      seen = subst (All (HasSeen last.front)) (sym all_are) (All-push (HasSeen last.front) (new_passes pool 1 (count - 1)) last
+      seen = subst (All (FirstHasSeen last.front)) (sym all_are) (All-push (FirstHasSeen last.front) (new_passes pool 1 (count - 1)) last
           (others_saw_nothing pool last.front 1 (count - 1) (omega arith)) (record { first = λ _. refl; other = λ positive. absurd (omega (arith, number, positive)) }));
       rest = subst (All (IsResting pool)) (sym all_are) (All-push (IsResting pool) (new_passes pool 1 (count - 1)) last (others_rest pool 1 (count - 1)) rests);
       every = λ pass small. subst (λ xs. Contains (map number_of xs) pass) (sym all_are) (all_are_there pool count pass last number (omega arith));

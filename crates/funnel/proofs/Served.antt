@@ -16,14 +16,14 @@ use Rattle.funnel_model.specs.Events.{pass_of}
 use Rattle.funnel_model.specs.History.{IsFrontOf}
 use Rattle.funnel_model.specs.Legal.{IsLegal, Limits}
 use Rattle.funnel_server.specs.Gates.{GateState}
-use Rattle.funnel_server.specs.Workers.{IsReady, WorkerState, Works}
+use Rattle.funnel_server.specs.Workers.{HasMetNoFault, WorkerState, Works}
 use Rattle.row_layout.specs.Sound.{IsSound}
 use Rattle.slice_rule.specs.Pools.{PoolId}
 use Rattle.slice_rule.specs.Seats.{PassState, new_pass_state}
 use Rattle.funnel.proofs.Passes.{new_pass_rests, number_of, of_first_passes, others_are_there, others_rest}
 use Rattle.funnel.specs.declared.ended.Why.{Why}
 use Rattle.funnel.specs.Runs.{limits_by}
-use Rattle.funnel.specs.Served.{AllWork, HasServed, new_worker, new_workers, why_of_workers}
+use Rattle.funnel.specs.Served.{AllWork, HaveAllServed, new_worker, new_workers, why_of_workers}
 use Rattle.funnel.specs.Serving.{new_passes}
 use Rattle.funnel.specs.Workers.{AreEquipped, ComeBack, GaveBack, HaveWorked, stand_of, stand_of_worker}
 
@@ -124,10 +124,10 @@ pub workers_count : {G : Type 0} (state : G → GateState) (limits : Limits) (co
 workers_count {G} state limits connections gates fresh workers made same =
     same ∙ ap length made ∙ length-new_workers limits connections 0 (map state gates) ∙ length-map gates state
 
-pub all_ready : (limits : Limits) (connections pass : ℕ) (gates : List GateState) → All IsReady (new_workers limits connections pass gates)
-all_ready limits connections pass [] = All-nil IsReady
+pub all_ready : (limits : Limits) (connections pass : ℕ) (gates : List GateState) → All HasMetNoFault (new_workers limits connections pass gates)
+all_ready limits connections pass [] = All-nil HasMetNoFault
 all_ready limits connections pass (gate ∷ gates) =
-    All-cons IsReady (new_worker limits connections pass gate) (new_workers limits connections (pass + 1) gates) (record { no_fault = refl; no_memory = refl })
+    All-cons HasMetNoFault (new_worker limits connections pass gate) (new_workers limits connections (pass + 1) gates) (record { no_fault = refl; no_memory = refl })
     (all_ready limits connections (pass + 1) gates)
 
 -- ---- the workers work
@@ -305,7 +305,7 @@ module _ (pool : PoolId) (connections : ℕ) (before after : List GateState) (wh
 pub has_served : (pool : PoolId) (config : Config) (connections : ℕ) (before after : List GateState) (why : Why) (passes : List PassState) (closed : ClosedState) →
     pool.limits ≡ limits_by config → pool.config ≡ config → pool.limits.passes ≡ pool.config.passes → length before ≤ pool.config.passes →
     HaveWorked pool connections before after why passes → IsLegal pool.limits closed.history → IsSound pool.config closed.history → All (EndsIn closed.history) passes →
-    HasServed config connections before after why closed
+    HaveAllServed config connections before after why closed
 has_served pool config connections before after why passes closed limits_are config_is counted enough worked legal sound ends = record {
   legal = subst (λ (l : Limits). IsLegal l closed.history) limits_are legal;
   sound = subst (λ (k : Config). IsSound k closed.history) config_is sound;

@@ -98,22 +98,22 @@ pub record HasNumbers (found : Text × List Row) : Type 0 where
   pub load : found.0 ≡ codes "load" → HasLoadNumbers found.1
 
 -- the number that an option has: the value that was given, or else its default
-abbrev pub number_of : Text → List Row → ℕ
-number_of name found = digits_value 10 (without_leading_plus (unwrap_or (one_of name found) []))
+abbrev pub option_number : Text → List Row → ℕ
+option_number name found = digits_value 10 (without_leading_plus (unwrap_or (one_of name found) []))
 
 abbrev pub serve_of : List Row → ServeCommand
 serve_of found = record {
-  port = number_of (codes "port") found;
-  workers = number_of (codes "workers") found;
-  connections = number_of (codes "connections") found;
+  port = option_number (codes "port") found;
+  workers = option_number (codes "workers") found;
+  connections = option_number (codes "connections") found;
 }
 
 abbrev pub load_of : List Row → LoadCommand
 load_of found = record {
-  docs = number_of (codes "docs") found;
-  workers = number_of (codes "workers") found;
-  words = number_of (codes "words") found;
-  seed = number_of (codes "seed") found;
+  docs = option_number (codes "docs") found;
+  workers = option_number (codes "workers") found;
+  words = option_number (codes "words") found;
+  seed = option_number (codes "seed") found;
 }
 
 -- the numbers of a serve lie in their ranges

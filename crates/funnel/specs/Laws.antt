@@ -1,8 +1,10 @@
 -- What the laws of programs say.
-use Rattle.std.specs.Prelude.{◌≡◌, ◌≢◌, ◌<◌, ⊤, ℕ, true, false, List, [], ◌∷◌, length, Option, Some, None, Ok}
-use Rattle.std.specs.Option.{IsSomeAnd}
+use Rattle.std.specs.Prelude.{◌≡◌, ◌≢◌, ◌<◌, ◌≤◌, ◌⊎◌, ⊤, ℕ, true, false, List, [], ◌∷◌, ◌++◌, length, take, drop, All, Option, Some, None, Ok}
+use Rattle.std.specs.List.{AllZip, flat_map}
+use Rattle.std.specs.Option.{IsSomeAnd, option_map}
 use Rattle.engine.specs.Engines.{ClosedState}
 use Rattle.funnel_io.specs.Counts.{Rose}
+use Rattle.funnel_io.specs.Served.{Served}
 use Rattle.funnel_io.specs.Streams.{Incoming, Outgoing, Writes}
 use Rattle.funnel_io.specs.declared.end.End.{End}
 use Rattle.funnel_io.specs.declared.end.End.TheVariants as end_of
@@ -12,7 +14,10 @@ use Rattle.funnel_model.specs.declared.config.Config.{Config}
 use Rattle.funnel_model.specs.declared.event.Event.{Event}
 use Rattle.funnel_model.specs.declared.reply.Reply.{Reply}
 use Rattle.funnel_model.specs.declared.reply.Reply.TheVariants as reply
-use Rattle.funnel_server.specs.Gates.{GateState}
+use Rattle.funnel_model.specs.History.{own}
+use Rattle.funnel_server.specs.Gates.{GateState, Sides}
+use Rattle.funnel_server.specs.Laws.{HasCause, HasFewBytes, HasSeen, MakesCalls}
+use Rattle.funnel_server.specs.Workers.{Visit, WorkerState}
 use Rattle.funnel_stats.specs.Configurations.{configuration}
 use Rattle.line_proto.specs.Forms.{Item, items}
 use Rattle.line_proto.specs.Services.{Caller}
@@ -25,7 +30,7 @@ use Rattle.funnel.specs.LoadRuns.{IsWholeLoad}
 use Rattle.funnel.specs.Misfits.{misfit_of}
 use Rattle.funnel.specs.Programs.{Streams}
 use Rattle.funnel.specs.Runs.{IsOfFirst, first_caller, limits_by}
-use Rattle.funnel.specs.Served.{HasServed}
+use Rattle.funnel.specs.Served.{AllWork, HaveAllServed}
 use Rattle.funnel.specs.declared.command.Command.{Command}
 use Rattle.funnel.specs.declared.command.LoadCommand.{LoadCommand}
 use Rattle.session.specs.declared.serving.TheConstants.{MOST_BYTES}
@@ -40,7 +45,7 @@ NoneFailed (gate ∷ gates) (later ∷ laters) = (Rose gate.faults later.faults 
 
 -- no read of the configuration or the input failed, no write of the output, and no call of a gate; what became of connections is
 -- not asked
-pub record NoFault (before after : Streams) : Type 0 where
+pub record NoStreamFailed (before after : Streams) : Type 0 where
   pub config : Rose before.config.faults after.config.faults → ⊥
   pub input : Rose before.input.faults after.input.faults → ⊥
   pub output : Rose before.output.faults after.output.faults → ⊥
@@ -108,12 +113,60 @@ CompletesLoad config load before after why_of.Done closed =
 CompletesLoad config load before after why_of.Memory closed = ⊤
 CompletesLoad config load before after _ closed = ⊥
 
+-- the calls of the pass in the history are those that these sessions made, one after another, and all that they saw are fronts of it
+pub record CallsAreOfSessions (caller : Caller) (visits : List Visit) (history : List Event) : Type 0 where
+  pub made : List (List Call)
+  pub sessions : AllZip (MakesCalls caller) visits made
+  pub calls : own caller.pass history ≡ flat_map (λ calls. calls) made
+  pub seen : All (HasSeen history) visits
+
+-- so it is with the pass of each worker
+abbrev pub AllCallsAreOfSessions : (history : List Event) (befores afters : List WorkerState) → AllWork befores afters → Type 0
+AllCallsAreOfSessions history [] [] work = ⊤
+AllCallsAreOfSessions history (before ∷ befores) (after ∷ afters) work =
+    CallsAreOfSessions before.caller work.0.visits history × AllCallsAreOfSessions history befores afters work.1
+AllCallsAreOfSessions history [] (after ∷ afters) work = ⊥
+AllCallsAreOfSessions history (before ∷ befores) [] work = ⊥
+
+-- no read and no write of a connection failed, by what its gate keeps
+pub record KeepsNoFault (served : Served) : Type 0 where
+  pub reads : served.read_faults ≡ 0
+  pub writes : served.write_faults ≡ 0
+
+-- its session answered all lines of its input, or found no memory to begin
+abbrev pub KeepsGoodEnd : Served → Type 0
+KeepsGoodEnd served = (served.session_end ≡ end_of.Done) ⊎ (served.session_end ≡ end_of.Memory)
+
+-- what a gate keeps of a connection has its cause; and where the connection has few bytes and no fault, its end is good
+pub record IsKeptOf (sides : Sides) (served : Served) : Type 0 where
+  pub cause : HasCause sides served
+  pub good : HasFewBytes sides → KeepsNoFault served → KeepsGoodEnd served
+
+-- A gate had connections served, no more than may be, and keeps an end for each. Where it tells which connections wait, they are the first
+-- of these, as many as may be, and the others still wait. Where the serve is done, each found memory
+pub record GateIsServed (connections : ℕ) (why : Why) (before after : GateState) : Type 0 where
+  pub gained : List Served
+  pub kept : after.served ≡ option_map (λ earlier. earlier ++ gained) before.served
+  pub most : length gained ≤ connections
+  pub first : (waiting : List Sides) → before.waiting ≡ Some waiting → AllZip IsKeptOf (take connections waiting) gained
+  pub left : (waiting : List Sides) → before.waiting ≡ Some waiting → after.waiting ≡ Some (drop connections waiting)
+  pub memory : why ≡ why_of.Done → All (λ served. served.session_end ≢ end_of.Memory) gained
+
+-- so it is with a gate unless a call of it failed
+abbrev pub IsServedUnlessFailed : ℕ → Why → GateState → GateState → Type 0
+IsServedUnlessFailed connections why before after = (Rose before.faults after.faults → ⊥) → GateIsServed connections why before after
+
+-- the gates were served by one engine, and each of them as far as it may be
+abbrev pub ServesAllGates : Config → ℕ → List GateState → List GateState → Why → ClosedState → Type 0
+ServesAllGates config connections before after why closed =
+    HaveAllServed config connections before after why closed × AllZip (GateIsServed connections why) before after
+
 -- a serve is done when each gate's connections had their sessions, up to the number that was stated, each to its own end, and ends
--- otherwise for want of memory alone
+-- otherwise for want of memory alone: that of a session, and all had theirs, or that of the engine or its workers, and no gate was called
 abbrev pub CompletesServe : Config → ℕ → List GateState → List GateState → Why → Option ClosedState → Type 0
-CompletesServe config connections before after why_of.Done closed =
-    IsSomeAnd closed (HasServed config connections before after why_of.Done)
-CompletesServe config connections before after why_of.Memory closed = ⊤
+CompletesServe config connections before after why_of.Done (Some closed) = ServesAllGates config connections before after why_of.Done closed
+CompletesServe config connections before after why_of.Memory (Some closed) = ServesAllGates config connections before after why_of.Memory closed
+CompletesServe config connections before after why_of.Memory None = after ≡ before
 CompletesServe config connections before after _ closed = ⊥
 
 -- the program did all, or memory ran out, or as many bytes were read as may be

@@ -1,16 +1,15 @@
 -- A load: the calls of its workers, each by a pass of its own of one new engine, and the summary.
-use Rattle.std.specs.Prelude.{◌≡◌, ◌≢◌, ◌<◌, ℕ, List, [], ◌++◌, true, All, Option, Some, None, ◌⊎◌}
+use Rattle.std.specs.Prelude.{◌≡◌, ◌<◌, ℕ, List, [], true, All, Option, Some, None, ◌⊎◌}
 use Rattle.engine.specs.Engines.{ClosedState}
 use Rattle.funnel_io.specs.Counts.{counted}
 use Rattle.funnel_io.specs.Streams.{Outgoing, Writes, WritesPart}
-use Rattle.funnel_model.specs.declared.call.Call.{Call}
 use Rattle.funnel_model.specs.declared.config.Config.{Config}
 use Rattle.funnel_model.specs.declared.event.Event.{Event}
 use Rattle.funnel_model.specs.declared.reply.Reply.{Reply}
 use Rattle.funnel_model.specs.Events.{pass_of}
 use Rattle.funnel_model.specs.History.{IsFrontOf, own}
-use Rattle.funnel_model.specs.Legal.{IsLegal, Limits}
-use Rattle.funnel_server.specs.Loads.{StopsAfter, worker_of}
+use Rattle.funnel_model.specs.Legal.{IsLegal}
+use Rattle.funnel_server.specs.Loads.{IsCutShort}
 use Rattle.load_gen.specs.Documents.{documents}
 use Rattle.load_gen.specs.Jobs.{jobs}
 use Rattle.load_gen.specs.Summary.{summary}
@@ -38,24 +37,16 @@ pub record IsWholeLoad (config : Config) (load : LoadCommand) (closed : ClosedSt
   pub answers : (worker : ℕ) → worker < load.workers →
       IsAnsweredAsTold (documents load.docs load.words load.seed) load.workers worker (replies worker)
 
--- a worker made the first of its calls, went no further with those that are left, and made no event since
-pub record HasStopped (limits : Limits) (history : List Event) (worker : ℕ) (made left : List Call) : Type 0 where
-  pub front : List Event
-  pub seen : IsFrontOf worker front history
-  pub stops : StopsAfter (worker_of limits worker) [] front made left
-
--- memory ran out: each worker made the first calls of its share and went no further, and some calls are left
+-- Some calls of the load are left: no worker made an event, or each asked the first of its adds, or each asked all its adds and all its
+-- deletes and then the first of its queries; for these it found memory. The history goes on from each worker's front without an event
+-- of this worker
 pub record IsPartOfLoad (config : Config) (load : LoadCommand) (closed : ClosedState) : Type 0 where
   pub legal : IsLegal (limits_by config) closed.history
   pub sound : IsSound config closed.history
   pub no_other : All (λ e. pass_of e < load.workers) closed.history
-  pub made : ℕ → List Call
-  pub left : ℕ → List Call
-  pub calls : (worker : ℕ) → worker < load.workers → jobs load.docs load.words load.seed load.workers worker ≡ made worker ++ left worker
-  pub stops : (worker : ℕ) → worker < load.workers → HasStopped (limits_by config) closed.history worker (made worker) (left worker)
-  pub stopped : ℕ
-  pub is_worker : stopped < load.workers
-  pub some_left : left stopped ≢ []
+  pub fronts : ℕ → List Event
+  pub seen : (worker : ℕ) → worker < load.workers → IsFrontOf worker (fronts worker) closed.history
+  pub cut : IsCutShort (limits_by config) (documents load.docs load.words load.seed) load.workers (λ _. []) fronts
 
 -- A load is made, and its summary told. For want of memory it may end before it is begun, with some of its calls, or where its
 -- summary is to be told; then nothing is written.

@@ -40,6 +40,7 @@ pub record EndsAtConfig (words : List (List ℕ)) (before after : Streams) (why 
   pub fault : ConfigFault
   pub read : IsConfigRead (Err fault) before.config after.config
   pub faults : after.config.faults ≡ counted (is_failed_read fault) before.config.faults
+  pub others : after ≡ record before { config = after.config }
   pub cause : why ≡ why_of_config fault
   pub none : closed ≡ None
 
@@ -56,6 +57,7 @@ pub record EndsAtMisfit (words : List (List ℕ)) (before after : Streams) (why 
   pub configured : IsConfigured words before after command config
   pub misfit : Misfit
   pub misfits : misfit_of command (length before.gates) config ≡ Some misfit
+  pub others : after ≡ record before { config = after.config }
   pub cause : why ≡ why_of.Misfit misfit
   pub none : closed ≡ None
 
@@ -63,6 +65,7 @@ pub record EndsAtMisfit (words : List (List ℕ)) (before after : Streams) (why 
 pub record EndsAfterRun (words : List (List ℕ)) (before after : Streams) (why : Why) (closed : Option ClosedState) : Type 0 where
   pub config : Config
   pub configured : IsConfigured words before after command.Run config
+  pub gates : after.gates ≡ before.gates
   pub ran : RanOrNot config before.input after.input before.output after.output why closed
 
 -- the serve that the words ask for fits, and the connections of the gates are answered by an engine with the configuration
@@ -82,6 +85,7 @@ pub record EndsAfterLoad (words : List (List ℕ)) (before after : Streams) (why
   pub configured : IsConfigured words before after (command.Load load) config
   pub fits : misfit_of (command.Load load) (length before.gates) config ≡ None
   pub input : after.input ≡ before.input
+  pub gates : after.gates ≡ before.gates
   pub ends : EndsLoad config load before.output after.output why closed
 
 -- a program ends at its words, or at its configuration, or at numbers that don't fit, or after its run, its serve or its load

@@ -44,7 +44,7 @@ why_of_workers workers =
 
 -- each gate had a worker, and all workers had their sessions in one history, which goes on from what each has seen without a
 -- further event of its pass
-pub record HasServed (config : Config) (connections : ℕ) (before after : List GateState) (why : Why) (closed : ClosedState) : Type 0 where
+pub record HaveAllServed (config : Config) (connections : ℕ) (before after : List GateState) (why : Why) (closed : ClosedState) : Type 0 where
   pub legal : IsLegal (limits_by config) closed.history
   pub sound : IsSound config closed.history
   pub passes : All (λ e. pass_of e < length before) closed.history
@@ -56,5 +56,5 @@ pub record HasServed (config : Config) (connections : ℕ) (before after : List 
 
 -- the gates were served, or there was no memory for the engine or for its workers, and no gate was called
 abbrev pub EndsServe : Config → ℕ → List GateState → List GateState → Why → Option ClosedState → Type 0
-EndsServe config connections before after why (Some closed) = HasServed config connections before after why closed
+EndsServe config connections before after why (Some closed) = HaveAllServed config connections before after why closed
 EndsServe config connections before after why None = (why ≡ why_of.Memory) × (after ≡ before)

@@ -11,13 +11,13 @@ abbrev pub new_passes : PoolId → ℕ → ℕ → List PassState
 new_passes pool from count = map (new_pass_state pool) (range_with_len from count)
 
 -- the first pass has seen this history, and each other one nothing
-pub record HasSeen (front : List Event) (pass : PassState) : Type 0 where
+pub record FirstHasSeen (front : List Event) (pass : PassState) : Type 0 where
   pub first : pass.number ≡ 0 → pass.front ≡ front
   pub other : 0 < pass.number → pass.front ≡ []
 
 -- only the first pass was used, and has seen this history; all passes are there and rest
 pub record OnlyFirstUsed (pool : PoolId) (front : List Event) (passes : List PassState) : Type 0 where
-  pub seen : All (HasSeen front) passes
+  pub seen : All (FirstHasSeen front) passes
   pub rest : All (IsResting pool) passes
   pub every : (pass : ℕ) → pass < pool.limits.passes → Contains (map (λ (seat : PassState). seat.number) passes) pass
 

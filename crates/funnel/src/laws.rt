@@ -1,30 +1,34 @@
 //! Laws of programs, over their definitions alone. Each is the contract of a function that does nothing.
-ghost use Rattle.std.specs.Prelude.{ℕ, List, [], Option};
+ghost use Rattle.std.specs.Prelude.{◌≡◌, ℕ, List, [], All, Option, false};
+ghost use Rattle.std.specs.List.{AllZip};
 ghost use Rattle.engine.specs.Engines.{ClosedState};
 ghost use Rattle.funnel_io.specs.Streams.{Incoming, Outgoing};
 ghost use Rattle.funnel_model.specs.declared.config.Config.{Config};
+ghost use Rattle.funnel_server.specs.Gates.{GateState};
 ghost use Rattle.funnel.specs.declared.command.Command.TheVariants as command;
 ghost use Rattle.funnel.specs.declared.command.LoadCommand.{LoadCommand};
 ghost use Rattle.funnel.specs.declared.command.ServeCommand.{ServeCommand};
 ghost use Rattle.funnel.specs.declared.ended.Why.{Why};
-ghost use Rattle.funnel.specs.Laws.{CompletesLoad, CompletesRun, CompletesServe, EndsWell, IsAccepted, NoFault, RepliesAreDue, TellsFew};
+ghost use Rattle.funnel.specs.Laws.{AllCallsAreOfSessions, CompletesLoad, CompletesRun, CompletesServe, EndsWell, IsAccepted, IsServedUnlessFailed, NoStreamFailed, RepliesAreDue, TellsFew};
 ghost use Rattle.funnel.specs.Programs.{Ends, Streams};
 ghost use Rattle.funnel.specs.Runs.{Ran, first_caller, limits_by};
+ghost use Rattle.funnel.specs.Served.{HaveAllServed, new_workers};
 
 /// Let the words be a command, the configuration valid, the command fit it, and no read, no write and no call of a gate fail.
 /// Then a run whose input has fewer bytes than it may take answers all its lines, a serve gives each connection of its gates a session,
-/// and a load is made and told, where none of them runs out of memory. A longer run ends at its limit of bytes.
+/// and a load is made and told, where none of them runs out of memory. A longer run ends at its limit of bytes. A serve that runs out
+/// of memory gave each connection its session too, some of which found none, or called no gate.
 pub fn programs_without_a_fault_end_well()
     ensures run { (words : List (List ℕ)) (before after : Streams) (why : Why) (closed : Option ClosedState) (config : Config) (bytes : List ℕ) →
-        Ends words before after why closed → NoFault before after → IsAccepted words before command.Run config →
+        Ends words before after why closed → NoStreamFailed before after → IsAccepted words before command.Run config →
         TellsFew before.input bytes → CompletesRun config bytes before.output after.output why closed }
     ensures any_run { (words : List (List ℕ)) (before after : Streams) (why : Why) (closed : Option ClosedState) (config : Config) →
-        Ends words before after why closed → NoFault before after → IsAccepted words before command.Run config → EndsWell why }
+        Ends words before after why closed → NoStreamFailed before after → IsAccepted words before command.Run config → EndsWell why }
     ensures serve { (words : List (List ℕ)) (before after : Streams) (why : Why) (closed : Option ClosedState) (config : Config) (serve : ServeCommand) →
-        Ends words before after why closed → NoFault before after → IsAccepted words before (command.Serve serve) config →
+        Ends words before after why closed → NoStreamFailed before after → IsAccepted words before (command.Serve serve) config →
         CompletesServe config serve.connections before.gates after.gates why closed }
     ensures load { (words : List (List ℕ)) (before after : Streams) (why : Why) (closed : Option ClosedState) (config : Config) (load : LoadCommand) →
-        Ends words before after why closed → NoFault before after → IsAccepted words before (command.Load load) config →
+        Ends words before after why closed → NoStreamFailed before after → IsAccepted words before (command.Load load) config →
         CompletesLoad config load before.output after.output why closed }
 {}
 
@@ -35,4 +39,25 @@ pub fn runs_take_every_call()
     ensures { (config : Config) (incoming later_incoming : Incoming) (outgoing later_outgoing : Outgoing) (why : Why) (closed : ClosedState)
         (ran : Ran config incoming later_incoming outgoing later_outgoing why closed) →
         RepliesAreDue (first_caller (limits_by config)) [] closed.history ran.serves.taken ran.serves.written ran.end ran.serves.session }
+{}
+
+/// The calls that each pass of a serve made are those of its worker's sessions, connection after connection, and no other ones.
+pub fn the_calls_of_a_serve_are_those_of_its_sessions()
+    ensures { (config : Config) (connections : ℕ) (before after : List GateState) (why : Why) (closed : ClosedState)
+        (served : HaveAllServed config connections before after why closed) →
+        AllCallsAreOfSessions closed.history (new_workers (limits_by config) connections 0 before) served.workers served.work }
+{}
+
+/// Each gate of a serve, unless a call of it failed, had the first of its connections served, up to the stated number, and keeps an
+/// end for each: with few bytes and no failed read or write it is Done, or want of memory where the serve as a whole isn't done.
+pub fn gates_without_a_fault_are_served()
+    ensures { (config : Config) (connections : ℕ) (before after : List GateState) (why : Why) (closed : ClosedState) →
+        HaveAllServed config connections before after why closed → AllZip (IsServedUnlessFailed connections why) before after }
+{}
+
+/// Where no gate is closed, as gates over TCP never are, each worker of a serve that is done served the stated number of connections.
+pub fn gates_that_stay_open_are_served_to_their_number()
+    ensures { (config : Config) (connections : ℕ) (before after : List GateState) (closed : ClosedState)
+        (served : HaveAllServed config connections before after Why.Done closed) →
+        All (λ gate. gate.is_closed ≡ false) after → All (λ worker. worker.left ≡ 0) served.workers }
 {}

@@ -13,12 +13,14 @@ mod running;
 mod serving;
 mod workload;
 
+use command::{Command, read_command};
 use ended::Why;
 use funnel_io::{FileSource, StdinSource, StdoutSink};
 use listening::{gates_on, ports};
 use program::funnel_main;
+use std::alloc::Global;
 use std::env;
-use std::io::ErrorKind;
+use std::io::{ErrorKind, IsTerminal};
 use std::process::ExitCode;
 
 /// The configuration, in the folder in which the program is started.
@@ -39,6 +41,7 @@ fn main(rt: HostRuntime) -> ExitCode {
     let Ok(gates) = gates_on(&rt, alloc, ports.as_slice()) else {
         return report(&rt, Why::Memory);
     };
+    say_what_begins(&rt, alloc, words.as_slice());
     let mut config = FileSource::open(&rt, CONFIG_PATH);
     let mut input = StdinSource::new(rt.stdin());
     let mut output = StdoutSink::new(rt.stdout());
@@ -61,6 +64,25 @@ fn args(rt: &HostRuntime) -> Result<Vec<String>, Why> {
         Err(error) if error.kind() == ErrorKind::OutOfMemory => Err(Why::Memory),
         Err(_) => Err(Why::Usage),
     }
+}
+
+/// Says on standard error, where that is a terminal, that a load or a serve begins: neither says anything until it ends.
+fn say_what_begins(rt: &HostRuntime, alloc: Global, words: &[&str]) {
+    if !rt.stderr().is_terminal() {
+        return;
+    }
+    // Where the line can't be written, or there is no memory to read the words, the person isn't told.
+    let _ = match read_command(alloc, words) {
+        Ok(Command::Load(load)) => eprintln!(rt;
+            "funnel: a load of {} documents begins; its summary comes when it is done",
+            load.docs
+        ),
+        Ok(Command::Serve(serve)) => eprintln!(rt;
+            "funnel: a serve begins on 127.0.0.1, on {} ports from {} up",
+            serve.workers, serve.port
+        ),
+        _ => Ok(()),
+    };
 }
 
 /// Says on standard error why the program did not do all that it was to do, and gives its status.

@@ -43,13 +43,13 @@ where
           config = C.incoming config.old;
           input = S.incoming input.old;
           output = K.outgoing output.old;
-          gates = map (gate_state G.gate_faults G.waiting G.Conn.incoming G.Conn.outgoing G.served) gates.items;
+          gates = map (gate_state G.is_closed G.gate_faults G.waiting G.Conn.incoming G.Conn.outgoing G.served) gates.items;
         }
         record {
           config = C.incoming config.new;
           input = S.incoming input.new;
           output = K.outgoing output.new;
-          gates = map (gate_state G.gate_faults G.waiting G.Conn.incoming G.Conn.outgoing G.served) result.gates.items;
+          gates = map (gate_state G.is_closed G.gate_faults G.waiting G.Conn.incoming G.Conn.outgoing G.served) result.gates.items;
         }
         result.why result.closed }
     ensures in_turns { command_of (map (λ word. word.now) words.now) ≡ Some command.Run →

@@ -32,8 +32,8 @@ where
     requires named { blank ≡ N.pool }
     requires enough { length gates.items ≤ config.now.passes }
     ensures ends { EndsServe config.now connections
-        (map (gate_state G.gate_faults G.waiting G.Conn.incoming G.Conn.outgoing G.served) gates.items)
-        (map (gate_state G.gate_faults G.waiting G.Conn.incoming G.Conn.outgoing G.served) result.gates.items)
+        (map (gate_state G.is_closed G.gate_faults G.waiting G.Conn.incoming G.Conn.outgoing G.served) gates.items)
+        (map (gate_state G.is_closed G.gate_faults G.waiting G.Conn.incoming G.Conn.outgoing G.served) result.gates.items)
         result.why result.closed }
     ensures untouched { IfNone result.closed (result.gates ≡ gates) }
     ensures count { length result.gates.items ≡ length gates.items }
@@ -68,8 +68,8 @@ where
     requires empty { room.items ≡ [] }
     requires room { length gates.items ≤ vec_capacity room }
     ensures worked { HaveWorked engine.now connections
-        (map (gate_state G.gate_faults G.waiting G.Conn.incoming G.Conn.outgoing G.served) gates.items)
-        (map (gate_state G.gate_faults G.waiting G.Conn.incoming G.Conn.outgoing G.served) result.1.items)
+        (map (gate_state G.is_closed G.gate_faults G.waiting G.Conn.incoming G.Conn.outgoing G.served) gates.items)
+        (map (gate_state G.is_closed G.gate_faults G.waiting G.Conn.incoming G.Conn.outgoing G.served) result.1.items)
         result.0 result.2.items }
 {
     let mut gates = gates;
@@ -106,7 +106,7 @@ fn equip<'a, N: PoolName, R: Wait, G: Gate + Drop>(
     requires empty { workers.old.items ≡ [] }
     requires room { length gates.old.items ≤ vec_capacity workers.old }
     ensures workers { workers.new.items ≡ new_workers engine.now.limits connections 0
-        (map (gate_state G.gate_faults G.waiting G.Conn.incoming G.Conn.outgoing G.served) gates.old.items) }
+        (map (gate_state G.is_closed G.gate_faults G.waiting G.Conn.incoming G.Conn.outgoing G.served) gates.old.items) }
     ensures gates { gates.new.items ≡ [] }
     ensures passes { passes.new.items ≡ new_passes engine.now (length gates.old.items)
         (engine.now.config.passes - length gates.old.items) }
@@ -168,8 +168,8 @@ fn take_back<N: PoolName, R: Wait, G: Gate + Drop>(
 )
     requires room_of_gates { length gates.old.items + length workers.items ≤ vec_capacity gates.old }
     requires room_of_passes { length passes.old.items + length workers.items ≤ vec_capacity passes.old }
-    ensures gates { map (gate_state G.gate_faults G.waiting G.Conn.incoming G.Conn.outgoing G.served) gates.new.items
-        ≡ map (gate_state G.gate_faults G.waiting G.Conn.incoming G.Conn.outgoing G.served) gates.old.items
+    ensures gates { map (gate_state G.is_closed G.gate_faults G.waiting G.Conn.incoming G.Conn.outgoing G.served) gates.new.items
+        ≡ map (gate_state G.is_closed G.gate_faults G.waiting G.Conn.incoming G.Conn.outgoing G.served) gates.old.items
         ++ map (λ worker. worker.gate) workers.entry.items }
     ensures passes { ComeBack N.pool workers.entry.items passes.old.items passes.new.items }
 {

@@ -265,17 +265,17 @@ fn the_longest_line_is_answered(rt: HostRuntime) -> Result<(), Fail> {
     script.check(&rt, alloc, b"")
 }
 
-// Runs two lines, each in a piece of its own, with a read or a write that fails.
+// Runs the lines of the pieces with a read or a write that fails.
 fn expect_fault<R: Threads + Wait + Abort + Sync>(
     rt: &R,
     alloc: Global,
+    pieces: &[&[u8]],
     reads: &[u64],
     writes: &[u64],
     status: u8,
     written: &str,
 ) -> Result<(), Fail> {
-    let pieces: [&[u8]; 2] = [b"add 7 The cat sat\n", b"find CAT\n"];
-    let mut input = source_of(alloc, &pieces, reads)?;
+    let mut input = source_of(alloc, pieces, reads)?;
     let mut output = MemSink::new(alloc, 100, writes.to_vec(alloc)?)?;
     let why = program(rt, alloc, &["run"], b"", &mut input, &mut output)?;
     assert_eq!(rt; why.status(), status);
@@ -285,14 +285,21 @@ fn expect_fault<R: Threads + Wait + Abort + Sync>(
 
 #[test]
 fn a_failed_read_or_write_ends_the_run(rt: HostRuntime) -> Result<(), Fail> {
+    let alloc = rt.alloc();
+    let whole: [&[u8]; 1] = [b"add 7 The cat sat\nfind CAT\n"];
+    let parts: [&[u8]; 2] = [b"add 7 The cat sat\n", b"find CAT\n"];
     let replies = ["", "added 1\n", "added 1\nfound 1 7\n"];
     for (made, written) in replies.into_iter().enumerate() {
         let next = made as u64 + 1;
-        expect_fault(&rt, rt.alloc(), &[next], &[], 3, written)?;
+        expect_fault(&rt, alloc, &parts, &[next], &[], 3, written)?;
         let status = if made < 2 { 4 } else { 0 };
-        expect_fault(&rt, rt.alloc(), &[], &[next], status, written)?;
+        expect_fault(&rt, alloc, &parts, &[], &[next], status, written)?;
+        expect_fault(&rt, alloc, &whole, &[], &[next], status, written)?;
     }
-    Ok(())
+    expect_fault(&rt, alloc, &whole, &[1], &[], 3, "")?;
+    expect_fault(&rt, alloc, &whole, &[2], &[], 3, "added 1\nfound 1 7\n")?;
+    let places: [&[u8]; 1] = [b"place\nplace\nplace\n"];
+    expect_fault(&rt, alloc, &places, &[], &[2], 4, "place 0\n")
 }
 
 #[test]

@@ -15,7 +15,7 @@ MemConn = Duplex SourceState SinkState
 
 -- a gate: the connections that wait, how many are out, those that came back, the number of calls
 -- of `next` made, the numbers of those that fail, and the count of those that failed
-pub record GateState : Type 0 where
+pub record MemGateState : Type 0 where
   pub waiting : List MemConn
   pub out : ℕ
   pub served : List ServedConn
@@ -33,7 +33,7 @@ served_of served = served_as (incoming_of served.conn.source) (outgoing_of serve
 
 -- a call of `next` is the next by number, fails by its number alone, and otherwise gives the first
 -- connection that waits
-pub record IsNext (old : GateState) (answer : Next MemConn) (new : GateState) : Type 0 where
+pub record IsNext (old : MemGateState) (answer : Next MemConn) (new : MemGateState) : Type 0 where
   pub calls : new.calls ≡ raised old.calls
   pub fails : new.fails ≡ old.fails
   pub by_number : (answer ≡ next.Fault) ↔ Contains old.fails new.calls

@@ -1,4 +1,4 @@
-ghost use Rattle.std.specs.Prelude.{◌≡◌, ◌<◌, ◌+◌, ℕ, List, [], ◌∷◌, ◌++◌, Option, IfSome, OnSome, ⊤};
+ghost use Rattle.std.specs.Prelude.{◌≡◌, ◌<◌, ◌+◌, ℕ, Bool, true, List, [], ◌∷◌, ◌++◌, Option, IfSome, OnSome, ⊤};
 ghost use Rattle.std.specs.Option.{option_map};
 ghost use Rattle.funnel_io.specs.Counts.{counted};
 ghost use Rattle.funnel_io.specs.Answers.{MatchNext, gate_failed};
@@ -28,6 +28,9 @@ pub trait Gate {
     // The connections that wait, in the order in which they come, where the gate tells them.
     ghost waiting: { Self → Option (List Self.Conn) };
 
+    // Whether no connection comes any more. A gate that never closes tells so by it, also where it tells nothing of those that wait.
+    ghost is_closed: { Self → Bool };
+
     // How many of its connections are out, where the gate tells the waiting ones.
     ghost out: { Self → ℕ };
 
@@ -48,7 +51,8 @@ pub trait Gate {
             (out self.new ≡ out self.old) }
         ensures fresh { MatchNext result
             (λ conn. IsFresh (Self.Conn.incoming conn) (Self.Conn.outgoing conn)) ⊤ ⊤ }
-        ensures closed { MatchNext result (λ _. ⊤) (IfSome (waiting self.old) (λ conns. conns ≡ [])) ⊤ };
+        ensures closed { MatchNext result (λ _. ⊤) (IfSome (waiting self.old) (λ conns. conns ≡ [])) ⊤ }
+        ensures is_closed { MatchNext result (λ _. ⊤) (is_closed self.new ≡ true) ⊤ };
 
     /// Takes back a connection of its own, with the end of its session.
     fn done(&mut self, conn: Self::Conn, end: End)

@@ -1,5 +1,5 @@
 ghost use Rattle.std.specs.Prelude.{◌≡◌, ◌<◌, ◌≤◌, ◌+◌, ◌-◌, [], ◌∷◌, ◌++◌, Some, IfOk, map, ⊤, All};
-ghost use Rattle.funnel_io.specs.MemGates.{GateState, IsNext, IsUnused, served_of};
+ghost use Rattle.funnel_io.specs.MemGates.{MemGateState, IsNext, IsUnused, served_of};
 ghost use Rattle.funnel_io.specs.Answers.{MatchNext};
 
 use crate::duplex::MemConn;
@@ -24,9 +24,9 @@ pub struct MemGate {
 
 impl Model for MemGate {
     ghost use Rattle.std.specs.Prelude.{◌+◌, ◌-◌, ◌≤◌, All, reverse, vec_len, vec_capacity};
-    ghost use Rattle.funnel_io.specs.MemGates.{GateState, IsUnused};
+    ghost use Rattle.funnel_io.specs.MemGates.{MemGateState, IsUnused};
 
-    ghost Value = { GateState };
+    ghost Value = { MemGateState };
 
     ghost view = { λ g. record {
       waiting = reverse g.waiting.items;
@@ -78,12 +78,14 @@ impl MemGate {
 impl Gate for MemGate {
     type Conn = MemConn;
 
-    ghost use Rattle.std.specs.Prelude.{Some, map};
+    ghost use Rattle.std.specs.Prelude.{◌==◌, Some, length, map};
     ghost use Rattle.funnel_io.specs.MemGates.{served_of};
 
     ghost gate_faults = { λ g. g.faults };
 
     ghost waiting = { λ g. Some g.waiting };
+
+    ghost is_closed = { λ g. length g.waiting == 0 };
 
     ghost out = { λ g. g.out };
 

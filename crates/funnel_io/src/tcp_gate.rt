@@ -72,11 +72,13 @@ impl<'a, R: Net<Stream = TcpStream>> TcpGate<'a, R> {
 impl<R: Net<Stream = TcpStream>> Gate for TcpGate<'_, R> {
     type Conn = TcpConn;
 
-    ghost use Rattle.std.specs.Prelude.{None};
+    ghost use Rattle.std.specs.Prelude.{None, false};
 
     ghost gate_faults = { λ g. g.faults };
 
     ghost waiting = { λ _. None };
+
+    ghost is_closed = { λ _. false };
 
     ghost out = { λ _. 0 };
 

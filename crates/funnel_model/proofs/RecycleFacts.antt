@@ -10,7 +10,7 @@ use Rattle.funnel_model.specs.declared.event.Event.{Event}
 use Rattle.funnel_model.specs.declared.event.Event.TheVariants as event
 use Rattle.funnel_model.specs.Events.{opens}
 use Rattle.funnel_model.specs.Legal.{GoesOn, HasRoom, IsInSlice, IsLegal}
-use Rattle.funnel_model.specs.RecycleExample.{filled, guarded, high_bit, low_bit, paired, recycled, together, unguarded}
+use Rattle.funnel_model.specs.RecycleExample.{guarded, high_bit, low_bit, paired, recycled, slices_filled, together, unguarded}
 use Rattle.funnel_model.specs.Blocks.{IsLowestGuard}
 use Rattle.funnel_model.specs.Slices.{AllOver, Deleted, IsRetired, is_claimed}
 use Rattle.funnel_model.specs.Steps.{IsLowestGuarded}
@@ -22,7 +22,7 @@ use Rattle.funnel_model.proofs.SpareLemmas.{finds_last, not_over, not_retired, r
 
 -- up to the find, and up to the first delete
 abbrev pub finding : List Event
-finding = filled ++ event.Find 1 (codes "A") ∷ []
+finding = slices_filled ++ event.Find 1 (codes "A") ∷ []
 
 abbrev pub first_deleted : List Event
 first_deleted = finding ++ event.Del 0 9 ∷ []
@@ -75,7 +75,7 @@ high_over later stays = one_slice _ (
 -- under the find of pass 1 both are guarded
 pub low_guarded : Guards 1 guarded 0 1 6
 low_guarded = record {
-  token = record { earlier = filled; query = codes "A"; later = event.Del 0 9 ∷ event.Del 0 7 ∷ []; whole = refl; count = refl; stays = refl };
+  token = record { earlier = slices_filled; query = codes "A"; later = event.Del 0 9 ∷ event.Del 0 7 ∷ []; whole = refl; count = refl; stays = refl };
   retired = record { over = low_over (event.Del 0 7 ∷ []) refl; not_clearing = refl };
   retired_at = 7;
   at_event = record {
@@ -93,7 +93,7 @@ low_guarded = record {
 
 pub high_guarded : Guards 1 guarded 1 1 6
 high_guarded = record {
-  token = record { earlier = filled; query = codes "A"; later = event.Del 0 9 ∷ event.Del 0 7 ∷ []; whole = refl; count = refl; stays = refl };
+  token = record { earlier = slices_filled; query = codes "A"; later = event.Del 0 9 ∷ event.Del 0 7 ∷ []; whole = refl; count = refl; stays = refl };
   retired = record { over = high_over [] refl; not_clearing = refl };
   retired_at = 8;
   at_event = record {
@@ -157,7 +157,7 @@ one_narrow b in' = All-cons (λ (x : Bit). x.bit < 64) b [] in' (All-nil (λ (x 
 pub nothing_retired : (slice : ℕ) → slice < 2 → IsRetired 1 slice [] → ⊥
 nothing_retired = two_columns _ (not_retired 1 0 0 [] (omega arith) refl refl) (not_retired 1 1 0 [] (omega arith) refl refl)
 
-filled_goes_on : GoesOn paired [] filled
+filled_goes_on : GoesOn paired [] slices_filled
 filled_goes_on = (
   record { pass = omega arith; at_once = tt; rule = record { idle = tt; refused = λ slice in' retired. absurd (nothing_retired slice in' retired) } },
   (
@@ -175,7 +175,7 @@ filled_goes_on = (
   ),
 )
 
-deleting_goes_on : GoesOn paired filled (event.Find 1 (codes "A") ∷ event.Del 0 9 ∷ event.Del 0 7 ∷ [])
+deleting_goes_on : GoesOn paired slices_filled (event.Find 1 (codes "A") ∷ event.Del 0 9 ∷ event.Del 0 7 ∷ [])
 deleting_goes_on = (
   record { pass = omega arith; at_once = tt; rule = tt },
   (
@@ -197,7 +197,7 @@ refusing_goes_on = (
 )
 
 pub guarded_is_legal : IsLegal paired guarded
-guarded_is_legal = goes_on_join paired [] filled (event.Find 1 (codes "A") ∷ event.Del 0 9 ∷ event.Del 0 7 ∷ []) filled_goes_on deleting_goes_on
+guarded_is_legal = goes_on_join paired [] slices_filled (event.Find 1 (codes "A") ∷ event.Del 0 9 ∷ event.Del 0 7 ∷ []) filled_goes_on deleting_goes_on
 
 pub unguarded_is_legal : IsLegal paired unguarded
 unguarded_is_legal = goes_on_join paired [] guarded (event.No 0 call.Recycle ∷ event.End 1 ∷ []) guarded_is_legal refusing_goes_on

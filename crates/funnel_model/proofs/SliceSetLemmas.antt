@@ -1,5 +1,5 @@
 -- Which slices a set has, and which it has with one more.
-use Rattle.std.proofs.Common.{◌≡◌, ◌≢◌, ◌↔◌, ◌⊎◌, ℕ, ◌+◌, ◌*◌, ◌/◌, ◌%◌, ◌^◌, ◌<◌, ◌≤◌, ⊎_elim, IsTrue, Bool, true, false, cond, not, nat_lt, zero, suc, Option, Some, None, List, [], ◌∷◌, length, filter, get_or, set, sym, refl, ap, ◌∙◌, subst, arith, inl, inr, Contains, bit_and, bit_or, w64}
+use Rattle.std.proofs.Common.{◌≡◌, ◌≢◌, ◌↔◌, ◌⊎◌, ℕ, ◌+◌, ◌*◌, ◌/◌, ◌%◌, ◌^◌, ◌<◌, ◌≤◌, ⊎_elim, IsTrue, Bool, true, false, cond, not, nat_lt, zero, suc, Some, None, List, [], ◌∷◌, length, filter, get_or, set, sym, refl, ap, ◌∙◌, subst, arith, inl, inr, Contains, bit_and, bit_or, w64}
 use Rattle.std.proofs.lemmas.Bool.{cases_eq, eq-eqb, eqb-true}
 use Rattle.std.proofs.lemmas.Bool.Decides.{leb_tells}
 use Rattle.std.proofs.lemmas.List.Quantifiers.{position-Some}

@@ -41,6 +41,7 @@ AreReplies limits history replies = AreRepliesAfter limits [] history replies
 abbrev pub episode_calls : List Call
 episode_calls = call.Add 9 [] ∷ call.Add 9 [] ∷ call.Add 7 [] ∷ call.Find [] ∷ call.Add 5 [] ∷ []
 
+-- the replies to its calls, in order
 abbrev pub episode_replies : List Reply
 episode_replies = reply.Added 1 ∷ reply.Present 1 ∷ reply.Added 2 ∷ reply.Found (9 ∷ 7 ∷ []) ∷ reply.Full ∷ []
 
@@ -62,6 +63,7 @@ reuse =
     ∷ event.Find 0 [] ∷ event.End 0 ∷ event.Read 0 call.Place
     ∷ event.No 0 (call.Delete 9) ∷ event.No 0 (call.Delete 5) ∷ event.No 0 (call.Add 5 []) ∷ event.No 0 (call.Add 6 []) ∷ []
 
+-- the replies to its calls, in order
 abbrev pub reuse_replies : List Reply
 reuse_replies =
     reply.Added 1 ∷ reply.Added 2 ∷ reply.Found (9 ∷ 7 ∷ []) ∷ reply.Deleted 3 ∷ reply.Deleted 4 ∷ reply.Full ∷ reply.Added 5
@@ -71,5 +73,6 @@ reuse_replies =
 abbrev pub same_number : List Event
 same_number = event.Take 0 0 0 ∷ event.Take 1 0 1 ∷ event.Add 0 4 [] 0 0 [] ∷ event.Drop 1 4 [] 0 1 ∷ []
 
+-- the replies to its calls, in order
 abbrev pub same_number_replies : List Reply
 same_number_replies = reply.Added 1 ∷ reply.Present 1 ∷ []

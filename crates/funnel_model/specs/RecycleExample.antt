@@ -1,5 +1,6 @@
 -- An engine of two slices, and a history of it with recycles, journals, texts and bits, in which both passes are inside calls at
--- once. It has the refusals NothingRetired and Guarded.
+-- once. It has the refusals NothingRetired and Guarded. Beside it stand histories whose engines are full (`held`,
+-- `both_clearing`).
 use Rattle.std.specs.Prelude.{ℕ, ◌^◌, true, false, List, [], ◌∷◌, ◌++◌, codes}
 use Rattle.funnel_model.specs.declared.bit_list.Bit.{Bit}
 use Rattle.funnel_model.specs.declared.call.Call.TheVariants as call
@@ -22,14 +23,14 @@ abbrev pub high_bit : Bit
 high_bit = record { word = 5; bit = 63 }
 
 -- nothing is retired; then documents 9 and 7 fill the slices
-abbrev pub filled : List Event
-filled =
+abbrev pub slices_filled : List Event
+slices_filled =
     event.No 0 call.Recycle ∷ event.Take 0 0 0 ∷ event.Add 0 9 (codes "a cat") 0 0 (low_bit ∷ [])
     ∷ event.Take 0 1 0 ∷ event.Add 0 7 (codes "Cat") 1 0 (high_bit ∷ []) ∷ []
 
 -- pass 1 begins a find, and both documents are deleted under its token, which guards both slices
 abbrev pub guarded : List Event
-guarded = filled ++ event.Find 1 (codes "A") ∷ event.Del 0 9 ∷ event.Del 0 7 ∷ []
+guarded = slices_filled ++ event.Find 1 (codes "A") ∷ event.Del 0 9 ∷ event.Del 0 7 ∷ []
 
 -- row words that have these bits, and ones that have another bit in place of the second
 abbrev pub covering : List ℕ
@@ -60,15 +61,19 @@ held = event.Take 0 0 0 ∷ event.Add 0 9 [] 0 0 [] ∷ event.Take 1 1 0 ∷ []
 abbrev pub both_clearing : List Event
 both_clearing = unguarded ++ event.Clear 0 0 ∷ event.Clear 1 1 ∷ []
 
-abbrev pub added : ℕ → Commit
-added id = record { add = true; id = id }
+-- the commit of an add of this number
+abbrev pub commit_of_add : ℕ → Commit
+commit_of_add id = record { add = true; id = id }
 
-abbrev pub deleted : ℕ → Commit
-deleted id = record { add = false; id = id }
+-- the commit of a delete of this number
+abbrev pub commit_of_delete : ℕ → Commit
+commit_of_delete id = record { add = false; id = id }
 
+-- the replies to the calls of `together`, in order
 abbrev pub together_replies : List Reply
 together_replies =
     reply.NothingRetired ∷ reply.Added 1 ∷ reply.Added 2 ∷ reply.Found (9 ∷ []) ∷ reply.Deleted 3 ∷ reply.Deleted 4
     ∷ reply.Guarded 0 1 ∷ reply.Recycled 0
-    ∷ reply.Commits (added 9 ∷ added 7 ∷ deleted 9 ∷ deleted 7 ∷ []) ∷ reply.Commits (added 7 ∷ deleted 9 ∷ deleted 7 ∷ []) ∷ reply.Commits []
+    ∷ reply.Commits (commit_of_add 9 ∷ commit_of_add 7 ∷ commit_of_delete 9 ∷ commit_of_delete 7 ∷ [])
+    ∷ reply.Commits (commit_of_add 7 ∷ commit_of_delete 9 ∷ commit_of_delete 7 ∷ []) ∷ reply.Commits []
     ∷ reply.Recycled 1 ∷ reply.Added 5 ∷ []

@@ -30,12 +30,13 @@ private_words config = filter (is_private config) config.words
 unfoldable pub shared_words : Config → List (List ℕ × ℕ)
 shared_words config = filter (λ entry. not (is_private config entry)) config.words
 
--- the bits that a listed word sets in its rows of rank r over all documents, where a bit stands for 2^r documents
+-- how many documents the bits stand for that a listed word sets in its rows of rank r: in each row 2^r for each document that has
+-- the word, and at most all
 unfoldable pub bits_of_entry : Config → ℕ → List ℕ × ℕ → ℕ
 bits_of_entry config r entry =
     min config.documents (entry.1 * 2 ^ r) * ranked_rows config (class_of_count entry.1 config.documents) r
 
--- the bits that all listed words set in the shared rows of rank r
+-- the sum of these numbers over the listed words with shared rows
 unfoldable pub bits_at_rank : Config → ℕ → ℕ
 bits_at_rank config r = sum_by (bits_of_entry config r) (shared_words config)
 

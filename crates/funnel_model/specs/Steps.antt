@@ -32,7 +32,7 @@ IsReplyToRecycle limits history (reply.Guarded slice pass) = IsLowestGuarded lim
 IsReplyToRecycle limits history _ = ⊥
 
 -- a call is refused so after these events: an add by the place of its number's add where it is live, then by a full journal, then
--- by want of room; a delete by the number's absence, then by a full journal
+-- by want of room; a delete by the number's absence, then by a full journal; a recycle as above; no other call is refused
 abbrev pub IsReplyToRefused : Limits → List Event → Call → Reply → Type 0
 IsReplyToRefused limits history (call.Add id text) given =
     given ≡ option_map_or reply.Present (live_place id history) (if is_journal_full limits history then reply.JournalFull else reply.Full)

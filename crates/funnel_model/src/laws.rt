@@ -66,7 +66,7 @@ pub fn live_documents_have_columns()
         (slice ≡ other) × (column ≡ at) }
 {}
 
-/// In a legal history a slice that is retired has no document and gets none.
+/// In a legal history no column of a slice that is retired is pending or live.
 pub fn retired_slices_are_empty()
     ensures not_pending { (limits : Limits) (history : List Event) (slice column pass : ℕ) → IsLegal limits history →
         IsRetired limits.columns slice history → column < limits.columns → IsInState history slice column (Pending pass) → ⊥ }
@@ -74,9 +74,9 @@ pub fn retired_slices_are_empty()
         IsRetired limits.columns slice history → column < limits.columns → IsInState history slice column (Live d) → ⊥ }
 {}
 
-/// A slice that is retired has retired at one event: of those since its last opening, the first after which all its columns
-/// are deleted or dropped. The number of that event stays until the slice is opened, and from that event on all columns are
-/// over.
+/// In a legal history of slices with columns, a slice that is retired has retired at one event: of those since its last opening,
+/// the first after which all its columns are deleted or dropped. The number of that event stays until the slice is opened, and
+/// from that event on all columns are over.
 pub fn slices_retire_at_one_event()
     ensures some { (limits : Limits) (history : List Event) (slice : ℕ) → IsLegal limits history → 0 < limits.columns →
         IsRetired limits.columns slice history → (number : ℕ) × IsRetiredAt limits.columns slice history number }

@@ -1,17 +1,17 @@
 -- How calls that are made one after another join.
 use Rattle.std.proofs.Common.{◌≡◌, ◌≢◌, ℕ, List, [], ◌∷◌, ◌++◌, refl, sym, ap, ◌∙◌, subst, append_assoc, append-nil, inl, inr, Result, Ok, Err, OnErr}
-use Rattle.std.proofs.lemmas.List.Elements.{All-append, All-nil}
+use Rattle.std.proofs.lemmas.List.Elements.{All-append, All-cons, All-nil}
 use Rattle.funnel_model.specs.declared.call.Call.{Call}
+use Rattle.funnel_model.specs.declared.call.Call.TheVariants as call
 use Rattle.funnel_model.specs.declared.event.Event.{Event}
 use Rattle.funnel_model.specs.declared.reply.Reply.{Reply}
 use Rattle.funnel_model.specs.declared.reply.Reply.TheVariants as reply
-use Rattle.funnel_model.specs.Legal.{Limits}
-use Rattle.funnel_model.specs.Steps.{Linear}
+use Rattle.funnel_model.proofs.StepCauses.{memory_cause}
+use Rattle.funnel_model.specs.Steps.{Step}
 use Rattle.line_proto.specs.Services.{AnswersCall, Caller}
-use Rattle.commit_desk.proofs.Turns.{whole_is_front}
 use Rattle.funnel_server.proofs.JoinedCalls.{linear-append}
-use Rattle.funnel_server.specs.Loads.{AreAsked}
-use Rattle.funnel_server.specs.Shares.{IsDone, IsStopped}
+use Rattle.funnel_server.specs.Loads.{AreAsked, LooksForName}
+use Rattle.funnel_server.specs.Shares.{EndsEarly, IsDone}
 
 -- what holds anyhow holds where there is an error
 pub on_err : {T E P : Type 0} (result : Result T E) → P → OnErr result P
@@ -38,57 +38,72 @@ done-append caller before middle after calls more (replies, first) (given, next)
     (replies ++ given, asked-append caller before middle after calls more replies given first next)
 
 -- calls end early where the first ones do
-pub stopped-first : (caller : Caller) (before after : List Event) (calls more : List Call) → IsStopped caller before after calls →
-    IsStopped caller before after (calls ++ more)
+pub stopped-first : (caller : Caller) (before after : List Event) (calls more : List Call) → EndsEarly caller before after calls →
+    EndsEarly caller before after (calls ++ more)
 stopped-first caller before after calls more stopped = record {
-  made = stopped.made;
+  asked = stopped.asked;
   next = stopped.next;
   later = stopped.later ++ more;
-  calls_are = ap (λ cs. cs ++ more) stopped.calls_are ∙ append_assoc stopped.made (stopped.next ∷ stopped.later) more;
+  calls_are = ap (λ cs. cs ++ more) stopped.calls_are ∙ append_assoc stopped.asked (stopped.next ∷ stopped.later) more;
   stops = record {
     middle = stopped.stops.middle;
     replies = stopped.stops.replies;
-    asked = stopped.stops.asked;
+    answered = stopped.stops.answered;
     ends = stopped.stops.ends;
   };
 }
 
 -- and where the first ones are made and the others end early
 pub stopped-later : (caller : Caller) (before middle after : List Event) (calls more : List Call) → IsDone caller before middle calls →
-    IsStopped caller middle after more → IsStopped caller before after (calls ++ more)
+    EndsEarly caller middle after more → EndsEarly caller before after (calls ++ more)
 stopped-later caller before middle after calls more (replies, first) stopped = record {
-  made = calls ++ stopped.made;
+  asked = calls ++ stopped.asked;
   next = stopped.next;
   later = stopped.later;
-  calls_are = ap (λ cs. calls ++ cs) stopped.calls_are ∙ sym (append_assoc calls stopped.made (stopped.next ∷ stopped.later));
+  calls_are = ap (λ cs. calls ++ cs) stopped.calls_are ∙ sym (append_assoc calls stopped.asked (stopped.next ∷ stopped.later));
   stops = record {
     middle = stopped.stops.middle;
     replies = replies ++ stopped.stops.replies;
-    asked = asked-append caller before middle stopped.stops.middle calls stopped.made replies stopped.stops.replies first stopped.stops.asked;
+    answered = asked-append caller before middle stopped.stops.middle calls stopped.asked replies stopped.stops.replies first stopped.stops.answered;
     ends = stopped.stops.ends;
   };
 }
 
--- calls of which none is made
-pub stopped-none : (caller : Caller) (front : List Event) (asked : Call) (others : List Call) → IsStopped caller front front (asked ∷ others)
-stopped-none caller front asked others = record {
-  made = [];
+-- calls of which none is made, since there is no memory for the name that the first one looks for
+pub stopped-none : (caller : Caller) (front : List Event) (asked : Call) (others : List Call) → LooksForName asked →
+    EndsEarly caller front front (asked ∷ others)
+stopped-none caller front asked others looks = record {
+  asked = [];
   next = asked;
   later = others;
   calls_are = refl;
-  stops = record { middle = front; replies = []; asked = asked-none caller front; ends = inl (whole_is_front caller.pass front) };
+  stops = record { middle = front; replies = []; answered = asked-none caller front; ends = inl (looks, refl) };
 }
 
 -- a call that finds no memory
 pub stopped-one : (caller : Caller) (before after : List Event) (asked : Call) → AnswersCall caller before after asked reply.Memory →
-    IsStopped caller before after (asked ∷ [])
+    EndsEarly caller before after (asked ∷ [])
 stopped-one caller before after asked answers = record {
-  made = [];
+  asked = [];
   next = asked;
   later = [];
   calls_are = refl;
-  stops = record { middle = before; replies = []; asked = asked-none caller before; ends = inr answers.step };
+  stops = record { middle = before; replies = []; answered = asked-none caller before; ends = inr answers.step };
 }
+
+-- a delete is asked, and its reply is no want of memory
+pub deleted-one : (caller : Caller) (before after : List Event) (id : ℕ) (given : Reply) → AnswersCall caller before after (call.Delete id) given →
+    IsDone caller before after (call.Delete id ∷ [])
+deleted-one caller before after id given answers = (
+  given ∷ [],
+  record {
+    run = (after, answers.step, refl);
+    memory = All-cons (λ r. r ≢ reply.Memory) given [] found (All-nil (λ r. r ≢ reply.Memory));
+  },
+)
+  where
+    found : given ≢ reply.Memory
+    found is = memory_cause caller.limits caller.pass before after (call.Delete id) (subst (λ r. Step caller.limits caller.pass before after (call.Delete id) r) is answers.step)
 
 -- of these calls the first ones are made, and those are left
 pub record AreUnderWay (caller : Caller) (before now : List Event) (calls left : List Call) (replies : List Reply) : Type 0 where
@@ -114,11 +129,11 @@ under_way-more caller asking before now after calls left asked later replies giv
 
 -- the next of them end early
 pub under_way-stop : (caller asking : Caller) (before now after : List Event) (calls left asked later : List Call) (replies : List Reply) → asking ≡ caller →
-    AreUnderWay caller before now calls left replies → left ≡ asked ++ later → IsStopped asking now after asked → IsStopped caller before after calls
+    AreUnderWay caller before now calls left replies → left ≡ asked ++ later → EndsEarly asking now after asked → EndsEarly caller before after calls
 under_way-stop caller asking before now after calls left asked later replies same so_far are stopped =
-    subst (IsStopped caller before after) (sym (so_far.calls_are ∙ ap (λ cs. so_far.made ++ cs) are))
+    subst (EndsEarly caller before after) (sym (so_far.calls_are ∙ ap (λ cs. so_far.made ++ cs) are))
     (stopped-later caller before now after so_far.made (asked ++ later) (replies, so_far.asked)
-    (stopped-first caller now after asked later (subst (λ k. IsStopped k now after asked) same stopped)))
+    (stopped-first caller now after asked later (subst (λ k. EndsEarly k now after asked) same stopped)))
 
 -- none is left
 pub under_way-end : (caller : Caller) (before after : List Event) (calls left : List Call) (replies : List Reply) → AreUnderWay caller before after calls left replies →

@@ -13,7 +13,7 @@ use Rattle.line_proto.specs.Services.{Caller}
 use Rattle.load_gen.specs.Jobs.{adds_of, deletes_of, queries_of}
 use Rattle.funnel_server.proofs.JoinedCalls.{front_trans, linear-append, step_from_front}
 use Rattle.funnel_server.specs.Laws.{AsksShare}
-use Rattle.funnel_server.specs.Loads.{Course, PutsShare}
+use Rattle.funnel_server.specs.Loads.{AreAsked, ComesToQueries, Course}
 
 -- calls that lead to a front of what the pass has seen then
 record RunsTo (limits : Limits) (pass : ℕ) (before after : List Event) (calls : List Call) (replies : List Reply) : Type 0 where
@@ -34,26 +34,28 @@ run_from_front limits pass front before after [] (given ∷ replies) seen run = 
 run_from_front limits pass front before after (asked ∷ calls) [] seen run = absurd run
 
 -- the three parts of a share one after another
-pub asks_share : (caller : Caller) (before after : List Event) (texts : List (List ℕ)) (workers : ℕ) (course : Course) →
-    PutsShare caller before after texts workers course → AsksShare caller before after texts workers course
-asks_share caller before after texts workers course puts =
+pub asks_share : (caller : Caller) (before after : List Event) (texts : List (List ℕ)) (workers : ℕ) (course : Course) (to_queries : List Reply) →
+    ComesToQueries caller before texts workers course → AreAsked caller course.fronts.met_deleted after (queries_of workers caller.pass) to_queries →
+    AsksShare caller before after texts workers (course.to_adds ++ course.to_deletes ++ to_queries)
+asks_share caller before after texts workers course to_queries comes asked =
     let limits = caller.limits in
     let pass = caller.pass in
     let adds = adds_of texts workers pass in
     let deletes = deletes_of texts workers pass in
     let queries = queries_of workers pass in
-    let second = run_from_front limits pass course.added course.met_added course.deleted deletes course.to_deletes puts.meets_adds puts.deletes.run in
-    let third = run_from_front limits pass second.front course.met_deleted after queries course.to_queries
-    (front_trans pass second.front course.deleted course.met_deleted second.seen puts.meets_deletes) puts.queries.run in
+    let fronts = course.fronts in
+    let second = run_from_front limits pass fronts.added fronts.met_added fronts.deleted deletes course.to_deletes comes.meets_adds comes.deletes.run in
+    let third = run_from_front limits pass second.front fronts.met_deleted after queries to_queries
+    (front_trans pass second.front fronts.deleted fronts.met_deleted second.seen comes.meets_deletes) asked.run in
     record {
       front = third.front;
       asked = record {
         run =
-            linear-append limits pass before second.front third.front (adds ++ deletes) queries (course.to_adds ++ course.to_deletes) course.to_queries
-            (linear-append limits pass before course.added second.front adds deletes course.to_adds course.to_deletes puts.adds.run second.run) third.run;
+            linear-append limits pass before second.front third.front (adds ++ deletes) queries (course.to_adds ++ course.to_deletes) to_queries
+            (linear-append limits pass before fronts.added second.front adds deletes course.to_adds course.to_deletes comes.adds.run second.run) third.run;
         memory =
-            All-append (λ r. r ≢ reply.Memory) (course.to_adds ++ course.to_deletes) course.to_queries
-            (All-append (λ r. r ≢ reply.Memory) course.to_adds course.to_deletes puts.adds.memory puts.deletes.memory) puts.queries.memory;
+            All-append (λ r. r ≢ reply.Memory) (course.to_adds ++ course.to_deletes) to_queries
+            (All-append (λ r. r ≢ reply.Memory) course.to_adds course.to_deletes comes.adds.memory comes.deletes.memory) asked.memory;
       };
       seen = third.seen;
     }

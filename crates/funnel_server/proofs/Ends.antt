@@ -14,8 +14,8 @@ use Rattle.line_proto.specs.Services.{Caller}
 use Rattle.session.specs.Ends.{Serves, Stand, is_read_fault, is_write_fault}
 use Rattle.session.specs.declared.serving.TheConstants.{MOST_BYTES}
 use Rattle.funnel_server.specs.Gates.{Sides}
-use Rattle.funnel_server.specs.Laws.{CountsAs, EndsWell, HasCause, HasFewBytes, HasNoFault, KeepsInput, TakesAs, TellsInput}
-use Rattle.funnel_server.specs.Workers.{IsVisit, Visit, WorkerState, Works, is_memory, served_by, sides_before}
+use Rattle.funnel_server.specs.Laws.{CountsAs, SessionEndsWell, HasCause, HasFewBytes, VisitHasNoFault, KeepsInput, TakesAs, TellsInput}
+use Rattle.funnel_server.specs.Workers.{GivesNoMore, IsStopped, IsVisit, Visit, WorkerState, Works, is_memory, served_by, sides_before}
 
 -- bytes that were taken of an input are its first ones, and all of it where nothing is left
 taken_first : (input taken : List ℕ) (left : Option (List ℕ)) → Consumes (Some input) left taken → IsPrefix taken input
@@ -62,21 +62,30 @@ keeps_input caller visit session input tells =
       by_end = takes_as caller visit.before visit.after visit.end served input takes;
     }
 
+-- a session has no other limit of bytes
+limit_told : (caller : Caller) (old new : Stand) (end : End) (served : Serves caller MOST_BYTES old new end) (limit : ℕ) → end ≡ end_of.ByteLimit limit → limit ≡ MOST_BYTES
+limit_told caller old new end_of.Done served limit is = cc
+limit_told caller old new end_of.ReadFault served limit is = cc
+limit_told caller old new end_of.WriteFault served limit is = cc
+limit_told caller old new (end_of.ByteLimit told) served limit is = let told_is : told ≡ MOST_BYTES = served.within.0 in cc
+limit_told caller old new end_of.Memory served limit is = cc
+
 pub kept_ends : (caller : Caller) (visit : Visit) → IsVisit caller visit → HasCause (sides_before visit) (served_by visit)
 kept_ends caller visit session = record {
   counts = visit_counts caller visit session;
+  limit = limit_told caller visit.before visit.after visit.end session.serves;
   input = keeps_input caller visit session;
   nothing_read = λ memory. subst (λ (stand : Stand). IfSome stand.incoming.taken (λ bytes. bytes ≡ [])) (sym (session.untouched memory)) session.fresh.nothing_read;
   nothing_written = λ memory. subst (λ (stand : Stand). IfSome stand.outgoing.written (λ bytes. bytes ≡ [])) (sym (session.untouched memory)) session.fresh.nothing_written;
 }
 
 -- those that left the waiting ones, and those that still wait, are all that waited
-record AreAll (left : Option (List Sides)) (waiting gone : List Sides) : Type 0 where
-  rest : List Sides
-  still : left ≡ Some rest
-  whole : waiting ≡ gone ++ rest
+pub record AreAll (left : Option (List Sides)) (waiting gone : List Sides) : Type 0 where
+  pub rest : List Sides
+  pub still : left ≡ Some rest
+  pub whole : waiting ≡ gone ++ rest
 
-are_all : (before left : Option (List Sides)) (waiting gone : List Sides) → before ≡ Some waiting → before ≡ option_map (λ rest. gone ++ rest) left
+pub are_all : (before left : Option (List Sides)) (waiting gone : List Sides) → before ≡ Some waiting → before ≡ option_map (λ rest. gone ++ rest) left
     → AreAll left waiting gone
 are_all before None waiting gone is waited = let none : Some waiting ≡ None = sym is ∙ waited in cc
 are_all before (Some rest) waiting gone is waited = let both : Some waiting ≡ Some (gone ++ rest) = sym is ∙ waited in record { rest = rest; still = refl; whole = cc }
@@ -87,7 +96,7 @@ serve_all before after works waiting no_fault is =
     let gone = map sides_before works.visits in
     let all = are_all before.gate.waiting after.gate.waiting waiting gone is works.serves.waited in
     by_stop all works.stopped where
-      by_stop : AreAll after.gate.waiting waiting (map sides_before works.visits) → (after.left ≡ 0) ⊎ (after.fault ≡ true) ⊎ IfSome after.gate.waiting (λ sides. sides ≡ [])
+      by_stop : AreAll after.gate.waiting waiting (map sides_before works.visits) → IsStopped after
           → map sides_before works.visits ≡ take before.left waiting
       by_stop all (inl none) =
           sym (ap (take before.left) all.whole
@@ -95,12 +104,12 @@ serve_all before after works waiting no_fault is =
           ∙ take-append_seam (map sides_before works.visits) all.rest)
       by_stop all (inr (inl fault)) = let other : true ≡ false = sym fault ∙ no_fault in cc
       by_stop all (inr (inr none)) =
-          let whole = all.whole ∙ ap (λ rest. map sides_before works.visits ++ rest) (subst (λ left. IfSome left (λ sides. sides ≡ [])) all.still none) ∙ append-nil (map sides_before works.visits) in
+          let whole = all.whole ∙ ap (λ rest. map sides_before works.visits ++ rest) (subst (λ left. IfSome left (λ sides. sides ≡ [])) all.still none.none_waits) ∙ append-nil (map sides_before works.visits) in
           sym (ap (take before.left) whole ∙ take_all before.left (map sides_before works.visits) (omega (arith, works.serves.count, length-map works.visits sides_before)))
 
-pub none_left : (before after : WorkerState) (works : Works before after) → after.fault ≡ false → 0 < after.left → IfSome after.gate.waiting (λ sides. sides ≡ [])
+pub none_left : (before after : WorkerState) (works : Works before after) → after.fault ≡ false → 0 < after.left → GivesNoMore after.gate
 none_left before after works no_fault more = by_stop works.stopped where
-  by_stop : (after.left ≡ 0) ⊎ (after.fault ≡ true) ⊎ IfSome after.gate.waiting (λ sides. sides ≡ []) → IfSome after.gate.waiting (λ sides. sides ≡ [])
+  by_stop : IsStopped after → GivesNoMore after.gate
   by_stop (inl none) = absurd (omega (arith, none, more))
   by_stop (inr (inl fault)) = let other : true ≡ false = sym fault ∙ no_fault in cc
   by_stop (inr (inr none)) = none
@@ -120,27 +129,29 @@ ends_well caller before after end_of.WriteFault served counts few reads writes =
 ends_well caller before after (end_of.ByteLimit limit) served counts few reads writes = absurd (omega (arith, served.within.1, few))
 ends_well caller before after end_of.Memory served counts few reads writes = inr refl
 
+pub visit_ends_well : (caller : Caller) (visit : Visit) → IsVisit caller visit → HasFewBytes (sides_before visit) → VisitHasNoFault visit → SessionEndsWell visit
+visit_ends_well caller visit session small well =
+    ends_well caller visit.before visit.after visit.end session.serves (visit_counts caller visit session)
+    (below_limit caller visit.before visit.after visit.end session.serves small.input small.left small.few) well.reads well.writes
+
 all_end_well : (caller : Caller) (visits : List Visit) (rest : List Sides) → All (IsVisit caller) visits → All HasFewBytes (map sides_before visits ++ rest)
-    → All HasNoFault visits → All EndsWell visits
-all_end_well caller [] rest sessions few none = All-nil EndsWell
+    → All VisitHasNoFault visits → All SessionEndsWell visits
+all_end_well caller [] rest sessions few none = All-nil SessionEndsWell
 all_end_well caller (visit ∷ visits) rest sessions few none =
-    let session = All-head (IsVisit caller) visit visits sessions in
-    let small = All-head HasFewBytes (sides_before visit) (map sides_before visits ++ rest) few in
-    let well = All-head HasNoFault visit visits none in
-    All-cons EndsWell visit visits
-    (ends_well caller visit.before visit.after visit.end session.serves (visit_counts caller visit session)
-    (below_limit caller visit.before visit.after visit.end session.serves small.input small.left small.few) well.reads well.writes)
+    All-cons SessionEndsWell visit visits
+    (visit_ends_well caller visit (All-head (IsVisit caller) visit visits sessions) (All-head HasFewBytes (sides_before visit) (map sides_before visits ++ rest) few)
+    (All-head VisitHasNoFault visit visits none))
     (all_end_well caller visits rest (All-tail (IsVisit caller) visit visits sessions) (All-tail HasFewBytes (sides_before visit) (map sides_before visits ++ rest) few)
-    (All-tail HasNoFault visit visits none))
+    (All-tail VisitHasNoFault visit visits none))
 
 pub without_a_fault : (before after : WorkerState) (works : Works before after) (waiting : List Sides) → before.gate.waiting ≡ Some waiting
-    → All HasFewBytes waiting → All HasNoFault works.visits → All EndsWell works.visits
+    → All HasFewBytes waiting → All VisitHasNoFault works.visits → All SessionEndsWell works.visits
 without_a_fault before after works waiting is few none =
     let all = are_all before.gate.waiting after.gate.waiting waiting (map sides_before works.visits) is works.serves.waited in
     all_end_well before.caller works.visits all.rest works.serves.sessions (subst (All HasFewBytes) all.whole few) none
 
 -- where no session found no memory, each is done
-done_one : (visit : Visit) → EndsWell visit → is_memory visit.end ≡ false → visit.end ≡ end_of.Done
+done_one : (visit : Visit) → SessionEndsWell visit → is_memory visit.end ≡ false → visit.end ≡ end_of.Done
 done_one visit (inl done) none = done
 done_one visit (inr memory) none = let other : true ≡ false = sym (ap is_memory memory) ∙ none in cc
 
@@ -148,14 +159,14 @@ neither : (a b : Bool) → (a || b) ≡ false → (a ≡ false) × (b ≡ false)
 neither false b none = (refl, none)
 neither true b none = cc
 
-all_done : (visits : List Visit) → list_any (λ visit. is_memory visit.end) visits ≡ false → All EndsWell visits → All (λ visit. visit.end ≡ end_of.Done) visits
+all_done : (visits : List Visit) → list_any (λ visit. is_memory visit.end) visits ≡ false → All SessionEndsWell visits → All (λ visit. visit.end ≡ end_of.Done) visits
 all_done [] none well = All-nil (λ (visit : Visit). visit.end ≡ end_of.Done)
 all_done (visit ∷ visits) none well =
     let neither = neither (is_memory visit.end) (list_any (λ (v : Visit). is_memory v.end) visits) none in
     All-cons (λ (visit : Visit). visit.end ≡ end_of.Done) visit visits
-    (done_one visit (All-head EndsWell visit visits well) neither.0)
-    (all_done visits neither.1 (All-tail EndsWell visit visits well))
+    (done_one visit (All-head SessionEndsWell visit visits well) neither.0)
+    (all_done visits neither.1 (All-tail SessionEndsWell visit visits well))
 
-pub with_memory : (before after : WorkerState) (works : Works before after) → after.memory ≡ false → All EndsWell works.visits
+pub with_memory : (before after : WorkerState) (works : Works before after) → after.memory ≡ false → All SessionEndsWell works.visits
     → All (λ visit. visit.end ≡ end_of.Done) works.visits
 with_memory before after works none well = all_done works.visits (sym works.serves.memory ∙ none) well

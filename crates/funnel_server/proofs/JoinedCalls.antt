@@ -1,32 +1,20 @@
 -- How calls join that a pass makes one after another, where it sees events of other passes in between.
-use Rattle.std.proofs.Common.{◌≡◌, ◌⊎◌, ℕ, false, cond, List, [], ◌∷◌, ◌++◌, None, refl, sym, ap, ◌∙◌, subst, inl, inr, append_assoc, append-nil}
-use Rattle.std.proofs.lemmas.Bool.{or_from, or_parts}
+use Rattle.std.proofs.Common.{◌≡◌, ◌⊎◌, ℕ, false, List, [], ◌∷◌, ◌++◌, sym, ap, ◌∙◌, subst, inl, inr, append_assoc}
+use Rattle.std.proofs.lemmas.Bool.{or_from}
 use Rattle.std.proofs.lemmas.List.Folds.{list_any-append}
-use Rattle.std.specs.List.{cons_option, list_any}
+use Rattle.std.specs.List.{list_any}
 use Rattle.std.specs.Prelude.{◌==◌, IfSome}
 use Rattle.funnel_model.proofs.Clears.{last_by-front}
-use Rattle.funnel_model.proofs.StepLemmas.{own-append, prefix_trans}
+use Rattle.funnel_model.proofs.StepLemmas.{prefix_trans}
 use Rattle.funnel_model.specs.declared.call.Call.{Call}
 use Rattle.funnel_model.specs.declared.call.Call.TheVariants as call
 use Rattle.funnel_model.specs.declared.event.Event.{Event}
 use Rattle.funnel_model.specs.declared.reply.Reply.{Reply}
-use Rattle.funnel_model.specs.Events.{call_of, leaves_open, pass_of}
+use Rattle.funnel_model.specs.Events.{leaves_open, pass_of}
 use Rattle.funnel_model.specs.History.{IsFrontOf, own}
 use Rattle.funnel_model.specs.Legal.{Limits}
 use Rattle.funnel_model.specs.Steps.{FindsNoMemory, IsMade, IsSpent, LacksMemory, Linear, Step}
-
--- events of other passes make no call of this one
-no_call : (pass : ℕ) (later : List Event) → list_any (λ e. pass_of e == pass) later ≡ false → own pass later ≡ []
-no_call pass [] silent = refl
-no_call pass (e ∷ later) silent =
-    let parts = or_parts (pass_of e == pass) (list_any (λ x. pass_of x == pass) later) silent in
-    ap (λ b. cons_option (cond b (call_of e) None) (own pass later)) parts.0 ∙ no_call pass later parts.1
-
--- so the calls of a pass are those in a front of it
-pub calls_in_front : (pass : ℕ) (front history : List Event) → IsFrontOf pass front history → own pass history ≡ own pass front
-calls_in_front pass front history seen =
-    ap (own pass) seen.whole ∙ own-append pass front seen.later
-    ∙ ap (λ cs. own pass front ++ cs) (no_call pass seen.later seen.silent) ∙ append-nil (own pass front)
+use Rattle.load_laws.proofs.FrontLemmas.{calls_in_front}
 
 -- a front of a front is one
 pub front_trans : (pass : ℕ) (front middle history : List Event) → IsFrontOf pass front middle → IsFrontOf pass middle history →

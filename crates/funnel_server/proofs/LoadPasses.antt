@@ -1,23 +1,20 @@
 -- The passes of a load, from the caller to the workers and back.
-use Rattle.std.proofs.Common.{◌≡◌, ℕ, zero, suc, ◌+◌, ◌<◌, ◌≤◌, List, [], ◌∷◌, ◌++◌, length, map, Result, Ok, Err, sym, refl, ap, ap₂, ◌∙◌, subst, arith, append_assoc, length-append, slice_index_or, reverse}
+use Rattle.std.proofs.Common.{◌≡◌, ℕ, zero, suc, ◌+◌, ◌<◌, List, [], ◌∷◌, ◌++◌, length, map, Result, Ok, Err, sym, refl, ap, ap₂, ◌∙◌, subst, inl, inr, arith, append_assoc, length-append, slice_index_or, reverse}
 use Rattle.std.proofs.lemmas.List.{drop_at, get_or-map, get_or_append_left, length-map, map-append, reverse-append, same_lists}
 use Rattle.std.proofs.lemmas.List.FromFn.{get_or-range_with_len, length-range_with_len}
-use Rattle.std.specs.List.{All, enumerate_from, filter, range_with_len}
-use Rattle.std.specs.Prelude.{MatchResult, drop, cond, ◌*◌, ◌%◌, ◌==◌}
-use Rattle.std.proofs.lemmas.Nat.{mod-mul-add}
+use Rattle.std.specs.List.{All, range_with_len}
+use Rattle.std.specs.Prelude.{MatchResult, drop}
 use Rattle.commit_desk.specs.Passes.{IsResting}
-use Rattle.funnel_model.specs.declared.call.Call.TheVariants as call
 use Rattle.funnel_model.specs.declared.event.Event.{Event}
 use Rattle.funnel_model.specs.declared.memory.Memory.{Memory}
 use Rattle.funnel_model.specs.Legal.{Limits}
 use Rattle.line_proto.specs.Services.{Caller}
-use Rattle.load_gen.specs.Jobs.{adds_of, deletes_of, queries_of, share}
-use Rattle.load_gen.specs.Queries.{queries}
+use Rattle.load_gen.specs.Jobs.{adds_of, queries_of}
 use Rattle.slice_rule.specs.Pools.{PoolId}
 use Rattle.slice_rule.specs.Seats.{PassState}
-use Rattle.funnel_server.specs.Loads.{IsCutShort, IsPut, PutsShare, StopsAfter, calls_of_share, front_at, worker_of}
+use Rattle.funnel_server.specs.Loads.{AllComeToQueries, AreAsked, ComesToQueries, Course, IsCutShort, IsPut, front_at, worker_of}
 use Rattle.funnel_server.specs.Parts.{AreWorkers, LoaderState, passes_of}
-use Rattle.funnel_server.proofs.Stops.{stops_at_start, stops_before}
+use Rattle.funnel_server.proofs.LoadWorkers.{early_along}
 
 -- a worker that goes, with its pass, behind the workers or before the passes in reverse: the passes in order are the same
 pub one_moved : (loaders : List LoaderState) (loader : LoaderState) (passes : List PassState) →
@@ -98,30 +95,34 @@ front_before (pass ∷ passes) others (suc k) small = front_before passes others
 -- and what a load says of them doesn't either
 module _ (limits : Limits) (texts : List (List ℕ)) (workers : ℕ) (before after first last : ℕ → List Event)
     (begins : (k : ℕ) → k < workers → before k ≡ first k) (ends : (k : ℕ) → k < workers → after k ≡ last k) where
+  come_along : (courses : ℕ → Course) → AllComeToQueries limits texts workers before courses → AllComeToQueries limits texts workers first courses
+  come_along courses come = record {
+    each = λ k small. subst (λ (h : List Event). ComesToQueries (worker_of limits k) h texts workers (courses k)) (begins k small) (come.each k small);
+    met_adds = come.met_adds;
+    met_deletes = come.met_deletes;
+  }
+
   put_along : (results : List (ℕ × ℕ)) → IsPut limits texts workers before after results → IsPut limits texts workers first last results
   put_along results put = record {
     courses = put.courses;
-    puts = λ k small.
-        subst (λ (h : List Event). PutsShare (worker_of limits k) h (last k) texts workers (put.courses k)) (begins k small)
-        (subst (λ (h : List Event). PutsShare (worker_of limits k) (before k) h texts workers (put.courses k)) (ends k small) (put.puts k small));
-    met_adds = put.met_adds;
-    met_deletes = put.met_deletes;
+    come = come_along put.courses put.come;
+    to_queries = put.to_queries;
+    asked = λ k small.
+        subst (λ (h : List Event). AreAsked (worker_of limits k) (put.courses k).fronts.met_deleted h (queries_of workers k) (put.to_queries k)) (ends k small)
+        (put.asked k small);
     count = put.count;
     results_are = put.results_are;
   }
 
   cut_along : IsCutShort limits texts workers before after → IsCutShort limits texts workers first last
-  cut_along cut = record {
-    made = cut.made;
-    left = cut.left;
-    calls = cut.calls;
-    stops = λ k small.
-        subst (λ (h : List Event). StopsAfter (worker_of limits k) h (last k) (cut.made k) (cut.left k)) (begins k small)
-        (subst (λ (h : List Event). StopsAfter (worker_of limits k) (before k) h (cut.made k) (cut.left k)) (ends k small) (cut.stops k small));
-    stopped = cut.stopped;
-    is_worker = cut.is_worker;
-    some_left = cut.some_left;
-  }
+  cut_along (inl same) = inl (λ k small. sym (begins k small) ∙ same k small ∙ ends k small)
+  cut_along (inr (inl early)) = inr (inl (early_along limits workers (adds_of texts workers) before after first last begins ends early))
+  cut_along (inr (inr early)) = inr (inr (record {
+    courses = early.courses;
+    come = come_along early.courses early.come;
+    ends = early_along limits workers (queries_of workers) (λ k. (early.courses k).fronts.met_deleted) after (λ k. (early.courses k).fronts.met_deleted) last
+        (λ k small. refl) ends early.ends;
+  }))
 
   pub ends_along : (answer : Result (List (ℕ × ℕ)) Memory) →
       MatchResult answer (λ results. IsPut limits texts workers before after results) (λ _. IsCutShort limits texts workers before after) →
@@ -129,33 +130,6 @@ module _ (limits : Limits) (texts : List (List ℕ)) (workers : ℕ) (before aft
   ends_along (Ok results) put = put_along results put
   ends_along (Err memory) cut = cut_along cut
 
--- worker 0 has the first item of each list
-first_of_share : {A : Type 0} (x : A) (xs : List A) (workers : ℕ) → 1 ≤ workers →
-    share (x ∷ xs) workers 0 ≡ (0, x) ∷ filter (λ item. item.0 % workers == 0) (enumerate_from (0 + 1) xs)
-first_of_share x xs workers some =
-    let none : 0 ≡ 0 * workers + 0 = omega arith in
-    ap (λ n. cond (n == 0) ((0, x) ∷ filter (λ item. item.0 % workers == 0) (enumerate_from (0 + 1) xs)) (filter (λ item. item.0 % workers == 0) (enumerate_from (0 + 1) xs)))
-    (ap (λ n. n % workers) none ∙ mod-mul-add 0 workers 0 (omega (arith, some)))
-
--- and so the first query
-first_query : (workers : ℕ) → 1 ≤ workers → 1 ≤ length (queries_of workers 0)
-first_query workers some =
-    of_list queries (omega arith)
-  where
-    of_list : (list : List (List ℕ)) → 1 ≤ length list → 1 ≤ length (map (λ item. call.Find item.1) (share list workers 0))
-    of_list [] none = absurd (omega (arith, none))
-    of_list (x ∷ xs) one =
-        omega (arith, length-map (share (x ∷ xs) workers 0) (λ item. call.Find item.1), ap length (first_of_share x xs workers some))
-
 -- where there was no memory for the workers none of them made a call
-pub nothing_put : (limits : Limits) (texts : List (List ℕ)) (workers : ℕ) (fronts : ℕ → List Event) → 1 ≤ workers → IsCutShort limits texts workers fronts fronts
-nothing_put limits texts workers fronts some = record {
-  made = λ k. [];
-  left = λ k. calls_of_share texts workers k;
-  calls = λ k small. refl;
-  stops = λ k small. stops_before (worker_of limits k) (fronts k) (fronts k) [] (calls_of_share texts workers k) (stops_at_start (worker_of limits k) (fronts k));
-  stopped = 0;
-  is_worker = omega (arith, some);
-  some_left = λ none.
-      omega (arith, ap length none, first_query workers some, length-append (adds_of texts workers 0 ++ deletes_of texts workers 0) (queries_of workers 0));
-}
+pub nothing_put : (limits : Limits) (texts : List (List ℕ)) (workers : ℕ) (fronts : ℕ → List Event) → IsCutShort limits texts workers fronts fronts
+nothing_put limits texts workers fronts = inl (λ k small. refl)

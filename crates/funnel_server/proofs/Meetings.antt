@@ -8,7 +8,7 @@ use Rattle.funnel_model.proofs.StepLemmas.{prefix_refl, prefix_trans}
 use Rattle.funnel_model.specs.declared.event.Event.{Event}
 use Rattle.funnel_model.specs.History.{IsFrontOf}
 use Rattle.line_proto.specs.Services.{Caller}
-use Rattle.funnel_server.specs.Parts.{HaveMet, LastHasMet, LoaderState, Meets, MetLast, OnlySees}
+use Rattle.funnel_server.specs.Parts.{LoadersHaveMet, LastHasMet, LoaderState, Meets, MetLast, OnlySees}
 use Rattle.funnel_server.proofs.JoinedCalls.{front_trans}
 
 -- what a worker saw it has seen from then on
@@ -94,7 +94,7 @@ module _ (last : ℕ) (before middle after : List LoaderState) (count : length b
           subst (OnlySees (slice_index_or before k d)) is
           (subst (λ j. OnlySees (slice_index_or before j d) (slice_index_or middle last d)) same (first.sees d))
 
-  pub all_met : HaveMet before after
+  pub all_met : LoadersHaveMet before after
   all_met = record {
     count = second.count ∙ first.count;
     sees = only_sees;

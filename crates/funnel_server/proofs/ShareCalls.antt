@@ -9,18 +9,18 @@ use Rattle.std.proofs.lemmas.Option.{slice_get_read}
 use Rattle.funnel_model.specs.declared.call.Call.{Call}
 use Rattle.funnel_model.specs.declared.call.Call.TheVariants as call
 use Rattle.load_gen.specs.declared.limits.TheConstants.{CHECKED_ONE_IN, DELETED_ONE_IN}
-use Rattle.load_gen.specs.Documents.{name_of}
+use Rattle.load_gen.specs.Documents.{name_of_document}
 use Rattle.load_gen.specs.Jobs.{add_and_check, adds_of, deletes_of, is_deleted, nth_add, queries_of}
 use Rattle.load_gen.specs.Queries.{queries}
 use Rattle.funnel_server.proofs.ShareWalks.{share_from, share_from-begin, share_from-end, share_from-next}
 
 -- the calls for a document whose name is looked for
-pub checked : (n id : ℕ) (text : List ℕ) → n % CHECKED_ONE_IN ≡ 0 → add_and_check n (id, text) ≡ (call.Add id text ∷ []) ++ call.Find (name_of id) ∷ []
-checked n id text falls = ap (λ b. call.Add id text ∷ (if b then call.Find (name_of id) ∷ [] else [])) (eq-eqb (n % CHECKED_ONE_IN) 0 falls)
+pub checked : (n id : ℕ) (text : List ℕ) → n % CHECKED_ONE_IN ≡ 0 → add_and_check n (id, text) ≡ (call.Add id text ∷ []) ++ call.Find (name_of_document id) ∷ []
+checked n id text falls = ap (λ b. call.Add id text ∷ (if b then call.Find (name_of_document id) ∷ [] else [])) (eq-eqb (n % CHECKED_ONE_IN) 0 falls)
 
 -- and for one whose name isn't
 pub unchecked : (n id : ℕ) (text : List ℕ) → (n % CHECKED_ONE_IN ≡ 0 → ⊥) → add_and_check n (id, text) ≡ call.Add id text ∷ []
-unchecked n id text falls = ap (λ b. call.Add id text ∷ (if b then call.Find (name_of id) ∷ [] else [])) (ne_eqb (n % CHECKED_ONE_IN) 0 falls)
+unchecked n id text falls = ap (λ b. call.Add id text ∷ (if b then call.Find (name_of_document id) ∷ [] else [])) (ne_eqb (n % CHECKED_ONE_IN) 0 falls)
 
 -- the adds and finds that are left from a place on, where so many documents are added
 abbrev pub adds_left : List (List ℕ) → ℕ → ℕ → ℕ → ℕ → List Call

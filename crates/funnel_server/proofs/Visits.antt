@@ -10,7 +10,7 @@ use Rattle.funnel_io.specs.Counts.{counted}
 use Rattle.funnel_model.specs.declared.event.Event.{Event}
 use Rattle.funnel_server.specs.Gates.{Sides}
 use Rattle.funnel_server.specs.Turns.{GetsNone, ServesNext, WorksOn}
-use Rattle.funnel_server.specs.Workers.{AreInOrder, IsReady, IsVisit, Visit, WorkerState, Works, is_memory, served_by, sides_before}
+use Rattle.funnel_server.specs.Workers.{AreInOrder, HasMetNoFault, IsVisit, Visit, WorkerState, Works, is_memory, served_by, sides_before}
 
 in_order-push : (front middle after : List Event) (visits : List Visit) (visit : Visit) → AreInOrder front visits middle → visit.before.front ≡ middle
     → visit.after.front ≡ after → AreInOrder front (visits ++ visit ∷ []) after
@@ -48,7 +48,7 @@ memory-push visits visit before after so then =
     ∙ sym (list_any-append (λ (v : Visit). is_memory v.end) visits (visit ∷ []))))
 
 -- a worker that is ready served nothing yet
-pub serves_none : (worker : WorkerState) → IsReady worker → WorksOn worker worker
+pub serves_none : (worker : WorkerState) → HasMetNoFault worker → WorksOn worker worker
 serves_none worker ready = record {
   visits = [];
   serves = record {

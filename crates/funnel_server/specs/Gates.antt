@@ -1,5 +1,5 @@
 -- What contracts see of a gate and its connections.
-use Rattle.std.specs.Prelude.{ℕ, List, Option, map}
+use Rattle.std.specs.Prelude.{ℕ, Bool, List, Option, map}
 use Rattle.std.specs.Option.{option_map}
 use Rattle.funnel_io.specs.Served.{Served}
 use Rattle.funnel_io.specs.Streams.{Incoming, Outgoing}
@@ -9,15 +9,17 @@ pub record Sides : Type 0 where
   pub incoming : Incoming
   pub outgoing : Outgoing
 
--- a gate: how many of its calls failed, and, where it tells them, the connections that wait and those that came back
+-- a gate: whether it is closed, how many of its calls failed, and, where it tells them, the connections that wait and those that came back
 pub record GateState : Type 0 where
+  pub is_closed : Bool
   pub faults : ℕ
   pub waiting : Option (List Sides)
   pub served : Option (List Served)
 
 -- the state of a gate, by what it tells of itself and what each of its connections tells
-abbrev pub gate_state : {G C : Type 0} → (G → ℕ) → (G → Option (List C)) → (C → Incoming) → (C → Outgoing) → (G → Option (List Served)) → G → GateState
-gate_state faults waiting incoming outgoing served gate = record {
+abbrev pub gate_state : {G C : Type 0} → (G → Bool) → (G → ℕ) → (G → Option (List C)) → (C → Incoming) → (C → Outgoing) → (G → Option (List Served)) → G → GateState
+gate_state is_closed faults waiting incoming outgoing served gate = record {
+  is_closed = is_closed gate;
   faults = faults gate;
   waiting = option_map (map (λ conn. record { incoming = incoming conn; outgoing = outgoing conn })) (waiting gate);
   served = served gate;

@@ -15,11 +15,12 @@ use Rattle.funnel_model.specs.History.{IsFrontOf, own}
 use Rattle.funnel_model.specs.Steps.{Linear}
 use Rattle.line_proto.specs.Forms.{Item, items}
 use Rattle.line_proto.specs.Services.{Caller}
+use Rattle.load_gen.specs.Jobs.{calls_of_share}
 use Rattle.session.specs.Laws.{calls_of, replies_to_calls}
 use Rattle.session.specs.Sessions.{Session}
 use Rattle.session.specs.declared.serving.TheConstants.{MOST_BYTES}
 use Rattle.funnel_server.specs.Gates.{Sides}
-use Rattle.funnel_server.specs.Loads.{AreAsked, Course, calls_of_share}
+use Rattle.funnel_server.specs.Loads.{AreAsked}
 use Rattle.funnel_server.specs.Workers.{IsVisit, Visit}
 
 -- the items that a session answered, of those that the bytes which it took have
@@ -106,6 +107,7 @@ pub record KeepsInput (input : List ℕ) (served : Served) : Type 0 where
 -- the end that is kept of a connection has its cause in what else is kept of it
 pub record HasCause (sides : Sides) (served : Served) : Type 0 where
   pub counts : CountsAs served.session_end served.read_faults served.write_faults
+  pub limit : (limit : ℕ) → served.session_end ≡ end_of.ByteLimit limit → limit ≡ MOST_BYTES
   pub input : (input : List ℕ) → TellsInput sides.incoming input → KeepsInput input served
   pub nothing_read : served.session_end ≡ end_of.Memory → IfSome served.bytes_in (λ bytes. bytes ≡ [])
   pub nothing_written : served.session_end ≡ end_of.Memory → IfSome served.bytes_out (λ bytes. bytes ≡ [])
@@ -117,17 +119,17 @@ pub record HasFewBytes (sides : Sides) : Type 0 where
   pub few : length input < MOST_BYTES
 
 -- no read and no write of a connection failed
-pub record HasNoFault (visit : Visit) : Type 0 where
+pub record VisitHasNoFault (visit : Visit) : Type 0 where
   pub reads : visit.after.incoming.faults ≡ 0
   pub writes : visit.after.outgoing.faults ≡ 0
 
 -- a session answered all lines of its input, or found no memory to begin
-abbrev pub EndsWell : Visit → Type 0
-EndsWell visit = (visit.end ≡ end_of.Done) ⊎ (visit.end ≡ end_of.Memory)
+abbrev pub SessionEndsWell : Visit → Type 0
+SessionEndsWell visit = (visit.end ≡ end_of.Done) ⊎ (visit.end ≡ end_of.Memory)
 
 -- a worker of a load asked all calls of its share, one after another, and found memory for each; what it has seen since has no
 -- event of its pass
-pub record AsksShare (caller : Caller) (before after : List Event) (texts : List (List ℕ)) (workers : ℕ) (course : Course) : Type 0 where
+pub record AsksShare (caller : Caller) (before after : List Event) (texts : List (List ℕ)) (workers : ℕ) (replies : List Reply) : Type 0 where
   pub front : List Event
-  pub asked : AreAsked caller before front (calls_of_share texts workers caller.pass) (course.to_adds ++ course.to_deletes ++ course.to_queries)
+  pub asked : AreAsked caller before front (calls_of_share texts workers caller.pass) replies
   pub seen : IsFrontOf caller.pass front after

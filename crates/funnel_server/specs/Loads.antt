@@ -4,6 +4,7 @@ use Rattle.std.specs.List.{All}
 use Rattle.std.specs.Option.{option_map_or}
 use mathlib.Core.List.{IsPrefix}
 use Rattle.funnel_model.specs.declared.call.Call.{Call}
+use Rattle.funnel_model.specs.declared.call.Call.TheVariants as call
 use Rattle.funnel_model.specs.declared.event.Event.{Event}
 use Rattle.funnel_model.specs.declared.reply.Reply.{Reply}
 use Rattle.funnel_model.specs.declared.reply.Reply.TheVariants as reply
@@ -11,9 +12,11 @@ use Rattle.funnel_model.specs.History.{IsFrontOf}
 use Rattle.funnel_model.specs.Legal.{Limits}
 use Rattle.funnel_model.specs.Steps.{Linear, Step}
 use Rattle.line_proto.specs.Services.{Caller}
+use Rattle.load_gen.specs.Documents.{name_of_document}
 use Rattle.load_gen.specs.Jobs.{adds_of, deletes_of, queries_of, share}
 use Rattle.load_gen.specs.Queries.{queries}
 use Rattle.load_laws.specs.Replies.{result_in}
+use Rattle.load_laws.specs.Workers.{Fronts}
 use Rattle.slice_rule.specs.Seats.{PassState}
 
 -- the calls lead the caller's pass from front to front, and have these replies, none of which is a want of memory
@@ -21,66 +24,82 @@ pub record AreAsked (caller : Caller) (before after : List Event) (calls : List 
   pub run : Linear caller.limits caller.pass before after calls replies
   pub memory : All (λ r. r ≢ reply.Memory) replies
 
--- all that a worker asks, in order: it adds its documents, deletes some of them, and runs its queries
-abbrev pub calls_of_share : List (List ℕ) → ℕ → ℕ → List Call
-calls_of_share texts workers worker = adds_of texts workers worker ++ deletes_of texts workers worker ++ queries_of workers worker
-
--- how a worker of a load fared: what its pass had seen when its adds were made, once it had then met the other workers, when its
--- deletes were made, and once it had met the others again; and the replies to each part
-pub record Course : Type 0 where
-  pub added : List Event
-  pub met_added : List Event
-  pub deleted : List Event
-  pub met_deleted : List Event
-  pub to_adds : List Reply
-  pub to_deletes : List Reply
-  pub to_queries : List Reply
-
--- the worker made the calls of its share, and found memory for each; while it met the others, its pass did nothing
-pub record PutsShare (caller : Caller) (before after : List Event) (texts : List (List ℕ)) (workers : ℕ) (course : Course) : Type 0 where
-  pub adds : AreAsked caller before course.added (adds_of texts workers caller.pass) course.to_adds
-  pub meets_adds : IsFrontOf caller.pass course.added course.met_added
-  pub deletes : AreAsked caller course.met_added course.deleted (deletes_of texts workers caller.pass) course.to_deletes
-  pub meets_deletes : IsFrontOf caller.pass course.deleted course.met_deleted
-  pub queries : AreAsked caller course.met_deleted after (queries_of workers caller.pass) course.to_queries
-
 -- the worker with this number, by the pass of the same number
 abbrev pub worker_of : Limits → ℕ → Caller
 worker_of limits worker = record { limits = limits; pass = worker }
 
--- the load was put, and these are the results of its queries. Each worker had seen all adds of every other one before it deleted,
--- and all deletes of every other one before it ran its queries; and the results of its queries are those that its replies tell
+-- how a worker of a load fared until it was to run its queries: what its pass had seen, and the replies to its adds and its deletes
+pub record Course : Type 0 where
+  pub fronts : Fronts
+  pub to_adds : List Reply
+  pub to_deletes : List Reply
+
+-- the worker asked for its adds and then for its deletes, and found memory for each; while it met the others, its pass did nothing
+pub record ComesToQueries (caller : Caller) (before : List Event) (texts : List (List ℕ)) (workers : ℕ) (course : Course) : Type 0 where
+  pub adds : AreAsked caller before course.fronts.added (adds_of texts workers caller.pass) course.to_adds
+  pub meets_adds : IsFrontOf caller.pass course.fronts.added course.fronts.met_added
+  pub deletes : AreAsked caller course.fronts.met_added course.fronts.deleted (deletes_of texts workers caller.pass) course.to_deletes
+  pub meets_deletes : IsFrontOf caller.pass course.fronts.deleted course.fronts.met_deleted
+
+-- so did each worker; and it had seen all adds of every other one before it deleted, and all deletes before it was to run its queries
+pub record AllComeToQueries (limits : Limits) (texts : List (List ℕ)) (workers : ℕ) (before : ℕ → List Event) (courses : ℕ → Course) : Type 0 where
+  pub each : (worker : ℕ) → worker < workers → ComesToQueries (worker_of limits worker) (before worker) texts workers (courses worker)
+  pub met_adds : (worker other : ℕ) → worker < workers → other < workers → IsPrefix (courses other).fronts.added (courses worker).fronts.met_added
+  pub met_deletes : (worker other : ℕ) → worker < workers → other < workers → IsPrefix (courses other).fronts.deleted (courses worker).fronts.met_deleted
+
+-- the whole load was put, and these are the results of its eight queries: those that the replies to each worker's queries tell
 pub record IsPut (limits : Limits) (texts : List (List ℕ)) (workers : ℕ) (before after : ℕ → List Event) (results : List (ℕ × ℕ)) : Type 0 where
   pub courses : ℕ → Course
-  pub puts : (worker : ℕ) → worker < workers → PutsShare (worker_of limits worker) (before worker) (after worker) texts workers (courses worker)
-  pub met_adds : (worker other : ℕ) → worker < workers → other < workers → IsPrefix (courses other).added (courses worker).met_added
-  pub met_deletes : (worker other : ℕ) → worker < workers → other < workers → IsPrefix (courses other).deleted (courses worker).met_deleted
+  pub come : AllComeToQueries limits texts workers before courses
+  pub to_queries : ℕ → List Reply
+  pub asked : (worker : ℕ) → worker < workers →
+      AreAsked (worker_of limits worker) (courses worker).fronts.met_deleted (after worker) (queries_of workers worker) (to_queries worker)
   pub count : length results ≡ length queries
-  pub results_are : (worker : ℕ) → worker < workers → map (λ item. item.1) (share results workers worker) ≡ map result_in (courses worker).to_queries
+  pub results_are : (worker : ℕ) → worker < workers → map (λ item. item.1) (share results workers worker) ≡ map result_in (to_queries worker)
 
--- of the calls that are left none was made; or only the first one, which found no memory
+-- the call looks for a document by its name; a worker takes memory for the name before it asks
+abbrev pub LooksForName : Call → Type 0
+LooksForName (call.Find query) = (id : ℕ) × (query ≡ name_of_document id)
+LooksForName _ = ⊥
+
+-- The first of the calls that are left was asked, and no memory was found for it; or it looks for a name, and was not asked, as no
+-- memory was found for the name
 abbrev pub GoesNoFurther : Caller → List Event → List Event → List Call → Type 0
-GoesNoFurther caller before after [] = IsFrontOf caller.pass before after
+GoesNoFurther caller before after [] = before ≡ after
 GoesNoFurther caller before after (asked ∷ calls) =
-    IsFrontOf caller.pass before after ⊎ Step caller.limits caller.pass before after asked reply.Memory
+    (LooksForName asked × (before ≡ after)) ⊎ Step caller.limits caller.pass before after asked reply.Memory
 
--- the caller made the first calls, and found memory for each, and went no further with those that are left
-pub record StopsAfter (caller : Caller) (before after : List Event) (made left : List Call) : Type 0 where
+-- the caller asked the first calls, and found memory for each, and went no further with those that are left
+pub record StopsAfter (caller : Caller) (before after : List Event) (asked left : List Call) : Type 0 where
   pub middle : List Event
   pub replies : List Reply
-  pub asked : AreAsked caller before middle made replies
+  pub answered : AreAsked caller before middle asked replies
   pub ends : GoesNoFurther caller middle after left
 
--- the load ended early for want of memory: each worker made the first calls of its share, and some calls are left
-pub record IsCutShort (limits : Limits) (texts : List (List ℕ)) (workers : ℕ) (before after : ℕ → List Event) : Type 0 where
-  pub made : ℕ → List Call
+-- a part of the load ended early: each worker asked the first of its calls, and some worker has calls left
+pub record EndsPartEarly (limits : Limits) (workers : ℕ) (calls : ℕ → List Call) (before after : ℕ → List Event) : Type 0 where
+  pub asked : ℕ → List Call
   pub left : ℕ → List Call
-  pub calls : (worker : ℕ) → worker < workers → calls_of_share texts workers worker ≡ made worker ++ left worker
-  pub stops : (worker : ℕ) → worker < workers → StopsAfter (worker_of limits worker) (before worker) (after worker) (made worker) (left worker)
+  pub calls_are : (worker : ℕ) → worker < workers → calls worker ≡ asked worker ++ left worker
+  pub stops : (worker : ℕ) → worker < workers → StopsAfter (worker_of limits worker) (before worker) (after worker) (asked worker) (left worker)
   pub stopped : ℕ
   pub is_worker : stopped < workers
   pub some_left : left stopped ≢ []
 
--- what the pass at this place of a list has seen
+-- the load ended early in its last part
+pub record EndsEarlyInQueries (limits : Limits) (texts : List (List ℕ)) (workers : ℕ) (before after : ℕ → List Event) : Type 0 where
+  pub courses : ℕ → Course
+  pub come : AllComeToQueries limits texts workers before courses
+  pub ends : EndsPartEarly limits workers (queries_of workers) (λ worker. (courses worker).fronts.met_deleted) after
+
+-- the load was cut short: it was not begun, or it ended early in its first part or its last one. A delete takes no memory, so where
+-- deletes are begun all are asked
+abbrev pub IsCutShort : Limits → List (List ℕ) → ℕ → (ℕ → List Event) → (ℕ → List Event) → Type 0
+IsCutShort limits texts workers before after =
+    ((worker : ℕ) → worker < workers → before worker ≡ after worker)
+    ⊎ EndsPartEarly limits workers (adds_of texts workers) before after
+    ⊎ EndsEarlyInQueries limits texts workers before after
+
+-- what the pass at this place of a list has seen, and nothing where there is none
 abbrev pub front_at : List PassState → ℕ → List Event
 front_at passes place = option_map_or (λ (pass : PassState). pass.front) (slice_get passes place) []

@@ -10,9 +10,10 @@ use Rattle.funnel_model.specs.Legal.{Limits}
 use Rattle.load_gen.specs.Jobs.{queries_of}
 use Rattle.slice_rule.specs.Seats.{PassState}
 use Rattle.funnel_server.specs.Loads.{worker_of}
-use Rattle.funnel_server.specs.Shares.{HasResults, IsDone, IsStopped}
+use Rattle.funnel_server.specs.Shares.{EndsEarly, HasResults, IsDone}
 
--- a worker of a load: its pass, the results of the queries that it ran, and whether its last part ended for want of memory
+-- a worker of a load: its pass, the results of the queries that it ran, and whether the last of its adds and queries ended for want of
+-- memory
 pub record LoaderState : Type 0 where
   pub pass : PassState
   pub results : List (ℕ × ℕ)
@@ -22,7 +23,7 @@ pub record LoaderState : Type 0 where
 abbrev pub passes_of : List LoaderState → List PassState
 passes_of loaders = map (λ (loader : LoaderState). loader.pass) loaders
 
--- one of the workers stopped in its last part
+-- one of the workers stopped in the last of its adds and queries
 abbrev pub any_stopped : List LoaderState → Bool
 any_stopped loaders = list_any (λ (loader : LoaderState). loader.stopped) loaders
 
@@ -31,18 +32,23 @@ pub record AreWorkers (limits : Limits) (workers : ℕ) (loaders : List LoaderSt
   pub count : length loaders ≡ workers
   pub callers : (k : ℕ) (d : LoaderState) → k < workers → caller_of (slice_index_or loaders k d).pass ≡ worker_of limits k
 
--- a worker came to the end of a part: it made all its calls, or it stopped for want of memory
+-- a worker came to the end of its first part or its last one: it asked all its calls, or it stopped for want of memory
 pub record EndsPart (calls : List Call) (before after : LoaderState) : Type 0 where
   pub same_caller : caller_of after.pass ≡ caller_of before.pass
   pub outcome :
       MatchBool after.stopped
-      (IsStopped (caller_of before.pass) before.pass.front after.pass.front calls)
+      (EndsEarly (caller_of before.pass) before.pass.front after.pass.front calls)
       (IsDone (caller_of before.pass) before.pass.front after.pass.front calls)
 
--- and in the last part, where it made all, it has the results of its queries
+-- and in the last part, where it asked all, it has the results of its queries
 pub record EndsLastPart (workers worker : ℕ) (before after : LoaderState) : Type 0 where
   pub part : EndsPart (queries_of workers worker) before after
   pub found : after.stopped ≡ false → HasResults (caller_of before.pass) before.pass.front after.pass.front workers worker after.results
+
+-- a worker came to the end of its second part: it asked all its calls
+pub record EndsDeletes (calls : List Call) (before after : LoaderState) : Type 0 where
+  pub same_caller : caller_of after.pass ≡ caller_of before.pass
+  pub done : IsDone (caller_of before.pass) before.pass.front after.pass.front calls
 
 -- each worker came to the end of a part
 abbrev pub EachEnds : (ℕ → LoaderState → LoaderState → Type 0) → List LoaderState → List LoaderState → Type 0
@@ -75,7 +81,7 @@ pub record MetLast (last n : ℕ) (before after : List LoaderState) : Type 0 whe
       Meets (slice_index_or before last d).pass.front (slice_index_or before k d) (slice_index_or after k d)
 
 -- the workers met: each one saw what every one had seen before
-pub record HaveMet (before after : List LoaderState) : Type 0 where
+pub record LoadersHaveMet (before after : List LoaderState) : Type 0 where
   pub count : length after ≡ length before
   pub sees : (k : ℕ) (d : LoaderState) → k < length before → OnlySees (slice_index_or before k d) (slice_index_or after k d)
   pub met : (k other : ℕ) (d : LoaderState) → k < length before → other < length before →

@@ -2,7 +2,7 @@
 use Rattle.std.specs.Prelude.{◌≡◌, ◌+◌, ◌||◌, true, false, List, [], ◌∷◌, ◌++◌, IfSome, ◌⊎◌}
 use Rattle.std.specs.Option.{option_map}
 use Rattle.funnel_io.specs.Counts.{counted}
-use Rattle.funnel_server.specs.Workers.{HasServed, IsVisit, Visit, WorkerState, is_memory, served_by, sides_before}
+use Rattle.funnel_server.specs.Workers.{GivesNoMore, HasServedVisits, IsVisit, Visit, WorkerState, is_memory, served_by, sides_before}
 
 -- a worker served the first of the connections that waited
 pub record ServesNext (before after : WorkerState) : Type 0 where
@@ -24,10 +24,10 @@ pub record GetsNone (before after : WorkerState) : Type 0 where
   pub waited : after.gate.waiting ≡ before.gate.waiting
   pub served : after.gate.served ≡ before.gate.served
   pub faults : after.gate.faults ≡ counted after.fault before.gate.faults
-  pub why : (after.fault ≡ true) ⊎ IfSome after.gate.waiting (λ sides. sides ≡ [])
+  pub why : (after.fault ≡ true) ⊎ GivesNoMore after.gate
 
 -- so far a worker served these connections, and its gate did not fail
 pub record WorksOn (before now : WorkerState) : Type 0 where
   pub visits : List Visit
-  pub serves : HasServed before now visits
+  pub serves : HasServedVisits before now visits
   pub no_fault : now.fault ≡ false

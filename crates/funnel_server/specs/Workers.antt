@@ -23,7 +23,7 @@ pub record WorkerState : Type 0 where
   pub memory : Bool
 
 -- a worker that met no fault and no want of memory yet
-pub record IsReady (worker : WorkerState) : Type 0 where
+pub record HasMetNoFault (worker : WorkerState) : Type 0 where
   pub no_fault : worker.fault ≡ false
   pub no_memory : worker.memory ≡ false
 
@@ -60,7 +60,7 @@ is_memory _ = false
 
 -- a worker served these connections, one after another: they are those that left the waiting ones, in order, and those that
 -- came back to its gate
-pub record HasServed (before after : WorkerState) (visits : List Visit) : Type 0 where
+pub record HasServedVisits (before after : WorkerState) (visits : List Visit) : Type 0 where
   pub sessions : All (IsVisit before.caller) visits
   pub in_order : AreInOrder before.front visits after.front
   pub same_pass : after.caller ≡ before.caller
@@ -70,12 +70,17 @@ pub record HasServed (before after : WorkerState) (visits : List Visit) : Type 0
   pub faults : after.gate.faults ≡ counted after.fault before.gate.faults
   pub memory : after.memory ≡ list_any (λ visit. is_memory visit.end) visits
 
--- a worker stops where it has served as many connections as it may, or its gate failed, or no connection waits any more
+-- no connection comes any more, and where the gate tells which ones wait, none does
+pub record GivesNoMore (gate : GateState) : Type 0 where
+  pub closed : gate.is_closed ≡ true
+  pub none_waits : IfSome gate.waiting (λ sides. sides ≡ [])
+
+-- a worker stops where it has served as many connections as it may, or its gate failed, or is closed
 abbrev pub IsStopped : WorkerState → Type 0
-IsStopped worker = (worker.left ≡ 0) ⊎ (worker.fault ≡ true) ⊎ IfSome worker.gate.waiting (λ sides. sides ≡ [])
+IsStopped worker = (worker.left ≡ 0) ⊎ (worker.fault ≡ true) ⊎ GivesNoMore worker.gate
 
 -- a worker served some connections and stopped
 pub record Works (before after : WorkerState) : Type 0 where
   pub visits : List Visit
-  pub serves : HasServed before after visits
+  pub serves : HasServedVisits before after visits
   pub stopped : IsStopped after

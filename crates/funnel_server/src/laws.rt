@@ -1,18 +1,20 @@
 //! Laws of workers, over their definitions alone. Each is the contract of a function that does nothing.
-ghost use Rattle.std.specs.Prelude.{◌≡◌, ◌<◌, ℕ, false, List, [], Some, IfSome, map, take};
+ghost use Rattle.std.specs.Prelude.{◌≡◌, ◌<◌, ◌++◌, ℕ, false, List, [], Some, IfSome, map, take};
 ghost use Rattle.std.specs.List.{All};
 ghost use Rattle.line_proto.specs.Services.{Caller};
 ghost use Rattle.funnel_io.specs.declared.end.End.TheVariants as end_of;
 ghost use Rattle.funnel_model.specs.declared.event.Event.{Event};
+ghost use Rattle.funnel_model.specs.declared.reply.Reply.{Reply};
+ghost use Rattle.load_gen.specs.Jobs.{queries_of};
 ghost use Rattle.funnel_server.specs.Gates.{Sides};
-ghost use Rattle.funnel_server.specs.Laws.{AsksShare, EndsWell, GoesOnByCalls, HasCause, HasFewBytes, HasNoFault};
-ghost use Rattle.funnel_server.specs.Loads.{Course, PutsShare};
-ghost use Rattle.funnel_server.specs.Workers.{HasServed, IsVisit, Visit, WorkerState, Works, served_by, sides_before};
+ghost use Rattle.funnel_server.specs.Laws.{AsksShare, SessionEndsWell, GoesOnByCalls, HasCause, HasFewBytes, VisitHasNoFault};
+ghost use Rattle.funnel_server.specs.Loads.{AreAsked, ComesToQueries, Course};
+ghost use Rattle.funnel_server.specs.Workers.{GivesNoMore, HasServedVisits, IsVisit, Visit, WorkerState, Works, served_by, sides_before};
 
 /// The calls of a worker's pass are those that it had made before and then those of its sessions, in order; and the front of
 /// the pass goes on from where it was, over all that its sessions saw.
 pub fn a_workers_calls_are_those_of_its_sessions()
-    ensures { (before after : WorkerState) (visits : List Visit) → HasServed before after visits →
+    ensures { (before after : WorkerState) (visits : List Visit) → HasServedVisits before after visits →
         GoesOnByCalls before.caller before.front after.front visits }
 {}
 
@@ -22,26 +24,28 @@ pub fn kept_ends_have_their_cause()
 {}
 
 /// A worker whose gate didn't fail served the first of the connections that waited: as many as it may, or all. So where it may
-/// serve more, none waits.
+/// serve more, its gate is closed, and none waits.
 pub fn workers_without_a_fault_serve_all()
     ensures first { (before after : WorkerState) (works : Works before after) (waiting : List Sides) →
         after.fault ≡ false → before.gate.waiting ≡ Some waiting → map sides_before works.visits ≡ take before.left waiting }
     ensures none { (before after : WorkerState) (works : Works before after) →
-        after.fault ≡ false → 0 < after.left → IfSome after.gate.waiting (λ sides. sides ≡ []) }
+        after.fault ≡ false → 0 < after.left → GivesNoMore after.gate }
 {}
 
 /// Where each connection has fewer bytes than a session may take, and no read and no write failed, each session ends with Done
 /// or for want of memory; and with Done alone where the worker found memory for each.
 pub fn sessions_without_a_fault_end_well()
     ensures ends { (before after : WorkerState) (works : Works before after) (waiting : List Sides) →
-        before.gate.waiting ≡ Some waiting → All HasFewBytes waiting → All HasNoFault works.visits → All EndsWell works.visits }
+        before.gate.waiting ≡ Some waiting → All HasFewBytes waiting → All VisitHasNoFault works.visits → All SessionEndsWell works.visits }
     ensures done { (before after : WorkerState) (works : Works before after) →
-        after.memory ≡ false → All EndsWell works.visits → All (λ visit. visit.end ≡ end_of.Done) works.visits }
+        after.memory ≡ false → All SessionEndsWell works.visits → All (λ visit. visit.end ≡ end_of.Done) works.visits }
 {}
 
 /// A worker that puts its share of a load asks the calls of all three parts one after another, as a lone caller does: what it
 /// sees while it meets the others belongs to the call that comes next.
 pub fn workers_of_a_load_ask_their_share()
-    ensures { (caller : Caller) (before after : List Event) (texts : List (List ℕ)) (workers : ℕ) (course : Course) →
-        PutsShare caller before after texts workers course → AsksShare caller before after texts workers course }
+    ensures { (caller : Caller) (before after : List Event) (texts : List (List ℕ)) (workers : ℕ) (course : Course) (to_queries : List Reply) →
+        ComesToQueries caller before texts workers course →
+        AreAsked caller course.fronts.met_deleted after (queries_of workers caller.pass) to_queries →
+        AsksShare caller before after texts workers (course.to_adds ++ course.to_deletes ++ to_queries) }
 {}

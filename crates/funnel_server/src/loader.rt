@@ -1,7 +1,7 @@
 //! A worker of a load.
 ghost use Rattle.std.specs.Prelude.{◌≡◌, ◌<◌, ℕ, slice_index_or};
 ghost use Rattle.load_gen.specs.Jobs.{adds_of, deletes_of};
-ghost use Rattle.funnel_server.specs.Parts.{EndsLastPart, EndsPart, Meets};
+ghost use Rattle.funnel_server.specs.Parts.{EndsDeletes, EndsLastPart, EndsPart, Meets};
 
 use crate::share::{add_share, delete_share, find_share};
 use engine::{Client, Engine, Note, PoolName};
@@ -15,7 +15,7 @@ pub(crate) struct Loader<'a, N: PoolName, R: Wait> {
     pub(crate) client: Client<'a, N, R>,
     /// The results of its queries, each at the place of the query.
     pub(crate) results: [(u64, u64); 8],
-    /// Whether its last part ended for want of memory.
+    /// Whether its adds, or its queries where it came to them, ended early for want of memory.
     pub(crate) stopped: bool,
 }
 
@@ -47,12 +47,9 @@ impl<'a, N: PoolName, R: Wait> Loader<'a, N, R> {
     /// Deletes those of its documents that are to be deleted.
     pub(crate) fn delete(&mut self, load: &Load, workers: u32, worker: u32)
         requires one_of_them { worker < workers }
-        ensures { EndsPart (deletes_of load.now workers worker) self.old self.new }
+        ensures { EndsDeletes (deletes_of load.now workers worker) self.old self.new }
     {
-        self.stopped = match delete_share(&mut self.client, load, workers, worker) {
-            Ok(()) => false,
-            Err(_) => true,
-        };
+        delete_share(&mut self.client, load, workers, worker);
     }
 
     /// Runs its queries, and keeps their results.

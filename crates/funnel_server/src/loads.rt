@@ -22,8 +22,8 @@ use std::thread::Threads;
 /// thread, one worker after another.
 ///
 /// The answer is the result of each query, or `Memory` where there was none for the workers or one of them found none. That
-/// one then stops, the others come to the end of the part, and no further part begins; all passes come back all the same. A
-/// call that is refused for another cause stops nothing.
+/// one then stops, the others come to the end of the part or find no memory themselves, and no further part begins; all passes
+/// come back all the same. A call that is refused for another cause stops nothing.
 ///
 /// It takes memory for all workers at once, and then what their calls take and the names that they look for. Its threads wait
 /// for the engine's lock.

@@ -1,6 +1,6 @@
 //! The meeting of the workers of a load between two parts.
 ghost use Rattle.std.specs.Prelude.{◌≡◌, ◌-◌, ◌<◌, ◌≤◌, ℕ, length};
-ghost use Rattle.funnel_server.specs.Parts.{HaveMet, LastHasMet, MetLast};
+ghost use Rattle.funnel_server.specs.Parts.{LoadersHaveMet, LastHasMet, MetLast};
 
 use crate::loader::Loader;
 use engine::{Engine, PoolName};
@@ -11,7 +11,7 @@ use std::sync::Wait;
 pub(crate) fn meet_all<N: PoolName, R: Wait>(engine: &Engine<N>, loaders: &mut [Loader<'_, N, R>])
     requires named { engine.now ≡ N.pool }
     requires some { 1 ≤ length loaders.old }
-    ensures { HaveMet loaders.old loaders.new }
+    ensures { LoadersHaveMet loaders.old loaders.new }
 {
     meet_others(engine, loaders);
     meet_last(engine, loaders);

@@ -2,7 +2,7 @@
 ghost use Rattle.std.specs.Prelude.{◌≡◌, ◌<◌, ◌≤◌, ◌%◌, ℕ, false, true, length, slice_index_or, MatchResult};
 ghost use Rattle.load_gen.specs.Jobs.{adds_of, deletes_of};
 ghost use Rattle.funnel_server.specs.Loads.{IsCutShort, IsPut, front_at};
-ghost use Rattle.funnel_server.specs.Parts.{AreWorkers, EachEnds, EndsLastPart, EndsPart, any_stopped, passes_of};
+ghost use Rattle.funnel_server.specs.Parts.{AreWorkers, EachEnds, EndsDeletes, EndsLastPart, EndsPart, any_stopped, passes_of};
 
 use crate::loader::Loader;
 use crate::meeting::meet_all;
@@ -31,7 +31,7 @@ pub(crate) fn run_parts<N: PoolName + Send + Sync, R: Threads + Wait + Sync>(
 {
     add_all(rt, load, workers, loaders)?;
     meet_all(engine, loaders);
-    delete_all(rt, load, workers, loaders)?;
+    delete_all(rt, load, workers, loaders);
     meet_all(engine, loaders);
     find_all(rt, workers, loaders)?;
     Ok(results_of(loaders))
@@ -63,18 +63,17 @@ fn add_all<N: PoolName + Send + Sync, R: Threads + Wait + Sync>(
     none_stopped(loaders)
 }
 
-/// The second part: each worker deletes those of its documents that are to be deleted.
+/// The second part: each worker deletes those of its documents that are to be deleted. None of them can stop.
 fn delete_all<N: PoolName + Send + Sync, R: Threads + Wait + Sync>(
     rt: &R,
     load: &Load,
     workers: u32,
     loaders: &mut [Loader<'_, N, R>],
-) -> Result<(), Memory>
+)
     requires count { length loaders.old ≡ workers }
     requires some { 1 ≤ workers }
     ensures count { length loaders.new ≡ length loaders.old }
-    ensures each { EachEnds (λ k. EndsPart (deletes_of load.now workers k)) loaders.old loaders.new }
-    ensures stopped { MatchResult result (λ _. any_stopped loaders.new ≡ false) (λ _. any_stopped loaders.new ≡ true) }
+    ensures each { EachEnds (λ k. EndsDeletes (deletes_of load.now workers k)) loaders.old loaders.new }
 {
     let threads = loaders.len();
     thread::for_each_mut(
@@ -83,10 +82,9 @@ fn delete_all<N: PoolName + Send + Sync, R: Threads + Wait + Sync>(
         threads,
         &|number, loader: &mut Loader<N, R>|
             requires { number < workers }
-            ensures { EndsPart (deletes_of load.entry.now workers number) loader.old loader.new }
+            ensures { EndsDeletes (deletes_of load.entry.now workers number) loader.old loader.new }
         { loader.delete(load, workers, number as u32) },
     );
-    none_stopped(loaders)
 }
 
 /// The third part: each worker runs its queries.
@@ -114,7 +112,7 @@ fn find_all<N: PoolName + Send + Sync, R: Threads + Wait + Sync>(
     none_stopped(loaders)
 }
 
-/// Whether each worker found memory for all of its last part.
+/// Whether each worker found memory for all of its adds, or of its queries where it came to them.
 fn none_stopped<N: PoolName, R: Wait>(loaders: &[Loader<'_, N, R>]) -> Result<(), Memory>
     ensures { MatchResult result (λ _. any_stopped loaders.now ≡ false) (λ _. any_stopped loaders.now ≡ true) }
 {

@@ -3,11 +3,11 @@ ghost use Rattle.funnel_model.specs.declared.call.Call.TheVariants as call;
 ghost use Rattle.funnel_model.specs.declared.reply.Reply.TheVariants as reply;
 ghost use Rattle.line_proto.specs.Requests.{call_requested};
 ghost use Rattle.line_proto.specs.Services.{AnswersCall};
-ghost use Rattle.load_gen.specs.Documents.{name_of};
+ghost use Rattle.load_gen.specs.Documents.{name_of_document};
 ghost use Rattle.load_gen.specs.Jobs.{add_and_check, adds_of, deletes_of, is_deleted, queries_of};
 ghost use Rattle.load_laws.specs.Replies.{result_in};
 ghost use Rattle.funnel_server.specs.Loads.{AreAsked};
-ghost use Rattle.funnel_server.specs.Shares.{HasResults, IsDone, IsStopped};
+ghost use Rattle.funnel_server.specs.Shares.{EndsEarly, HasResults, IsDone};
 
 use funnel_model::{Memory, Reply};
 use itoa::Buffer;
@@ -32,7 +32,7 @@ pub(crate) fn add_share<S: Service>(
     requires one_of_them { worker < workers }
     ensures caller { S.caller service.new ≡ S.caller service.old }
     ensures done { OnOk result (IsDone (S.caller service.old) (S.front service.old) (S.front service.new) (adds_of load.now workers worker)) }
-    ensures stopped { OnErr result (IsStopped (S.caller service.old) (S.front service.old) (S.front service.new) (adds_of load.now workers worker)) }
+    ensures stopped { OnErr result (EndsEarly (S.caller service.old) (S.front service.old) (S.front service.new) (adds_of load.now workers worker)) }
 {
     let mut name = String::new(alloc);
     let mut n = 0;
@@ -54,7 +54,7 @@ fn add_document<S: Service>(
 ) -> Result<(), Memory>
     ensures caller { S.caller service.new ≡ S.caller service.old }
     ensures done { OnOk result (IsDone (S.caller service.old) (S.front service.old) (S.front service.new) (add_and_check n (id, text.now))) }
-    ensures stopped { OnErr result (IsStopped (S.caller service.old) (S.front service.old) (S.front service.new) (add_and_check n (id, text.now))) }
+    ensures stopped { OnErr result (EndsEarly (S.caller service.old) (S.front service.old) (S.front service.new) (add_and_check n (id, text.now))) }
 {
     ask(service, &Request::Add { id, text })?;
     if n % CHECKED_ONE_IN == 0 {
@@ -67,7 +67,7 @@ fn add_document<S: Service>(
 
 /// Sets `name` to the name of the document with this number.
 fn write_name(name: &mut String, id: u64) -> Result<(), AllocError>
-    ensures { OnOk result (string_bytes name.new ≡ name_of id) }
+    ensures { OnOk result (string_bytes name.new ≡ name_of_document id) }
 {
     name.clear();
     name.push_str("u")?;
@@ -75,37 +75,34 @@ fn write_name(name: &mut String, id: u64) -> Result<(), AllocError>
     name.push_str(buffer.format(id))
 }
 
-/// Deletes those documents of the worker's share whose numbers are multiples of 10, in order.
-///
-/// It ends early only where a call is answered by want of memory.
-pub(crate) fn delete_share<S: Service>(
-    service: &mut S,
-    load: &Load,
-    workers: u32,
-    worker: u32,
-) -> Result<(), Memory>
+/// Deletes those documents of the worker's share whose numbers are multiples of 10, in order. No delete lacks memory, so all
+/// are made.
+pub(crate) fn delete_share<S: Service>(service: &mut S, load: &Load, workers: u32, worker: u32)
     requires one_of_them { worker < workers }
     ensures caller { S.caller service.new ≡ S.caller service.old }
-    ensures done { OnOk result (IsDone (S.caller service.old) (S.front service.old) (S.front service.new) (deletes_of load.now workers worker)) }
-    ensures stopped { OnErr result (IsStopped (S.caller service.old) (S.front service.old) (S.front service.new) (deletes_of load.now workers worker)) }
+    ensures done { IsDone (S.caller service.old) (S.front service.old) (S.front service.new) (deletes_of load.now workers worker) }
 {
     for i in (worker..load.docs()).step_by(workers as usize) {
-        delete_where_due(service, i + 1)?;
+        delete_where_due(service, i + 1);
     }
-    Ok(())
 }
 
 /// Deletes the document with this number where the number is a multiple of 10.
-fn delete_where_due<S: Service>(service: &mut S, number: u32) -> Result<(), Memory>
+fn delete_where_due<S: Service>(service: &mut S, number: u32)
     ensures caller { S.caller service.new ≡ S.caller service.old }
-    ensures done { OnOk result (IsDone (S.caller service.old) (S.front service.old) (S.front service.new) (map call.Delete (filter is_deleted (number ∷ [])))) }
-    ensures stopped { OnErr result (IsStopped (S.caller service.old) (S.front service.old) (S.front service.new) (map call.Delete (filter is_deleted (number ∷ [])))) }
+    ensures done { IsDone (S.caller service.old) (S.front service.old) (S.front service.new) (map call.Delete (filter is_deleted (number ∷ []))) }
 {
     if number % DELETED_ONE_IN == 0 {
-        let id = u64::from(number);
-        ask(service, &Request::Delete { id })?;
+        delete(service, u64::from(number));
     }
-    Ok(())
+}
+
+/// Deletes a document. Whatever the reply is, it is no want of memory.
+fn delete<S: Service>(service: &mut S, id: u64)
+    ensures caller { S.caller service.new ≡ S.caller service.old }
+    ensures done { IsDone (S.caller service.old) (S.front service.old) (S.front service.new) (call.Delete id ∷ []) }
+{
+    service.call(&Request::Delete { id });
 }
 
 /// Runs the worker's queries, in order, and sets the result of each at its place: how many documents it found, and the sum of
@@ -121,7 +118,7 @@ pub(crate) fn find_share<S: Service>(
     requires one_of_them { worker < workers }
     ensures caller { S.caller service.new ≡ S.caller service.old }
     ensures found { OnOk result (HasResults (S.caller service.old) (S.front service.old) (S.front service.new) workers worker results.new) }
-    ensures stopped { OnErr result (IsStopped (S.caller service.old) (S.front service.old) (S.front service.new) (queries_of workers worker)) }
+    ensures stopped { OnErr result (EndsEarly (S.caller service.old) (S.front service.old) (S.front service.new) (queries_of workers worker)) }
 {
     for j in (worker..QUERY_COUNT).step_by(workers as usize) {
         let query = query(j);

@@ -2,7 +2,7 @@
 ghost use Rattle.std.specs.Prelude.{◌≡◌, [], IfOk, All};
 ghost use Rattle.commit_desk.specs.Passes.{IsResting};
 ghost use Rattle.funnel_io.specs.MemGates.{IsUnused};
-ghost use Rattle.funnel_server.specs.Workers.{IsReady};
+ghost use Rattle.funnel_server.specs.Workers.{HasMetNoFault};
 
 mod loads;
 
@@ -50,7 +50,7 @@ fn worker_of<'a, N: PoolName, R: Wait>(
     texts: [&str; 3],
     fails: &[u64],
 ) -> Result<Worker<'a, MemGate, N, R>, Fail>
-    ensures { IfOk result IsReady }
+    ensures { IfOk result HasMetNoFault }
 {
     Ok(Worker {
         gate: gate_of(client.alloc, texts, fails)?,
@@ -89,7 +89,7 @@ fn workers_of<'a, N: PoolName, R: Wait>(
 ) -> Result<Vec<Worker<'a, MemGate, N, R>>, Fail>
     requires first { IsResting N.pool first }
     requires second { IsResting N.pool second }
-    ensures { IfOk result (λ workers. All IsReady workers.items) }
+    ensures { IfOk result (λ workers. All HasMetNoFault workers.items) }
 {
     let mut workers = Vec::new(alloc);
     let client = Client {

@@ -3,7 +3,7 @@ ghost use Rattle.engine.specs.Clients.{caller_of};
 ghost use Rattle.session.specs.Ends.{Serves};
 ghost use Rattle.session.specs.declared.serving.TheConstants.{MOST_BYTES};
 ghost use Rattle.funnel_server.specs.Turns.{GetsNone, ServesNext};
-ghost use Rattle.funnel_server.specs.Workers.{IsReady, Works, is_memory};
+ghost use Rattle.funnel_server.specs.Workers.{HasMetNoFault, Works, is_memory};
 
 use engine::{Client, PoolName};
 use funnel_io::{Connection, End, Gate, Next};
@@ -32,7 +32,7 @@ impl<'a, G: Gate, N: PoolName, R: Wait> Model for Worker<'a, G, N, R> {
     ghost Value = { WorkerState };
 
     ghost view = { λ w. record {
-      gate = gate_state G.gate_faults G.waiting G.Conn.incoming G.Conn.outgoing G.served w.gate;
+      gate = gate_state G.is_closed G.gate_faults G.waiting G.Conn.incoming G.Conn.outgoing G.served w.gate;
       caller = caller_of w.client;
       front = w.client.front;
       left = w.left;
@@ -44,7 +44,7 @@ impl<'a, G: Gate, N: PoolName, R: Wait> Model for Worker<'a, G, N, R> {
 impl<'a, G: Gate, N: PoolName, R: Wait> Worker<'a, G, N, R> {
     /// Serves the connections of its gate, until it stops.
     pub(crate) fn work(&mut self)
-        requires { IsReady self.old }
+        requires { HasMetNoFault self.old }
         ensures { Works self.old self.new }
     {
         while self.left > 0 {

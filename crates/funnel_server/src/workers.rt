@@ -1,5 +1,5 @@
 ghost use Rattle.std.specs.Prelude.{◌≡◌, ◌<◌, ℕ, All, length, slice_index_or};
-ghost use Rattle.funnel_server.specs.Workers.{IsReady, Works};
+ghost use Rattle.funnel_server.specs.Workers.{HasMetNoFault, Works};
 
 use crate::worker::Worker;
 use engine::PoolName;
@@ -16,7 +16,7 @@ pub fn run_workers<'a, N: PoolName + Send + Sync, R: Threads + Wait + Sync, G: G
 ) -> Vec<Worker<'a, G, N, R>>
 where
     G::Conn: Send,
-    requires ready { All IsReady workers.items }
+    requires ready { All HasMetNoFault workers.items }
     ensures all { length result.items ≡ length workers.entry.items }
     ensures work { (k : ℕ) (d : _) → k < length workers.entry.items →
         Works (slice_index_or workers.entry.items k d) (slice_index_or result.items k d) }
@@ -28,7 +28,7 @@ where
             &mut workers,
             threads,
             &|_, worker: &mut Worker<G, N, R>|
-                requires { IsReady worker.old }
+                requires { HasMetNoFault worker.old }
                 ensures { Works worker.old worker.new }
             { worker.work() },
         );

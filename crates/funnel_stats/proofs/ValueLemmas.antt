@@ -3,7 +3,7 @@ use Rattle.std.proofs.Common.{◌≡◌, Some, None, option_map, unwrap_or}
 use Rattle.serde_json.specs.Data.{Data, Members}
 use Rattle.funnel_stats.specs.Faults.{bad_value}
 use Rattle.funnel_stats.specs.Keys.{range_of}
-use Rattle.funnel_stats.specs.Values.{quantity, misfit_of, value_at, number_at}
+use Rattle.funnel_stats.specs.Values.{quantity, misfit_of_value, value_at, number_at}
 use Rattle.funnel_stats.specs.declared.key.Key.{Key}
 use Rattle.funnel_stats.specs.declared.fault.ConfigFault.TheVariants.{BadValue}
 
@@ -17,7 +17,7 @@ number_at-absent object key absent = rw absent
 
 -- a key with a value
 pub bad_value-present : (object : Members) (key : Key) (value : Data) → value_at object key ≡ Some value
-    → bad_value object key ≡ option_map (BadValue key) (misfit_of key (quantity key value))
+    → bad_value object key ≡ option_map (BadValue key) (misfit_of_value key (quantity key value))
 unfolding bad_value
 bad_value-present object key value present = rw present
 

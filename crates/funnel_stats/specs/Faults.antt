@@ -8,7 +8,7 @@ use Rattle.funnel_model.specs.declared.config.Config.{Config}
 use Rattle.funnel_model.specs.declared.config.TheConstants.{MOST_COLUMNS, MOST_ROW_WORDS}
 use Rattle.serde_json.specs.Data.{Data, Members}
 use Rattle.funnel_stats.specs.Keys.{is_name}
-use Rattle.funnel_stats.specs.Values.{whole_number, kept, quantity, misfit_of, value_at}
+use Rattle.funnel_stats.specs.Values.{whole_number, kept, quantity, misfit_of_value, value_at}
 use Rattle.funnel_stats.specs.declared.key.Key.{Key}
 use Rattle.funnel_stats.specs.declared.fault.ConfigFault.{ConfigFault}
 use Rattle.funnel_stats.specs.declared.fault.ConfigFault.TheVariants.{UnknownKey, BadValue, NotWord, WordCount, TooManyColumns, PoolTooLarge}
@@ -19,7 +19,7 @@ unknown_key entries = option_map (λ entry. UnknownKey entry.0) (find (λ entry.
 
 -- the value of a key that is not of its kind or range
 unfoldable pub bad_value : Members → Key → Option ConfigFault
-bad_value object key = option_map (BadValue key) (option_and_then (λ value. misfit_of key (quantity key value)) (value_at object key))
+bad_value object key = option_map (BadValue key) (option_and_then (λ value. misfit_of_value key (quantity key value)) (value_at object key))
 
 -- the set of the words of the text is that text alone
 unfoldable pub is_word : List ℕ → Bool

@@ -33,8 +33,8 @@ abbrev pub is_in_limits : Key → ℕ → Bool
 is_in_limits key n = nat_le (range_of key).least n && nat_le n (range_of key).greatest
 
 -- what is kept of a value that is not of the key's kind, or not in its range
-abbrev pub misfit_of : Key → Option ℕ → Option Kept
-misfit_of key number = if option_map_or (is_in_limits key) number false then None else Some (kept number)
+abbrev pub misfit_of_value : Key → Option ℕ → Option Kept
+misfit_of_value key number = if option_map_or (is_in_limits key) number false then None else Some (kept number)
 
 -- the value of a key
 abbrev pub value_at : Members → Key → Option Data

@@ -5,7 +5,7 @@ ghost use Rattle.funnel_stats.specs.Configurations.{config_of, first_of};
 ghost use Rattle.funnel_stats.specs.Faults.{bad_value};
 ghost use Rattle.funnel_stats.specs.Keys.{keys, range_of};
 ghost use Rattle.funnel_stats.specs.Steps.{GivesOrFaults};
-ghost use Rattle.funnel_stats.specs.Values.{listed_at, misfit_of, number_at, quantity};
+ghost use Rattle.funnel_stats.specs.Values.{listed_at, misfit_of_value, number_at, quantity};
 ghost use Rattle.funnel_stats.specs.declared.fault.ConfigFault.TheVariants.{BadValue};
 
 use crate::fault::ConfigFault;
@@ -65,7 +65,7 @@ fn number_of(object: &Map<String, Value>, key: Key) -> Result<u64, ConfigFault>
 
 /// The number, where the key takes it.
 fn within_limits(key: Key, number: Option<u64>) -> Result<u64, ConfigFault>
-    ensures answer { GivesOrFaults result (unwrap_or number 0) (option_map (BadValue key) (misfit_of key number)) }
+    ensures answer { GivesOrFaults result (unwrap_or number 0) (option_map (BadValue key) (misfit_of_value key number)) }
     ensures number { IfOk result (λ n. number ≡ Some n) }
     ensures low { IfOk result (λ n. (range_of key).least ≤ n) }
     ensures high { IfOk result (λ n. n ≤ (range_of key).greatest) }

@@ -1,8 +1,25 @@
-ghost use Rattle.std.specs.Prelude.{ℕ, List};
+ghost use Rattle.std.specs.Prelude.{◌≡◌, ℕ, List, [], Some, None, codes};
+ghost use Rattle.funnel_model.specs.declared.call.Call.TheVariants.{Add, Delete, Find, Place, Journal, Recycle};
+ghost use Rattle.line_proto.specs.Forms.{form_of};
 ghost use Rattle.line_proto.specs.Grammar.{IsReadByForms};
 
 /// The call that a line is read as is the one of which it has a form by the protocol's grammar. So no line has
 /// forms of two calls.
 pub fn lines_are_read_by_the_grammar()
     ensures { (line : List ℕ) → IsReadByForms line }
+{}
+
+/// Lines of each form, and lines of none.
+pub fn example_lines()
+    ensures add { form_of (codes "add 007 a b\r") ≡ Some (Add 7 (codes "a b")) }
+    ensures no_text { form_of (codes "add 7") ≡ Some (Add 7 []) }
+    ensures delete { form_of (codes "del 18446744073709551615") ≡ Some (Delete 18446744073709551615) }
+    ensures find { form_of (codes "find") ≡ Some (Find []) }
+    ensures place { form_of (codes "place") ≡ Some Place }
+    ensures journal { form_of (codes "journal 0") ≡ Some (Journal 0) }
+    ensures recycle { form_of (codes "recycle\r") ≡ Some Recycle }
+    ensures empty { form_of [] ≡ None }
+    ensures other_word { form_of (codes "delete 5") ≡ None }
+    ensures more_text { form_of (codes "place 1") ≡ None }
+    ensures no_number { form_of (codes "add 18446744073709551616 a") ≡ None }
 {}

@@ -9,7 +9,7 @@ use Rattle.std.proofs.lemmas.Str.{IsAscii-append}
 use Rattle.std.proofs.lemmas.Str.Ascii.{IsAscii-cons, IsAscii-nil}
 use Rattle.funnel_model.specs.WordSets.{pieces, EndAt}
 use Rattle.funnel_model.proofs.WordSetLemmas.{next_from, next_piece}
-use Rattle.load_gen.specs.Documents.{document, name_of}
+use Rattle.load_gen.specs.Documents.{document, name_of_document}
 use Rattle.load_gen.specs.Generator.{next_words, number_in, state_after, word_at}
 
 -- in a text of characters of one byte a character begins everywhere
@@ -54,6 +54,6 @@ words_ascii state (draw ∷ draws) =
 -- each text is ASCII
 pub document_ascii : (words seed i : ℕ) → i < 2 ^ 32 → IsAscii (document words seed i)
 document_ascii words seed i few =
-    IsAscii-append (name_of (i + 1)) (flat_map (λ word. 32 ∷ word) (next_words (state_after seed (i * words)) words))
+    IsAscii-append (name_of_document (i + 1)) (flat_map (λ word. 32 ∷ word) (next_words (state_after seed (i * words)) words))
     (IsAscii-cons 117 (decimal (i + 1)) (omega arith) (IsAscii-decimal (i + 1) (omega arith)))
     (words_ascii (state_after seed (i * words)) (range_with_len 1 words))

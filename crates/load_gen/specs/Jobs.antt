@@ -4,7 +4,7 @@ use Rattle.std.specs.List.{enumerate_from}
 use Rattle.funnel_model.specs.declared.call.Call.{Call}
 use Rattle.funnel_model.specs.declared.call.Call.TheVariants as call
 use Rattle.load_gen.specs.declared.limits.TheConstants.{CHECKED_ONE_IN, DELETED_ONE_IN}
-use Rattle.load_gen.specs.Documents.{name_of, documents}
+use Rattle.load_gen.specs.Documents.{name_of_document, documents}
 use Rattle.load_gen.specs.Queries.{queries}
 
 -- a worker's share of a list: what stands at the places, from 0 on, that leave the worker's number when they are divided by
@@ -19,7 +19,7 @@ is_deleted id = id % DELETED_ONE_IN == 0
 -- the calls for a document of this number and text, which is the n-th of its worker: its add, and after each 100th one a find
 -- of its name
 abbrev pub add_and_check : ℕ → ℕ × List ℕ → List Call
-add_and_check n (id, text) = call.Add id text ∷ (if n % CHECKED_ONE_IN == 0 then call.Find (name_of id) ∷ [] else [])
+add_and_check n (id, text) = call.Add id text ∷ (if n % CHECKED_ONE_IN == 0 then call.Find (name_of_document id) ∷ [] else [])
 
 -- a worker's n-th add, which is of the document at this place
 abbrev pub nth_add : ℕ × (ℕ × List ℕ) → List Call
@@ -37,8 +37,10 @@ deletes_of texts workers worker = map call.Delete (filter is_deleted (map (λ it
 abbrev pub queries_of : ℕ → ℕ → List Call
 queries_of workers worker = map (λ item. call.Find item.1) (share queries workers worker)
 
--- all that the worker asks, in order
+-- all that a worker asks of these texts, in order
+abbrev pub calls_of_share : List (List ℕ) → ℕ → ℕ → List Call
+calls_of_share texts workers worker = adds_of texts workers worker ++ deletes_of texts workers worker ++ queries_of workers worker
+
+-- all that a worker of a load asks, of the documents that are made from the seed
 abbrev pub jobs : ℕ → ℕ → ℕ → ℕ → ℕ → List Call
-jobs docs words seed workers worker =
-    let texts = documents docs words seed in
-    adds_of texts workers worker ++ deletes_of texts workers worker ++ queries_of workers worker
+jobs docs words seed workers worker = calls_of_share (documents docs words seed) workers worker

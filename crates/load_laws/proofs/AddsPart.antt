@@ -10,13 +10,13 @@ use Rattle.funnel_model.specs.declared.call.Call.TheVariants as call
 use Rattle.funnel_model.specs.declared.reply.Reply.TheVariants as reply
 use Rattle.funnel_model.specs.Words.{meets}
 use Rattle.load_gen.specs.declared.limits.TheConstants.{CHECKED_ONE_IN}
-use Rattle.load_gen.specs.Documents.{name_of}
-use Rattle.load_laws.specs.Loads.{AreInTurn, answers_from, found_in, held_after, holds}
+use Rattle.load_gen.specs.Documents.{name_of_document}
+use Rattle.load_laws.specs.Loads.{AreInTurn, answers_from, numbers_meeting, held_after, holds}
 use Rattle.load_laws.specs.Replies.{lone_add, replies_to_add}
 
 -- a document that is found by its own name alone
 abbrev pub IsNamed : ℕ × List ℕ → Type 0
-IsNamed d = (asked : ℕ) → asked < 2 ^ 64 → meets d.1 (name_of asked) ≡ (asked == d.0)
+IsNamed d = (asked : ℕ) → asked < 2 ^ 64 → meets d.1 (name_of_document asked) ≡ (asked == d.0)
 
 -- its number is below this one
 abbrev pub IsBelow : ℕ → ℕ × List ℕ → Type 0
@@ -30,10 +30,10 @@ not_held id (d ∷ ds) below =
       differs n less = grind (arith, nat_tests)
 
 -- no document with a lower number is found by a name
-lower_not_found : (id : ℕ) (held : List (ℕ × List ℕ)) → id < 2 ^ 64 → All (IsBelow id) held → All IsNamed held → filter (λ d. meets d.1 (name_of id)) held ≡ []
+lower_not_found : (id : ℕ) (held : List (ℕ × List ℕ)) → id < 2 ^ 64 → All (IsBelow id) held → All IsNamed held → filter (λ d. meets d.1 (name_of_document id)) held ≡ []
 lower_not_found id [] small below named = refl
 lower_not_found id (d ∷ ds) small below named =
-    let rest = filter (λ d. meets d.1 (name_of id)) ds in
+    let rest = filter (λ d. meets d.1 (name_of_document id)) ds in
     ap (λ b. cond b (d ∷ rest) rest) (All-head IsNamed d ds named id small ∙ differs d.0 (All-head (IsBelow id) d ds below))
     ∙ lower_not_found id ds small (All-tail (IsBelow id) d ds below) (All-tail IsNamed d ds named)
   where
@@ -42,10 +42,10 @@ lower_not_found id (d ∷ ds) small below named =
 
 -- the name of the last document finds this document alone
 last_is_found : (id : ℕ) (text : List ℕ) (held : List (ℕ × List ℕ)) → id < 2 ^ 64 → All (IsBelow id) held → All IsNamed held → IsNamed (id, text) →
-    found_in (held ++ (id, text) ∷ []) (name_of id) ≡ id ∷ []
+    numbers_meeting (held ++ (id, text) ∷ []) (name_of_document id) ≡ id ∷ []
 last_is_found id text held small below named own =
     ap (λ (ds : List (ℕ × List ℕ)). map (λ d. d.0) ds)
-    (filter-append (λ d. meets d.1 (name_of id)) held ((id, text) ∷ [])
+    (filter-append (λ d. meets d.1 (name_of_document id)) held ((id, text) ∷ [])
     ∙ ap₂ (λ (xs ys : List (ℕ × List ℕ)). xs ++ ys) (lower_not_found id held small below named) (ap (λ b. cond b ((id, text) ∷ []) []) (own id small ∙ same id)))
   where
     same : (n : ℕ) → (n == n) ≡ true
@@ -63,7 +63,7 @@ all_below id text held below =
     (All-cons (IsBelow (id + 1)) (id, text) [] last (All-nil (IsBelow (id + 1))))
 
 -- a find that may come first
-checked_answers : (b : Bool) (place : ℕ) (held : List (ℕ × List ℕ)) (query ids : List ℕ) (calls : List Call) → found_in held query ≡ ids →
+checked_answers : (b : Bool) (place : ℕ) (held : List (ℕ × List ℕ)) (query ids : List ℕ) (calls : List Call) → numbers_meeting held query ≡ ids →
     answers_from place held (cond b (call.Find query ∷ []) [] ++ calls) ≡ cond b (reply.Found ids ∷ []) [] ++ answers_from place held calls
 checked_answers true place held query ids calls finds = ap (λ found. reply.Found found ∷ answers_from place held calls) finds
 checked_answers false place held query ids calls finds = refl
@@ -99,7 +99,7 @@ adds_answered place held (text ∷ texts) small below named own =
     (All-append IsNamed held ((id, text) ∷ []) named (All-cons IsNamed (id, text) [] first (All-nil IsNamed))) later in
     record {
       replies = ap (λ rs. reply.Added id ∷ rs)
-          (checked_answers checked id grown (name_of id) (id ∷ []) calls finds ∙ ap (λ rs. cond checked (reply.Found (id ∷ []) ∷ []) [] ++ rs) rest.replies);
-      after = checked_held checked grown (name_of id) calls ∙ rest.after ∙ append_assoc held ((id, text) ∷ []) (enumerate_from (id + 1) texts);
-      in_turn = (not_held id held below, checked_in_turn checked grown (name_of id) calls rest.in_turn);
+          (checked_answers checked id grown (name_of_document id) (id ∷ []) calls finds ∙ ap (λ rs. cond checked (reply.Found (id ∷ []) ∷ []) [] ++ rs) rest.replies);
+      after = checked_held checked grown (name_of_document id) calls ∙ rest.after ∙ append_assoc held ((id, text) ∷ []) (enumerate_from (id + 1) texts);
+      in_turn = (not_held id held below, checked_in_turn checked grown (name_of_document id) calls rest.in_turn);
     }

@@ -15,7 +15,7 @@ use Rattle.funnel_model.specs.Events.{call_of, pass_of}
 use Rattle.funnel_model.specs.History.{own, place}
 use Rattle.funnel_model.specs.Legal.{Limits, IsAllowed, IsLegal}
 use Rattle.funnel_model.specs.Steps.{IsMade, IsReply}
-use Rattle.load_laws.specs.LonePass.{IsAlone, LoneStep, takes_in}
+use Rattle.load_laws.specs.LonePass.{IsAlone, LoneStep, count_of_takes}
 use Rattle.load_laws.proofs.Quiet.{Quiet, alone_front, alone_rest, filled, filled-push, fills_column, quiet_calls}
 use Rattle.load_laws.proofs.Takes.{takes_filled}
 
@@ -30,7 +30,7 @@ shorter_begins (x ∷ xs) rest (y ∷ ys) later is within =
     (more.0, cc (more.1))
 
 -- a list of length 0 is empty
-pub none_of_length : {A : Type 0} (xs : List A) → length xs ≡ 0 → xs ≡ []
+none_of_length : {A : Type 0} (xs : List A) → length xs ≡ 0 → xs ≡ []
 none_of_length [] is = refl
 none_of_length (x ∷ xs) is = absurd (omega arith)
 
@@ -55,8 +55,8 @@ pub record Answered (limits : Limits) (pass : ℕ) (before after : List Event) (
   pub is_own : pass_of event ≡ pass
   pub first : Quiet before earlier
   pub last : Quiet (earlier ++ event ∷ []) after
-  pub filled_before : takes_in before ≡ filled before
-  pub filled_after : takes_in after ≡ filled after
+  pub filled_before : count_of_takes before ≡ filled before
+  pub filled_after : count_of_takes after ≡ filled after
 
 -- the event that answers a call of a pass
 pub record CallAt (pass : ℕ) (before after : List Event) (asked : Call) (earlier : List Event) (event : Event) (later : List Event) : Type 0 where
@@ -142,7 +142,7 @@ place_after limits pass before after asked given is =
 
 -- and so are the takes
 pub takes_after : (limits : Limits) (pass : ℕ) (before after : List Event) (asked : Call) (given : Reply) → (is : Answered limits pass before after asked given) →
-    takes_in after ≡ takes_in before + cond (fills_column is.event) 1 0
+    count_of_takes after ≡ count_of_takes before + cond (fills_column is.event) 1 0
 takes_after limits pass before after asked given is =
     let pushed = filled-push is.earlier is.event in
     let first = is.first.filled_same in

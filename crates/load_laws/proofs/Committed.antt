@@ -17,7 +17,7 @@ use Rattle.funnel_model.specs.History.{place}
 use Rattle.funnel_model.specs.Legal.{Limits, IsFull, IsIdle, IsLegal, is_journal_full}
 use Rattle.load_gen.specs.Documents.{documents}
 use Rattle.load_gen.specs.Jobs.{adds_of, deletes_of, jobs, queries_of}
-use Rattle.load_laws.specs.LonePass.{takes_in}
+use Rattle.load_laws.specs.LonePass.{count_of_takes}
 use Rattle.load_laws.specs.Workers.{HasRoomFor, IsLoaded}
 use Rattle.load_laws.proofs.Balance.{added, added_was_asked, balanced, commits_counted, deleted, deleted_was_asked, event_added_was_asked, event_deleted_was_asked, is_number, live_by_count, no_more, not_live_by_count}
 use Rattle.load_laws.proofs.CallEvents.{add_event, delete_event}
@@ -90,7 +90,7 @@ takes_are_filled : (limits : Limits) (docs words seed workers : ℕ) (history : 
 takes_are_filled limits docs words seed workers history replies loaded =
     sym (total-weigh_by take_weight workers history loaded.no_other)
     ∙ total-same_below (λ worker. weigh_of take_weight worker) (λ worker. weigh_of fill_weight worker) workers
-    (λ worker below. pass_takes_filled limits worker history loaded.legal (idle_in limits history worker (jobs docs words seed workers worker) (replies worker) (loaded.made worker below)))
+    (λ worker below. pass_takes_filled limits worker history loaded.legal (idle_in limits history worker (jobs docs words seed workers worker) (replies worker) (loaded.asked worker below)))
     ∙ total-weigh_by fill_weight workers history loaded.no_other
   where
     weigh_of : (Event → ℕ) → ℕ → ℕ
@@ -137,7 +137,7 @@ room_in_columns limits docs words seed workers history replies loaded room earli
     let before = filled_was_asked earlier in
     let after = filled_was_asked later in
     let fills_none : fill_weight e ≡ 0 = sym (before_event limits earlier e allowed.rule) ∙ idle_open _ idle in
-    let few : takes_in earlier < limits.slices * limits.columns =
+    let few : count_of_takes earlier < limits.slices * limits.columns =
     omega (arith, columns, adds, adds_around, takes_around, fills_around, filled, before, after, fills_none, one) in
     not_full limits earlier (legal_before limits earlier (e ∷ later) (subst (IsLegal limits) whole loaded.legal)) few full
 

@@ -7,7 +7,7 @@ use Rattle.std.specs.List.{All, enumerate_from, range_with_len, sum_by}
 use Rattle.funnel_model.specs.History.{Document}
 use Rattle.funnel_model.specs.Words.{meets}
 use Rattle.load_gen.specs.declared.limits.TheConstants.{MOST_DOCS}
-use Rattle.load_gen.specs.Documents.{document, documents, name_of}
+use Rattle.load_gen.specs.Documents.{document, documents, name_of_document}
 use Rattle.load_gen.specs.Jobs.{is_deleted}
 use Rattle.load_gen.specs.Summary.{found, result_of}
 use Rattle.load_laws.proofs.Balance.{by_number, is_number}
@@ -25,14 +25,14 @@ abbrev pub met : List ℕ → List Document → List ℕ
 met query ds = map (λ d. d.id) (filter (λ d. meets d.text query) ds)
 
 -- a name finds its document alone
-name_tells : (docs words seed id : ℕ) (d : Document) → docs ≤ MOST_DOCS → id ≤ docs → IsOfDocuments docs words seed d → meets d.text (name_of id) ≡ (id == d.id)
+name_tells : (docs words seed id : ℕ) (d : Document) → docs ≤ MOST_DOCS → id ≤ docs → IsOfDocuments docs words seed d → meets d.text (name_of_document id) ≡ (id == d.id)
 name_tells docs words seed id d few within is =
     let below = is.1 in
-    ap (λ (text : List ℕ). meets text (name_of id)) is.3 ∙ meets-document words seed is.0 id (omega (arith, few, below)) (omega (arith, few, within))
+    ap (λ (text : List ℕ). meets text (name_of_document id)) is.3 ∙ meets-document words seed is.0 id (omega (arith, few, below)) (omega (arith, few, within))
     ∙ ap (λ n. id == n) (sym is.2)
 
 none_named : (docs words seed id : ℕ) (ds : List Document) → docs ≤ MOST_DOCS → id ≤ docs → All (IsOfDocuments docs words seed) ds →
-    by_number (is_number id) ds ≡ 0 → met (name_of id) ds ≡ []
+    by_number (is_number id) ds ≡ 0 → met (name_of_document id) ds ≡ []
 none_named docs words seed id [] few within are none = refl
 none_named docs words seed id (d ∷ ds) few within are none =
     let all = sum_by-cons (λ (x : Document). is_number id x.id) d ds in
@@ -40,18 +40,18 @@ none_named docs words seed id (d ∷ ds) few within are none =
     let tells = name_tells docs words seed id d few within (All-head (IsOfDocuments docs words seed) d ds are) in
     ⊎_elim
     (λ same. let one : is_number id d.id ≡ 1 = ap (λ b. cond b 1 0) (eq-eqb d.id id same) in absurd (omega (arith, all, none, one)))
-    (λ other. ap (λ b. map (λ (x : Document). x.id) (cond b (d ∷ filter (λ x. meets x.text (name_of id)) ds) (filter (λ x. meets x.text (name_of id)) ds)))
+    (λ other. ap (λ b. map (λ (x : Document). x.id) (cond b (d ∷ filter (λ x. meets x.text (name_of_document id)) ds) (filter (λ x. meets x.text (name_of_document id)) ds)))
     (tells ∙ ne_eqb id d.id (λ same. other (sym same))) ∙ rest)
     (cases_eq d.id id)
 
 pub one_named : (docs words seed id : ℕ) (ds : List Document) → docs ≤ MOST_DOCS → id ≤ docs → All (IsOfDocuments docs words seed) ds →
-    by_number (is_number id) ds ≡ 1 → met (name_of id) ds ≡ id ∷ []
+    by_number (is_number id) ds ≡ 1 → met (name_of_document id) ds ≡ id ∷ []
 one_named docs words seed id [] few within are one = absurd (omega (arith, one))
 one_named docs words seed id (d ∷ ds) few within are one =
     let all = sum_by-cons (λ (x : Document). is_number id x.id) d ds in
     let later = All-tail (IsOfDocuments docs words seed) d ds are in
     let tells = name_tells docs words seed id d few within (All-head (IsOfDocuments docs words seed) d ds are) in
-    let first = λ (b : Bool). map (λ (x : Document). x.id) (cond b (d ∷ filter (λ x. meets x.text (name_of id)) ds) (filter (λ x. meets x.text (name_of id)) ds)) in
+    let first = λ (b : Bool). map (λ (x : Document). x.id) (cond b (d ∷ filter (λ x. meets x.text (name_of_document id)) ds) (filter (λ x. meets x.text (name_of_document id)) ds)) in
     ⊎_elim
     (λ same.
     let counts : is_number id d.id ≡ 1 = ap (λ b. cond b 1 0) (eq-eqb d.id id same) in

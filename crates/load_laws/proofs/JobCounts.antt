@@ -5,7 +5,7 @@ use Rattle.std.specs.List.{enumerate_from, range_with_len, sum_by}
 use Rattle.funnel_model.specs.declared.call.Call.{Call}
 use Rattle.funnel_model.specs.declared.call.Call.TheVariants as call
 use Rattle.load_gen.specs.declared.limits.TheConstants.{CHECKED_ONE_IN}
-use Rattle.load_gen.specs.Documents.{documents, name_of}
+use Rattle.load_gen.specs.Documents.{documents, name_of_document}
 use Rattle.load_gen.specs.Jobs.{add_and_check, adds_of, deletes_of, is_deleted, nth_add, queries_of, share}
 use Rattle.load_gen.specs.Queries.{queries}
 use Rattle.load_gen.proofs.Deletes.{each_tenth, length-cond}
@@ -30,8 +30,8 @@ adds_weigh w none n ((i, text) ∷ items) =
     sum_by-append w (add_and_check n (i + 1, text)) (flat_map nth_add (enumerate_from (n + 1) items))
     ∙ ap₂ (λ a b. a + b) (one (n % CHECKED_ONE_IN == 0)) (adds_weigh w none (n + 1) items)
   where
-    one : (b : Bool) → sum_by w (call.Add (i + 1) text ∷ cond b (call.Find (name_of (i + 1)) ∷ []) []) ≡ w (call.Add (i + 1) text)
-    one true = let nothing = none (name_of (i + 1)) in omega arith
+    one : (b : Bool) → sum_by w (call.Add (i + 1) text ∷ cond b (call.Find (name_of_document (i + 1)) ∷ []) []) ≡ w (call.Add (i + 1) text)
+    one true = let nothing = none (name_of_document (i + 1)) in omega arith
     one false = omega arith
 
 -- and its second part what its deletes do

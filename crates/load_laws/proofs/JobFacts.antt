@@ -8,7 +8,7 @@ use Rattle.std.specs.List.{All, enumerate_from, range_with_len, sum_by}
 use Rattle.funnel_model.specs.declared.call.Call.{Call}
 use Rattle.funnel_model.specs.declared.call.Call.TheVariants as call
 use Rattle.load_gen.specs.declared.limits.TheConstants.{CHECKED_ONE_IN}
-use Rattle.load_gen.specs.Documents.{document, documents, name_of}
+use Rattle.load_gen.specs.Documents.{document, documents, name_of_document}
 use Rattle.load_gen.specs.Jobs.{add_and_check, adds_of, deletes_of, is_deleted, jobs, nth_add, queries_of, share}
 use Rattle.load_gen.specs.Queries.{queries}
 use Rattle.load_laws.proofs.Balance.{is_number, no_more}
@@ -53,10 +53,10 @@ adds_from docs words seed n ((i, text) ∷ items) are =
     first = let is = All-head (IsItem docs words seed) (i, text) items are in (i, is.0, refl, is.1)
 
     check : Bool → List Call
-    check b = cond b (call.Find (name_of (i + 1)) ∷ []) []
+    check b = cond b (call.Find (name_of_document (i + 1)) ∷ []) []
 
     checked : (b : Bool) → All (IsOfLoad docs words seed) (check b)
-    checked true = All-cons (IsOfLoad docs words seed) (call.Find (name_of (i + 1))) [] tt (All-nil (IsOfLoad docs words seed))
+    checked true = All-cons (IsOfLoad docs words seed) (call.Find (name_of_document (i + 1))) [] tt (All-nil (IsOfLoad docs words seed))
     checked false = All-nil (IsOfLoad docs words seed)
 
 -- the deletes

@@ -18,6 +18,7 @@ pub mod DeletesPart
 pub mod OneLoad
 pub mod JobCounts
 pub mod Balance
+pub mod FrontLemmas
 pub mod WorkerEvents
 pub mod JobFacts
 pub mod Committed

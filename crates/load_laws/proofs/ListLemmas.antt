@@ -5,7 +5,7 @@ use Rattle.funnel_model.specs.declared.call.Call.{Call}
 use Rattle.funnel_model.specs.declared.call.Call.TheVariants as call
 use Rattle.funnel_model.specs.declared.reply.Reply.TheVariants as reply
 use Rattle.funnel_model.specs.Words.{meets}
-use Rattle.load_laws.specs.Loads.{AreInTurn, answers_from, commits_in, found_in, held_after, without}
+use Rattle.load_laws.specs.Loads.{AreInTurn, answers_from, commits_in, numbers_meeting, held_after, without}
 use Rattle.load_laws.proofs.LoadLemmas.{commits-cons}
 
 -- further calls are answered as the documents tell that are held by then
@@ -25,8 +25,8 @@ answers-append place documents (call.Delete id ∷ calls) more =
     ∙ ap (λ n. reply.Deleted (place + 1) ∷ (answers_from (place + 1) held calls ++ answers_from n (held_after held calls) more)) one
 answers-append place documents (call.Find query ∷ calls) more =
     let none : place + commits_in calls ≡ place + commits_in (call.Find query ∷ calls) = omega (arith, commits-cons (call.Find query) calls) in
-    ap (λ rs. reply.Found (found_in documents query) ∷ rs) (answers-append place documents calls more)
-    ∙ ap (λ n. reply.Found (found_in documents query) ∷ (answers_from place documents calls ++ answers_from n (held_after documents calls) more)) none
+    ap (λ rs. reply.Found (numbers_meeting documents query) ∷ rs) (answers-append place documents calls more)
+    ∙ ap (λ n. reply.Found (numbers_meeting documents query) ∷ (answers_from place documents calls ++ answers_from n (held_after documents calls) more)) none
 answers-append place documents (asked ∷ calls) more =
     let none : place + commits_in calls ≡ place + commits_in (asked ∷ calls) = omega (arith, commits-cons asked calls) in
     answers-append place documents calls more
@@ -43,11 +43,11 @@ in_turn-append documents (_ ∷ calls) more turn next = absurd turn
 
 -- a query finds each document that meets it, and no other
 pub found_has : (documents : List (ℕ × List ℕ)) (query : List ℕ) (d : ℕ × List ℕ) → Contains documents d → meets d.1 query ≡ true →
-    Contains (found_in documents query) d.0
+    Contains (numbers_meeting documents query) d.0
 found_has documents query d held meets_it =
     Contains-map (λ (x : ℕ × List ℕ). x.0) (filter (λ (x : ℕ × List ℕ). meets x.1 query) documents) d
     (Contains-filter (λ (x : ℕ × List ℕ). meets x.1 query) documents d held meets_it)
 
-pub found_only : (documents : List (ℕ × List ℕ)) (query : List ℕ) (id : ℕ) → Contains (found_in documents query) id →
+pub found_only : (documents : List (ℕ × List ℕ)) (query : List ℕ) (id : ℕ) → Contains (numbers_meeting documents query) id →
     (d : ℕ × List ℕ) × Contains documents d × (d.0 ≡ id) × (meets d.1 query ≡ true)
 found_only documents query id is = kept_by_filter (λ (x : ℕ × List ℕ). x.0) (λ (x : ℕ × List ℕ). meets x.1 query) documents id is

@@ -15,8 +15,8 @@ use Rattle.funnel_model.specs.History.{Document, live, place}
 use Rattle.funnel_model.specs.Legal.{Limits}
 use Rattle.funnel_model.specs.Steps.{Linear}
 use Rattle.funnel_model.specs.Words.{meets}
-use Rattle.load_laws.specs.LonePass.{IsAlone, LoneStep, takes_in}
-use Rattle.load_laws.specs.Loads.{AreInTurn, Fits, HasDocuments, answers_from, answers_of, adds_in, commits_in, found_in, held_after, holds, is_add, is_commit, without}
+use Rattle.load_laws.specs.LonePass.{IsAlone, LoneStep, count_of_takes}
+use Rattle.load_laws.specs.Loads.{AreInTurn, FitsEmptyEngine, HasDocuments, answers_from, answers_of, adds_in, commits_in, numbers_meeting, held_after, holds, is_add, is_commit, without}
 use Rattle.load_laws.proofs.LoneSteps.{adds, deletes_it, finds}
 use Rattle.load_laws.proofs.Quiet.{alone_front}
 
@@ -39,16 +39,16 @@ without_pairs id (d ∷ ds) = by_test (not (d.id == id)) (without_pairs id ds) w
   by_test false rest = rest
 
 -- a query finds the same
-found_pairs : (documents : List Document) (query : List ℕ) → found_in (pairs documents) query ≡ map (λ d. d.id) (filter (λ d. meets d.text query) documents)
+found_pairs : (documents : List Document) (query : List ℕ) → numbers_meeting (pairs documents) query ≡ map (λ d. d.id) (filter (λ d. meets d.text query) documents)
 found_pairs [] query = refl
 found_pairs (d ∷ ds) query = by_test (meets d.text query) (found_pairs ds query) where
-  by_test : (b : Bool) → found_in (pairs ds) query ≡ map (λ x. x.id) (filter (λ x. meets x.text query) ds) →
+  by_test : (b : Bool) → numbers_meeting (pairs ds) query ≡ map (λ x. x.id) (filter (λ x. meets x.text query) ds) →
       map (λ (p : ℕ × List ℕ). p.0) (cond b ((d.id, d.text) ∷ filter (λ p. meets p.1 query) (pairs ds)) (filter (λ p. meets p.1 query) (pairs ds)))
       ≡ map (λ x. x.id) (cond b (d ∷ filter (λ x. meets x.text query) ds) (filter (λ x. meets x.text query) ds))
   by_test true rest = ap (λ ns. d.id ∷ ns) rest
   by_test false rest = rest
 
--- the calls are made by a pass that is alone, which found_in memory, before the events were spent
+-- the calls are made by a pass that is alone, which numbers_meeting memory, before the events were spent
 record Made (limits : Limits) (pass : ℕ) (before after : List Event) (calls : List Call) (replies : List Reply) : Type 0 where
   run : Linear limits pass before after calls replies
   alone : IsAlone pass after
@@ -88,7 +88,7 @@ made_first limits pass before after asked calls given replies made =
 -- the calls fit what stands in the history: they are in turn, there is a column for each add, and room for each commit
 record FitsAfter (limits : Limits) (before : List Event) (calls : List Call) : Type 0 where
   in_turn : AreInTurn (pairs (live before)) calls
-  columns : takes_in before + adds_in calls ≤ limits.slices * limits.columns
+  columns : count_of_takes before + adds_in calls ≤ limits.slices * limits.columns
   commits : place before + commits_in calls ≤ limits.commits
 
 -- the adds and the commits of calls, where one more comes first
@@ -185,7 +185,7 @@ answered_by_list limits pass before after (call.Find query ∷ calls) (given ∷
     let end = others.at_place in
     record {
       replies_are = ap (λ r. r ∷ replies) (done.reply ∙ ap reply.Found (sym (found_pairs (live before) query)))
-          ∙ ap (λ rs. reply.Found (found_in (pairs (live before)) query) ∷ rs) others.replies_are;
+          ∙ ap (λ rs. reply.Found (numbers_meeting (pairs (live before)) query) ∷ rs) others.replies_are;
       held = others.held;
       at_place = omega arith;
     }
@@ -195,19 +195,19 @@ answered_by_list limits pass before after (asked ∷ calls) [] made fits = absur
 
 -- from an empty history
 from_nothing : (limits : Limits) (pass : ℕ) (after : List Event) (calls : List Call) (replies : List Reply) → Made limits pass [] after calls replies →
-    Fits limits calls → AnsweredFrom after 0 [] calls replies
+    FitsEmptyEngine limits calls → AnsweredFrom after 0 [] calls replies
 from_nothing limits pass after calls replies made fits =
     let columns = fits.columns in
     let commits = fits.commits in
     answered_by_list limits pass [] after calls replies made (record { in_turn = fits.in_turn; columns = omega arith; commits = omega arith })
 
 pub load_is_answered : (limits : Limits) (pass : ℕ) (after : List Event) (calls : List Call) (replies : List Reply) → Linear limits pass [] after calls replies →
-    IsAlone pass after → length after < limits.events → All (λ r. r ≢ reply.Memory) replies → Fits limits calls → replies ≡ answers_of [] calls
+    IsAlone pass after → length after < limits.events → All (λ r. r ≢ reply.Memory) replies → FitsEmptyEngine limits calls → replies ≡ answers_of [] calls
 load_is_answered limits pass after calls replies run alone unspent memory fits =
     (from_nothing limits pass after calls replies (record { run = run; alone = alone; unspent = unspent; memory = memory }) fits).replies_are
 
 pub load_is_held : (limits : Limits) (pass : ℕ) (after : List Event) (calls : List Call) (replies : List Reply) → Linear limits pass [] after calls replies →
-    IsAlone pass after → length after < limits.events → All (λ r. r ≢ reply.Memory) replies → Fits limits calls →
+    IsAlone pass after → length after < limits.events → All (λ r. r ≢ reply.Memory) replies → FitsEmptyEngine limits calls →
     HasDocuments after (held_after [] calls) (commits_in calls)
 load_is_held limits pass after calls replies run alone unspent memory fits =
     let answers = from_nothing limits pass after calls replies (record { run = run; alone = alone; unspent = unspent; memory = memory }) fits in

@@ -16,7 +16,7 @@ use Rattle.funnel_model.specs.History.{Document, is_live, live, place}
 use Rattle.funnel_model.specs.Legal.{Limits, IsFull, IsIdle, is_journal_full}
 use Rattle.funnel_model.specs.Steps.{IsReply}
 use Rattle.funnel_model.specs.Words.{meets}
-use Rattle.load_laws.specs.LonePass.{LoneStep, Adds, Deletes, Finds, takes_in}
+use Rattle.load_laws.specs.LonePass.{LoneStep, Adds, Deletes, Finds, count_of_takes}
 use Rattle.load_laws.proofs.Quiet.{Quiet, fills_column}
 use Rattle.load_laws.proofs.Room.{not_full}
 use Rattle.load_laws.proofs.Takes.{takes_filled}
@@ -43,8 +43,8 @@ finds_by limits pass before after query given is =
     let found = event.Find by.0 query in
     let no_commit : place (is.event ∷ []) ≡ 0 = ap (λ x. place (x ∷ [])) by.1 in
     let commits = place_after limits pass before after (call.Find query) given is in
-    let takes : takes_in after ≡ takes_in before + 0 =
-    takes_after limits pass before after (call.Find query) given is ∙ ap (λ x. takes_in before + cond (fills_column x) 1 0) by.1 in
+    let takes : count_of_takes after ≡ count_of_takes before + 0 =
+    takes_after limits pass before after (call.Find query) given is ∙ ap (λ x. count_of_takes before + cond (fills_column x) 1 0) by.1 in
     record {
       reply = by.2 ∙ ap (λ (ds : List Document). reply.Found (map (λ d. d.id) (filter (λ d. meets d.text query) ds))) is.first.documents;
       documents = is.last.documents ∙ ap (λ x. live (h ++ x ∷ [])) by.1 ∙ live-silent h found (λ id. refl) refl ∙ is.first.documents;
@@ -67,8 +67,8 @@ deletes_it_by limits pass before after id given is present room =
     let told : given ≡ reply.Deleted (place h + 1) = subst (λ x. IsReply limits h x given) by.1 is.reply in
     let one_commit : place (is.event ∷ []) ≡ 1 = ap (λ x. place (x ∷ [])) by.1 in
     let commits = place_after limits pass before after (call.Delete id) given is in
-    let takes : takes_in after ≡ takes_in before + 0 =
-    takes_after limits pass before after (call.Delete id) given is ∙ ap (λ x. takes_in before + cond (fills_column x) 1 0) by.1 in
+    let takes : count_of_takes after ≡ count_of_takes before + 0 =
+    takes_after limits pass before after (call.Delete id) given is ∙ ap (λ x. count_of_takes before + cond (fills_column x) 1 0) by.1 in
     record {
       reply = told ∙ ap (λ n. reply.Deleted (n + 1)) is.first.at_place;
       documents = is.last.documents ∙ ap (λ x. live (h ++ x ∷ [])) by.1 ∙ live-deletes h by.0 id
@@ -84,12 +84,12 @@ deletes_it limits pass before after id given lone present room =
 
 -- while a pass that is alone makes an add, the engine isn't full where fewer columns were claimed than it has
 room_left : (limits : Limits) (pass : ℕ) (before after : List Event) (asked : Call) (given : Reply) → (is : Answered limits pass before after asked given) →
-    takes_in before < limits.slices * limits.columns → IsIdle (pass_of is.event) is.earlier → IsFull limits is.earlier → ⊥
+    count_of_takes before < limits.slices * limits.columns → IsIdle (pass_of is.event) is.earlier → IsFull limits is.earlier → ⊥
 room_left limits pass before after asked given is few idle full =
     let takes = takes_filled limits pass is.earlier is.legal is.alone (subst (λ p. IsIdle p is.earlier) is.is_own idle) in
     let first = is.first.filled_same in
     let filled_before = is.filled_before in
-    let same : takes_in is.earlier ≡ takes_in before = omega arith in
+    let same : count_of_takes is.earlier ≡ count_of_takes before = omega arith in
     not_full limits is.earlier is.legal (subst (λ n. n < limits.slices * limits.columns) (sym same) few) full
 
 -- the document that is added comes behind those that were live
@@ -105,7 +105,7 @@ live_added before history pass id text slice column bits quiet =
 -- than the engine has
 adds_by : (limits : Limits) (pass : ℕ) (before after : List Event) (id : ℕ) (text : List ℕ) (given : Reply) →
     Answered limits pass before after (call.Add id text) given → is_live id before ≡ false → place before < limits.commits →
-    takes_in before < limits.slices * limits.columns → Adds before after id text given
+    count_of_takes before < limits.slices * limits.columns → Adds before after id text given
 adds_by limits pass before after id text given is absent room few =
     let h = is.earlier in
     let by = add_event limits h is.event id text (live_same id before h false is.first absent) (room_not_full limits before h is.first room)
@@ -113,8 +113,8 @@ adds_by limits pass before after id text given is absent room few =
     let told : given ≡ reply.Added (place h + 1) = subst (λ x. IsReply limits h x given) by.4 is.reply in
     let one_commit : place (is.event ∷ []) ≡ 1 = ap (λ x. place (x ∷ [])) by.4 in
     let commits = place_after limits pass before after (call.Add id text) given is in
-    let takes : takes_in after ≡ takes_in before + 1 =
-    takes_after limits pass before after (call.Add id text) given is ∙ ap (λ x. takes_in before + cond (fills_column x) 1 0) by.4 in
+    let takes : count_of_takes after ≡ count_of_takes before + 1 =
+    takes_after limits pass before after (call.Add id text) given is ∙ ap (λ x. count_of_takes before + cond (fills_column x) 1 0) by.4 in
     record {
       reply = told ∙ ap (λ n. reply.Added (n + 1)) is.first.at_place;
       documents = is.last.documents ∙ ap (λ x. live (h ++ x ∷ [])) by.4 ∙ live_added before h by.0 id text by.1 by.2 by.3 is.first;
@@ -124,6 +124,6 @@ adds_by limits pass before after id text given is absent room few =
 
 pub adds : (limits : Limits) (pass : ℕ) (before after : List Event) (id : ℕ) (text : List ℕ) (given : Reply) →
     LoneStep limits pass before after (call.Add id text) given → is_live id before ≡ false → place before < limits.commits →
-    takes_in before < limits.slices * limits.columns → Adds before after id text given
+    count_of_takes before < limits.slices * limits.columns → Adds before after id text given
 adds limits pass before after id text given lone absent room few =
     adds_by limits pass before after id text given (answered limits pass before after (call.Add id text) given lone) absent room few

@@ -1,15 +1,17 @@
--- Workers that meet after each part of a load keep to its parts.
+-- Workers that meet after their adds, and after their deletes, keep to the parts of a load.
 use Rattle.std.proofs.Common.{◌≡◌, ℕ, zero, suc, ◌<◌, ◌≤◌, ⊎_elim, List, ◌++◌, length, sym, ap, ◌∙◌, subst, arith}
 use Rattle.std.proofs.lemmas.Bool.{cases_lt}
-use Rattle.std.proofs.lemmas.List.{append-nil, append_cancel_left, length-append}
+use Rattle.std.proofs.lemmas.List.{append_cancel_left}
 use mathlib.Core.List.{IsPrefix}
 use Rattle.funnel_model.proofs.StepLemmas.{own-append, prefix_refl, prefix_trans}
 use Rattle.funnel_model.specs.declared.call.Call.{Call}
 use Rattle.funnel_model.specs.declared.event.Event.{Event}
-use Rattle.funnel_model.specs.History.{own}
+use Rattle.funnel_model.specs.History.{IsFrontOf, own}
+use Rattle.funnel_model.specs.Legal.{IsIdle}
 use Rattle.load_gen.specs.Jobs.{adds_of, deletes_of, queries_of}
-use Rattle.load_laws.specs.Workers.{HasParts, HaveMet}
-use Rattle.load_laws.proofs.Answering.{none_of_length, shorter_begins}
+use Rattle.load_laws.specs.Workers.{Fronts, HasParts, HaveMet}
+use Rattle.load_laws.proofs.Answering.{shorter_begins}
+use Rattle.load_laws.proofs.FrontLemmas.{calls_in_front, front_between, idle_from_front}
 
 -- of two fronts of a history the shorter one begins the other
 begins : (front longer history : List Event) → IsPrefix front history → IsPrefix longer history → length front ≤ length longer → IsPrefix front longer
@@ -58,16 +60,6 @@ longest_of fronts (suc (suc n)) history some seen =
     })
     (cases_lt (length (fronts last)) (length (fronts before.worker)))
 
--- a pass has made the same calls in each front between two in which it has
-same_between : (pass : ℕ) (first middle last : List Event) (calls : List Call) → IsPrefix first middle → IsPrefix middle last →
-    own pass first ≡ calls → own pass last ≡ calls → own pass middle ≡ calls
-same_between pass first middle last calls goes_on goes_further was stays =
-    let here = ap (own pass) (sym goes_on.1) ∙ own-append pass first goes_on.0 ∙ ap (λ cs. cs ++ own pass goes_on.0) was in
-    let there = sym stays ∙ ap (own pass) (sym goes_further.1) ∙ own-append pass middle goes_further.0 in
-    let here_counted = ap length here ∙ length-append calls (own pass goes_on.0) in
-    let there_counted = ap length there ∙ length-append (own pass middle) (own pass goes_further.0) in
-    here ∙ ap (λ cs. calls ++ cs) (none_of_length (own pass goes_on.0) (omega (arith, here_counted, there_counted))) ∙ append-nil calls
-
 -- what a pass made after a front
 made_after : (pass : ℕ) (front later whole : List Event) (calls more : List Call) → front ++ later ≡ whole → own pass front ≡ calls →
     own pass whole ≡ calls ++ more → own pass later ≡ more
@@ -75,45 +67,73 @@ made_after pass front later whole calls more is was becomes =
     append_cancel_left calls (own pass later) more
     (ap (λ cs. cs ++ own pass later) (sym was) ∙ sym (own-append pass front later) ∙ ap (own pass) is ∙ becomes)
 
--- the longest front after each part is where it ends
-parts_by : (texts : List (List ℕ)) (workers : ℕ) (history : List Event) (added met_added deleted met_deleted : ℕ → List Event) →
-    HaveMet texts workers history added met_added deleted met_deleted → (first : Longest added workers) (second : Longest deleted workers) →
-    IsPrefix (added first.worker) (deleted second.worker) → IsPrefix (deleted second.worker) history → HasParts texts workers history
-parts_by texts workers history added met_added deleted met_deleted met first second between rest = record {
-  adding = added first.worker;
-  deleting = between.0;
-  querying = rest.0;
-  whole = sym rest.1 ∙ ap (λ (h : List Event). h ++ rest.0) (sym between.1);
-  adds = adds;
-  deletes = λ worker below. made_after worker (added first.worker) between.0 (deleted second.worker) (adds_of texts workers worker)
-      (deletes_of texts workers worker) between.1 (adds worker below) (deletes worker below);
-  queries = λ worker below. made_after worker (deleted second.worker) rest.0 history (adds_of texts workers worker ++ deletes_of texts workers worker)
-      (queries_of workers worker) rest.1 (deletes worker below) (met.queries worker below);
-}
-  where
-    adds : (worker : ℕ) → worker < workers → own worker (added first.worker) ≡ adds_of texts workers worker
-    adds worker below =
-        same_between worker (added worker) (added first.worker) (met_added worker) (adds_of texts workers worker)
-        (first.longest worker below) (met.met_adds worker first.worker below first.below) (met.adds worker below) (met.adds_alone worker below)
+-- workers that met what every other had seen after each part
+module _ (texts : List (List ℕ)) (workers : ℕ) (history : List Event) (fronts : ℕ → Fronts) (met : HaveMet texts workers history fronts) where
+  deleted_seen : (worker : ℕ) → worker < workers → IsPrefix (fronts worker).deleted history
+  deleted_seen worker below =
+      prefix_trans (fronts worker).deleted (fronts worker).met_deleted history (met.met_deletes worker worker below below) (met.keeps worker below).seen
 
-    deletes : (worker : ℕ) → worker < workers → own worker (deleted second.worker) ≡ adds_of texts workers worker ++ deletes_of texts workers worker
-    deletes worker below =
-        same_between worker (deleted worker) (deleted second.worker) (met_deleted worker) (adds_of texts workers worker ++ deletes_of texts workers worker)
-        (second.longest worker below) (met.met_deletes worker second.worker below second.below) (met.deletes worker below) (met.deletes_alone worker below)
+  added_before : (worker : ℕ) → worker < workers → IsPrefix (fronts worker).added (fronts worker).deleted
+  added_before worker below =
+      prefix_trans (fronts worker).added (fronts worker).met_added (fronts worker).deleted (met.met_adds worker worker below below)
+      (met.keeps worker below).goes_on
 
-pub parts_of_met : (texts : List (List ℕ)) (workers : ℕ) (history : List Event) (added met_added deleted met_deleted : ℕ → List Event) → 0 < workers →
-    HaveMet texts workers history added met_added deleted met_deleted → HasParts texts workers history
-parts_of_met texts workers history added met_added deleted met_deleted some met =
-    let first = longest_of added workers history some
-    (λ worker below. prefix_trans (added worker) (deleted worker) history (added_before worker below) (deleted_seen worker below)) in
-    let second = longest_of deleted workers history some deleted_seen in
-    parts_by texts workers history added met_added deleted met_deleted met first second
-    (prefix_trans (added first.worker) (deleted first.worker) (deleted second.worker) (added_before first.worker first.below)
-    (second.longest first.worker first.below))
-    (deleted_seen second.worker second.below)
-  where
-    deleted_seen : (worker : ℕ) → worker < workers → IsPrefix (deleted worker) history
-    deleted_seen worker below = prefix_trans (deleted worker) (met_deleted worker) history (met.met_deletes worker worker below below) (met.seen worker below)
+  added_seen : (worker : ℕ) → worker < workers → IsPrefix (fronts worker).added history
+  added_seen worker below =
+      prefix_trans (fronts worker).added (fronts worker).deleted history (added_before worker below) (deleted_seen worker below)
 
-    added_before : (worker : ℕ) → worker < workers → IsPrefix (added worker) (deleted worker)
-    added_before worker below = prefix_trans (added worker) (met_added worker) (deleted worker) (met.met_adds worker worker below below) (met.goes_on worker below)
+  -- the longest front after each part is where it ends: no worker made an event between its own front and this one
+  module _ (first : Longest (λ worker. (fronts worker).added) workers) (second : Longest (λ worker. (fronts worker).deleted) workers) where
+    abbrev all_added : List Event
+    all_added = (fronts first.worker).added
+
+    abbrev all_deleted : List Event
+    all_deleted = (fronts second.worker).deleted
+
+    adds_seen : (worker : ℕ) → worker < workers → IsFrontOf worker (fronts worker).added all_added
+    adds_seen worker below =
+        front_between worker (fronts worker).added all_added (fronts worker).met_added (met.keeps worker below).meets_adds
+        (first.longest worker below) (met.met_adds worker first.worker below first.below)
+
+    deletes_seen : (worker : ℕ) → worker < workers → IsFrontOf worker (fronts worker).deleted all_deleted
+    deletes_seen worker below =
+        front_between worker (fronts worker).deleted all_deleted (fronts worker).met_deleted (met.keeps worker below).meets_deletes
+        (second.longest worker below) (met.met_deletes worker second.worker below second.below)
+
+    adds_there : (worker : ℕ) → worker < workers → own worker all_added ≡ adds_of texts workers worker
+    adds_there worker below = calls_in_front worker (fronts worker).added all_added (adds_seen worker below) ∙ (met.keeps worker below).adds
+
+    deletes_there : (worker : ℕ) → worker < workers → own worker all_deleted ≡ adds_of texts workers worker ++ deletes_of texts workers worker
+    deletes_there worker below =
+        calls_in_front worker (fronts worker).deleted all_deleted (deletes_seen worker below) ∙ (met.keeps worker below).deletes
+
+    between : IsPrefix all_added all_deleted
+    between =
+        prefix_trans all_added (fronts first.worker).deleted all_deleted (added_before first.worker first.below) (second.longest first.worker first.below)
+
+    rest : IsPrefix all_deleted history
+    rest = deleted_seen second.worker second.below
+
+    parts_by : HasParts texts workers history
+    parts_by = record {
+      adding = all_added;
+      deleting = between.0;
+      querying = rest.0;
+      whole = sym rest.1 ∙ ap (λ (h : List Event). h ++ rest.0) (sym between.1);
+      adds = adds_there;
+      idle_after_adds = λ worker below. idle_from_front worker (fronts worker).added all_added (adds_seen worker below)
+          (met.keeps worker below).idle_after_adds;
+      deletes = λ worker below. made_after worker all_added between.0 all_deleted (adds_of texts workers worker) (deletes_of texts workers worker)
+          between.1 (adds_there worker below) (deletes_there worker below);
+      idle_after_deletes = λ worker below. subst (IsIdle worker) (sym between.1)
+          (idle_from_front worker (fronts worker).deleted all_deleted (deletes_seen worker below) (met.keeps worker below).idle_after_deletes);
+      queries = λ worker below. made_after worker all_deleted rest.0 history (adds_of texts workers worker ++ deletes_of texts workers worker)
+          (queries_of workers worker) rest.1 (deletes_there worker below) (met.keeps worker below).calls;
+    }
+
+pub parts_of_met : (texts : List (List ℕ)) (workers : ℕ) (history : List Event) (fronts : ℕ → Fronts) → 0 < workers →
+    HaveMet texts workers history fronts → HasParts texts workers history
+parts_of_met texts workers history fronts some met =
+    parts_by texts workers history fronts met
+    (longest_of (λ worker. (fronts worker).added) workers history some (added_seen texts workers history fronts met))
+    (longest_of (λ worker. (fronts worker).deleted) workers history some (deleted_seen texts workers history fronts met))

@@ -15,13 +15,13 @@ use Rattle.funnel_model.specs.Legal.{Limits}
 use Rattle.funnel_model.specs.Steps.{Linear}
 use Rattle.funnel_model.specs.Words.{meets}
 use Rattle.load_gen.specs.declared.limits.TheConstants.{CHECKED_ONE_IN, DELETED_ONE_IN, MOST_DOCS}
-use Rattle.load_gen.specs.Documents.{document, documents, name_of}
+use Rattle.load_gen.specs.Documents.{document, documents, name_of_document}
 use Rattle.load_gen.specs.Jobs.{adds_of, deletes_of, is_deleted, jobs, queries_of}
 use Rattle.load_gen.specs.Queries.{queries}
 use Rattle.load_gen.specs.Summary.{found, result_of, results_of}
 use Rattle.load_gen.proofs.Deletes.{each_tenth}
 use Rattle.load_laws.specs.LonePass.{IsAlone}
-use Rattle.load_laws.specs.Loads.{AreInTurn, Fits, adds_in, answers_from, answers_of, commits_in, found_in, held_after, is_add, is_commit}
+use Rattle.load_laws.specs.Loads.{AreInTurn, FitsEmptyEngine, adds_in, answers_from, answers_of, commits_in, numbers_meeting, held_after, is_add, is_commit}
 use Rattle.load_laws.specs.Replies.{lone_add, replies_to_adds, replies_to_deletes, replies_to_jobs, replies_to_queries, result_in}
 use Rattle.load_laws.proofs.AddsPart.{AddsAnswered, IsBelow, IsNamed, adds_answered}
 use Rattle.load_laws.proofs.DeletesPart.{deletes_answered, deletes_in_turn, deletes_leave}
@@ -53,9 +53,9 @@ parts docs words seed =
     ∙ ap₂ (λ (first others : List Call). first ++ others) (adds-one texts) (ap₂ (λ (second third : List Call). second ++ third) (deletes-one texts) queries-one)
 
 -- queries are answered by what is held, and leave it
-queries_answered : (place : ℕ) (held : List (ℕ × List ℕ)) (asked : List (List ℕ)) → answers_from place held (map call.Find asked) ≡ map (λ query. reply.Found (found_in held query)) asked
+queries_answered : (place : ℕ) (held : List (ℕ × List ℕ)) (asked : List (List ℕ)) → answers_from place held (map call.Find asked) ≡ map (λ query. reply.Found (numbers_meeting held query)) asked
 queries_answered place held [] = refl
-queries_answered place held (query ∷ asked) = ap (λ rs. reply.Found (found_in held query) ∷ rs) (queries_answered place held asked)
+queries_answered place held (query ∷ asked) = ap (λ rs. reply.Found (numbers_meeting held query) ∷ rs) (queries_answered place held asked)
 
 queries_in_turn : (held : List (ℕ × List ℕ)) (asked : List (List ℕ)) → AreInTurn held (map call.Find asked)
 queries_in_turn held [] = tt
@@ -72,11 +72,11 @@ filter_both p q (d ∷ ds) = by_tests (q d) (p d) refl (filter_both p q ds) wher
   by_tests false there is rest = rest
 
 -- among the documents that are left a query finds what the summary tells
-found_left : (texts : List (List ℕ)) (query : List ℕ) → found_in (filter (λ d. not (is_deleted d.0)) (enumerate_from 1 texts)) query ≡ found texts query
+found_left : (texts : List (List ℕ)) (query : List ℕ) → numbers_meeting (filter (λ d. not (is_deleted d.0)) (enumerate_from 1 texts)) query ≡ found texts query
 found_left texts query = ap (λ (ds : List (ℕ × List ℕ)). map (λ d. d.0) ds) (filter_both (λ d. meets d.1 query) (λ d. not (is_deleted d.0)) (enumerate_from 1 texts))
 
 all_found : (texts asked : List (List ℕ)) →
-    map (λ query. reply.Found (found_in (filter (λ d. not (is_deleted d.0)) (enumerate_from 1 texts)) query)) asked ≡ map (λ query. reply.Found (found texts query)) asked
+    map (λ query. reply.Found (numbers_meeting (filter (λ d. not (is_deleted d.0)) (enumerate_from 1 texts)) query)) asked ≡ map (λ query. reply.Found (found texts query)) asked
 all_found texts [] = refl
 all_found texts (query ∷ asked) = ap₂ (λ ids rs. reply.Found ids ∷ rs) (found_left texts query) (all_found texts asked)
 
@@ -94,8 +94,8 @@ adds_counted p add find n (text ∷ texts) =
     let first = one (n % CHECKED_ONE_IN == 0) in
     sum_by-append (λ c. cond (p c) 1 0) (lone_add (n, text)) rest ∙ omega (arith, first, later)
   where
-    one : (b : Bool) → count_of p (call.Add n text ∷ cond b (call.Find (name_of n) ∷ []) []) ≡ 1
-    one true = ap₂ (λ a f. sum_by (λ b. cond b 1 0) (a ∷ f ∷ [])) (add n text) (find (name_of n))
+    one : (b : Bool) → count_of p (call.Add n text ∷ cond b (call.Find (name_of_document n) ∷ []) []) ≡ 1
+    one true = ap₂ (λ a f. sum_by (λ b. cond b 1 0) (a ∷ f ∷ [])) (add n text) (find (name_of_document n))
     one false = ap (λ a. sum_by (λ b. cond b 1 0) (a ∷ [])) (add n text)
 
 -- of deletes all are commits, and none is an add
@@ -159,13 +159,13 @@ in_turn docs words seed few =
 
 -- a load fits an engine with a column for each document and with room in the journal for the adds and the deletes
 pub load_fits : (limits : Limits) (docs words seed : ℕ) → docs ≤ MOST_DOCS → docs ≤ limits.slices * limits.columns →
-    docs + docs / DELETED_ONE_IN ≤ limits.commits → Fits limits (jobs docs words seed 1 0)
+    docs + docs / DELETED_ONE_IN ≤ limits.commits → FitsEmptyEngine limits (jobs docs words seed 1 0)
 load_fits limits docs words seed few columns commits =
     let texts = documents docs words seed in
     let count = length-documents docs words seed in
     let of_adds = adds_of_load texts in
     let of_commits = commits_of_load texts ∙ ap (λ n. n + n / 10) count in
-    subst (Fits limits) (sym (parts docs words seed)) (record {
+    subst (FitsEmptyEngine limits) (sym (parts docs words seed)) (record {
       in_turn = in_turn docs words seed few;
       columns = omega (arith, of_adds, count, columns);
       commits = omega (arith, of_commits, commits);

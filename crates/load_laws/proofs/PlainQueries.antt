@@ -15,17 +15,17 @@ use Rattle.std.specs.Str.{bytes_eq}
 use Rattle.std.specs.Str.Parse.{AllDigits}
 use Rattle.funnel_model.proofs.WordLemmas.{Contains-has}
 use Rattle.funnel_model.specs.Words.{has_word, meets}
-use Rattle.load_gen.specs.Documents.{document, name_of}
+use Rattle.load_gen.specs.Documents.{document, name_of_document}
 use Rattle.load_gen.specs.Generator.{next_words, number_in, state_after, word_at}
-use Rattle.load_laws.specs.PlainTexts.{AllBeginWith, ArePieces, is_piece, is_plain, spaced}
+use Rattle.load_laws.specs.PlainTexts.{AllBeginWith, ArePieces, is_piece, is_plain, joined_by_spaces}
 use Rattle.load_laws.proofs.PlainTexts.{words-spaced}
 
 -- a plain text has a word where it is one of the pieces
-pub has_word-spaced : (pieces : List (List ℕ)) (word : List ℕ) → ArePieces pieces → has_word (spaced pieces) word ≡ list_any (bytes_eq word) pieces
+pub has_word-spaced : (pieces : List (List ℕ)) (word : List ℕ) → ArePieces pieces → has_word (joined_by_spaces pieces) word ≡ list_any (bytes_eq word) pieces
 has_word-spaced pieces word are = ap (list_any (bytes_eq word)) (words-spaced pieces are)
 
 -- by membership
-pub has_word-Contains : (pieces : List (List ℕ)) (word : List ℕ) → ArePieces pieces → IsTrue (has_word (spaced pieces) word) ↔ Contains pieces word
+pub has_word-Contains : (pieces : List (List ℕ)) (word : List ℕ) → ArePieces pieces → IsTrue (has_word (joined_by_spaces pieces) word) ↔ Contains pieces word
 has_word-Contains pieces word are = (
   λ has. (Contains-has word pieces).1 (sym (has_word-spaced pieces word are) ∙ has),
   λ held. has_word-spaced pieces word are ∙ (Contains-has word pieces).0 held,
@@ -33,7 +33,7 @@ has_word-Contains pieces word are = (
 
 -- a plain text meets a plain query where it has each of its pieces
 pub meets-spaced : (pieces query : List (List ℕ)) → ArePieces pieces → ArePieces query
-    → meets (spaced pieces) (spaced query) ≡ list_all (λ word. list_any (bytes_eq word) pieces) query
+    → meets (joined_by_spaces pieces) (joined_by_spaces query) ≡ list_all (λ word. list_any (bytes_eq word) pieces) query
 meets-spaced pieces query are asked =
     ap₂ (λ held wanted. list_all (λ word. list_any (bytes_eq word) held) wanted) (words-spaced pieces are) (words-spaced query asked)
 
@@ -43,9 +43,9 @@ one_piece piece is = All-cons (λ p. IsTrue (is_piece p)) piece [] is (All-nil (
 
 -- is met where it is one of the pieces
 pub meets-piece : (pieces : List (List ℕ)) (piece : List ℕ) → ArePieces pieces → IsTrue (is_piece piece)
-    → meets (spaced pieces) piece ≡ list_any (bytes_eq piece) pieces
+    → meets (joined_by_spaces pieces) piece ≡ list_any (bytes_eq piece) pieces
 meets-piece pieces piece are is =
-    ap (meets (spaced pieces)) (sym (append-nil piece)) ∙ meets-spaced pieces (piece ∷ []) are (one_piece piece is) ∙ and-true (list_any (bytes_eq piece) pieces)
+    ap (meets (joined_by_spaces pieces)) (sym (append-nil piece)) ∙ meets-spaced pieces (piece ∷ []) are (one_piece piece is) ∙ and-true (list_any (bytes_eq piece) pieces)
 
 -- digits are plain, so a letter and a number are a piece
 digits_plain : (ds : List ℕ) → AllDigits 10 ds → IsTrue (list_all is_plain ds)
@@ -59,36 +59,36 @@ letter_and_number : (number : ℕ) → number < 2 ^ 64 → IsTrue (list_all is_p
 letter_and_number number small = digits_plain (decimal number) (decimal_is_IsNumeral number small).0.1
 
 -- so is a name
-name_is_piece : (id : ℕ) → id < 2 ^ 64 → IsTrue (is_piece (name_of id))
+name_is_piece : (id : ℕ) → id < 2 ^ 64 → IsTrue (is_piece (name_of_document id))
 name_is_piece id small = letter_and_number id small
 
 -- names are one where the numbers are one
-same_name : (a b : ℕ) → a < 2 ^ 64 → b < 2 ^ 64 → bytes_eq (name_of a) (name_of b) ≡ (a == b)
+same_name : (a b : ℕ) → a < 2 ^ 64 → b < 2 ^ 64 → bytes_eq (name_of_document a) (name_of_document b) ≡ (a == b)
 same_name a b small_a small_b =
     let texts = bytes_eq-Decides (decimal a) (decimal b) in
     same_from_decides (bytes_eq (decimal a) (decimal b)) (a == b)
     (Decides-like (bytes_eq (decimal a) (decimal b)) (decimal_injective a b small_a small_b) (ap decimal) texts) (Decides-eqb a b)
 
 -- no name begins with w
-name_is_no_word : (a : ℕ) (pieces : List (List ℕ)) → AllBeginWith (codes "w") pieces → list_any (bytes_eq (name_of a)) pieces ≡ false
+name_is_no_word : (a : ℕ) (pieces : List (List ℕ)) → AllBeginWith (codes "w") pieces → list_any (bytes_eq (name_of_document a)) pieces ≡ false
 name_is_no_word a [] begin = refl
 name_is_no_word a (piece ∷ pieces) begin =
-    or_from (bytes_eq (name_of a) piece) (list_any (bytes_eq (name_of a)) pieces)
+    or_from (bytes_eq (name_of_document a) piece) (list_any (bytes_eq (name_of_document a)) pieces)
     (differs piece (All-head (λ p. IsTrue (starts_with nat_eq p (codes "w"))) piece pieces begin))
     (name_is_no_word a pieces (All-tail (λ p. IsTrue (starts_with nat_eq p (codes "w"))) piece pieces begin))
   where
     not_u : (c : ℕ) → nat_eq 119 c ≡ true → nat_eq 117 c ≡ false
     not_u c is_w = grind (arith, nat_tests)
 
-    differs : (p : List ℕ) → IsTrue (starts_with nat_eq p (codes "w")) → bytes_eq (name_of a) p ≡ false
+    differs : (p : List ℕ) → IsTrue (starts_with nat_eq p (codes "w")) → bytes_eq (name_of_document a) p ≡ false
     differs [] starts = refl
     differs (c ∷ cs) starts = and_left (nat_eq 117 c) (bytes_eq (decimal a) cs) (not_u c (and_parts (nat_eq 119 c) true starts).0)
 
 -- the query of a name is met by the text with that name, and by no text with another
 pub meets-name : (a b : ℕ) (others : List (List ℕ)) → a < 2 ^ 64 → b < 2 ^ 64 → ArePieces others → AllBeginWith (codes "w") others
-    → meets (spaced (name_of b ∷ others)) (name_of a) ≡ (a == b)
+    → meets (joined_by_spaces (name_of_document b ∷ others)) (name_of_document a) ≡ (a == b)
 meets-name a b others small_a small_b are begin =
-    meets-piece (name_of b ∷ others) (name_of a) (All-cons (λ p. IsTrue (is_piece p)) (name_of b) others (name_is_piece b small_b) are) (name_is_piece a small_a)
+    meets-piece (name_of_document b ∷ others) (name_of_document a) (All-cons (λ p. IsTrue (is_piece p)) (name_of_document b) others (name_is_piece b small_b) are) (name_is_piece a small_a)
     ∙ ap₂ (λ here later. here || later) (same_name a b small_a small_b) (name_is_no_word a others begin)
     ∙ or-false (a == b)
 
@@ -113,7 +113,7 @@ words_begin_with_w state (draw ∷ draws) =
     (words_begin_with_w state draws)
 
 -- so a generated text is found by the name of its own document alone
-pub meets-document : (words seed i asked : ℕ) → i + 1 < 2 ^ 64 → asked < 2 ^ 64 → meets (document words seed i) (name_of asked) ≡ (asked == i + 1)
+pub meets-document : (words seed i asked : ℕ) → i + 1 < 2 ^ 64 → asked < 2 ^ 64 → meets (document words seed i) (name_of_document asked) ≡ (asked == i + 1)
 meets-document words seed i asked small small_asked =
     let start = state_after seed (i * words) in
     meets-name asked (i + 1) (next_words start words) small_asked small (words_are_pieces start (range_with_len 1 words))

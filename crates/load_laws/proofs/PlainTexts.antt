@@ -13,7 +13,7 @@ use Rattle.unicode_segmentation.proofs.Computing.{unicode_segmentation}
 use Rattle.unicode_segmentation.specs.Segments.{cut, has_alphanumeric, is_alphanumeric, prepend, segments}
 use Rattle.unicode_segmentation.specs.Word.{is_word_break, word_bounds}
 use Rattle.funnel_model.specs.Words.{folded, words}
-use Rattle.load_laws.specs.PlainTexts.{ArePieces, behind_spaces, is_piece, is_plain, spaced}
+use Rattle.load_laws.specs.PlainTexts.{ArePieces, behind_spaces, is_piece, is_plain, joined_by_spaces}
 use Rattle.load_laws.proofs.PlainBreaks.{cut_at_end, cut_before_space, cut_behind_space, lower_itself, lowercase_alphanumeric, lowercase_below, no_cut_within, plain_below}
 
 -- of pieces the first is one
@@ -97,7 +97,7 @@ behind_spaces_ascii (piece ∷ pieces) are =
     (IsAscii-append piece (behind_spaces pieces) (piece_ascii piece (first_piece piece pieces are))
     (behind_spaces_ascii pieces (later_pieces piece pieces are)))
 
-spaced_ascii : (pieces : List (List ℕ)) → ArePieces pieces → IsAscii (spaced pieces)
+spaced_ascii : (pieces : List (List ℕ)) → ArePieces pieces → IsAscii (joined_by_spaces pieces)
 spaced_ascii [] are = IsAscii-nil
 spaced_ascii (piece ∷ pieces) are =
     IsAscii-append piece (behind_spaces pieces) (piece_ascii piece (first_piece piece pieces are))
@@ -108,7 +108,7 @@ abbrev pieces_and_spaces : List (List ℕ) → List (List ℕ)
 pieces_and_spaces [] = []
 pieces_and_spaces (piece ∷ pieces) = piece ∷ apart pieces
 
-cut_text : (pieces : List (List ℕ)) → ArePieces pieces → cut is_word_break [] (spaced pieces) [] ≡ pieces_and_spaces pieces
+cut_text : (pieces : List (List ℕ)) → ArePieces pieces → cut is_word_break [] (joined_by_spaces pieces) [] ≡ pieces_and_spaces pieces
 unfolding cut
 cut_text [] are = refl
 cut_text ([] ∷ pieces) are = absurd (false≢true (first_piece [] pieces are))
@@ -130,10 +130,10 @@ encoded_text [] are = refl
 encoded_text (piece ∷ pieces) are = ap (drop 1) (encoded_apart (piece ∷ pieces) are)
 
 -- what lies between the word boundaries of the text
-word_bounds-spaced : (pieces : List (List ℕ)) → ArePieces pieces → word_bounds (spaced pieces) ≡ pieces_and_spaces pieces
+word_bounds-spaced : (pieces : List (List ℕ)) → ArePieces pieces → word_bounds (joined_by_spaces pieces) ≡ pieces_and_spaces pieces
 unfolding segments
 word_bounds-spaced pieces are =
-    ap (λ cs. map encode_utf8_all (cut is_word_break [] cs [])) (chars-IsAscii (spaced pieces) (spaced_ascii pieces are))
+    ap (λ cs. map encode_utf8_all (cut is_word_break [] cs [])) (chars-IsAscii (joined_by_spaces pieces) (spaced_ascii pieces are))
     ∙ ap (map encode_utf8_all) (cut_text pieces are) ∙ encoded_text pieces are
 
 -- a piece has a letter, and a space has none
@@ -189,7 +189,7 @@ folded_pieces (piece ∷ pieces) are =
     (folded_pieces pieces (later_pieces piece pieces are))
 
 -- the words of a plain text are its pieces, as they come in the text
-pub words-spaced : (pieces : List (List ℕ)) → ArePieces pieces → words (spaced pieces) ≡ pieces
+pub words-spaced : (pieces : List (List ℕ)) → ArePieces pieces → words (joined_by_spaces pieces) ≡ pieces
 words-spaced pieces are =
     ap (λ bounds. map folded (filter has_alphanumeric bounds)) (word_bounds-spaced pieces are)
     ∙ ap (map folded) (kept_text pieces are) ∙ folded_pieces pieces are

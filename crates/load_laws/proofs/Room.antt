@@ -11,7 +11,7 @@ use Rattle.funnel_model.specs.declared.event.Event.TheVariants as event
 use Rattle.funnel_model.specs.Events.{column_taken_in, opens}
 use Rattle.funnel_model.specs.Legal.{Limits, IsFull, IsLegal}
 use Rattle.funnel_model.specs.Slices.{claimed}
-use Rattle.load_laws.specs.LonePass.{is_take, takes_in}
+use Rattle.load_laws.specs.LonePass.{is_take, count_of_takes}
 use Rattle.load_laws.proofs.Takes.{takes-push}
 
 -- how many columns of the first so many slices are claimed
@@ -75,8 +75,8 @@ one_below pass taken column (suc n) history =
     (cases_eq taken n)
 
 -- there are no more claimed columns than takes
-claimed_by_takes : (n : ℕ) (history : List Event) → claimed_below n history ≤ takes_in history
-claimed_by_takes n = by_push (λ h. claimed_below n h ≤ takes_in h) (none n) (λ h e before. by_kind h e before (is_take e) refl) where
+claimed_by_takes : (n : ℕ) (history : List Event) → claimed_below n history ≤ count_of_takes history
+claimed_by_takes n = by_push (λ h. claimed_below n h ≤ count_of_takes h) (none n) (λ h e before. by_kind h e before (is_take e) refl) where
   none : (m : ℕ) → claimed_below m [] ≤ 0
   none zero = omega arith
   none (suc m) = let lower = none m in omega arith
@@ -85,14 +85,14 @@ claimed_by_takes n = by_push (λ h. claimed_below n h ≤ takes_in h) (none n) (
   by_take h (event.Take pass slice column) is = one_below pass slice column n h
   by_take h _ is = cc
 
-  by_kind : (h : List Event) (e : Event) → claimed_below n h ≤ takes_in h → (b : Bool) → is_take e ≡ b → claimed_below n (h ++ e ∷ []) ≤ takes_in (h ++ e ∷ [])
+  by_kind : (h : List Event) (e : Event) → claimed_below n h ≤ count_of_takes h → (b : Bool) → is_take e ≡ b → claimed_below n (h ++ e ∷ []) ≤ count_of_takes (h ++ e ∷ [])
   by_kind h e before true is =
       let more = by_take h e is in
-      let takes : takes_in (h ++ e ∷ []) ≡ takes_in h + 1 = takes-push h e ∙ ap (λ b. takes_in h + cond b 1 0) is in
+      let takes : count_of_takes (h ++ e ∷ []) ≡ count_of_takes h + 1 = takes-push h e ∙ ap (λ b. count_of_takes h + cond b 1 0) is in
       omega arith
   by_kind h e before false is =
       let same = none_more_below n h e is in
-      let takes : takes_in (h ++ e ∷ []) ≡ takes_in h + 0 = takes-push h e ∙ ap (λ b. takes_in h + cond b 1 0) is in
+      let takes : count_of_takes (h ++ e ∷ []) ≡ count_of_takes h + 0 = takes-push h e ∙ ap (λ b. count_of_takes h + cond b 1 0) is in
       omega arith
 
 -- where each slice has all its columns claimed, that many are
@@ -115,7 +115,7 @@ full_is_claimed limits history legal full slice in' =
     (cases_lt n limits.columns)
 
 -- an engine of which fewer columns were claimed than it has isn't full
-pub not_full : (limits : Limits) (history : List Event) → IsLegal limits history → takes_in history < limits.slices * limits.columns →
+pub not_full : (limits : Limits) (history : List Event) → IsLegal limits history → count_of_takes history < limits.slices * limits.columns →
     IsFull limits history → ⊥
 not_full limits history legal few full =
     let all = all_claimed limits.columns limits.slices history (full_is_claimed limits history legal full) in

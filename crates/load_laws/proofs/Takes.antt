@@ -10,7 +10,7 @@ use Rattle.funnel_model.specs.declared.event.Event.TheVariants as event
 use Rattle.funnel_model.specs.Events.{leaves_open, pass_of}
 use Rattle.funnel_model.specs.History.{last_by}
 use Rattle.funnel_model.specs.Legal.{Limits, IsAllowed, IsIdle, IsLegal, MayFollow}
-use Rattle.load_laws.specs.LonePass.{IsAlone, is_take, takes_in}
+use Rattle.load_laws.specs.LonePass.{IsAlone, is_take, count_of_takes}
 use Rattle.load_laws.proofs.PassTotals.{weigh_by, weigh_by-alone, weigh_by-other, weigh_by-own}
 use Rattle.load_laws.proofs.Quiet.{filled, fills_column}
 
@@ -43,7 +43,7 @@ before_event limits history (event.No pass asked) rule = idle_open (last_by pass
 before_event limits history (event.Read pass asked) rule = idle_open (last_by pass history) rule.idle
 
 -- how many takes there are with one more event
-pub takes-push : (history : List Event) (e : Event) → takes_in (history ++ e ∷ []) ≡ takes_in history + cond (is_take e) 1 0
+pub takes-push : (history : List Event) (e : Event) → count_of_takes (history ++ e ∷ []) ≡ count_of_takes history + cond (is_take e) 1 0
 takes-push history e = sum_by_push (λ x. cond (is_take x) 1 0) history e
 
 -- one for a take, and for an add or a drop
@@ -90,6 +90,6 @@ pass_takes_filled limits pass history legal idle =
 
 -- so where it is alone there are as many adds and drops as takes
 pub takes_filled : (limits : Limits) (pass : ℕ) (history : List Event) → IsLegal limits history → IsAlone pass history → IsIdle pass history →
-    takes_in history ≡ filled history
+    count_of_takes history ≡ filled history
 takes_filled limits pass history legal alone idle =
     sym (weigh_by-alone take_weight pass history alone) ∙ pass_takes_filled limits pass history legal idle ∙ weigh_by-alone fill_weight pass history alone

@@ -11,7 +11,7 @@ use Rattle.funnel_model.specs.declared.reply.Reply.{Reply}
 use Rattle.funnel_model.specs.declared.reply.Reply.TheVariants as reply
 use Rattle.funnel_model.specs.Events.{pass_of}
 use Rattle.funnel_model.specs.History.{own}
-use Rattle.funnel_model.specs.Legal.{IsLegal}
+use Rattle.funnel_model.specs.Legal.{IsIdle, IsLegal}
 use Rattle.funnel_model.specs.Steps.{Linear}
 use Rattle.funnel_model.proofs.ExampleLemmas.{no_bits, none_wide, two_columns}
 use Rattle.funnel_model.proofs.Histories.{legal_before}
@@ -19,7 +19,7 @@ use Rattle.funnel_model.proofs.SpareLemmas.{room_by}
 use Rattle.funnel_model.proofs.StepLemmas.{step_made_from}
 use Rattle.load_gen.specs.Documents.{document, documents}
 use Rattle.load_gen.specs.Jobs.{adds_of, deletes_of, jobs, queries_of}
-use Rattle.load_laws.specs.Workers.{HasMade, IsLoaded}
+use Rattle.load_laws.specs.Workers.{HasAsked, IsLoaded}
 use Rattle.load_laws.specs.WorkersExample.{both_added, both_queried, first_replies, replies_to, second_replies, two_passes}
 
 abbrev events : List Event
@@ -167,10 +167,12 @@ is_loaded = record {
     querying = both_queried;
     whole = refl;
     adds = two_columns (λ worker. own worker both_added ≡ adds_of (documents 2 1 0) 2 worker) refl refl;
+    idle_after_adds = two_columns (λ worker. IsIdle worker both_added) refl refl;
     deletes = two_columns (λ worker. own worker [] ≡ deletes_of (documents 2 1 0) 2 worker) refl refl;
+    idle_after_deletes = two_columns (λ worker. IsIdle worker both_added) refl refl;
     queries = two_columns (λ worker. own worker both_queried ≡ queries_of 2 worker) refl refl;
   };
-  made = two_columns (λ worker. HasMade two_passes events worker (jobs 2 1 0 2 worker) (replies_to worker))
+  asked = two_columns (λ worker. HasAsked two_passes events worker (jobs 2 1 0 2 worker) (replies_to worker))
       (record {
         front = take 14 events;
         seen = record { later = drop 14 events; whole = refl; silent = refl };

@@ -2,25 +2,24 @@
 use Rattle.std.proofs.Common.{◌≡◌, ℕ, zero, suc, ◌+◌, ◌*◌, ◌/◌, ◌%◌, ◌^◌, ◌<◌, ◌≤◌, ◌==◌, Bool, true, false, cond, List, [], ◌∷◌, ◌++◌, Some, length, flat_map, refl, sym, ap, ap₂, ◌∙◌, subst, arith}
 use Rattle.std.proofs.lemmas.List.{length-append, length-map}
 use Rattle.std.proofs.lemmas.List.Elements.{All-head}
-use Rattle.std.specs.List.{All, cons_option, enumerate_from}
-use Rattle.std.specs.Option.{IfSome}
-use Rattle.funnel_model.proofs.Clears.{last_by-front}
+use Rattle.std.specs.List.{All, cons_option, enumerate_from, range_with_len, sum_by}
 use Rattle.funnel_model.proofs.StepLemmas.{call_by-own, own-append}
 use Rattle.funnel_model.specs.declared.call.Call.{Call}
 use Rattle.funnel_model.specs.declared.call.Call.TheVariants as call
 use Rattle.funnel_model.specs.declared.event.Event.{Event}
 use Rattle.funnel_model.specs.declared.reply.Reply.{Reply}
-use Rattle.funnel_model.specs.Events.{call_of, leaves_open, pass_of}
+use Rattle.funnel_model.specs.Events.{call_of, pass_of}
 use Rattle.funnel_model.specs.History.{own}
-use Rattle.funnel_model.specs.Legal.{Limits, IsIdle}
+use Rattle.funnel_model.specs.Legal.{Limits, IsIdle, IsLegal}
 use Rattle.load_gen.specs.declared.limits.TheConstants.{CHECKED_ONE_IN, MOST_DOCS}
-use Rattle.load_gen.specs.Documents.{documents, name_of}
+use Rattle.load_gen.specs.Documents.{documents, name_of_document}
 use Rattle.load_gen.specs.Jobs.{add_and_check, adds_of, deletes_of, jobs, nth_add, queries_of, share}
 use Rattle.load_gen.specs.Queries.{queries}
 use Rattle.load_gen.proofs.Shares.{deletes-total, share-total}
 use Rattle.load_gen.proofs.Totals.{sum_by-total, total, total-plus, total-same}
-use Rattle.load_laws.specs.Workers.{HasMade, IsLoaded, calls_of_load}
+use Rattle.load_laws.specs.Workers.{HasAsked, IsLoaded, calls_of_load}
 use Rattle.load_laws.proofs.EventCounts.{ends, events_of, few_events}
+use Rattle.load_laws.proofs.FrontLemmas.{calls_in_front, idle_from_front}
 use Rattle.load_laws.proofs.OneWorker.{length-documents}
 use Rattle.load_laws.proofs.Quiet.{all_second}
 use Rattle.load_laws.proofs.PassTotals.{length_is_sum, total-below, total-weigh_by}
@@ -35,32 +34,37 @@ own_of_load limits docs words seed workers history replies loaded worker below =
     (own-append worker p.adding p.deleting ∙ ap₂ (λ (xs ys : List Call). xs ++ ys) (p.adds worker below) (p.deletes worker below)) (p.queries worker below)
 
 -- a pass is idle in a history once its calls are made
-pub idle_in : (limits : Limits) (history : List Event) (pass : ℕ) (calls : List Call) (replies : List Reply) → HasMade limits history pass calls replies →
+pub idle_in : (limits : Limits) (history : List Event) (pass : ℕ) (calls : List Call) (replies : List Reply) → HasAsked limits history pass calls replies →
     IsIdle pass history
-idle_in limits history pass calls replies made =
-    let end = ends limits pass [] made.front calls replies tt made.run in
-    subst (λ o. IfSome o (λ e. leaves_open e ≡ false)) (sym (last_by-front pass made.front history made.seen)) end.idle
+idle_in limits history pass calls replies asked =
+    idle_from_front pass asked.front history asked.seen (ends limits pass [] asked.front calls replies tt asked.run).idle
 
 total-four : (f : ℕ → ℕ) (n : ℕ) → total (λ k. 4 * f k) n ≡ 4 * total f n
 total-four f zero = refl
 total-four f (suc n) = let lower = total-four f n in omega arith
 
--- the history has at most four events a call
-pub four_events_a_call_of_load : (limits : Limits) (docs words seed workers : ℕ) (history : List Event) (replies : ℕ → List Reply) →
-    IsLoaded limits docs words seed workers history replies → length history ≤ 4 * calls_of_load docs words seed workers
-four_events_a_call_of_load limits docs words seed workers history replies loaded =
+-- a pass has at most four events a call that it asked
+four_events_by : (limits : Limits) (history : List Event) (pass : ℕ) (calls : List Call) (replies : List Reply) → IsLegal limits history →
+    HasAsked limits history pass calls replies → events_of pass history ≤ 4 * length calls
+four_events_by limits history pass calls replies legal asked =
+    let events = few_events limits pass history legal (idle_in limits history pass calls replies asked) in
+    let made = (ends limits pass [] asked.front calls replies tt asked.run).few in
+    let seen = ap length (calls_in_front pass asked.front history asked.seen) in
+    omega (arith, events, made, seen)
+
+-- so the history has at most four events a call where no other pass has one
+pub four_events_a_call_of_all : (limits : Limits) (workers : ℕ) (history : List Event) (calls : ℕ → List Call) (replies : ℕ → List Reply) →
+    IsLegal limits history → All (λ e. pass_of e < workers) history →
+    ((worker : ℕ) → worker < workers → HasAsked limits history worker (calls worker) (replies worker)) →
+    length history ≤ 4 * sum_by (λ worker. length (calls worker)) (range_with_len 0 workers)
+four_events_a_call_of_all limits workers history calls replies legal no_other asked =
     let all : length history ≡ total (λ worker. events_of worker history) workers =
-    length_is_sum history ∙ sym (total-weigh_by (λ e. 1) workers history loaded.no_other) in
-    let each = total-below (λ worker. events_of worker history) (λ worker. 4 * length (jobs docs words seed workers worker)) workers (λ worker below. one worker below) in
-    let four = total-four (λ worker. length (jobs docs words seed workers worker)) workers in
-    let calls = sum_by-total (λ worker. length (jobs docs words seed workers worker)) workers in
-    omega arith
-  where
-    one : (worker : ℕ) → worker < workers → events_of worker history ≤ 4 * length (jobs docs words seed workers worker)
-    one worker below =
-        let few = few_events limits worker history loaded.legal (idle_in limits history worker (jobs docs words seed workers worker) (replies worker) (loaded.made worker below)) in
-        let calls = ap length (own_of_load limits docs words seed workers history replies loaded worker below) in
-        omega arith
+    length_is_sum history ∙ sym (total-weigh_by (λ e. 1) workers history no_other) in
+    let each = total-below (λ worker. events_of worker history) (λ worker. 4 * length (calls worker)) workers
+    (λ worker below. four_events_by limits history worker (calls worker) (replies worker) legal (asked worker below)) in
+    let four = total-four (λ worker. length (calls worker)) workers in
+    let counted = sum_by-total (λ worker. length (calls worker)) workers in
+    omega (arith, all, each, four, counted)
 
 -- a worker's adds and the finds between them are at most two for a document
 two_a_document : (n : ℕ) (items : List (ℕ × List ℕ)) → length (flat_map nth_add (enumerate_from n items)) ≤ 2 * length items
@@ -71,7 +75,7 @@ two_a_document n ((i, text) ∷ items) =
     let both = length-append (add_and_check n (i + 1, text)) (flat_map nth_add (enumerate_from (n + 1) items)) in
     omega (arith, first, later, both)
   where
-    two : (b : Bool) → length (call.Add (i + 1) text ∷ cond b (call.Find (name_of (i + 1)) ∷ []) []) ≤ 2
+    two : (b : Bool) → length (call.Add (i + 1) text ∷ cond b (call.Find (name_of_document (i + 1)) ∷ []) []) ≤ 2
     two true = omega arith
     two false = omega arith
 
@@ -100,11 +104,13 @@ calls_are_few docs words seed workers some =
     omega arith
 
 -- far fewer events than any engine takes
-pub load_is_unspent : (limits : Limits) (docs words seed workers : ℕ) (history : List Event) (replies : ℕ → List Reply) → docs ≤ MOST_DOCS →
-    IsLoaded limits docs words seed workers history replies → length history < 2 ^ 62
-load_is_unspent limits docs words seed workers history replies few loaded =
-    let events = four_events_a_call_of_load limits docs words seed workers history replies loaded in
-    let calls = calls_are_few docs words seed workers loaded.some in
+pub load_is_unspent : (limits : Limits) (docs words seed workers : ℕ) (history : List Event) (replies : ℕ → List Reply) → 0 < workers → docs ≤ MOST_DOCS →
+    IsLegal limits history → All (λ e. pass_of e < workers) history →
+    ((worker : ℕ) → worker < workers → HasAsked limits history worker (jobs docs words seed workers worker) (replies worker)) → length history < 2 ^ 62
+load_is_unspent limits docs words seed workers history replies some few legal no_other asked =
+    let events : length history ≤ 4 * calls_of_load docs words seed workers =
+    four_events_a_call_of_all limits workers history (λ worker. jobs docs words seed workers worker) replies legal no_other asked in
+    let calls = calls_are_few docs words seed workers some in
     omega (arith, few, events, calls)
 
 -- what holds of all calls of each pass holds of the call that an event answers

@@ -3,7 +3,7 @@ use Rattle.std.proofs.Common.{◌≡◌, ℕ, ◌+◌, ◌%◌, ◌<◌, ◌≤�
 use Rattle.std.proofs.lemmas.Bool.{eq-eqb}
 use Rattle.std.proofs.lemmas.Nat.{mod_below}
 use Rattle.std.proofs.lemmas.List.{append-nil, length-append}
-use Rattle.std.proofs.lemmas.List.Elements.{All-head, All-nil, All-tail}
+use Rattle.std.proofs.lemmas.List.Elements.{All-cons, All-head, All-nil, All-tail}
 use Rattle.std.proofs.lemmas.List.Sums.{sum_by-append}
 use Rattle.std.specs.List.{All, cons_option, enumerate_from, sum_by}
 use Rattle.std.specs.Option.{option_map_or}
@@ -17,16 +17,16 @@ use Rattle.funnel_model.specs.declared.event.Event.TheVariants as event
 use Rattle.funnel_model.specs.declared.reply.Reply.{Reply}
 use Rattle.funnel_model.specs.declared.reply.Reply.TheVariants as reply
 use Rattle.funnel_model.specs.Events.{added_by, call_of, pass_of}
-use Rattle.funnel_model.specs.History.{Document, document_at, live, own, place}
+use Rattle.funnel_model.specs.History.{Document, answer, document_at, live, own, place}
 use Rattle.funnel_model.specs.Legal.{Limits, IsLegal}
 use Rattle.funnel_model.specs.Steps.{IsReply}
 use Rattle.load_gen.specs.declared.limits.TheConstants.{CHECKED_ONE_IN}
-use Rattle.load_gen.specs.Documents.{documents, name_of}
+use Rattle.load_gen.specs.Documents.{documents, name_of_document}
 use Rattle.load_gen.specs.Jobs.{adds_of, deletes_of, is_deleted, jobs, nth_add, queries_of, share}
 use Rattle.load_gen.specs.Queries.{queries}
 use Rattle.load_gen.specs.Summary.{found, result_of, results_of}
 use Rattle.load_laws.specs.Replies.{result_in}
-use Rattle.load_laws.specs.Workers.{AreAnswered, HasRoomFor, IsAnswered, IsAnsweredAsTold, IsLoaded}
+use Rattle.load_laws.specs.Workers.{AreAnswered, HasRoomFor, IsAnswered, IsAnsweredAsTold, IsLoaded, TellsNumbers}
 use Rattle.load_laws.proofs.Balance.{added, balanced, by_number, deleted, deleted_was_asked, is_number, no_more}
 use Rattle.load_laws.proofs.CallEvents.{find_event}
 use Rattle.load_laws.proofs.Committed.{add_is_committed, added_as_asked, adds_asked, after_or_in, call_of_load, delete_is_committed, deleted_as_asked, deletes_asked, number_is, parts_asked, same_stretch, sum_around}
@@ -66,7 +66,7 @@ pass_weighs f pass history = no_more (λ e. cond (pass_of e == pass) (f e) 0) f 
 check_finds : (limits : Limits) (docs words seed workers : ℕ) (history : List Event) (replies : ℕ → List Reply) →
     IsLoaded limits docs words seed workers history replies → HasRoomFor limits docs → (worker : ℕ) → worker < workers →
     (done : List Call) (id : ℕ) (given : Reply) → id ≤ docs → 1 ≤ sum_by (add_weight (is_number id)) done →
-    length done < length (adds_of (documents docs words seed) workers worker) → EventOf limits worker history done (call.Find (name_of id)) given →
+    length done < length (adds_of (documents docs words seed) workers worker) → EventOf limits worker history done (call.Find (name_of_document id)) given →
     given ≡ reply.Found (id ∷ [])
 check_finds limits docs words seed workers history replies loaded room worker below done id given within was_added early is =
     let p = loaded.parts in
@@ -94,7 +94,7 @@ check_finds limits docs words seed workers history replies loaded room worker be
     let balance = balances.balance (is_number id) in
     let once = balances.once id in
     let documents_live = live_of_load limits docs words seed workers history replies loaded [] h (is.event ∷ is.later) is.whole (All-nil (IsOfDocuments docs words seed)) in
-    let by = find_event limits h is.event (name_of id) given is.call is.reply in
+    let by = find_event limits h is.event (name_of_document id) given is.call is.reply in
     by.2 ∙ ap reply.Found (one_named docs words seed id (live h) room.few within documents_live
     (omega (arith, none_deleted, committed, mine, of_all, balance, once, was_added)))
 
@@ -129,16 +129,16 @@ deletes_are_answered limits docs words seed workers history replies loaded room 
 checked : (limits : Limits) (docs words seed workers : ℕ) (history : List Event) (replies : ℕ → List Reply) →
     IsLoaded limits docs words seed workers history replies → HasRoomFor limits docs → (worker : ℕ) → worker < workers → (b : Bool) →
     (done : List Call) (id : ℕ) (calls : List Call) (given : List Reply) → id ≤ docs → 1 ≤ sum_by (add_weight (is_number id)) done →
-    done ++ (cond b (call.Find (name_of id) ∷ []) [] ++ calls) ≡ adds_of (documents docs words seed) workers worker →
-    HaveEvents limits worker history done (cond b (call.Find (name_of id) ∷ []) [] ++ calls) given →
+    done ++ (cond b (call.Find (name_of_document id) ∷ []) [] ++ calls) ≡ adds_of (documents docs words seed) workers worker →
+    HaveEvents limits worker history done (cond b (call.Find (name_of_document id) ∷ []) [] ++ calls) given →
     ((before : List Call) (others : List Reply) → before ++ calls ≡ adds_of (documents docs words seed) workers worker →
     HaveEvents limits worker history before calls others → AreAnswered calls others) →
-    AreAnswered (cond b (call.Find (name_of id) ∷ []) [] ++ calls) given
+    AreAnswered (cond b (call.Find (name_of_document id) ∷ []) [] ++ calls) given
 checked limits docs words seed workers history replies loaded room worker below true done id calls (given ∷ others) within was_added whole have rest =
-    let counted = length-append done (call.Find (name_of id) ∷ calls) in
+    let counted = length-append done (call.Find (name_of_document id) ∷ calls) in
     let all = ap length whole in (
       (id, refl, check_finds limits docs words seed workers history replies loaded room worker below done id given within was_added (omega (arith, counted, all)) have.0),
-      rest (done ++ call.Find (name_of id) ∷ []) others (append_assoc done (call.Find (name_of id) ∷ []) calls ∙ whole) have.1,
+      rest (done ++ call.Find (name_of_document id) ∷ []) others (append_assoc done (call.Find (name_of_document id) ∷ []) calls ∙ whole) have.1,
     )
 checked limits docs words seed workers history replies loaded room worker below true done id calls [] within was_added whole have rest = absurd have
 checked limits docs words seed workers history replies loaded room worker below false done id calls given within was_added whole have rest = rest done given whole have
@@ -159,7 +159,7 @@ adds_are_answered limits docs words seed workers history replies loaded room wor
     let one = number_is (i + 1) in (
       add_is_answered limits docs words seed workers history replies loaded room worker done (i + 1) text given have.0,
       checked limits docs words seed workers history replies loaded room worker below b (done ++ added_it ∷ []) (i + 1) calls others (omega (arith, within))
-          (omega (arith, counted, here, one)) (append_assoc done (added_it ∷ []) (cond b (call.Find (name_of (i + 1)) ∷ []) [] ++ calls) ∙ whole) have.1
+          (omega (arith, counted, here, one)) (append_assoc done (added_it ∷ []) (cond b (call.Find (name_of_document (i + 1)) ∷ []) [] ++ calls) ∙ whole) have.1
           (λ before rest. adds_are_answered limits docs words seed workers history replies loaded room worker below (n + 1) items before rest
           (All-tail (IsItem docs words seed) (i, text) items are)),
     )
@@ -227,6 +227,18 @@ query_result limits docs words seed workers history replies loaded room worker b
     let left = left_by_then limits docs words seed workers history replies loaded room h (is.event ∷ is.later) behind.0 is.whole behind.1 (where_met words seed query v) in
     let told = found_over docs words seed query v in
     omega (arith, live_is, left, told))
+
+-- a query is answered with numbers
+queries_find_numbers : (limits : Limits) (worker : ℕ) (history : List Event) (items : List (ℕ × List ℕ)) (done : List Call) (given : List Reply) →
+    HaveEvents limits worker history done (map (λ item. call.Find item.1) items) given → All TellsNumbers given
+queries_find_numbers limits worker history [] done [] have = All-nil TellsNumbers
+queries_find_numbers limits worker history (item ∷ items) done (given ∷ others) have =
+    let is = have.0 in
+    let by = find_event limits is.earlier is.event item.1 given is.call is.reply in
+    All-cons TellsNumbers given others (answer is.earlier item.1, by.2)
+    (queries_find_numbers limits worker history items (done ++ call.Find item.1 ∷ []) others have.1)
+queries_find_numbers limits worker history [] done (given ∷ others) have = absurd have
+queries_find_numbers limits worker history (item ∷ items) done [] have = absurd have
 
 queries_are_answered : (limits : Limits) (docs words seed workers : ℕ) (history : List Event) (replies : ℕ → List Reply) →
     IsLoaded limits docs words seed workers history replies → HasRoomFor limits docs → (worker : ℕ) → worker < workers →
@@ -303,11 +315,11 @@ pub worker_is_answered : (limits : Limits) (docs words seed workers : ℕ) (hist
     IsAnsweredAsTold (documents docs words seed) workers worker (replies worker)
 worker_is_answered limits docs words seed workers history replies loaded room worker below =
     let texts = documents docs words seed in
-    let made = loaded.made worker below in
-    let few = load_is_unspent limits docs words seed workers history replies room.few loaded in
+    let was_asked = loaded.asked worker below in
+    let few = load_is_unspent limits docs words seed workers history replies loaded.some room.few loaded.legal loaded.no_other loaded.asked in
     let events = room.events in
-    let have = events_of_run limits worker [] made.front history [] (jobs docs words seed workers worker) (replies worker) made.run
-    (made.seen.later, sym made.seen.whole) (omega (arith, few, events)) made.memory refl in
+    let have = events_of_run limits worker [] was_asked.front history [] (jobs docs words seed workers worker) (replies worker) was_asked.run
+    (was_asked.seen.later, sym was_asked.seen.whole) (omega (arith, few, events)) was_asked.memory refl in
     let last = two_parts limits worker history [] (adds_of texts workers worker ++ deletes_of texts workers worker) (queries_of workers worker) (replies worker) have in
     let first = two_parts limits worker history [] (adds_of texts workers worker) (deletes_of texts workers worker) last.to_first last.first_events in
     record {
@@ -319,6 +331,8 @@ worker_is_answered limits docs words seed workers history replies loaded room wo
           (share_items docs words seed workers worker) refl first.first_events;
       deleted = deletes_are_answered limits docs words seed workers history replies loaded room worker (adds_of texts workers worker)
           (filter is_deleted (map (λ item. item.0 + 1) (share texts workers worker))) first.to_second first.second_events;
+      found = queries_find_numbers limits worker history (share queries workers worker) (adds_of texts workers worker ++ deletes_of texts workers worker)
+          last.to_second last.second_events;
       results = queries_are_answered limits docs words seed workers history replies loaded room worker below (share queries workers worker)
           (adds_of texts workers worker ++ deletes_of texts workers worker) last.to_second (omega arith) last.second_events
           ∙ sym (share-map (λ query. result_of (found texts query)) workers worker 0 queries);

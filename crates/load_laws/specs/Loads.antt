@@ -19,15 +19,15 @@ abbrev pub without : ℕ → List (ℕ × List ℕ) → List (ℕ × List ℕ)
 without id documents = filter (λ d. not (d.0 == id)) documents
 
 -- the numbers of the documents that have every word of the query
-abbrev pub found_in : List (ℕ × List ℕ) → List ℕ → List ℕ
-found_in documents query = map (λ d. d.0) (filter (λ d. meets d.1 query) documents)
+abbrev pub numbers_meeting : List (ℕ × List ℕ) → List ℕ → List ℕ
+numbers_meeting documents query = map (λ d. d.0) (filter (λ d. meets d.1 query) documents)
 
 -- what the calls are answered where these documents are held, after so many commits; a load has adds, deletes and finds alone
 abbrev pub answers_from : ℕ → List (ℕ × List ℕ) → List Call → List Reply
 answers_from place documents [] = []
 answers_from place documents (call.Add id text ∷ calls) = reply.Added (place + 1) ∷ answers_from (place + 1) (documents ++ (id, text) ∷ []) calls
 answers_from place documents (call.Delete id ∷ calls) = reply.Deleted (place + 1) ∷ answers_from (place + 1) (without id documents) calls
-answers_from place documents (call.Find query ∷ calls) = reply.Found (found_in documents query) ∷ answers_from place documents calls
+answers_from place documents (call.Find query ∷ calls) = reply.Found (numbers_meeting documents query) ∷ answers_from place documents calls
 answers_from place documents (_ ∷ calls) = answers_from place documents calls
 
 -- what they are answered where nothing was committed before
@@ -69,7 +69,7 @@ abbrev pub commits_in : List Call → ℕ
 commits_in calls = count_by is_commit calls
 
 -- the calls fit an engine that is empty: they are in turn, it has a column for each add, and its journal has room for each commit
-pub record Fits (limits : Limits) (calls : List Call) : Type 0 where
+pub record FitsEmptyEngine (limits : Limits) (calls : List Call) : Type 0 where
   pub in_turn : AreInTurn [] calls
   pub columns : adds_in calls ≤ limits.slices * limits.columns
   pub commits : commits_in calls ≤ limits.commits

@@ -17,8 +17,8 @@ is_take (event.Take pass slice column) = true
 is_take _ = false
 
 -- how often a column was claimed
-abbrev pub takes_in : List Event → ℕ
-takes_in history = count_by is_take history
+abbrev pub count_of_takes : List Event → ℕ
+count_of_takes history = count_by is_take history
 
 -- all events are of this pass
 abbrev pub IsAlone : ℕ → List Event → Type 0
@@ -36,18 +36,18 @@ pub record Adds (before after : List Event) (id : ℕ) (text : List ℕ) (given 
   pub reply : given ≡ reply.Added (place before + 1)
   pub documents : live after ≡ live before ++ record { id = id; text = text; place = place before + 1 } ∷ []
   pub at_place : place after ≡ place before + 1
-  pub takes : takes_in after ≡ takes_in before + 1
+  pub takes : count_of_takes after ≡ count_of_takes before + 1
 
 -- the document of this number is taken away
 pub record Deletes (before after : List Event) (id : ℕ) (given : Reply) : Type 0 where
   pub reply : given ≡ reply.Deleted (place before + 1)
   pub documents : live after ≡ filter (λ d. not (d.id == id)) (live before)
   pub at_place : place after ≡ place before + 1
-  pub takes : takes_in after ≡ takes_in before
+  pub takes : count_of_takes after ≡ count_of_takes before
 
 -- the query is answered, and nothing changes
 pub record Finds (before after : List Event) (query : List ℕ) (given : Reply) : Type 0 where
   pub reply : given ≡ reply.Found (answer before query)
   pub documents : live after ≡ live before
   pub at_place : place after ≡ place before
-  pub takes : takes_in after ≡ takes_in before
+  pub takes : count_of_takes after ≡ count_of_takes before

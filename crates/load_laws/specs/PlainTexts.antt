@@ -21,9 +21,9 @@ abbrev pub behind_spaces : List (List ℕ) → List ℕ
 behind_spaces pieces = flat_map (λ piece. codes " " ++ piece) pieces
 
 -- the text of the pieces, with one space between
-abbrev pub spaced : List (List ℕ) → List ℕ
-spaced [] = []
-spaced (piece ∷ pieces) = piece ++ behind_spaces pieces
+abbrev pub joined_by_spaces : List (List ℕ) → List ℕ
+joined_by_spaces [] = []
+joined_by_spaces (piece ∷ pieces) = piece ++ behind_spaces pieces
 
 -- each of the pieces begins with this front
 abbrev pub AllBeginWith : List ℕ → List (List ℕ) → Type 0

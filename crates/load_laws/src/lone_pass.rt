@@ -7,19 +7,19 @@ ghost use Rattle.funnel_model.specs.declared.event.Event.{Event};
 ghost use Rattle.funnel_model.specs.declared.reply.Reply.{Reply};
 ghost use Rattle.funnel_model.specs.declared.reply.Reply.TheVariants as reply;
 ghost use Rattle.funnel_model.specs.Example.{small};
-ghost use Rattle.funnel_model.specs.History.{IsFrontOf, is_live, place};
-ghost use Rattle.funnel_model.specs.Legal.{IsLegal, Limits};
+ghost use Rattle.funnel_model.specs.History.{IsFrontOf, is_live};
+ghost use Rattle.funnel_model.specs.Legal.{HasJournalRoom, IsLegal, Limits};
 ghost use Rattle.funnel_model.specs.Steps.{Linear};
 ghost use Rattle.funnel_model.specs.Words.{meets};
-ghost use Rattle.load_laws.specs.LonePass.{IsAlone, LoneStep, Adds, Deletes, Finds, takes_in};
+ghost use Rattle.load_laws.specs.LonePass.{IsAlone, LoneStep, Adds, Deletes, Finds, count_of_takes};
 ghost use Rattle.load_laws.specs.LoadExample.{small_load, small_load_events, small_load_replies};
-ghost use Rattle.load_laws.specs.Loads.{AreInTurn, Fits, HasDocuments, answers_from, answers_of, commits_in, found_in, held_after};
+ghost use Rattle.load_laws.specs.Loads.{AreInTurn, FitsEmptyEngine, HasDocuments, answers_from, answers_of, commits_in, numbers_meeting, held_after};
 
 /// A document whose number is not live is added where the journal has room and fewer columns were claimed than the engine has.
 pub fn adds_are_committed()
     ensures { (limits : Limits) (pass : ℕ) (before after : List Event) (id : ℕ) (text : List ℕ) (given : Reply) →
-        LoneStep limits pass before after (call.Add id text) given → is_live id before ≡ false → place before < limits.commits →
-        takes_in before < limits.slices * limits.columns → Adds before after id text given }
+        LoneStep limits pass before after (call.Add id text) given → is_live id before ≡ false → HasJournalRoom limits before →
+        count_of_takes before < limits.slices * limits.columns → Adds before after id text given }
 {}
 
 /// A find is answered by the documents that are live before it.
@@ -31,7 +31,7 @@ pub fn finds_are_answered()
 /// A live document is deleted where the journal has room.
 pub fn deletes_are_committed()
     ensures { (limits : Limits) (pass : ℕ) (before after : List Event) (id : ℕ) (given : Reply) →
-        LoneStep limits pass before after (call.Delete id) given → is_live id before ≡ true → place before < limits.commits →
+        LoneStep limits pass before after (call.Delete id) given → is_live id before ≡ true → HasJournalRoom limits before →
         Deletes before after id given }
 {}
 
@@ -39,10 +39,10 @@ pub fn deletes_are_committed()
 pub fn loads_are_answered_as_by_a_list()
     ensures replies { (limits : Limits) (pass : ℕ) (after : List Event) (calls : List Call) (replies : List Reply) →
         Linear limits pass [] after calls replies → IsAlone pass after → length after < limits.events →
-        All (λ r. r ≢ reply.Memory) replies → Fits limits calls → replies ≡ answers_of [] calls }
+        All (λ r. r ≢ reply.Memory) replies → FitsEmptyEngine limits calls → replies ≡ answers_of [] calls }
     ensures loaded { (limits : Limits) (pass : ℕ) (after : List Event) (calls : List Call) (replies : List Reply) →
         Linear limits pass [] after calls replies → IsAlone pass after → length after < limits.events →
-        All (λ r. r ≢ reply.Memory) replies → Fits limits calls → HasDocuments after (held_after [] calls) (commits_in calls) }
+        All (λ r. r ≢ reply.Memory) replies → FitsEmptyEngine limits calls → HasDocuments after (held_after [] calls) (commits_in calls) }
 {}
 
 /// Further calls are answered as the documents tell that are held by then, and are in turn where they are for those.
@@ -57,8 +57,8 @@ pub fn loads_go_on()
 /// A query finds the number of each document of a list that meets it, and of no other.
 pub fn queries_find_what_meets_them()
     ensures complete { (documents : List (ℕ × List ℕ)) (query : List ℕ) (d : ℕ × List ℕ) → Contains documents d →
-        meets d.1 query ≡ true → Contains (found_in documents query) d.0 }
-    ensures sound { (documents : List (ℕ × List ℕ)) (query : List ℕ) (id : ℕ) → Contains (found_in documents query) id →
+        meets d.1 query ≡ true → Contains (numbers_meeting documents query) d.0 }
+    ensures sound { (documents : List (ℕ × List ℕ)) (query : List ℕ) (id : ℕ) → Contains (numbers_meeting documents query) id →
         (d : ℕ × List ℕ) × Contains documents d × (d.0 ≡ id) × (meets d.1 query ≡ true) }
 {}
 
@@ -78,7 +78,7 @@ pub fn a_call_makes_at_most_four_events()
 
 /// There are loads that fit, and a pass can make them alone: this one fits an engine of one slice of two columns.
 pub fn a_small_load_is_made()
-    ensures fits { Fits small small_load }
+    ensures fits { FitsEmptyEngine small small_load }
     ensures run { Linear small 0 [] small_load_events small_load small_load_replies }
     ensures alone { IsAlone 0 small_load_events }
     ensures unspent { length small_load_events < small.events }

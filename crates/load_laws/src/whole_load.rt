@@ -13,7 +13,7 @@ ghost use Rattle.load_gen.specs.Jobs.{adds_of, deletes_of, jobs, queries_of, sha
 ghost use Rattle.load_gen.specs.Queries.{queries};
 ghost use Rattle.load_gen.specs.Summary.{results_of};
 ghost use Rattle.load_laws.specs.LonePass.{IsAlone};
-ghost use Rattle.load_laws.specs.Loads.{Fits, answers_of};
+ghost use Rattle.load_laws.specs.Loads.{FitsEmptyEngine, answers_of};
 ghost use Rattle.load_laws.specs.Replies.{lone_add, replies_to_adds, replies_to_deletes, replies_to_jobs, result_in};
 
 /// To one worker falls all. It adds the documents in order, and looks for each 100th one when it has added it; then it
@@ -38,7 +38,7 @@ pub fn one_more_document_is_walked()
 /// A load fits an empty engine that has a column for each document and a journal with room for the adds and the deletes.
 pub fn loads_fit()
     ensures { (limits : Limits) (docs words seed : ℕ) → docs ≤ MOST_DOCS → docs ≤ limits.slices * limits.columns →
-        docs + docs / DELETED_ONE_IN ≤ limits.commits → Fits limits (jobs docs words seed 1 0) }
+        docs + docs / DELETED_ONE_IN ≤ limits.commits → FitsEmptyEngine limits (jobs docs words seed 1 0) }
 {}
 
 /// By a plain list of documents each add and each delete of a load is answered with its place, each find of a document's name

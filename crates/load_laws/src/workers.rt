@@ -1,30 +1,39 @@
 //! Laws of a load that several workers make, each by a pass of its own: the history has the events of all of them, in any order
 //! within each part of the load.
 ghost use Rattle.std.specs.Prelude.{◌≡◌, ◌+◌, ◌*◌, ◌/◌, ◌^◌, ◌<◌, ◌≤◌, ℕ, List, ◌++◌, length, map};
+ghost use Rattle.std.specs.List.{All, range_with_len, sum_by};
+ghost use Rattle.funnel_model.specs.declared.call.Call.{Call};
 ghost use Rattle.funnel_model.specs.declared.event.Event.{Event};
 ghost use Rattle.funnel_model.specs.declared.reply.Reply.{Reply};
-ghost use Rattle.funnel_model.specs.Legal.{Limits};
+ghost use Rattle.funnel_model.specs.Events.{pass_of};
+ghost use Rattle.funnel_model.specs.Legal.{IsLegal, Limits};
 ghost use Rattle.load_gen.specs.declared.limits.TheConstants.{DELETED_ONE_IN, MOST_DOCS};
 ghost use Rattle.load_gen.specs.Documents.{documents};
-ghost use Rattle.load_gen.specs.Jobs.{share};
+ghost use Rattle.load_gen.specs.Jobs.{jobs, share};
 ghost use Rattle.load_gen.specs.Summary.{results_of};
-ghost use Rattle.load_laws.specs.Workers.{AreLeft, HasParts, HasRoomFor, HaveMet, IsAnsweredAsTold, IsLoaded, calls_of_load};
+ghost use Rattle.load_laws.specs.Workers.{AreLeft, Fronts, HasAsked, HasParts, HasRoomFor, HaveMet, IsAnsweredAsTold, IsLoaded, calls_of_load};
 ghost use Rattle.load_laws.specs.WorkersExample.{both_added, both_queried, replies_to, two_passes};
 
-/// A load comes in parts where each worker, after each part, meets what every other had seen at that part's end.
+/// A load comes in parts where each worker, once it has ended its adds, and once it has ended its deletes, meets what every other
+/// had seen when it had ended its own.
 pub fn workers_that_meet_keep_to_the_parts()
-    ensures { (texts : List (List ℕ)) (workers : ℕ) (history : List Event) (added met_added deleted met_deleted : ℕ → List Event) → 0 < workers →
-        HaveMet texts workers history added met_added deleted met_deleted → HasParts texts workers history }
+    ensures { (texts : List (List ℕ)) (workers : ℕ) (history : List Event) (fronts : ℕ → Fronts) → 0 < workers →
+        HaveMet texts workers history fronts → HasParts texts workers history }
 {}
 
-/// All workers together make at most two calls a document, one for each that is deleted and one for each of the eight queries,
-/// and at most four events a call: far too few to spend the history.
+/// All workers together make at most two calls a document, one for each that is deleted and one for each of the eight queries.
+/// Whatever calls workers ask, and whether or not they wait for each other, they make at most four events a call; so a load makes
+/// far too few to spend the history.
 pub fn loads_of_workers_are_short()
     ensures calls { (docs words seed workers : ℕ) → 0 < workers → calls_of_load docs words seed workers ≤ 2 * docs + docs / DELETED_ONE_IN + 8 }
-    ensures events { (limits : Limits) (docs words seed workers : ℕ) (history : List Event) (replies : ℕ → List Reply) →
-        IsLoaded limits docs words seed workers history replies → length history ≤ 4 * calls_of_load docs words seed workers }
-    ensures unspent { (limits : Limits) (docs words seed workers : ℕ) (history : List Event) (replies : ℕ → List Reply) → docs ≤ MOST_DOCS →
-        IsLoaded limits docs words seed workers history replies → length history < 2 ^ 62 }
+    ensures events { (limits : Limits) (workers : ℕ) (history : List Event) (calls : ℕ → List Call) (replies : ℕ → List Reply) →
+        IsLegal limits history → All (λ e. pass_of e < workers) history →
+        ((worker : ℕ) → worker < workers → HasAsked limits history worker (calls worker) (replies worker)) →
+        length history ≤ 4 * sum_by (λ worker. length (calls worker)) (range_with_len 0 workers) }
+    ensures unspent { (limits : Limits) (docs words seed workers : ℕ) (history : List Event) (replies : ℕ → List Reply) → 0 < workers → docs ≤ MOST_DOCS →
+        IsLegal limits history → All (λ e. pass_of e < workers) history →
+        ((worker : ℕ) → worker < workers → HasAsked limits history worker (jobs docs words seed workers worker) (replies worker)) →
+        length history < 2 ^ 62 }
 {}
 
 /// Once every worker has deleted, the live documents are those that are not to be deleted, whatever the order in which they came.

@@ -21,7 +21,7 @@ use Rattle.line_proto.specs.Services.{Caller}
 use Rattle.line_proto.specs.Texts.{text_of, texts}
 use Rattle.session.specs.Ends.{IsWithin, LeavesNothing, Serves, Stand, is_read_fault, is_write_fault}
 use Rattle.session.specs.Sessions.{Answers, AnswersAll, AnswersItem, AnswersSome, Session}
-use Rattle.session.specs.Steps.{AnswersNext, EndsNext, HasServed, IsRendered}
+use Rattle.session.specs.Steps.{AnswersNext, EndsNext, HasServedLines, IsRendered}
 
 -- one more item and its reply
 pub Answers-push : (caller : Caller) (before middle after : List Event) (asked : List Item) (replies : List Reply) (item : Item) (given : Reply)
@@ -65,7 +65,7 @@ last_ended reader taken given has_given more =
     ]
 
 -- nothing was done yet
-pub served_none : (caller : Caller) (limit : ℕ) (old : Stand) → HasGiven unused [] [] → HasServed caller limit limit unused old old
+pub served_none : (caller : Caller) (limit : ℕ) (old : Stand) → HasGiven unused [] [] → HasServedLines caller limit limit unused old old
 served_none caller limit old none = record {
   taken = [];
   takes = Takes-nil old.incoming;
@@ -81,7 +81,7 @@ served_none caller limit old none = record {
 }
 
 module _ (caller : Caller) (limit may may' : ℕ) (reader reader' : ReaderState) (old now : Stand) (incoming' : Incoming) (front' : List Event)
-    (p : HasServed caller limit may reader old now) where
+    (p : HasServedLines caller limit may reader old now) where
   -- a line was answered, and this is the text of its reply
   module _ (given : Reply) (room : ℕ) (text : List ℕ)
       (a : AnswersNext caller reader reader' now.incoming incoming' may may' now.front front' given) (r : IsRendered given room text) where
@@ -108,7 +108,7 @@ module _ (caller : Caller) (limit may may' : ℕ) (reader reader' : ReaderState)
 
     -- its reply was written
     pub served_more : (outgoing' : Outgoing) → Writes text now.outgoing outgoing' → outgoing'.faults ≡ now.outgoing.faults
-        → HasServed caller limit may' reader' old (record { front = front'; incoming = incoming'; outgoing = outgoing' })
+        → HasServedLines caller limit may' reader' old (record { front = front'; incoming = incoming'; outgoing = outgoing' })
     served_more outgoing' writes stay = record {
       taken = p.taken ++ a.bytes;
       takes = takes_all;

@@ -7,7 +7,7 @@ use Rattle.funnel_model.specs.declared.reply.Reply.{Reply}
 use Rattle.funnel_model.specs.declared.reply.Reply.TheVariants as reply
 use Rattle.line_proto.specs.Texts.{text_of}
 use Rattle.session.specs.Steps.{HasGone, IsRendered, ReadsOn}
-use Rattle.session.specs.Turns.{Turn, AreInTurn, AreLast, Follows, GoesInTurns, IsWritten, bytes_taken}
+use Rattle.session.specs.Turns.{Turn, AreReadInTurn, AreLast, Follows, GoesInTurns, IsWritten, bytes_taken}
 
 -- a text that was rendered is a reply's
 reply_of : (given : Reply) (room : ℕ) (text : List ℕ) → IsRendered given room text → (other : Reply) × (text ≡ text_of other)
@@ -16,7 +16,7 @@ reply_of given room text (inr wanting) = (reply.Memory, wanting.2)
 
 -- reads that have to be made come where every line that ended had its turn
 in_turn : (reader : ReaderState) (may : ℕ) (turns : List Turn) (given : List (List ℕ)) → HasGiven reader (bytes_taken turns) given
-    → length given ≡ length turns → (reads : List Read) → AreNeeded reader may reads → AreInTurn turns reads
+    → length given ≡ length turns → (reads : List Read) → AreNeeded reader may reads → AreReadInTurn turns reads
 in_turn reader may turns given has_given count [] needed = tt
 in_turn reader may turns given has_given count (read ∷ earlier) needed = (
   in_turn reader may turns given has_given count earlier needed.0,
@@ -24,7 +24,7 @@ in_turn reader may turns given has_given count (read ∷ earlier) needed = (
 )
 
 -- and where the last reply was written whole
-last_in_turn : (turns : List Turn) (reads : List Read) → AreInTurn turns reads → IsWritten turns → AreLast turns reads
+last_in_turn : (turns : List Turn) (reads : List Read) → AreReadInTurn turns reads → IsWritten turns → AreLast turns reads
 last_in_turn turns [] in_turn written = tt
 last_in_turn turns (read ∷ earlier) in_turn written = (in_turn, written)
 

@@ -23,7 +23,7 @@ IsRendered given room text =
     (text ≡ text_of given) ⊎ ((is_list given ≡ true) × (room < length (text_of given)) × (text ≡ text_of reply.Memory))
 
 -- the lines that were given were answered and their replies written, and no call failed
-pub record HasServed (caller : Caller) (limit may : ℕ) (reader : ReaderState) (old now : Stand) : Type 0 where
+pub record HasServedLines (caller : Caller) (limit may : ℕ) (reader : ReaderState) (old now : Stand) : Type 0 where
   pub taken : List ℕ
   pub takes : Takes taken old.incoming now.incoming
   pub count : may + length taken ≡ limit

@@ -28,14 +28,14 @@ IsWritten [] = ⊤
 IsWritten (turn ∷ earlier) = bytes_written turn.writes ≡ text_of turn.given
 
 -- each of the reads comes where every line that newlines ended so far had its turn
-abbrev pub AreInTurn : List Turn → List Read → Type 0
-AreInTurn turns [] = ⊤
-AreInTurn turns (read ∷ earlier) = AreInTurn turns earlier × (length (lines (bytes_taken turns ++ bytes_read earlier) false) ≡ length turns)
+abbrev pub AreReadInTurn : List Turn → List Read → Type 0
+AreReadInTurn turns [] = ⊤
+AreReadInTurn turns (read ∷ earlier) = AreReadInTurn turns earlier × (length (lines (bytes_taken turns ++ bytes_read earlier) false) ≡ length turns)
 
 -- a turn comes after these: the last reply was written whole, and its own is written at one go
 pub record Follows (earlier : List Turn) (turn : Turn) : Type 0 where
   pub written : IsWritten earlier
-  pub reads : AreInTurn earlier turn.reads
+  pub reads : AreReadInTurn earlier turn.reads
   pub one_text : AreOfRest (text_of turn.given) turn.writes
 
 -- each turn follows those before it
@@ -46,7 +46,7 @@ AreTurns (turn ∷ earlier) = AreTurns earlier × Follows earlier turn
 -- the reads that no line came of; they come only where the last reply was written whole
 abbrev pub AreLast : List Turn → List Read → Type 0
 AreLast turns [] = ⊤
-AreLast turns (read ∷ earlier) = AreInTurn turns (read ∷ earlier) × IsWritten turns
+AreLast turns (read ∷ earlier) = AreReadInTurn turns (read ∷ earlier) × IsWritten turns
 
 -- all calls of a session are its turns, and then reads that no line came of
 pub record GoesInTurns {S : Type 0} (read_gives : S → Read → S → Type 0) (write_gives : S → Write → S → Type 0) (before after : S) : Type 0 where

@@ -1,7 +1,7 @@
 ghost use Rattle.std.specs.Prelude.{◌≡◌, ◌<◌, ◌≤◌, ◌+◌, OnOk, IfOk, IfErr, MatchOption, MatchResult, IfNone, is_ok, vec_capacity};
 ghost use Rattle.funnel_io.specs.LineReading.{most_lines, unused};
 ghost use Rattle.session.specs.Ends.{Serves, Stand, is_read_fault, is_write_fault};
-ghost use Rattle.session.specs.Steps.{AnswersNext, EndsNext, HasGone, HasServed, ReadsOn};
+ghost use Rattle.session.specs.Steps.{AnswersNext, EndsNext, HasGone, HasServedLines, ReadsOn};
 ghost use Rattle.session.specs.Turns.{GoesInTurns};
 ghost use Rattle.session.specs.declared.serving.TheConstants.{MOST_BYTES};
 
@@ -76,10 +76,10 @@ impl Server {
         ensures borrowed { C.borrowed conn.new ≡ C.borrowed conn.old }
         ensures room { TEXT_ROOM ≤ vec_capacity self.new.text }
         ensures serves { (old : Stand) →
-            HasServed (S.caller service.old) limit self.old.left self.old.reader old
+            HasServedLines (S.caller service.old) limit self.old.left self.old.reader old
             record { front = S.front service.old; incoming = C.incoming conn.old; outgoing = C.outgoing conn.old } →
             MatchOption result
-            (HasServed (S.caller service.old) limit self.new.left self.new.reader old
+            (HasServedLines (S.caller service.old) limit self.new.left self.new.reader old
             record { front = S.front service.new; incoming = C.incoming conn.new; outgoing = C.outgoing conn.new })
             (Serves (S.caller service.old) limit old
             record { front = S.front service.new; incoming = C.incoming conn.new; outgoing = C.outgoing conn.new }) }

@@ -8,7 +8,7 @@ use Rattle.slice_rule.specs.declared.view.Fact.TheVariants as fact
 use Rattle.slice_rule.specs.Pools.{PoolId}
 
 -- the slices of the pool have the words that the layout gives them
-pub record IsLaidOut (layout : Config) (pool : PoolId) : Type 0 where
+pub record IsPoolOf (layout : Config) (pool : PoolId) : Type 0 where
   pub slices : pool.limits.slices ≡ layout.slices
   pub words : pool.limits.slice_words ≡ words_of_slice layout
 

@@ -1,5 +1,5 @@
 ghost use Rattle.std.specs.Prelude.{◌≡◌, ◌↔◌, ◌⊎◌, Contains};
-ghost use Rattle.slice_recycler.specs.Cleared.{IsLaidOut, IsZeroOf};
+ghost use Rattle.slice_recycler.specs.Cleared.{IsPoolOf, IsZeroOf};
 ghost use Rattle.slice_rule.specs.declared.view.Fact.{Fact};
 ghost use Rattle.slice_rule.specs.Numbers.{last_number};
 ghost use Rattle.slice_rule.specs.Seats.{HasNoneOutstanding, HoldsJob};
@@ -13,7 +13,7 @@ pub trait Clearer {
     /// Makes every word of the slice zero. It waits for nobody.
     fn clear(&mut self, pool: &Pool, seat: &mut PassSeat, layout: &Layout, job: &ClearJob)
         requires pool { seat.old.pool ≡ pool.now }
-        requires laid_out { IsLaidOut layout.now pool.now }
+        requires laid_out { IsPoolOf layout.now pool.now }
         requires job { HoldsJob seat.old job.now }
         requires none_outstanding { HasNoneOutstanding seat.old }
         ensures seat { seat.new ≡ record seat.old { own = seat.new.own } }
@@ -25,7 +25,7 @@ pub trait Clearer {
 /// takes no memory and waits for nobody.
 pub fn clear_slice(pool: &Pool, seat: &mut PassSeat, layout: &Layout, job: &ClearJob)
     requires pool { seat.old.pool ≡ pool.now }
-    requires laid_out { IsLaidOut layout.now pool.now }
+    requires laid_out { IsPoolOf layout.now pool.now }
     requires job { HoldsJob seat.old job.now }
     requires none_outstanding { HasNoneOutstanding seat.old }
     ensures seat { seat.new ≡ record seat.old { own = seat.new.own } }

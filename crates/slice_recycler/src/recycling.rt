@@ -2,7 +2,7 @@ ghost use Rattle.std.specs.Prelude.{◌≡◌};
 ghost use Rattle.funnel_model.specs.declared.call.Call.TheVariants as call;
 ghost use Rattle.funnel_model.specs.Steps.{Step};
 ghost use Rattle.commit_desk.specs.Passes.{IsResting};
-ghost use Rattle.slice_recycler.specs.Cleared.{IsLaidOut};
+ghost use Rattle.slice_recycler.specs.Cleared.{IsPoolOf};
 ghost use Rattle.slice_recycler.specs.Recycles.{RecycleTurns, refused_as, reply_of_recycle};
 
 use crate::clearing::{Clearer, clear_slice};
@@ -61,7 +61,7 @@ pub fn recycle<N: PoolName, R: Wait>(
     seat: &mut PassSeat,
 ) -> Recycled
     requires named { pool.now ≡ N.pool }
-    requires laid_out { IsLaidOut layout.now pool.now }
+    requires laid_out { IsPoolOf layout.now pool.now }
     requires seat { IsResting pool.now seat.old }
     ensures step { Step pool.now.limits seat.old.number seat.old.front seat.new.front call.Recycle (reply_of_recycle result) }
     ensures turns { RecycleTurns pool.now.limits seat.old.number seat.old.front seat.new.front result }
@@ -81,7 +81,7 @@ pub fn recycle_by<N: PoolName, R: Wait, W: Clearer>(
     work: &mut W,
 ) -> Recycled
     requires named { pool.now ≡ N.pool }
-    requires laid_out { IsLaidOut layout.now pool.now }
+    requires laid_out { IsPoolOf layout.now pool.now }
     requires seat { IsResting pool.now seat.old }
     ensures step { Step pool.now.limits seat.old.number seat.old.front seat.new.front call.Recycle (reply_of_recycle result) }
     ensures turns { RecycleTurns pool.now.limits seat.old.number seat.old.front seat.new.front result }

@@ -26,7 +26,7 @@ use Rattle.slice_rule.specs.Numbers.{HasEvent, last_number}
 use Rattle.slice_rule.specs.Pools.{first_row, row_words}
 use Rattle.slice_rule.specs.Rule.{IsKept, IsKnownSet, IsKnownZero}
 use Rattle.slice_rule.specs.Tells.{ClearsWord, Seated}
-use Rattle.slice_rule.specs.Views.{last_of, number_of, with_own}
+use Rattle.slice_rule.specs.Views.{last_of, pass_of_role, with_own}
 use Rattle.slice_rule.specs.Worlds.{made_by}
 use Rattle.slice_rule.proofs.Facts.{KeepsFacts}
 use Rattle.slice_rule.proofs.RowChanges.{front_at, in_pool, writes_row}
@@ -136,7 +136,7 @@ module _ (limits : Limits) where
       → last_by pass me.0.front ≡ Some (event.Clear pass slice) → me.0.asked ≡ made_by pass me.0.front → IsInSlice limits.slice_words slice word
       → Allows (IsKept limits) slots id me (first_row limits + word) (λ _. 0) (λ _. ClearsWord (step slots (first_row limits + word) 0 0 none) me 0)
   clears_word slots id me pass slice word sizes is last all inside s r homes at small =
-      let number : last_number pass me.0.front ≡ last_of me.0 = ap (λ p. last_number p me.0.front) (ap number_of (sym is)) in (
+      let number : last_number pass me.0.front ≡ last_of me.0 = ap (λ p. last_number p me.0.front) (ap pass_of_role (sym is)) in (
         with_own me.0 (fact.WordZero (last_number pass me.0.front) word),
         keeps,
         tt,

@@ -19,7 +19,7 @@ use Rattle.slice_rule.specs.Numbers.{last_number}
 use Rattle.slice_rule.specs.Pools.{PoolId, IsPool}
 use Rattle.slice_rule.specs.Seats.{HasNoneOutstanding, HoldsClaim, HoldsJob, HoldsToken, IsFrom, IsPassSeat, PassState, after_own, pass_state}
 use Rattle.slice_rule.specs.Tells.{Seated}
-use Rattle.slice_rule.specs.Views.{last_of, number_of, with_own}
+use Rattle.slice_rule.specs.Views.{last_of, pass_of_role, with_own}
 use Rattle.slice_rule.specs.Worlds.{made_by}
 use Rattle.slice_rule.proofs.RowChanges.{in_pool}
 use Rattle.slice_rule.proofs.Since.{number-in_range, number_is}
@@ -46,7 +46,7 @@ module _ (number asked : ℕ) (table : TableId) (me : Seated) (seat : IsPassSeat
   sizes_are pool here same = ap (λ (p : PoolId). p.limits) (ap (λ (s : PassState). s.pool) is ∙ same ∙ sym here)
 
   pub last_is : last_of me.0 ≡ last_number old.number old.front
-  last_is = ap (λ p. last_number p me.0.front) (ap number_of seat.role) ∙ ap (λ (s : PassState). last_number s.number s.front) is
+  last_is = ap (λ p. last_number p me.0.front) (ap pass_of_role seat.role) ∙ ap (λ (s : PassState). last_number s.number s.front) is
 
   -- the seat after the pass did something itself
   pub own_view : (other : TableId) (after : Seated) (f : Fact) → other ≡ table → after ≡ (with_own me.0 f, me.1) → pass_state number other after.0 ≡ after_own old f
@@ -69,7 +69,7 @@ module _ (number asked : ℕ) (table : TableId) (me : Seated) (seat : IsPassSeat
 
   -- an event of the pass has one of the numbers of its front
   pub last_from : last_of me.0 ≤ length me.0.front
-  last_from = number-in_range (number_of me.0.role) me.0.front
+  last_from = number-in_range (pass_of_role me.0.role) me.0.front
 
   pub claim_is : (claim : Claim) → HoldsClaim old claim → last_by number me.0.front ≡ Some (event.Take number claim.slice claim.column)
   claim_is claim holds = subst (λ (s : PassState). HoldsClaim s claim) (sym is) holds
@@ -92,7 +92,7 @@ module _ (number asked : ℕ) (table : TableId) (me : Seated) (seat : IsPassSeat
   pub token_number : (token : Token) → HoldsToken old token → last_of me.0 ≡ token.opened_at
   token_number token holds =
       let begun = (token_is token holds).begun in
-      ap (λ p. last_number p me.0.front) (ap number_of seat.role)
+      ap (λ p. last_number p me.0.front) (ap pass_of_role seat.role)
       ∙ number_is number me.0.front token.opened_at (event.Find number begun.query)
       (record { earlier = begun.earlier; later = begun.later; whole = begun.whole; count = begun.count }) refl
       (token_is_silent me.0.limits me.0.front number token.opened_at seat.legal begun)

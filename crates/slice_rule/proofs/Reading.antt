@@ -17,7 +17,7 @@ use Rattle.slice_rule.specs.declared.view.View.{View}
 use Rattle.slice_rule.specs.Pools.{first_row, row_words}
 use Rattle.slice_rule.specs.Rule.{IsKept, IsTrueFact}
 use Rattle.slice_rule.specs.Tells.{ReadsWord, Seated}
-use Rattle.slice_rule.specs.Views.{last_of, number_of, with_own}
+use Rattle.slice_rule.specs.Views.{last_of, pass_of_role, with_own}
 use Rattle.slice_rule.specs.Worlds.{made_by}
 use Rattle.slice_rule.proofs.RowChanges.{front_at}
 use Rattle.slice_rule.proofs.Seating.{viewed}
@@ -56,7 +56,7 @@ module _ (limits : Limits) where
           least = λ other slice bit there read committed.
               let words : other ≡ word = omega arith in
               let may : MayRead limits.columns me.0.front pass slice =
-              subst (λ (l : Limits). MayRead l.columns me.0.front pass slice) sizes (subst (λ (p : ℕ). MayRead me.0.limits.columns me.0.front p slice) (ap number_of is) read) in
+              subst (λ (l : Limits). MayRead l.columns me.0.front pass slice) sizes (subst (λ (p : ℕ). MayRead me.0.limits.columns me.0.front p slice) (ap pass_of_role is) read) in
               read_least s r id me.0 pass at is all word slice bit may (subst (λ (w : ℕ). IsCommitted me.0.front slice (record { word = w; bit = bit })) words committed);
         },
       )

@@ -32,7 +32,7 @@ use Rattle.slice_rule.specs.Numbers.{HasEvent, last_number, takes_in}
 use Rattle.slice_rule.specs.Pools.{first_row, row_words}
 use Rattle.slice_rule.specs.Rule.{IsKept, IsKnownSet, IsKnownZero}
 use Rattle.slice_rule.specs.Tells.{Seated, SetsBit}
-use Rattle.slice_rule.specs.Views.{last_of, number_of, with_own}
+use Rattle.slice_rule.specs.Views.{last_of, pass_of_role, with_own}
 use Rattle.slice_rule.specs.Worlds.{made_by}
 use Rattle.slice_rule.proofs.Facts.{KeepsFacts}
 use Rattle.slice_rule.proofs.RowChanges.{front_at, in_pool, writes_row}
@@ -185,7 +185,7 @@ module _ (limits : Limits) where
       → last_by pass me.0.front ≡ Some (event.Take pass slice column) → me.0.asked ≡ made_by pass me.0.front → IsInSlice limits.slice_words slice word
       → Allows (IsKept limits) slots id me (first_row limits + word) (λ n. bit_or n (2 ^ bit)) (SetsBit (step slots (first_row limits + word) (2 ^ bit) 0 none) me)
   sets slots id me pass slice column word bit sizes is last all inside s r homes at small =
-      let number : last_number pass me.0.front ≡ last_of me.0 = ap (λ p. last_number p me.0.front) (ap number_of (sym is)) in (
+      let number : last_number pass me.0.front ≡ last_of me.0 = ap (λ p. last_number p me.0.front) (ap pass_of_role (sym is)) in (
         with_own me.0 (fact.BitSet (last_number pass me.0.front) (record { word = word; bit = bit })),
         keeps,
         tt,

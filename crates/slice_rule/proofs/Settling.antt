@@ -11,7 +11,7 @@ use Rattle.slice_rule.specs.declared.view.Role.{Role}
 use Rattle.slice_rule.specs.declared.view.Role.TheVariants as role
 use Rattle.slice_rule.specs.declared.view.View.{View}
 use Rattle.slice_rule.specs.Rule.{FitsRole, HasSizes, IsKept}
-use Rattle.slice_rule.specs.Tells.{IsSound, Learns, Seated, Settles}
+use Rattle.slice_rule.specs.Tells.{HasLegalFront, Learns, Seated, Settles}
 use Rattle.slice_rule.specs.Views.{longer, settled}
 use Rattle.slice_rule.specs.Worlds.{LacksAtMostOne, made_by}
 use Rattle.slice_rule.proofs.Prefixes.{longer_is, made_by-prefix, prefix_length, prefix_trans, prefix_whole}
@@ -50,7 +50,7 @@ module _ (limits : Limits) where
       subst (λ (l : Limits). IsLegal l front) (sym sizes) (legal_before limits front within.0 (subst (IsLegal limits) (sym within.1) r.events.legal))
 
   -- a front of a seat that isn't spent is legal
-  sound : (s : State (Unit {0}) View) (r : IsKept limits s) (known : Limits) (front : List Event) → IsPrefix front r.world.history → (role : Role) → HasSizes limits known role → IsSound role known front
+  sound : (s : State (Unit {0}) View) (r : IsKept limits s) (known : Limits) (front : List Event) → IsPrefix front r.world.history → (role : Role) → HasSizes limits known role → HasLegalFront role known front
   sound s r known front within role.Spent sizes = tt
   sound s r known front within (role.Home made seats) sizes = legal_front s r known front within sizes
   sound s r known front within (role.Pass pass) sizes = legal_front s r known front within sizes

@@ -95,14 +95,14 @@ pub record Fits (limits : Limits) (world : World) (words : List ℕ) (id : ℕ) 
   pub role : FitsRole world words id v.front v.asked v.role
 
 -- the seat with this id is that of the pass
-pub record IsSeatOf (views : List View) (id pass : ℕ) : Type 0 where
+pub record IsSeatOfPass (views : List View) (id pass : ℕ) : Type 0 where
   pub view : View
   pub at : get_elem? views id ≡ some view
   pub role : view.role ≡ role.Pass pass
 
 -- each pass that was given a seat has it
 abbrev pub EachHasSeat : World → List View → Type 0
-EachHasSeat world views = (pass : ℕ) → pass < world.seated → IsSeatOf views (world.seat pass) pass
+EachHasSeat world views = (pass : ℕ) → pass < world.seated → IsSeatOfPass views (world.seat pass) pass
 
 -- the rule: beside the counts and what the seats know, the row words have each bit that the history has committed, and the words
 -- of a slice without a claimed column are zero

@@ -11,7 +11,7 @@ use Rattle.slice_rule.specs.declared.view.Role.TheVariants as role
 use Rattle.slice_rule.specs.declared.view.Fact.TheVariants as fact
 use Rattle.slice_rule.specs.declared.view.View.{View}
 use Rattle.slice_rule.specs.Pools.{first_row}
-use Rattle.slice_rule.specs.Views.{last_of, number_of, numbered, settled, with_asked, with_event, with_own}
+use Rattle.slice_rule.specs.Views.{last_of, pass_of_role, numbered, settled, with_asked, with_event, with_own}
 use Rattle.slice_rule.specs.Worlds.{LacksAtMostOne, made_by}
 
 abbrev pub Seated : Type 0
@@ -29,9 +29,9 @@ Learns (role.Pass pass) before asked front = LacksAtMostOne (made_by pass front)
 Learns _ before asked front = Unit {0}
 
 -- the front of a seat that isn't spent is legal
-abbrev pub IsSound : Role → Limits → List Event → Type 0
-IsSound role.Spent limits front = Unit {0}
-IsSound _ limits front = IsLegal limits front
+abbrev pub HasLegalFront : Role → Limits → List Event → Type 0
+HasLegalFront role.Spent limits front = Unit {0}
+HasLegalFront _ limits front = IsLegal limits front
 
 -- the seat's front is the longer of the two, and each of the two begins it
 pub record Settles (st : Step (Unit {0})) (before : Seated) (found : ℕ) (after : Seated) : Type 0 where
@@ -39,7 +39,7 @@ pub record Settles (st : Step (Unit {0})) (before : Seated) (found : ℕ) (after
   pub own : IsPrefix before.0.front (settled before.0).front
   pub met : IsPrefix before.0.met (settled before.0).front
   pub few : length (settled before.0).front < 2 ^ 63
-  pub legal : IsSound before.0.role before.0.limits (settled before.0).front
+  pub legal : HasLegalFront before.0.role before.0.limits (settled before.0).front
   pub role : Learns before.0.role before.0.front before.0.asked (settled before.0).front
 
 -- the pass asked the event
@@ -64,5 +64,5 @@ ClearsWord st before found after = (word : ℕ) → st.word ≡ first_row before
 -- the pass read this row word under its last event; the value has each bit that its front has committed in a slice that it may read
 pub record ReadsWord (st : Step (Unit {0})) (before : Seated) (found : ℕ) (after : Seated) : Type 0 where
   pub view : (word : ℕ) → st.word ≡ first_row before.0.limits + word → after ≡ (with_own before.0 (fact.WordRead (last_of before.0) word found), before.1)
-  pub least : (word slice bit : ℕ) → st.word ≡ first_row before.0.limits + word → MayRead before.0.limits.columns before.0.front (number_of before.0.role) slice
+  pub least : (word slice bit : ℕ) → st.word ≡ first_row before.0.limits + word → MayRead before.0.limits.columns before.0.front (pass_of_role before.0.role) slice
       → IsCommitted before.0.front slice (record { word = word; bit = bit }) → IsBitSet found bit

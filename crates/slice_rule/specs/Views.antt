@@ -85,10 +85,10 @@ abbrev pub with_own : View → Fact → View
 with_own v f = record v { own = f ∷ v.own }
 
 -- the number of the pass, where the seat is that of a pass
-abbrev pub number_of : Role → ℕ
-number_of (role.Pass pass) = pass
-number_of _ = 0
+abbrev pub pass_of_role : Role → ℕ
+pass_of_role (role.Pass pass) = pass
+pass_of_role _ = 0
 
 -- the number of the last event that the seat's pass made and it has seen
 abbrev pub last_of : View → ℕ
-last_of v = last_number (number_of v.role) v.front
+last_of v = last_number (pass_of_role v.role) v.front

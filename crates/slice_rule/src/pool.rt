@@ -1,5 +1,6 @@
 ghost use Rattle.std.specs.Prelude.{◌≡◌, ◌*◌, ◌+◌, ◌<◌, ◌≤◌, [], IfOk, OnOk, map, replicate};
 ghost use Rattle.std.specs.List.{range_with_len};
+ghost use Rattle.funnel_model.specs.declared.config.TheConstants.{MOST_PASSES, MOST_ROW_WORDS, MOST_SLICES};
 ghost use Rattle.funnel_model.specs.Configuration.{IsInRange};
 ghost use Rattle.slice_rule.specs.Pools.{limits_of};
 ghost use Rattle.slice_rule.specs.Seats.{new_home_state, new_pass_state};
@@ -63,7 +64,7 @@ impl Pool {
     ) -> Result<(Pool, Home, Vec<PassSeat>), Memory>
         requires config { IsInRange config.now }
         requires rows { 1 ≤ config.now.slices * slice_words }
-        requires few { config.now.slices * slice_words ≤ 33554432 }
+        requires few { config.now.slices * slice_words ≤ MOST_ROW_WORDS }
         ensures config { IfOk result (λ made. made.0.config ≡ config.now) }
         ensures sizes { IfOk result (λ made. made.0.limits ≡ limits_of config.now slice_words) }
         ensures home { IfOk result (λ made. made.1 ≡ new_home_state made.0) }
@@ -77,9 +78,9 @@ impl Pool {
         config: &Config,
         sizes: Sizes,
     ) -> Result<(Pool, Home, Vec<PassSeat>), Memory>
-        requires passes { sizes.passes ≤ 64 }
-        requires rows { sizes.slices ≤ 1024 }
-        requires few { sizes.slices * sizes.slice_words ≤ 33554432 }
+        requires passes { sizes.passes ≤ MOST_PASSES }
+        requires rows { sizes.slices ≤ MOST_SLICES }
+        requires few { sizes.slices * sizes.slice_words ≤ MOST_ROW_WORDS }
         ensures config { IfOk result (λ made. made.0.config ≡ config.now) }
         ensures sizes { IfOk result (λ made. made.0.limits ≡ sizes) }
         ensures home { IfOk result (λ made. made.1 ≡ new_home_state made.0) }

@@ -13,7 +13,7 @@ use Rattle.std.specs.Prelude.{◌==◌}
 use Rattle.circular_buffer.specs.Buffer.{Buffer, buffer}
 use Rattle.funnel_model.specs.SliceSets.{IsEmpty, IsLowestOf}
 use Rattle.funnel_model.specs.declared.config.TheConstants.{MOST_SLICES}
-use Rattle.slice_stages.specs.Sets.{AreAll, AreQueued, AreSets, IsBefore, IsWaiting, IsWithin}
+use Rattle.slice_stages.specs.Sets.{AreAll, AreQueued, AreSets, IsBefore, IsWaiting, HasColumnsLeft}
 use Rattle.slice_stages.specs.Stages.{HasLeft, IsRetiredBy, IsUsed, RetiredBefore, RetiredIn, HoldsOfNone, IsLowest, StageTable, empty_stage, stage_of, with_stage}
 use Rattle.slice_stages.specs.declared.stage.Stage.{Stage}
 use Rattle.slice_stages.specs.declared.stage.Stage.TheVariants as stage
@@ -221,7 +221,7 @@ module _ (table : StageTable) (in_use with_room clearable : List ℕ) (waiting :
       let next = stage.InUse (claimed + 1) over in record {
         few = few_now next;
         some = is.some;
-        within = All-set (IsWithin table.columns) table.stages s next (subst (IsWithin table.columns) was (All-get_or (IsWithin table.columns) table.stages s empty_stage in' is.within)) is.within;
+        within = All-set (HasColumnsLeft table.columns) table.stages s next (subst (HasColumnsLeft table.columns) was (All-get_or (HasColumnsLeft table.columns) table.stages s empty_stage in' is.within)) is.within;
         used = all-same IsUsed table in_use s next in' is.used (λ _. subst IsUsed (sym was) tt, λ _. tt);
         left = all-same (HasLeft table.columns) table with_room s next in' is.left (λ _. subst (HasLeft table.columns) (sym was) (omega (arith, left)), λ _. left);
         ready = all-same (IsRetiredBy table.mark) table clearable s next in' is.ready (λ x. absurd x, λ x. absurd (subst (IsRetiredBy table.mark) was x));
@@ -236,7 +236,7 @@ module _ (table : StageTable) (in_use with_room clearable : List ℕ) (waiting :
       let next = stage.InUse (claimed + 1) over in record {
         few = few_now next;
         some = is.some;
-        within = All-set (IsWithin table.columns) table.stages s next (subst (IsWithin table.columns) was (All-get_or (IsWithin table.columns) table.stages s empty_stage in' is.within)) is.within;
+        within = All-set (HasColumnsLeft table.columns) table.stages s next (subst (HasColumnsLeft table.columns) was (All-get_or (HasColumnsLeft table.columns) table.stages s empty_stage in' is.within)) is.within;
         used = all-same IsUsed table in_use s next in' is.used (λ _. subst IsUsed (sym was) tt, λ _. tt);
         left = all-out (HasLeft table.columns) table with_room s next in' is.left remaining (λ x. omega (arith, x)) less;
         ready = all-same (IsRetiredBy table.mark) table clearable s next in' is.ready (λ x. absurd x, λ x. absurd (subst (IsRetiredBy table.mark) was x));
@@ -250,7 +250,7 @@ module _ (table : StageTable) (in_use with_room clearable : List ℕ) (waiting :
       let next = stage.InUse claimed (over + 1) in record {
         few = few_now next;
         some = is.some;
-        within = All-set (IsWithin table.columns) table.stages s next more is.within;
+        within = All-set (HasColumnsLeft table.columns) table.stages s next more is.within;
         used = all-same IsUsed table in_use s next in' is.used (λ _. subst IsUsed (sym was) tt, λ _. tt);
         left = all-same (HasLeft table.columns) table with_room s next in' is.left (λ x. subst (HasLeft table.columns) (sym was) x, λ x. subst (HasLeft table.columns) was x);
         ready = all-same (IsRetiredBy table.mark) table clearable s next in' is.ready (λ x. absurd x, λ x. absurd (subst (IsRetiredBy table.mark) was x));
@@ -269,7 +269,7 @@ module _ (table : StageTable) (in_use with_room clearable : List ℕ) (waiting :
       (record {
         few = few_now next;
         some = is.some;
-        within = All-set (IsWithin table.columns) table.stages s next tt is.within;
+        within = All-set (HasColumnsLeft table.columns) table.stages s next tt is.within;
         used = all-out IsUsed table in_use s next in' is.used used (λ x. x) less_used;
         left = all-out (HasLeft table.columns) table with_room s next in' is.left left (λ x. x) less_left;
         ready = all-same (IsRetiredBy table.mark) table clearable s next in' is.ready (λ x. absurd (omega (arith, x, later)), λ x. absurd (used_not_retired table.mark (stage_of table s) was x));
@@ -284,7 +284,7 @@ module _ (table : StageTable) (in_use with_room clearable : List ℕ) (waiting :
       let next = stage.Clearing pass in record {
         few = few_now next;
         some = is.some;
-        within = All-set (IsWithin table.columns) table.stages s next tt is.within;
+        within = All-set (HasColumnsLeft table.columns) table.stages s next tt is.within;
         used = all-same IsUsed table in_use s next in' is.used (λ x. absurd x, λ x. absurd (used_not_retired table.mark (stage_of table s) x was));
         left = all-same (HasLeft table.columns) table with_room s next in' is.left (λ x. absurd x, λ x. absurd (left_not_retired table.columns table.mark (stage_of table s) x was));
         ready = all-out (IsRetiredBy table.mark) table clearable s next in' is.ready remaining (λ x. x) less;
@@ -298,7 +298,7 @@ module _ (table : StageTable) (in_use with_room clearable : List ℕ) (waiting :
   sets-open pass used left was more_used more_left = record {
     few = few_now empty_stage;
     some = is.some;
-    within = All-set (IsWithin table.columns) table.stages s empty_stage is.some is.within;
+    within = All-set (HasColumnsLeft table.columns) table.stages s empty_stage is.some is.within;
     used = all-in IsUsed table in_use s empty_stage in' is.used used tt more_used;
     left = all-in (HasLeft table.columns) table with_room s empty_stage in' is.left left is.some more_left;
     ready = all-same (IsRetiredBy table.mark) table clearable s empty_stage in' is.ready (λ x. absurd x, λ x. absurd (subst (IsRetiredBy table.mark) was x));
@@ -458,7 +458,7 @@ sets-new slices columns used left ready few some are_used are_left none =
     record {
       few = omega (arith, size);
       some = some;
-      within = All-replicate (IsWithin columns) slices empty_stage some;
+      within = All-replicate (HasColumnsLeft columns) slices empty_stage some;
       used = all IsUsed tt used are_used;
       left = all (HasLeft columns) some left are_left;
       ready = subst (λ (xs : List ℕ). AreAll (IsRetiredBy 0) table xs) (sym none) (nothing (IsRetiredBy 0) (λ x. x));

@@ -27,15 +27,15 @@ pub record AreQueued (table : StageTable) (waiting : List ℕ) : Type 0 where
   pub order : AllPairs (λ slice later. IsBefore (stage_of table slice) (stage_of table later)) waiting
 
 -- fewer columns are deleted or dropped than there are
-abbrev pub IsWithin : ℕ → Stage → Type 0
-IsWithin columns (stage.InUse claimed over) = over < columns
-IsWithin columns _ = Unit {0}
+abbrev pub HasColumnsLeft : ℕ → Stage → Type 0
+HasColumnsLeft columns (stage.InUse claimed over) = over < columns
+HasColumnsLeft columns _ = Unit {0}
 
 -- the slices in use, those with a column left, those that can be cleared, and those that wait
 pub record AreSets (table : StageTable) (in_use with_room clearable : List ℕ) (waiting : Buffer ℕ) : Type 0 where
   pub few : length table.stages ≤ MOST_SLICES
   pub some : 1 ≤ table.columns
-  pub within : All (IsWithin table.columns) table.stages
+  pub within : All (HasColumnsLeft table.columns) table.stages
   pub used : AreAll IsUsed table in_use
   pub left : AreAll (HasLeft table.columns) table with_room
   pub ready : AreAll (IsRetiredBy table.mark) table clearable

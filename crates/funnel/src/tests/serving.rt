@@ -50,14 +50,14 @@ where
     Ok(ended)
 }
 
-// A connection that sends the script, and whose reads of these numbers fail.
-fn conn_of(alloc: Global, fails: &[u64]) -> Result<MemConn, Fail>
+// A connection that sends the script, and whose reads and writes of these numbers fail.
+fn conn_of(alloc: Global, reads: &[u64], writes: &[u64]) -> Result<MemConn, Fail>
     ensures { IfOk result IsUnused }
 {
     let mut pieces = Vec::new(alloc);
     pieces.push(SCRIPT.to_vec(alloc)?)?;
-    let source = MemSource::new(pieces, fails.to_vec(alloc)?);
-    let sink = MemSink::new(alloc, 100, Vec::new(alloc))?;
+    let source = MemSource::new(pieces, reads.to_vec(alloc)?);
+    let sink = MemSink::new(alloc, 100, writes.to_vec(alloc)?)?;
     Ok(MemConn::new(source, sink))
 }
 
@@ -67,7 +67,7 @@ fn a_gate_that_fails_ends_its_worker_alone(rt: HostRuntime) -> Result<(), Fail> 
     let mut gates = Vec::new(alloc);
     gates.push(MemGate::new(alloc, Vec::new(alloc), [1].to_vec(alloc)?)?)?;
     let mut waiting = Vec::new(alloc);
-    waiting.push(conn_of(alloc, &[])?)?;
+    waiting.push(conn_of(alloc, &[], &[])?)?;
     gates.push(MemGate::new(alloc, waiting, Vec::new(alloc))?)?;
     let words = ["serve", "--port", "7000", "--workers", "2"];
     let ended = serve(&rt, alloc, &words, gates)?;
@@ -89,8 +89,9 @@ fn a_gate_that_fails_ends_its_worker_alone(rt: HostRuntime) -> Result<(), Fail> 
 fn a_connection_that_fails_ends_its_session_alone(rt: HostRuntime) -> Result<(), Fail> {
     let alloc = rt.alloc();
     let mut waiting = Vec::new(alloc);
-    waiting.push(conn_of(alloc, &[1])?)?;
-    waiting.push(conn_of(alloc, &[])?)?;
+    waiting.push(conn_of(alloc, &[1], &[])?)?;
+    waiting.push(conn_of(alloc, &[], &[])?)?;
+    waiting.push(conn_of(alloc, &[], &[2])?)?;
     let mut gates = Vec::new(alloc);
     gates.push(MemGate::new(alloc, waiting, Vec::new(alloc))?)?;
     let words = ["serve", "--port", "7000", "--workers", "1"];
@@ -99,13 +100,15 @@ fn a_connection_that_fails_ends_its_session_alone(rt: HostRuntime) -> Result<(),
     let [gate] = ended.gates.as_slice() else {
         return Err(Fail::new("one gate"));
     };
-    let [first, second] = gate.served() else {
-        return Err(Fail::new("two connections"));
+    let [first, second, third] = gate.served() else {
+        return Err(Fail::new("three connections"));
     };
     assert_eq!(rt; first.session_end, End::ReadFault);
     assert!(rt; first.conn.sink.bytes().is_empty());
     assert_eq!(rt; second.session_end, End::Done);
     assert_eq!(rt; second.conn.sink.bytes(), REPLIES);
+    assert_eq!(rt; third.session_end, End::WriteFault);
+    assert_eq!(rt; third.conn.sink.bytes(), "refused present 1\n".as_bytes());
     Ok(())
 }
 
@@ -113,8 +116,8 @@ fn a_connection_that_fails_ends_its_session_alone(rt: HostRuntime) -> Result<(),
 fn no_more_connections_are_served_than_asked_for(rt: HostRuntime) -> Result<(), Fail> {
     let alloc = rt.alloc();
     let mut waiting = Vec::new(alloc);
-    waiting.push(conn_of(alloc, &[])?)?;
-    waiting.push(conn_of(alloc, &[])?)?;
+    waiting.push(conn_of(alloc, &[], &[])?)?;
+    waiting.push(conn_of(alloc, &[], &[])?)?;
     let mut gates = Vec::new(alloc);
     gates.push(MemGate::new(alloc, waiting, Vec::new(alloc))?)?;
     let words = ["serve", "--port=1", "--workers=1", "--connections=1"];
@@ -223,11 +226,13 @@ impl<'a> Model for MeetingGate<'a> {
 impl<'a> Gate for MeetingGate<'a> {
     type Conn = Meeting<'a>;
 
-    ghost use Rattle.std.specs.Prelude.{None};
+    ghost use Rattle.std.specs.Prelude.{None, true};
 
     ghost gate_faults = { λ _. 0 };
 
     ghost waiting = { λ _. None };
+
+    ghost is_closed = { λ _. true };
 
     ghost out = { λ _. 0 };
 

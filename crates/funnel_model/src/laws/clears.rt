@@ -1,4 +1,4 @@
-//! What a clear leaves alone: pending columns, running finds, and what a pass holds while it makes no event.
+//! What a clear leaves alone in a legal history: pending columns, running finds, and what a pass holds while it makes no event.
 ghost use Rattle.std.specs.Prelude.{◌≡◌, ◌<◌, ℕ, true, false, List, ◌∷◌, ◌++◌};
 ghost use Rattle.std.specs.List.{list_any};
 ghost use Rattle.funnel_model.specs.declared.bit_list.Bit.{Bit};
@@ -27,7 +27,7 @@ pub fn no_slice_is_cleared_under_a_reader()
         IsLegal limits (before ++ event.Clear pass slice ∷ later) → MayRead limits.columns before reader slice → ⊥ }
 {}
 
-/// A slice that an open token may read isn't being cleared, and where it is retired the token guards it.
+/// In a legal history a slice that an open token may read isn't being cleared, and where it is retired the token guards it.
 pub fn readable_slices_are_guarded()
     ensures not_clearing { (limits : Limits) (history : List Event) (reader slice : ℕ) → IsLegal limits history →
         MayRead limits.columns history reader slice → is_clearing slice history ≡ false }
@@ -36,15 +36,15 @@ pub fn readable_slices_are_guarded()
         Guards limits.columns history slice reader read.number }
 {}
 
-/// From the clear of a slice until it is opened, nothing is claimed, added or dropped in it.
+/// In a legal history nothing is claimed, added or dropped in a slice from its clear until it is opened.
 pub fn cleared_slices_are_not_filled()
     ensures { (limits : Limits) (before between later : List Event) (pass slice : ℕ) →
         IsLegal limits (before ++ event.Clear pass slice ∷ (between ++ later)) → list_any (opens slice) between ≡ false →
         list_any (fills slice) between ≡ false }
 {}
 
-/// While a pass makes no event its pending column stays pending, the slice that it is clearing stays so, its token stays open
-/// with its number, and may read what it could.
+/// In a legal history, while a pass makes no event, its pending column stays pending, the slice that it is clearing stays so, and
+/// its token stays open with its number and may read what it could.
 pub fn silent_passes_keep_what_they_hold()
     ensures pending { (limits : Limits) (front history : List Event) (pass slice column : ℕ) → IsLegal limits history →
         IsFrontOf pass front history → IsInState front slice column (Pending pass) → IsInState history slice column (Pending pass) }
@@ -56,7 +56,7 @@ pub fn silent_passes_keep_what_they_hold()
         IsFrontOf pass front history → MayRead limits.columns front pass slice → MayRead limits.columns history pass slice }
 {}
 
-/// While a pass with an open token makes no event, no slice is cleared or opened that the token may read.
+/// In a legal history, while a pass with an open token makes no event, no slice is cleared or opened that the token may read.
 pub fn slices_stay_as_they_are_under_a_reader()
     ensures not_cleared { (limits : Limits) (front history : List Event) (pass slice : ℕ) → IsLegal limits history →
         (goes : IsFrontOf pass front history) → MayRead limits.columns front pass slice → list_any (clears slice) goes.later ≡ false }
@@ -64,7 +64,8 @@ pub fn slices_stay_as_they_are_under_a_reader()
         (goes : IsFrontOf pass front history) → MayRead limits.columns front pass slice → list_any (opens slice) goes.later ≡ false }
 {}
 
-/// A bit that is committed is one of the 64 of a word of its slice, which isn't being cleared. It stays so while a find that may read the slice runs.
+/// In a legal history a bit that is committed is one of the 64 of a word of its slice, which isn't being cleared. It stays
+/// committed while a pass whose find may read the slice makes no event.
 pub fn committed_bits_stay_under_a_reader()
     ensures in_slice { (limits : Limits) (history : List Event) (slice : ℕ) (b : Bit) → IsLegal limits history →
         IsCommitted history slice b → IsInSlice limits.slice_words slice b.word }

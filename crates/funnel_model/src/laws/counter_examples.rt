@@ -9,7 +9,7 @@ ghost use Rattle.funnel_model.specs.declared.reply.Reply.{Reply};
 ghost use Rattle.funnel_model.specs.declared.reply.Reply.TheVariants as reply;
 ghost use Rattle.funnel_model.specs.Example.{first_added, small};
 ghost use Rattle.funnel_model.specs.Legal.{IsIdle, IsLegal, Limits};
-ghost use Rattle.funnel_model.specs.RecycleExample.{filled, guarded, paired, unguarded};
+ghost use Rattle.funnel_model.specs.RecycleExample.{guarded, paired, slices_filled, unguarded};
 ghost use Rattle.funnel_model.specs.Steps.{AddsNone, AnswersLast, FindsNoMemory, IsReply, Step};
 ghost use Rattle.funnel_model.specs.Tokens.{MayRead};
 
@@ -19,7 +19,7 @@ ghost use Rattle.funnel_model.specs.Tokens.{MayRead};
 pub fn slices_out_of_turn()
     ensures take { IsLegal paired (event.Take 0 1 0 ∷ []) → ⊥ }
     ensures clear { IsLegal paired (unguarded ++ event.Clear 0 1 ∷ []) → ⊥ }
-    ensures live { IsLegal paired (filled ++ event.Clear 0 0 ∷ []) → ⊥ }
+    ensures live { IsLegal paired (slices_filled ++ event.Clear 0 0 ∷ []) → ⊥ }
     ensures reader { IsLegal paired (guarded ++ event.Clear 0 0 ∷ []) → ⊥ }
     ensures recycle { IsLegal paired (unguarded ++ event.No 0 call.Recycle ∷ []) → ⊥ }
     ensures opened { IsLegal paired (event.Opened 0 0 true ∷ []) → ⊥ }
@@ -82,8 +82,9 @@ pub fn steps_answer_their_call()
 {}
 
 /// A step is made between calls of the pass. Only a history with so many events is answered Spent, and then the call isn't made;
-/// and only an add, which isn't made then, a find and a journal are answered by want of memory. The second add of a number is
-/// not answered by the reply to the first.
+/// and only an add, which isn't made then, a find and a journal are answered by want of memory. No step is answered as a
+/// malformed or a too long line, and no place by Spent. The second add of a number is not answered by the reply to the first,
+/// and no step makes both adds.
 pub fn steps_have_their_cause()
     ensures spent { (limits : Limits) (pass : ℕ) (before after : List Event) (asked : Call) → Step limits pass before after asked reply.Spent →
         (limits.events ≤ length after) × AddsNone pass before after }
@@ -99,5 +100,6 @@ pub fn steps_have_their_cause()
     ensures unread { (limits : Limits) (pass : ℕ) (before after : List Event) (asked : Call) → Step limits pass before after asked reply.Line ⊎ Step limits pass before after asked reply.Long → ⊥ }
     ensures read { (before : List Event) → IsReply paired before (event.Read 0 call.Place) reply.Spent → ⊥ }
     ensures older { Step small 0 first_added (first_added ++ event.No 0 (call.Add 9 []) ∷ []) (call.Add 9 []) (reply.Added 1) → ⊥ }
+    ensures twice { Step small 0 [] (first_added ++ event.No 0 (call.Add 9 []) ∷ []) (call.Add 9 []) (reply.Present 1) → ⊥ }
     ensures empty { (asked : Call) → Step paired 0 [] [] asked reply.Spent → ⊥ }
 {}

@@ -50,7 +50,7 @@ pub fn recycle_example()
     ensures adds { Step paired 0 (recycled ++ event.Clear 1 1 ∷ []) together (call.Add 5 []) (reply.Added 5) }
 {}
 
-/// A call that finds no memory, or comes to a history with so many events, is a step that makes no event.
+/// A call that finds no memory, and one that comes to a history with so many events, can be steps without an event.
 pub fn steps_without_events()
     ensures memory { Step small 0 [] [] (call.Add 9 []) reply.Memory }
     ensures spent { Step (record small { events = 0 }) 0 [] [] call.Place reply.Spent }
@@ -60,18 +60,19 @@ pub fn steps_without_events()
 /// pass 1, and two that are being cleared.
 pub fn blocks_example()
     ensures held { IsFull paired held × AreBlocks paired held (block.Live 0 ∷ block.Pending 0 1 ∷ []) }
-    ensures lowest { AreBlocks small episode (block.Live 0 ∷ []) }
+    ensures lowest { IsFull small episode × AreBlocks small episode (block.Live 0 ∷ []) }
     ensures guarded { IsFull paired guarded × AreBlocks paired guarded (block.Guarded 1 6 ∷ block.Guarded 1 6 ∷ []) }
     ensures clearing { IsFull paired both_clearing × AreBlocks paired both_clearing (block.Clearing 0 ∷ block.Clearing 1 ∷ []) }
 {}
 
 /// Row words cover the history where both documents' bits are set, deleted or not, and not with another bit in place of one.
-/// Words of a slice without a claimed column have to be zero, and others not.
+/// Words of a slice without a claimed column have to be zero, also once it was opened again, and others not.
 pub fn row_words_example()
     ensures covers { Covers covering guarded }
     ensures other_bit { Covers not_covering guarded → ⊥ }
     ensures claimed { AreFresh paired covering guarded }
     ensures unclaimed { AreFresh paired covering [] → ⊥ }
+    ensures opened { AreFresh paired covering recycled → ⊥ }
 {}
 
 /// The bits of a deleted document stay committed until its slice is cleared.

@@ -88,8 +88,9 @@ pub fn slices_retire_by_a_delete_or_a_drop()
 
 /// In a legal history in which nothing is awaited, each call of an idle pass can begin: its add takes a column, clears a slice or
 /// is refused, its delete commits or is refused, its recycle clears a slice or is refused, its find begins, and a place or a
-/// journal is read. Each call that began can go on: after a take the pass adds or drops, after a clear it opens the slice for
-/// an add or by itself, and after a find it ends. The take that an opening awaits can follow, where slices have columns.
+/// journal is read. Each call that began can go on: after a take the pass adds its document, with any bits of the slice, or
+/// drops it, after a clear it opens the slice for an add or by itself, and after a find it ends. The take that an opening
+/// awaits can follow, where slices have columns.
 pub fn calls_can_go_on()
     ensures add { (limits : Limits) (history : List Event) (pass id : ℕ) (text : List ℕ) → IsLegal limits history →
         pass < limits.passes → awaited history ≡ None → IsIdle pass history →

@@ -1,5 +1,5 @@
 //! What events are answered: each call has one reply, and each refusal has its cause.
-ghost use Rattle.std.specs.Prelude.{◌≡◌, ◌+◌, ◌↔◌, ℕ, true, false, List, [], ◌∷◌, ◌++◌, length, Some};
+ghost use Rattle.std.specs.Prelude.{◌≡◌, ◌+◌, ◌<◌, ◌↔◌, ℕ, true, false, List, [], ◌∷◌, ◌++◌, length, Some};
 ghost use mathlib.Core.List.{IsPrefix};
 ghost use Rattle.funnel_model.specs.Blocks.{AreBlocks, IsBlock};
 ghost use Rattle.funnel_model.specs.declared.block.Block.{Block};
@@ -11,8 +11,10 @@ ghost use Rattle.funnel_model.specs.declared.reply.Reply.{Reply};
 ghost use Rattle.funnel_model.specs.declared.reply.Reply.TheVariants as reply;
 ghost use Rattle.funnel_model.specs.Events.{call_of};
 ghost use Rattle.funnel_model.specs.History.{is_live, live_place};
-ghost use Rattle.funnel_model.specs.Legal.{IsFull, IsLegal, Limits, NoneCanClear, is_journal_full};
+ghost use Rattle.funnel_model.specs.Legal.{IsFull, IsLegal, Limits, is_journal_full};
+ghost use Rattle.funnel_model.specs.Slices.{IsRetired};
 ghost use Rattle.funnel_model.specs.Steps.{IsLowestGuarded, IsReply, IsReplyAt, Linear, NoneRetired};
+ghost use Rattle.funnel_model.specs.Tokens.{IsGuarded};
 
 /// The reply that the event with a number gives is its reply after the events before it. No event has number 0.
 pub fn replies_by_number()
@@ -46,7 +48,8 @@ pub fn refusals_have_their_cause()
     ensures none_retired { (limits : Limits) (before : List Event) (e : Event) → IsReply limits before e reply.NothingRetired →
         NoneRetired limits before }
     ensures guarded { (limits : Limits) (before later : List Event) (e : Event) (slice pass : ℕ) → IsLegal limits (before ++ e ∷ later) →
-        IsReply limits before e (reply.Guarded slice pass) → IsLowestGuarded limits before slice pass × NoneCanClear limits before }
+        IsReply limits before e (reply.Guarded slice pass) → IsLowestGuarded limits before slice pass
+        × ((other : ℕ) → other < limits.slices → IsRetired limits.columns other before → IsGuarded limits.columns before other) }
 {}
 
 /// In a legal history one thing at most keeps documents out of a slice, so the blocks of a full engine are determined.
@@ -57,7 +60,8 @@ pub fn blocks_are_determined()
         AreBlocks limits history blocks → AreBlocks limits history others → blocks ≡ others }
 {}
 
-/// Calls lead to a front that their start is a prefix of, and to no other where there are none.
+/// Calls lead to a front that their start is a prefix of and that is legal where the start is, with one reply for each; where
+/// there are no calls it is the start.
 pub fn calls_lead_on()
     ensures grows { (limits : Limits) (pass : ℕ) (before after : List Event) (calls : List Call) (replies : List Reply) →
         Linear limits pass before after calls replies → IsPrefix before after }

@@ -1,7 +1,7 @@
 use Rattle.std.proofs.Common.{rules}
-use Rattle.document_store.specs.Chains.{mixed}
+use Rattle.document_store.specs.Chains.{mixed_number}
 use Rattle.document_store.proofs.live_list.mix.Goals as goal
 
 pub returns : goal.returns
-unfolding mixed
+unfolding mixed_number
 returns c = search rules

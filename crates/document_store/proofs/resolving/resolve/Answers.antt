@@ -2,7 +2,7 @@ use Rattle.std.proofs.Common.{◌≡◌, ℕ, ◌+◌, List, [], ◌∷◌, ◌+
 use Rattle.std.proofs.lemmas.List.{append-nil, length-append, take_all}
 use Rattle.std.proofs.lemmas.List.Elements.{Contains-get_or}
 use Rattle.std.proofs.lemmas.List.Sorted.{Contains-permutation, IsPermutation-sym, length_permutation}
-use Rattle.document_store.specs.Finding.{Finds, found_at, found_in}
+use Rattle.document_store.specs.Finding.{FoundState, found_at, found_in}
 use Rattle.document_store.specs.declared.records.Slot.{Slot}
 use Rattle.document_store.proofs.FoundLemmas.{filter_map-more, found-exactly, length-filter_map, length-filter_map-take}
 use Rattle.document_store.proofs.resolving.resolve.Goals as goal
@@ -21,10 +21,10 @@ push-requires c =
     omega (arith, few, ap length c.loop-slice.invariant.pairs, ap length c.as_slice-slice-items.ensures, c.requires.room)
 
 -- one more takes a place of those that are left
-room_stays : (old new now : Finds) (pair : ℕ × ℕ) (room : ℕ) → now ≡ new → new.found ≡ old.found ++ pair ∷ [] → new.room + 1 ≡ old.room →
+room_stays : (old new now : FoundState) (pair : ℕ × ℕ) (room : ℕ) → now ≡ new → new.found ≡ old.found ++ pair ∷ [] → new.room + 1 ≡ old.room →
     old.room + length old.found ≡ room → now.room + length now.found ≡ room
 room_stays old new now pair room is found one before =
-    omega (arith, ap (λ (f : Finds). f.room) is, ap (λ (f : Finds). length f.found) is, ap length found, length-append old.found (pair ∷ []))
+    omega (arith, ap (λ (f : FoundState). f.room) is, ap (λ (f : FoundState). length f.found) is, ap length found, length-append old.found (pair ∷ []))
 
 pub loop-slice-preserved : goal.loop-slice-preserved
 loop-slice-preserved c =
@@ -36,15 +36,15 @@ loop-slice-preserved c =
       | in-Some w ↦
           let more = filter_map-more find items c.loop-slice.slice-index (0, 0) _ c.loop-slice-test.true (found ∙ w.in-Some.is) in
           record {
-            pairs = ap (λ (f : Finds). f.found) w.out-is ∙ w.push.ensures.found
+            pairs = ap (λ (f : FoundState). f.found) w.out-is ∙ w.push.ensures.found
                 ∙ ap (λ (xs : List (ℕ × ℕ)). xs ++ (w.in-Some.added, w.in-Some.id) ∷ []) c.loop-slice.invariant.pairs ∙ sym more;
             room = room_stays _ _ _ _ _ w.out-is w.push.ensures.found w.push.ensures.room c.loop-slice.invariant.room;
           }
       | in_default w ↦
           let more = filter_map-more find items c.loop-slice.slice-index (0, 0) _ c.loop-slice-test.true (found ∙ w.in_default.is) in
           record {
-            pairs = ap (λ (f : Finds). f.found) w.out-is ∙ c.loop-slice.invariant.pairs ∙ sym (more ∙ append-nil _);
-            room = ap (λ (f : Finds). f.room + length f.found) w.out-is ∙ c.loop-slice.invariant.room;
+            pairs = ap (λ (f : FoundState). f.found) w.out-is ∙ c.loop-slice.invariant.pairs ∙ sym (more ∙ append-nil _);
+            room = ap (λ (f : FoundState). f.room + length f.found) w.out-is ∙ c.loop-slice.invariant.room;
           }
     ]
 

@@ -9,7 +9,7 @@ use Rattle.funnel.proofs.program.funnel_main.Goals as goal
 
 pub returns-in_default-new-clause-ends : goal.returns-in_default-new-clause-ends
 returns-in_default-new-clause-ends g c =
-    let state = gate_state g.G.Gate.gate_faults g.G.Gate.waiting g.G.Conn.Source.incoming g.G.Conn.Sink.outgoing g.G.Gate.served in
+    let state = gate_state g.G.Gate.is_closed g.G.Gate.gate_faults g.G.Gate.waiting g.G.Conn.Source.incoming g.G.Conn.Sink.outgoing g.G.Gate.served in
     let command = c.in-Ok.command in
     let config = c.in-Ok-read_config.config in
     let words : List (List _) = map (λ word. word.now) c.args.words.now in

@@ -8,7 +8,7 @@ use Rattle.funnel.proofs.serving.equip.Goals as goal
 pub invariant_of-client : goal.invariant_of-client
 invariant_of-client g c =
     let some : 0 < length c.loop-alloc.gates.items = search rules in
-    next_rests (gate_state g.G.Gate.gate_faults g.G.Gate.waiting g.G.Conn.Source.incoming g.G.Conn.Sink.outgoing g.G.Gate.served) _ c.args.engine.now c.args.connections
+    next_rests (gate_state g.G.Gate.is_closed g.G.Gate.gate_faults g.G.Gate.waiting g.G.Conn.Source.incoming g.G.Conn.Sink.outgoing g.G.Gate.served) _ c.args.engine.now c.args.connections
     c.args.gates.now.items c.loop-alloc.gates.items c.loop-alloc.passes.items c.loop-alloc.workers.items c.remove.result
     c.requires.named c.loop-alloc.invariant.0 some c.requires.enough c.remove.ensures.value
 
@@ -16,7 +16,7 @@ pub loop-alloc-preserved : goal.loop-alloc-preserved
 loop-alloc-preserved g c =
     let some : 0 < length c.loop-alloc.gates.items = search rules in
     let worker : WorkerState = record {
-      gate = gate_state g.G.Gate.gate_faults g.G.Gate.waiting g.G.Conn.Source.incoming g.G.Conn.Sink.outgoing g.G.Gate.served c.remove-gate.result;
+      gate = gate_state g.G.Gate.is_closed g.G.Gate.gate_faults g.G.Gate.waiting g.G.Conn.Source.incoming g.G.Conn.Sink.outgoing g.G.Gate.served c.remove-gate.result;
       caller = caller_of c.remove.result;
       front = c.remove.result.front;
       left = c.args.connections;
@@ -24,7 +24,7 @@ loop-alloc-preserved g c =
       memory = false;
     } in
     let pushed : c.push.new.self.items ≡ c.loop-alloc.workers.items ++ worker ∷ [] = search rules in (
-      equip-more (gate_state g.G.Gate.gate_faults g.G.Gate.waiting g.G.Conn.Source.incoming g.G.Conn.Sink.outgoing g.G.Gate.served) c.args.engine.now c.args.connections
+      equip-more (gate_state g.G.Gate.is_closed g.G.Gate.gate_faults g.G.Gate.waiting g.G.Conn.Source.incoming g.G.Conn.Sink.outgoing g.G.Gate.served) c.args.engine.now c.args.connections
           c.args.gates.now.items c.loop-alloc.gates.items c.remove-gate.new.self.items c.remove-gate.result c.loop-alloc.passes.items c.remove.new.self.items c.remove.result
           c.loop-alloc.workers.items c.push.new.self.items worker c.loop-alloc.invariant.0 c.requires.enough some
           c.remove-gate.ensures.value c.remove-gate.ensures.items c.remove.ensures.value c.remove.ensures.items refl pushed,

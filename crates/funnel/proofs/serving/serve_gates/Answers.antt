@@ -8,36 +8,36 @@ use Rattle.funnel.proofs.serving.serve_gates.Goals as goal
 pub close-requires-clause-rest : goal.close-requires-clause-rest
 close-requires-clause-rest g c =
     let pool = c.in-Ok-open.engine in
-    let states = map (gate_state g.G.Gate.gate_faults g.G.Gate.waiting g.G.Conn.Source.incoming g.G.Conn.Sink.outgoing g.G.Gate.served) in
+    let states = map (gate_state g.G.Gate.is_closed g.G.Gate.gate_faults g.G.Gate.waiting g.G.Conn.Source.incoming g.G.Conn.Sink.outgoing g.G.Gate.served) in
     let counted : pool.limits.passes ≡ pool.config.passes = search rules in
     let enough : length c.args.gates.items ≤ pool.config.passes = search rules in
     back_rest pool c.args.connections (states c.args.gates.items) (states c.answer_all-why.result.1.items) c.answer_all-why.result.0 c.answer_all-why.result.2.items
-    c.answer_all-why.ensures.worked (omega (arith, enough, length-map c.args.gates.items (gate_state g.G.Gate.gate_faults g.G.Gate.waiting g.G.Conn.Source.incoming g.G.Conn.Sink.outgoing g.G.Gate.served))) counted
+    c.answer_all-why.ensures.worked (omega (arith, enough, length-map c.args.gates.items (gate_state g.G.Gate.is_closed g.G.Gate.gate_faults g.G.Gate.waiting g.G.Conn.Source.incoming g.G.Conn.Sink.outgoing g.G.Gate.served))) counted
 
 pub close-requires-clause-every : goal.close-requires-clause-every
 close-requires-clause-every g c =
     let pool = c.in-Ok-open.engine in
-    let states = map (gate_state g.G.Gate.gate_faults g.G.Gate.waiting g.G.Conn.Source.incoming g.G.Conn.Sink.outgoing g.G.Gate.served) in
+    let states = map (gate_state g.G.Gate.is_closed g.G.Gate.gate_faults g.G.Gate.waiting g.G.Conn.Source.incoming g.G.Conn.Sink.outgoing g.G.Gate.served) in
     let counted : pool.limits.passes ≡ pool.config.passes = search rules in
     let enough : length c.args.gates.items ≤ pool.config.passes = search rules in
     back_every pool c.args.connections (states c.args.gates.items) (states c.answer_all-why.result.1.items) c.answer_all-why.result.0 c.answer_all-why.result.2.items
-    c.answer_all-why.ensures.worked (omega (arith, enough, length-map c.args.gates.items (gate_state g.G.Gate.gate_faults g.G.Gate.waiting g.G.Conn.Source.incoming g.G.Conn.Sink.outgoing g.G.Gate.served))) counted
+    c.answer_all-why.ensures.worked (omega (arith, enough, length-map c.args.gates.items (gate_state g.G.Gate.is_closed g.G.Gate.gate_faults g.G.Gate.waiting g.G.Conn.Source.incoming g.G.Conn.Sink.outgoing g.G.Gate.served))) counted
 
 pub returns-clause-ends : goal.returns-clause-ends
 returns-clause-ends g c =
     let pool = c.in-Ok-open.engine in
-    let states = map (gate_state g.G.Gate.gate_faults g.G.Gate.waiting g.G.Conn.Source.incoming g.G.Conn.Sink.outgoing g.G.Gate.served) in
+    let states = map (gate_state g.G.Gate.is_closed g.G.Gate.gate_faults g.G.Gate.waiting g.G.Conn.Source.incoming g.G.Conn.Sink.outgoing g.G.Gate.served) in
     let limits_are : pool.limits ≡ limits_by c.args.config.now = search rules in
     let config_is : pool.config ≡ c.args.config.now = search rules in
     let counted : pool.limits.passes ≡ pool.config.passes = search rules in
     let enough : length c.args.gates.items ≤ pool.config.passes = search rules in
     has_served pool c.args.config.now c.args.connections (states c.args.gates.items) (states c.answer_all-why.result.1.items) c.answer_all-why.result.0
-    c.answer_all-why.result.2.items c.close.result limits_are config_is counted (omega (arith, enough, length-map c.args.gates.items (gate_state g.G.Gate.gate_faults g.G.Gate.waiting g.G.Conn.Source.incoming g.G.Conn.Sink.outgoing g.G.Gate.served)))
+    c.answer_all-why.result.2.items c.close.result limits_are config_is counted (omega (arith, enough, length-map c.args.gates.items (gate_state g.G.Gate.is_closed g.G.Gate.gate_faults g.G.Gate.waiting g.G.Conn.Source.incoming g.G.Conn.Sink.outgoing g.G.Gate.served)))
     c.answer_all-why.ensures.worked c.close.ensures.legal c.close.ensures.sound c.close.ensures.passes
 
 pub returns-clause-count : goal.returns-clause-count
 returns-clause-count g c =
-    let state = gate_state g.G.Gate.gate_faults g.G.Gate.waiting g.G.Conn.Source.incoming g.G.Conn.Sink.outgoing g.G.Gate.served in
+    let state = gate_state g.G.Gate.is_closed g.G.Gate.gate_faults g.G.Gate.waiting g.G.Conn.Source.incoming g.G.Conn.Sink.outgoing g.G.Gate.served in
     sym (length-map c.answer_all-why.result.1.items state)
     ∙ worked_count c.in-Ok-open.engine c.args.connections _ _ c.answer_all-why.result.0 c.answer_all-why.result.2.items c.answer_all-why.ensures.worked
     ∙ length-map c.args.gates.items state

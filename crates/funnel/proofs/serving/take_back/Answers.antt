@@ -19,7 +19,7 @@ loop-worker-init g c =
 
 pub loop-worker-preserved : goal.loop-worker-preserved
 loop-worker-preserved g c =
-    let state = gate_state g.G.Gate.gate_faults g.G.Gate.waiting g.G.Conn.Source.incoming g.G.Conn.Sink.outgoing g.G.Gate.served in
+    let state = gate_state g.G.Gate.is_closed g.G.Gate.gate_faults g.G.Gate.waiting g.G.Conn.Source.incoming g.G.Conn.Sink.outgoing g.G.Gate.served in
     let pass = c.client.inside.pass in
     let worker = c.in-Some.worker in
     let next : into_iter_items c.loop-worker.worker-iterator ≡ worker ∷ into_iter_items c.next.new.self = search rules in

@@ -1,11 +1,12 @@
-use Rattle.std.proofs.Common.{◌≡◌, length, rules, refl, subst, inl, arith, sym, ap, ◌∙◌}
+use Rattle.std.proofs.Common.{◌≡◌, [], length, rules, refl, subst, inl, arith, sym, ap, ◌∙◌}
 use Rattle.std.proofs.lemmas.List.FromFn.{length-map-range_with_len}
 use Rattle.std.specs.List.{All, range_with_len}
 use Rattle.std.specs.Prelude.{map}
 use Rattle.commit_desk.specs.Passes.{IsResting}
 use Rattle.funnel_server.specs.Loads.{IsCutShort, IsPut, front_at}
+use Rattle.load_gen.specs.Documents.{documents}
 use Rattle.slice_rule.specs.Seats.{new_pass_state}
-use Rattle.funnel.proofs.LoadEnds.{HasClosed, ends_load, load_fits, on_fault, on_ok, part_of_load, whole_load}
+use Rattle.funnel.proofs.LoadEnds.{HasClosed, ends_load, from_nothing, load_fits, on_fault, on_ok, part_of_load, whole_load}
 use Rattle.funnel.proofs.LoadPasses.{AreUsedBy, every_pass, new_numbers}
 use Rattle.funnel.proofs.Passes.{number_of, others_rest}
 use Rattle.funnel.specs.Runs.{limits_by}
@@ -48,6 +49,8 @@ returns-in-Ok-results-clause-ends g c =
     let workers = c.args.command.workers in
     let before = c.in-Ok-open.passes.items in
     let after = c.run_load-passes.result.0.items in
+    let config = c.args.config.now in
+    let texts = documents c.args.command.docs c.args.command.words c.args.command.seed in
     let new : c.in-Ok-open.passes.items ≡ new_passes pool 0 pool.config.passes = search rules in
     let counted : pool.limits.passes ≡ pool.config.passes = search rules in
     let limits_are : pool.limits ≡ limits_by c.args.config.now = search rules in
@@ -65,11 +68,12 @@ returns-in-Ok-results-clause-ends g c =
       sound = c.close-closed.ensures.sound;
       ends = c.close-closed.ensures.passes;
     } in
-    let put = on_ok (λ results. IsPut pool.limits c.in-Ok.load workers (front_at before) (front_at after) results)
-    (λ _. IsCutShort pool.limits c.in-Ok.load workers (front_at before) (front_at after)) c.run_load-passes.result.1 c.in-Ok-results.results c.in-Ok-results.is
+    let did = from_nothing pool c.args.config.now c.args.command before after c.close-closed.result ended c.in-Ok.load c.run_load-passes.result.1 c.in-Ok.ensures
     c.run_load-passes.ensures.put in
+    let put = on_ok (λ results. IsPut (limits_by config) texts workers (λ _. []) (front_at after) results)
+    (λ _. IsCutShort (limits_by config) texts workers (λ _. []) (front_at after)) c.run_load-passes.result.1 c.in-Ok-results.results c.in-Ok-results.is did in
     ends_load c.args.config.now c.args.command (g.K.Sink.outgoing c.args.output.now) (g.K.Sink.outgoing c.tell.new.output) c.tell.result c.close-closed.result c.in-Ok-results.results
-    (whole_load pool c.args.config.now c.args.command before after c.close-closed.result ended c.in-Ok.load c.in-Ok-results.results c.in-Ok.ensures put) c.tell.ensures.told
+    (whole_load pool c.args.config.now c.args.command before after c.close-closed.result ended c.in-Ok-results.results put) c.tell.ensures.told
 
 pub returns-clause-ends : goal.returns-clause-ends
 returns-clause-ends g c =
@@ -77,6 +81,8 @@ returns-clause-ends g c =
     let workers = c.args.command.workers in
     let before = c.in-Ok-open.passes.items in
     let after = c.run_load-passes.result.0.items in
+    let config = c.args.config.now in
+    let texts = documents c.args.command.docs c.args.command.words c.args.command.seed in
     let new : c.in-Ok-open.passes.items ≡ new_passes pool 0 pool.config.passes = search rules in
     let counted : pool.limits.passes ≡ pool.config.passes = search rules in
     let limits_are : pool.limits ≡ limits_by c.args.config.now = search rules in
@@ -94,6 +100,8 @@ returns-clause-ends g c =
       sound = c.close-closed.ensures.sound;
       ends = c.close-closed.ensures.passes;
     } in
-    let cut = on_fault (λ results. IsPut pool.limits c.in-Ok.load workers (front_at before) (front_at after) results)
-    (λ _. IsCutShort pool.limits c.in-Ok.load workers (front_at before) (front_at after)) c.run_load-passes.result.1 c.in-Err.field-0 c.in-Err.is c.run_load-passes.ensures.put in
-    (refl, inl (part_of_load pool c.args.config.now c.args.command before after c.close-closed.result ended c.in-Ok.load c.in-Ok.ensures cut))
+    let did = from_nothing pool c.args.config.now c.args.command before after c.close-closed.result ended c.in-Ok.load c.run_load-passes.result.1 c.in-Ok.ensures
+    c.run_load-passes.ensures.put in
+    let cut = on_fault (λ results. IsPut (limits_by config) texts workers (λ _. []) (front_at after) results)
+    (λ _. IsCutShort (limits_by config) texts workers (λ _. []) (front_at after)) c.run_load-passes.result.1 c.in-Err.field-0 c.in-Err.is did in
+    (refl, inl (part_of_load pool c.args.config.now c.args.command before after c.close-closed.result ended cut))

@@ -47,4 +47,4 @@ returns-clause-put g c =
     c.run_parts-results.result c.run_parts-results.ensures.put
 
 pub returns-in_default-clause-put : goal.returns-in_default-clause-put
-returns-in_default-clause-put g c = nothing_put c.args.engine.now.limits c.args.load.now c.args.workers (front_at c.args.passes.items) c.requires.some
+returns-in_default-clause-put g c = nothing_put c.args.engine.now.limits c.args.load.now c.args.workers (front_at c.args.passes.items)

@@ -2,7 +2,7 @@
 use Rattle.std.proofs.Common.{◌∙◌, Option, ℕ, option_map, unwrap_or, ap, sym, subst}
 use Rattle.serde_json.specs.View.{view, members_view}
 use Rattle.funnel_stats.specs.Steps.{GivesOrFaults}
-use Rattle.funnel_stats.specs.Values.{misfit_of}
+use Rattle.funnel_stats.specs.Values.{misfit_of_value}
 use Rattle.funnel_stats.specs.declared.fault.ConfigFault.TheVariants.{BadValue}
 use Rattle.funnel_stats.specs.declared.key.Limits.{Limits}
 use Rattle.funnel_stats.proofs.ValueLemmas.{bad_value-absent, bad_value-present, number_at-absent, number_at-present}
@@ -15,7 +15,7 @@ returns-in-Some-clause-answer c =
     let value = view c.in-Some.value.now in
     let present = sym c.in-Some.ensures in
     let here : (number : Option ℕ) → Type 0 = λ number.
-    GivesOrFaults c.within_limits.result (unwrap_or number 0) (option_map (BadValue key) (misfit_of key number)) in
+    GivesOrFaults c.within_limits.result (unwrap_or number 0) (option_map (BadValue key) (misfit_of_value key number)) in
     rw (bad_value-present object key value present, number_at-present object key value present)
     (subst here c.quantity_of.ensures c.within_limits.ensures.answer)
 

@@ -5,7 +5,7 @@ use Rattle.funnel_model.specs.declared.config.Config.{Config}
 use Rattle.funnel_model.specs.declared.event.Event.{Event}
 use Rattle.funnel_model.specs.Legal.{Limits, awaited}
 use Rattle.slice_rule.specs.Pools.{limits_of}
-use Rattle.commit_desk.specs.Kept.{Books, IsKept}
+use Rattle.commit_desk.specs.Kept.{Books, AreBooksOf}
 use Rattle.commit_desk.proofs.KeptNew.{columns_as_made, kept-new, some_columns}
 use Rattle.commit_desk.proofs.desk.Desk.new.Goals as goal
 
@@ -33,9 +33,9 @@ invariant_of-result c =
       bounded = c.requires.bounded;
       commits_are = ap (λ (l : Limits). l.commits) (sym c.requires.sizes);
       none_awaited = ap awaited c.requires.empty;
-      kept = subst (λ (k : Config). IsKept k pool.limits c.args.events_limit c.args.home.history books) (sym c.requires.made_with)
-          (subst (λ (l : Limits). IsKept config l c.args.events_limit c.args.home.history books) (sym c.requires.sizes)
-          (subst (λ (h : List Event). IsKept config limits c.args.events_limit h books) (sym c.requires.empty)
+      kept = subst (λ (k : Config). AreBooksOf k pool.limits c.args.events_limit c.args.home.history books) (sym c.requires.made_with)
+          (subst (λ (l : Limits). AreBooksOf config l c.args.events_limit c.args.home.history books) (sym c.requires.sizes)
+          (subst (λ (h : List Event). AreBooksOf config limits c.args.events_limit h books) (sym c.requires.empty)
           (kept-new config limits c.args.events_limit books (some_columns config c.requires.config) refl columns refl c.in_ok-with_capacity.ensures.items (let h = c.in_ok-with_capacity.ensures.exact in omega arith)
           c.in_ok-new.ensures.slices (c.in_ok-new.ensures.columns ∙ columns) (c.in_ok-new.ensures.free ∙ ap (λ n. replicate (config.slices * n) free_slot) columns) c.in_ok-new-2.ensures.empty c.in_ok-new-2.ensures.slices (c.in_ok-new-2.ensures.slice_columns ∙ columns)
           c.in_ok-new-3.ensures (c.in_ok-new-4.ensures.columns ∙ columns) c.in_ok-new-4.ensures.stages c.in_ok-new-4.ensures.mark)));

@@ -21,7 +21,7 @@ use Rattle.funnel_model.proofs.NextEvents.{awaited-push}
 use Rattle.funnel_model.proofs.Spans.{last_by-own}
 use Rattle.slice_stages.specs.Stages.{HasLeft, StageTable, empty_stage, stage_of, with_stage}
 use Rattle.slice_stages.specs.declared.stage.Stage.TheVariants as stage
-use Rattle.commit_desk.specs.Kept.{Books, IsKept}
+use Rattle.commit_desk.specs.Kept.{Books, AreBooksOf}
 use Rattle.commit_desk.proofs.Few.{few-next}
 use Rattle.commit_desk.proofs.RecordFacts.{is_column, taken_is_free}
 use Rattle.commit_desk.proofs.desk.Desk.opened_take.Goals as goal
@@ -74,7 +74,7 @@ abbrev books_opened : After-open → Books
 books_opened c = books_after (books_of c.self.inside) (length c.catch_up.new.home.history + 1) c.free.new.self c.open.new.self
 
 -- what is kept after the slice is opened
-kept_opened : (c : After-open) → IsKept c.catch_up.new.home.pool.config c.catch_up.new.home.pool.limits c.self.inside.events_limit c.make_event-self-inside.new.home.history (books_opened c)
+kept_opened : (c : After-open) → AreBooksOf c.catch_up.new.home.pool.config c.catch_up.new.home.pool.limits c.self.inside.events_limit c.make_event-self-inside.new.home.history (books_opened c)
 kept_opened c =
     opened_kept c.args.self.now c.self.inside.events_limit c.self.inside.most_commits c.catch_up.new.home (books_of c.self.inside) c.args.seat.now c.catch_up.new.seat c.number-pass.result c.args.job.slice (turn_now c.before.before.before.before.before.before.before.before) false c.make_event-self-inside.new.home
     (length c.catch_up.new.home.history + 1) c.free.new.self c.open.new.self c.make_event-self-inside.ensures.home refl c.free.ensures c.open.ensures

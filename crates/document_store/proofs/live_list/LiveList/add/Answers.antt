@@ -1,6 +1,6 @@
 use Rattle.std.proofs.Common.{◌≡◌, ◌*◌, ◌+◌, ◌<◌, true, cond, eqb, length, set, Some, sym, ap, ◌∙◌, subst, arith, rules}
 use Rattle.std.proofs.lemmas.List.{get_or_default}
-use Rattle.document_store.specs.Chains.{IsTable, bucket_of, end, head_of}
+use Rattle.document_store.specs.Chains.{AreChains, bucket_of, end, head_of}
 use Rattle.document_store.specs.Entries.{column_of}
 use Rattle.document_store.proofs.ColumnLemmas.{add-columns, add-keeps, view}
 use Rattle.document_store.proofs.live_list.LiveList.add.Goals as goal
@@ -20,7 +20,7 @@ next_is c = c.index-next.ensures ∙ get_or_default c.self.inside.heads.items c.
 pub invariant_of-self : goal.invariant_of-self
 invariant_of-self c =
     let i = c.self.inside in
-    subst (λ next. IsTable i.slices i.columns (set i.heads.items c.bucket_of-bucket.result (c.args.slice * i.columns + c.args.column))
+    subst (λ next. AreChains i.slices i.columns (set i.heads.items c.bucket_of-bucket.result (c.args.slice * i.columns + c.args.column))
     (set i.entries.items (c.args.slice * i.columns + c.args.column) (record { id = c.args.id; next = next; live = true })))
     (sym (next_is c))
     (add-keeps i.slices i.columns i.heads.items i.entries.items c.self.invariant c.args.id c.args.slice c.args.column c.bucket_of-bucket.result

@@ -1,7 +1,7 @@
 use Rattle.std.proofs.Common.{◌≡◌, ℕ, ◌<◌, ◌/◌, ◌%◌, cond, eqb, set, Some, None, refl, sym, ap, ◌∙◌, subst, rules}
 use Rattle.std.proofs.lemmas.List.{get_or_default, length-set}
 use Rattle.document_store.specs.declared.live_list.LiveList.TheInside.{Inside}
-use Rattle.document_store.specs.Chains.{IsTable, no_entry}
+use Rattle.document_store.specs.Chains.{AreChains, no_entry}
 use Rattle.document_store.specs.Entries.{Entries, column_of}
 use Rattle.document_store.proofs.EntryLemmas.{column_of-without}
 use Rattle.document_store.proofs.ColumnLemmas.{IsLeft, IsSearch, column-found, column-none, left-first, left-later, one, one-before, remove-columns, search-is, some-columns, unmarked, view}
@@ -99,8 +99,8 @@ pub invariant_of-self : goal.invariant_of-self
 invariant_of-self c =
     let s = c.if-before.self-inside in
     let l = left_by c in
-    subst (λ n. IsTable n s.columns s.heads.items s.entries.items) (sym l.slices_are)
-    (subst (λ n. IsTable c.self.inside.slices n s.heads.items s.entries.items) (sym l.columns_are) l.left.kept)
+    subst (λ n. AreChains n s.columns s.heads.items s.entries.items) (sym l.slices_are)
+    (subst (λ n. AreChains c.self.inside.slices n s.heads.items s.entries.items) (sym l.columns_are) l.left.kept)
 
 pub returns-clause-was : goal.returns-clause-was
 returns-clause-was c =

@@ -17,6 +17,12 @@ of_conn (next.Conn conn) step fact = step conn fact
 of_conn next.Closed step fact = fact
 of_conn next.Fault step fact = fact
 
+-- what holds of a gate that was closed holds where none was
+never : {C : Type 0} (Q : Type 0) (answer : Next C) → MatchNext answer (λ _. ⊤) ⊥ ⊤ → MatchNext answer (λ _. ⊤) Q ⊤
+never Q (next.Conn conn) fact = tt
+never Q next.Closed fact = absurd fact
+never Q next.Fault fact = tt
+
 pub next-tells : goal.next-tells
 next-tells g c = record {
   faults = search;
@@ -25,4 +31,5 @@ next-tells g c = record {
   out = for_each c.result (λ _. tt) refl refl;
   fresh = of_conn c.result (λ conn none. search) c.ensures.fresh;
   closed = for_each c.result (λ _. tt) tt tt;
+  is_closed = never _ c.result c.ensures.never_closed;
 }

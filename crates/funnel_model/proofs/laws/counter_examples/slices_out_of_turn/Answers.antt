@@ -2,7 +2,7 @@ use Rattle.std.proofs.Common.{true, [], ◌∷◌, ◌++◌, ⊎_elim, refl, ari
 use Rattle.funnel_model.specs.declared.call.Call.TheVariants as call
 use Rattle.funnel_model.specs.declared.event.Event.TheVariants as event
 use Rattle.funnel_model.specs.Legal.{CanClear}
-use Rattle.funnel_model.specs.RecycleExample.{filled, guarded, paired, unguarded}
+use Rattle.funnel_model.specs.RecycleExample.{guarded, paired, slices_filled, unguarded}
 use Rattle.funnel_model.proofs.Histories.{allowed_within}
 use Rattle.funnel_model.proofs.RecycleFacts.{low_guarded, low_over, low_unguarded}
 use Rattle.funnel_model.proofs.SpareLemmas.{not_retired, room_by}
@@ -28,8 +28,8 @@ returns-clause-clear c legal =
 
 pub returns-clause-live : goal.returns-clause-live
 returns-clause-live c legal =
-    not_retired 1 0 0 filled (omega arith) refl refl
-    (allowed_within paired (filled ++ event.Clear 0 0 ∷ []) filled (event.Clear 0 0) [] legal refl).rule.can_clear.retired
+    not_retired 1 0 0 slices_filled (omega arith) refl refl
+    (allowed_within paired (slices_filled ++ event.Clear 0 0 ∷ []) slices_filled (event.Clear 0 0) [] legal refl).rule.can_clear.retired
 
 pub returns-clause-reader : goal.returns-clause-reader
 returns-clause-reader c legal =

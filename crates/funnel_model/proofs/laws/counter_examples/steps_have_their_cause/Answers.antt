@@ -47,5 +47,9 @@ returns-clause-older c step =
     (λ rest. ⊎_elim (λ lacks. let other = lacks.reply in cc) (λ spent. let other = spent.reply in cc) rest)
     step.outcome
 
+pub returns-clause-twice : goal.returns-clause-twice
+returns-clause-twice c step =
+    ⊎_elim (λ made. let alone = made.call in cc) (λ rest. ⊎_elim (λ lacks. let other = lacks.reply in cc) (λ spent. let other = spent.reply in cc) rest) step.outcome
+
 pub returns-clause-empty : goal.returns-clause-empty
 returns-clause-empty c asked step = let many = (spent_cause paired 0 [] [] asked step).0 in omega arith

@@ -52,11 +52,13 @@ returns-clause-held c = (
 
 pub returns-clause-lowest : goal.returns-clause-lowest
 returns-clause-lowest c =
-    let later = event.No 0 (call.Add 9 []) ∷ event.Take 0 0 1 ∷ event.Add 0 7 [] 0 1 [] ∷ event.Find 0 [] ∷ event.End 0 ∷ event.No 0 (call.Add 5 []) ∷ [] in
-    record {
-      count = refl;
-      each = λ slice d. one_slice (λ s. IsBlock 2 episode s (slice_index_or (block.Live 0 ∷ []) s d)) (first 2 later (omega arith) refl refl) slice;
-    }
+    let later = event.No 0 (call.Add 9 []) ∷ event.Take 0 0 1 ∷ event.Add 0 7 [] 0 1 [] ∷ event.Find 0 [] ∷ event.End 0 ∷ event.No 0 (call.Add 5 []) ∷ [] in (
+      one_slice _ (inl (two_columns _ refl refl, not_retired 2 0 0 episode (omega arith) refl refl)),
+      record {
+        count = refl;
+        each = λ slice d. one_slice (λ s. IsBlock 2 episode s (slice_index_or (block.Live 0 ∷ []) s d)) (first 2 later (omega arith) refl refl) slice;
+      },
+    )
 
 pub returns-clause-guarded : goal.returns-clause-guarded
 returns-clause-guarded c = (

@@ -5,7 +5,7 @@ use Rattle.funnel_model.specs.declared.bit_list.Bit.{Bit}
 use Rattle.funnel_model.specs.declared.call.Call.TheVariants as call
 use Rattle.funnel_model.specs.declared.event.Event.{Event}
 use Rattle.funnel_model.specs.declared.event.Event.TheVariants as event
-use Rattle.funnel_model.specs.RecycleExample.{covering, filled, guarded, high_bit, low_bit}
+use Rattle.funnel_model.specs.RecycleExample.{covering, guarded, high_bit, low_bit, slices_filled}
 use Rattle.funnel_model.specs.RowWords.{Covers, IsSetIn}
 use Rattle.funnel_model.specs.Slices.{claimed}
 use Rattle.funnel_model.proofs.ExampleLemmas.{two_columns}
@@ -31,15 +31,15 @@ covers_second : Covers covering second
 covers_second = covers-silent covering (first ++ event.Add 0 9 (codes "a cat") 0 0 (low_bit ∷ []) ∷ []) (event.Take 0 1 0)
     (covers-add covering first 0 9 (codes "a cat") 0 0 (low_bit ∷ []) covers_first (one low_bit (λ none. cc))) (λ slice. refl)
 
-covers_filled : Covers covering filled
+covers_filled : Covers covering slices_filled
 covers_filled = covers-add covering second 0 7 (codes "Cat") 1 0 (high_bit ∷ []) covers_second (one high_bit (λ none. cc))
 
 pub returns-clause-covers : goal.returns-clause-covers
 returns-clause-covers c =
     let find = event.Find 1 (codes "A") in
-    covers-silent covering (filled ++ find ∷ event.Del 0 9 ∷ []) (event.Del 0 7)
-    (covers-silent covering (filled ++ find ∷ []) (event.Del 0 9)
-    (covers-silent covering filled find covers_filled (λ slice. refl)) (λ slice. refl)) (λ slice. refl)
+    covers-silent covering (slices_filled ++ find ∷ event.Del 0 9 ∷ []) (event.Del 0 7)
+    (covers-silent covering (slices_filled ++ find ∷ []) (event.Del 0 9)
+    (covers-silent covering slices_filled find covers_filled (λ slice. refl)) (λ slice. refl)) (λ slice. refl)
 
 pub returns-clause-other_bit : goal.returns-clause-other_bit
 returns-clause-other_bit c covers = covers 1 high_bit (record {
@@ -61,3 +61,6 @@ apart n one zero = omega arith
 
 pub returns-clause-unclaimed : goal.returns-clause-unclaimed
 returns-clause-unclaimed c fresh = apart (slice_index covering 1) refl (fresh 0 (omega arith) refl 1 (record { from = omega arith; to = omega arith }))
+
+pub returns-clause-opened : goal.returns-clause-opened
+returns-clause-opened c fresh = apart (slice_index covering 1) refl (fresh 0 (omega arith) refl 1 (record { from = omega arith; to = omega arith }))

@@ -12,7 +12,10 @@ returns-in-Closed g c = rw (← c.self.view_is) (record {
   waited = ap (option_map _) c.in-Closed.ensures.waiting;
   served = c.in-Closed.ensures.served;
   faults = c.in-Closed.ensures.faults ∙ ap (λ b. counted b (g.G.Gate.gate_faults c.self.inside.gate)) (subst (λ w. false ≡ w.fault) (sym c.self.view_is) (sym c.requires.no_fault));
-  why = inr (none_wait _ _ (subst (λ conns. IfSome conns (λ list. list ≡ [])) (sym c.in-Closed.ensures.waiting) c.in-Closed.ensures.closed));
+  why = inr (record {
+    closed = c.in-Closed.ensures.is_closed;
+    none_waits = none_wait _ _ (subst (λ conns. IfSome conns (λ list. list ≡ [])) (sym c.in-Closed.ensures.waiting) c.in-Closed.ensures.closed);
+  });
 })
 
 pub returns : goal.returns

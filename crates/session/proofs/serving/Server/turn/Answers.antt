@@ -1,7 +1,7 @@
 use Rattle.std.proofs.Common.{◌≡◌, sym, ◌∙◌, subst, vec_capacity}
 use Rattle.funnel_io.specs.Streams.{Incoming, Outgoing}
 use Rattle.session.specs.Ends.{Serves}
-use Rattle.session.specs.Steps.{HasServed}
+use Rattle.session.specs.Steps.{HasServedLines}
 use Rattle.funnel_io.specs.declared.end.End.TheVariants as end_of
 use Rattle.session.proofs.Progress.{served_more, serves_end, serves_part}
 use Rattle.session.proofs.TurnLaws.{goes_failed, goes_last, gone_on}
@@ -19,7 +19,7 @@ returns-in-Ok-write_all-clause-serves g c old p =
     let law = g.met.C.Connection.writes_leave_reads in
     let stays : g.C.Source.incoming c.write_all.new.sink ≡ g.C.Source.incoming c.next_reply.new.conn =
     sym (law c.write_all.new.sink) ∙ (c.write_all.ensures.beside ∙ law c.next_reply.new.conn) in
-    let P : Incoming → Type 0 = λ inc. HasServed (g.S.Service.caller c.args.service.now) c.args.limit c.next_reply.new.self.left c.next_reply.new.self.reader old
+    let P : Incoming → Type 0 = λ inc. HasServedLines (g.S.Service.caller c.args.service.now) c.args.limit c.next_reply.new.self.left c.next_reply.new.self.reader old
     (record { front = g.S.Service.front c.next_reply.new.service; incoming = inc; outgoing = g.C.Sink.outgoing c.write_all.new.sink }) in
     subst P (sym stays)
     (served_more _ _ _ _ _ _ _ _ (g.C.Source.incoming c.next_reply.new.conn) _ p c.in-Ok.reply (vec_capacity c.next_reply.new.self.text) c.render.new.text.items

@@ -5,7 +5,7 @@ use Rattle.slice_rule.specs.Pools.{PoolId, first_row}
 use Rattle.funnel_model.specs.RowWords.{IsCommitted}
 use Rattle.funnel_model.specs.Tokens.{MayRead}
 use Rattle.slice_rule.specs.Seats.{PassState, after_own}
-use Rattle.slice_rule.specs.Views.{last_of, number_of}
+use Rattle.slice_rule.specs.Views.{last_of, pass_of_role}
 use Rattle.slice_rule.proofs.OwnSteps as steps
 use Rattle.slice_rule.proofs.Reading.{reads}
 use Rattle.slice_rule.proofs.pool.Pool.read_word.Goals as goal
@@ -93,6 +93,6 @@ returns-clause-least c =
     ap (λ n. n + c.args.word) (c.self.invariant.row ∙ ap (λ (l : Limits). first_row l) (sym sizes)) in
     λ slice bit has committed.
     let may = steps.token_reads number c.seat.inside.asked table me c.seat.invariant old c.seat.view_is c.args.token.now c.requires.token slice has in
-    let read = subst (λ (p : ℕ). MayRead me.0.limits.columns me.0.front p slice) (ap number_of (sym c.seat.invariant.role)) may.1 in
+    let read = subst (λ (p : ℕ). MayRead me.0.limits.columns me.0.front p slice) (ap pass_of_role (sym c.seat.invariant.role)) may.1 in
     c.load.ensures.2.least c.args.word slice bit there read
     (subst (λ (s : PassState). IsCommitted s.front slice (record { word = c.args.word; bit = bit })) (sym c.seat.view_is) committed)

@@ -4,7 +4,7 @@ use Rattle.slice_stages.specs.declared.stage.Stage.TheVariants as stage
 use Rattle.slice_stages.proofs.SetLemmas.{sets-end}
 use Rattle.slice_stages.proofs.StageReads.{read_stage}
 use Rattle.std.proofs.lemmas.List.Elements.{All-get_or}
-use Rattle.slice_stages.specs.Sets.{IsWithin}
+use Rattle.slice_stages.specs.Sets.{HasColumnsLeft}
 use Rattle.slice_stages.specs.Stages.{empty_stage}
 use Rattle.slice_stages.proofs.stages.Stages.end_column.Goals as goal
 
@@ -13,6 +13,6 @@ invariant_of-self c =
     let t : StageTable = record { columns = c.self.inside.columns; stages = c.self.inside.stages.items; mark = c.self.inside.mark } in
     let in' : c.args.slice < length t.stages = subst (λ (x : StageTable). c.args.slice < length x.stages) (sym c.self.view_is) c.requires.in_range in
     let is = read_stage t c.args.self.now c.args.slice c.index.result.now c.self.view_is in' c.index.ensures ∙ c.in-InUse.is in
-    let within : c.in-InUse.over < t.columns = subst (IsWithin t.columns) is (All-get_or (IsWithin t.columns) t.stages c.args.slice empty_stage in' c.self.invariant.within) in
+    let within : c.in-InUse.over < t.columns = subst (HasColumnsLeft t.columns) is (All-get_or (HasColumnsLeft t.columns) t.stages c.args.slice empty_stage in' c.self.invariant.within) in
     let apart = c.if-over-self.false in
     sets-end t c.self.inside.in_use c.self.inside.with_room c.self.inside.clearable c.self.inside.waiting c.args.slice c.self.invariant in' c.in-InUse.claimed c.in-InUse.over is (omega arith)

@@ -1,0 +1,107 @@
+-- The gates of a serve that did not fail.
+use Rattle.std.proofs.Common.{◌≡◌, ◌≢◌, ℕ, ◌+◌, ◌≤◌, Bool, true, false, cond, List, [], ◌∷◌, ◌++◌, map, take, drop, take-append-drop, Some, rules, arith, sym, refl, ap, ◌∙◌, subst}
+use Rattle.std.proofs.lemmas.Bool.{or_parts}
+use Rattle.std.proofs.lemmas.List.{append_cancel_left, length-map}
+use Rattle.std.proofs.lemmas.List.Elements.{All-cons, All-head, All-nil, All-tail}
+use Rattle.std.specs.List.{All, AllZip, list_any}
+use Rattle.engine.specs.Engines.{ClosedState}
+use Rattle.funnel_io.specs.Counts.{Rose, counted, raised}
+use Rattle.funnel_io.specs.Served.{Served}
+use Rattle.funnel_io.specs.declared.end.End.TheVariants as end_of
+use Rattle.funnel_model.specs.declared.config.Config.{Config}
+use Rattle.funnel_model.specs.Legal.{Limits}
+use Rattle.funnel_server.proofs.Ends.{are_all, kept_ends, serve_all, visit_ends_well}
+use Rattle.funnel_server.specs.Gates.{GateState, Sides}
+use Rattle.funnel_server.specs.Workers.{IsVisit, Visit, WorkerState, Works, is_memory, served_by, sides_before}
+use Rattle.line_proto.specs.Services.{Caller}
+use Rattle.funnel.specs.declared.ended.Why.{Why}
+use Rattle.funnel.specs.declared.ended.Why.TheVariants as why_of
+use Rattle.funnel.specs.Laws.{GateIsServed, IsKeptOf, IsServedUnlessFailed}
+use Rattle.funnel.specs.Runs.{limits_by}
+use Rattle.funnel.specs.Served.{AllWork, HaveAllServed, new_worker, new_workers}
+
+-- a count that was raised rose
+pub raised_rose : (before after : ℕ) → after ≡ raised before → Rose before after
+raised_rose before after is = subst (λ n. raised before ≤ n) (sym is) (search rules)
+
+-- so one that did not rise was not raised
+pub not_failed : (failed : Bool) (before after : ℕ) → after ≡ counted failed before → (Rose before after → ⊥) → failed ≡ false
+not_failed true before after is none = absurd (none (raised_rose before after is))
+not_failed false before after is none = refl
+
+-- what is kept of each connection is what its gate is to keep
+all_kept : (caller : Caller) (visits : List Visit) → All (IsVisit caller) visits → AllZip IsKeptOf (map sides_before visits) (map served_by visits)
+all_kept caller [] sessions = tt
+all_kept caller (visit ∷ visits) sessions =
+    let session = All-head (IsVisit caller) visit visits sessions in (
+      record {
+        cause = kept_ends caller visit session;
+        good = λ few none. visit_ends_well caller visit session few (record { reads = none.reads; writes = none.writes });
+      },
+      all_kept caller visits (All-tail (IsVisit caller) visit visits sessions),
+    )
+
+-- where no session found no memory, none is kept so
+all_found_memory : (visits : List Visit) → list_any (λ visit. is_memory visit.end) visits ≡ false →
+    All (λ (served : Served). served.session_end ≢ end_of.Memory) (map served_by visits)
+all_found_memory [] none = All-nil (λ (served : Served). served.session_end ≢ end_of.Memory)
+all_found_memory (visit ∷ visits) none =
+    let parts = or_parts (is_memory visit.end) (list_any (λ (v : Visit). is_memory v.end) visits) none in
+    All-cons (λ (served : Served). served.session_end ≢ end_of.Memory) (served_by visit) (map served_by visits)
+    (λ is. let both : true ≡ false = sym (ap is_memory is) ∙ parts.0 in cc) (all_found_memory visits parts.1)
+
+-- the gate of a worker, where it did not fail
+module _ (before after : WorkerState) (works : Works before after) (no_fault : after.fault ≡ false) (waiting : List Sides) (is : before.gate.waiting ≡ Some waiting) where
+  served_first : map sides_before works.visits ≡ take before.left waiting
+  served_first = serve_all before after works waiting no_fault is
+
+  first_kept : AllZip IsKeptOf (take before.left waiting) (map served_by works.visits)
+  first_kept = subst (λ xs. AllZip IsKeptOf xs (map served_by works.visits)) served_first (all_kept before.caller works.visits works.serves.sessions)
+
+  others_wait : after.gate.waiting ≡ Some (drop before.left waiting)
+  others_wait =
+      let all = are_all before.gate.waiting after.gate.waiting waiting (map sides_before works.visits) is works.serves.waited in
+      all.still
+      ∙ ap Some (append_cancel_left (map sides_before works.visits) all.rest (drop before.left waiting)
+      (sym all.whole ∙ sym (take-append-drop before.left waiting) ∙ ap (λ xs. xs ++ drop before.left waiting) (sym served_first)))
+
+gate_is_served : (before after : WorkerState) (works : Works before after) (why : Why) → after.fault ≡ false → (why ≡ why_of.Done → after.memory ≡ false) →
+    GateIsServed before.left why before.gate after.gate
+gate_is_served before after works why no_fault memory = record {
+  gained = map served_by works.visits;
+  kept = works.serves.served;
+  most = omega (arith, works.serves.count, length-map works.visits served_by);
+  first = first_kept before after works no_fault;
+  left = others_wait before after works no_fault;
+  memory = λ done. all_found_memory works.visits (sym works.serves.memory ∙ memory done);
+}
+
+-- the gates of all workers
+gates_are_served : (limits : Limits) (connections pass : ℕ) (gates : List GateState) (workers : List WorkerState) (why : Why) →
+    AllWork (new_workers limits connections pass gates) workers → (why ≡ why_of.Done → list_any (λ worker. worker.memory) workers ≡ false) →
+    AllZip (IsServedUnlessFailed connections why) gates (map (λ worker. worker.gate) workers)
+gates_are_served limits connections pass [] [] why work memory = tt
+gates_are_served limits connections pass [] (worker ∷ workers) why work memory = absurd work
+gates_are_served limits connections pass (gate ∷ gates) [] why work memory = absurd work
+gates_are_served limits connections pass (gate ∷ gates) (worker ∷ workers) why work memory =
+    let parts = λ (done : why ≡ why_of.Done). or_parts worker.memory (list_any (λ (w : WorkerState). w.memory) workers) (memory done) in (
+      λ none.
+          gate_is_served (new_worker limits connections pass gate) worker work.0 why
+          (not_failed worker.fault gate.faults worker.gate.faults work.0.serves.faults none) (λ done. (parts done).0),
+      gates_are_served limits connections (pass + 1) gates workers why work.1 (λ done. (parts done).1),
+    )
+
+-- a serve that is done found memory for each session
+done_found_memory : (fault memory : Bool) → cond fault why_of.GateFault (cond memory why_of.Memory why_of.Done) ≡ why_of.Done → memory ≡ false
+done_found_memory true memory done = cc
+done_found_memory false true done = cc
+done_found_memory false false done = refl
+
+pub gates_without_a_fault : (config : Config) (connections : ℕ) (before after : List GateState) (why : Why) (closed : ClosedState) →
+    HaveAllServed config connections before after why closed → AllZip (IsServedUnlessFailed connections why) before after
+gates_without_a_fault config connections before after why closed served =
+    subst (AllZip (IsServedUnlessFailed connections why) before) (sym served.gates)
+    (gates_are_served (limits_by config) connections 0 before served.workers why served.work
+    (λ done.
+    done_found_memory (list_any (λ (worker : WorkerState). worker.fault) served.workers) (list_any (λ (worker : WorkerState). worker.memory) served.workers)
+    (sym served.cause ∙ done)))
