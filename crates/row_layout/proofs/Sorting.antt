@@ -22,10 +22,10 @@ use Rattle.row_layout.proofs.Spans.{same_row}
 
 -- whether two rows are equal, as `==` says
 abbrev pub row_eq : Row → Row → Bool
-row_eq a b = eqb a.rank b.rank && (eqb a.start b.start && eqb a.width b.width)
+row_eq a b = eqb a.start b.start && (eqb a.width b.width && eqb a.rank b.rank)
 
 row_eq-equiv : IsEquivalence row_eq
-row_eq-equiv = and_equiv (on_equiv (λ (row : Row). row.rank) nat_eq_equiv) (and_equiv (on_equiv (λ (row : Row). row.start) nat_eq_equiv) (on_equiv (λ (row : Row). row.width) nat_eq_equiv))
+row_eq-equiv = and_equiv (on_equiv (λ (row : Row). row.start) nat_eq_equiv) (and_equiv (on_equiv (λ (row : Row). row.width) nat_eq_equiv) (on_equiv (λ (row : Row). row.rank) nat_eq_equiv))
 
 row_from_parts : (a b : Row) → a.rank ≡ b.rank → a.start ≡ b.start → a.width ≡ b.width → a ≡ b
 row_from_parts a b e f g =

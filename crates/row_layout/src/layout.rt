@@ -188,9 +188,9 @@ impl Layout {
     {
         let width = width_of(&self.config, 0);
         Row {
-            rank: 0,
             start: number * width,
-            width,
+            width: width as u16,
+            rank: 0,
         }
     }
 
@@ -206,9 +206,9 @@ impl Layout {
         let number = hash.row(j, self.rows[rank as usize]);
         let width = width_of(&self.config, rank);
         Row {
-            rank,
             start: self.bases[rank as usize] + number * width,
-            width,
+            width: width as u16,
+            rank,
         }
     }
 }

@@ -3,12 +3,15 @@ ghost use Rattle.std.specs.Prelude.{◌≡◌, ◌+◌, ◌*◌, ◌/◌, ◌%�
 use funnel_model::Bit;
 
 /// A row of a slice: its bits stand in the `width` words from the slice's word `start` on, each for 2^`rank` columns.
+///
+/// It takes 8 bytes with its fields in this order, and so std sorts short runs of rows without a branch.
 #[derive(Clone, Copy, Debug, PartialEq, Eq)]
 pub struct Row {
-    pub rank: u8,
     /// Its first word within a slice.
     pub start: u32,
-    pub width: u32,
+    /// At most 2^12.
+    pub width: u16,
+    pub rank: u8,
 }
 
 impl Row {

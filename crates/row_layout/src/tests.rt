@@ -88,7 +88,7 @@ fn document(alloc: Global) -> Result<WordSet, Memory> {
 }
 
 /// The rows of a word, row by row.
-fn rows(alloc: Global, layout: &Layout, word: &str) -> Result<Vec<(u8, u32, u32)>, AllocError> {
+fn rows(alloc: Global, layout: &Layout, word: &str) -> Result<Vec<(u8, u32, u16)>, AllocError> {
     let mut rows = Vec::new(alloc);
     for j in 0..layout.count_of(word.as_bytes()) {
         let row = layout.row_at(word.as_bytes(), j);
@@ -119,7 +119,7 @@ fn a_layout_has_the_numbers_of_its_configuration(rt: HostRuntime) -> Result<(), 
 #[test]
 fn rows_lie_by_rank(rt: HostRuntime) -> Result<(), Fail> {
     let layout = ranked_layout(rt.alloc())?;
-    let cases: [(&str, &[(u8, u32, u32)]); 4] = [
+    let cases: [(&str, &[(u8, u32, u16)]); 4] = [
         ("the", &[(0, 0, 64)]),
         ("cat", &[(0, 128, 64), (0, 192, 64), (0, 256, 64)]),
         (

@@ -1,5 +1,5 @@
 -- One more row has its rank.
-use Rattle.std.proofs.Common.{◌≡◌, ◌<◌, ◌≤◌, ◌≢◌, ◌∙◌, ℕ, length, get_or, set, sym, subst, arith, get_or-set_other, get_or-set_same, below_more}
+use Rattle.std.proofs.Common.{◌<◌, ◌≤◌, ◌≢◌, ◌∙◌, ℕ, length, sym, subst, arith, get_or-set_other, get_or-set_same, below_more}
 use Rattle.std.proofs.lemmas.List.{length-set}
 use Rattle.row_layout.proofs.class_table.ranks_in_class.Goals as goal
 

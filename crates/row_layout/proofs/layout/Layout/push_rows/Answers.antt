@@ -1,5 +1,5 @@
 -- The rows of a word are its private row, or those of its class.
-use Rattle.std.proofs.Common.{◌≡◌, ◌++◌, ◌∷◌, [], ◌<◌, ℕ, List, length, map, ap, sym, subst, ◌∙◌, inl, arith}
+use Rattle.std.proofs.Common.{◌≡◌, ◌++◌, ◌∷◌, [], ◌<◌, ℕ, length, ap, sym, subst, ◌∙◌, inl, arith}
 use Rattle.std.specs.List.{All}
 use Rattle.std.specs.Result.{OnOk}
 use Rattle.funnel_model.specs.Sizes.{private_words}
