@@ -125,6 +125,15 @@ some_columns config is =
     let product : 1 * 1 ≤ 64 * 2 ^ config.max_rank * config.blocks = mul-le 1 1 (64 * 2 ^ config.max_rank) config.blocks low is.blocks.0 in
     omega (arith, product)
 
+-- the columns of all slices have numbers of 32 bits
+pub few_columns : (config : Config) → IsInRange config → config.slices * columns_of_slice config < 2 ^ 32
+few_columns config is =
+    let power = pow_below config.max_rank 7 (omega (arith, is.max_rank)) in
+    let block : 64 * 2 ^ config.max_rank ≤ 64 * 128 = omega (arith, power) in
+    let slice : 64 * 2 ^ config.max_rank * config.blocks ≤ 64 * 128 * 64 = mul-le (64 * 2 ^ config.max_rank) config.blocks (64 * 128) 64 block is.blocks.1 in
+    let all : config.slices * columns_of_slice config ≤ 1024 * (64 * 128 * 64) = mul-le config.slices (columns_of_slice config) 1024 (64 * 128 * 64) is.slices.1 slice in
+    omega (arith, all)
+
 -- a desk without events
 pub kept-new : (config : Config) (limits : Limits) (most : ℕ) (books : Books) → 1 ≤ limits.columns → books.slices ≡ limits.slices → books.columns ≡ limits.columns → books.events ≡ 0 → books.journal ≡ [] →
     limits.commits ≤ books.room → books.table.slices ≡ limits.slices → books.table.columns ≡ limits.columns → books.table.slots ≡ replicate (limits.slices * limits.columns) free_slot →

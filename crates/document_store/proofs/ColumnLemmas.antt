@@ -149,7 +149,7 @@ module _ (slices columns : ℕ) (heads : List ℕ) (entries : List Entry) (is : 
   one-before not_first = before-one slices columns heads entries is at id bucket before s.inside s.bucket_is s.found not_first
 
 -- no column has a number yet
-module _ (slices columns buckets : ℕ) (heads : List ℕ) (entries : List Entry) (some : 0 < buckets) (few : slices * columns < end)
+module _ (slices columns buckets : ℕ) (heads : List ℕ) (entries : List Entry) (some : 0 < buckets) (few : slices * columns ≤ end)
     (heads_are : heads ≡ replicate buckets end) (entries_are : entries ≡ replicate (slices * columns) no_entry) where
   none-at : (x : ℕ) → entry_at entries x ≡ no_entry
   none-at x = ap (λ es. get_or es x no_entry) entries_are
@@ -174,7 +174,7 @@ module _ (slices columns buckets : ℕ) (heads : List ℕ) (entries : List Entry
   pub new-keeps : AreChains slices columns heads entries
   new-keeps =
       table-of slices columns buckets heads entries (λ bucket. []) (ap length heads_are ∙ length-replicate buckets end) some size-none
-      (subst (λ n. n < end) (sym size-none) few)
+      (subst (λ n. n ≤ end) (sym size-none) few)
       (λ bucket within. record {
         linked = subst (λ h. length entries ≤ h) (sym (head-end bucket within)) (let n = size-none in omega (arith, n, few));
         once = tt;

@@ -1,5 +1,5 @@
 -- What an add and a removal make of a table of chains.
-use Rattle.std.proofs.Common.{◌≡◌, ℕ, ◌*◌, ◌<◌, Bool, true, false, cond, eqb, List, [], ◌∷◌, map, length, get_or, set, Some, None, refl, sym, ap, ◌∙◌, subst, inl, inr, ⊎_elim, arith}
+use Rattle.std.proofs.Common.{◌≡◌, ℕ, ◌*◌, ◌<◌, ◌≤◌, Bool, true, false, cond, eqb, List, [], ◌∷◌, map, length, get_or, set, Some, None, refl, sym, ap, ◌∙◌, subst, inl, inr, ⊎_elim, arith}
 use Rattle.std.proofs.lemmas.Bool.{cases_eq, cond-true, cond-false, eq-eqb, ne_eqb}
 use Rattle.std.proofs.lemmas.List.{get_or-set_same, get_or-set_other, length-set, map-set}
 use Rattle.std.proofs.Math.ListN.{get_or-map}
@@ -52,7 +52,7 @@ bucket-chain entries buckets bucket head xs is = subst (IsBucket entries buckets
 
 -- a table of chains, from the entries of each bucket
 pub table-of : (slices columns buckets : ℕ) (heads : List ℕ) (entries : List Entry) (members : ℕ → List ℕ) → length heads ≡ buckets → 0 < buckets →
-    length entries ≡ slices * columns → length entries < end →
+    length entries ≡ slices * columns → length entries ≤ end →
     ((bucket : ℕ) → bucket < buckets → IsBucket entries buckets bucket (head_of heads bucket) (members bucket)) →
     ((x : ℕ) → (entry_at entries x).live ≡ true → IsOn (members (bucket_of buckets (entry_at entries x).id)) x) →
     ((x y : ℕ) → (entry_at entries x).live ≡ true → (entry_at entries y).live ≡ true → (entry_at entries x).id ≡ (entry_at entries y).id → x ≡ y) →
@@ -176,7 +176,7 @@ module _ (slices columns : ℕ) (heads : List ℕ) (entries : List Entry) (is : 
   pub table-add : AreChains slices columns after_heads after
   table-add =
       table-of slices columns (length heads) after_heads after members (length-set heads bucket at) is.some
-      (length-set entries at added ∙ is.every_column) (subst (λ n. n < end) (sym (length-set entries at added)) is.few) made on-its apart-after
+      (length-set entries at added ∙ is.every_column) (subst (λ n. n ≤ end) (sym (length-set entries at added)) is.few) made on-its apart-after
 
 -- a removal leaves the others of its bucket
 module _ (slices columns : ℕ) (heads : List ℕ) (entries : List Entry) (is : AreChains slices columns heads entries) (at id bucket before : ℕ)
@@ -245,7 +245,7 @@ module _ (slices columns : ℕ) (heads : List ℕ) (entries : List Entry) (is : 
     table-left : AreChains slices columns after_heads after
     table-left =
         table-of slices columns (length heads) after_heads after members_now same_heads is.some (same_size ∙ is.every_column)
-        (subst (λ n. n < end) (sym same_size) is.few) made-now on-now
+        (subst (λ n. n ≤ end) (sym same_size) is.few) made-now on-now
         (λ x y live other same. is.apart x y (was x live).1 (was y other).1 (sym (ids x) ∙ same ∙ ids y))
 
   abbrev taken : Entry

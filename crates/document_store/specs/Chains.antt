@@ -91,7 +91,7 @@ chain_of heads entries bucket = chain entries (head_of heads bucket)
 -- entries have one number
 pub record AreChains (slices columns : ℕ) (heads : List ℕ) (entries : List Entry) : Type 0 where
   pub every_column : length entries ≡ slices * columns
-  pub few : length entries < end
+  pub few : length entries ≤ end
   pub some : 0 < length heads
   pub chains : (bucket : ℕ) → bucket < length heads → IsBucket entries (length heads) bucket (head_of heads bucket) (chain_of heads entries bucket)
   pub listed : (x : ℕ) → (entry_at entries x).live ≡ true → IsOn (chain_of heads entries (bucket_of (length heads) (entry_at entries x).id)) x

@@ -1,4 +1,4 @@
-ghost use Rattle.std.specs.Prelude.{◌≡◌, ◌≢◌, ℕ, ◌<◌, ◌==◌, if◌then◌else◌, IfOk, IsNone};
+ghost use Rattle.std.specs.Prelude.{◌≡◌, ◌≢◌, ℕ, ◌*◌, ◌^◌, ◌<◌, ◌==◌, if◌then◌else◌, IfOk, IsNone};
 ghost use Rattle.std.specs.declared.option.Option.TheVariants.{Some, None};
 ghost use Rattle.document_store.specs.Chains.{IsChainFrom, bucket_of, found_from, mixed_number};
 ghost use Rattle.document_store.specs.Entries.{column_of};
@@ -43,15 +43,12 @@ impl Model for LiveList {
 impl LiveList {
     /// No number, with an entry for each of so many columns of so many slices.
     pub fn new(alloc: Global, slices: u32, columns: u32) -> Result<LiveList, Memory>
+        requires { slices * columns < 2 ^ 32 }
         ensures slices { IfOk result (λ l. l.slices ≡ slices) }
         ensures slice_columns { IfOk result (λ l. l.columns ≡ columns) }
         ensures empty { IfOk result (λ l. (id : ℕ) → column_of l id ≡ None) }
     {
-        let count = slices as usize * columns as usize;
-        if count >= END as usize {
-            // The entries of so many columns would take 64 GiB.
-            return Err(Memory);
-        }
+        let count = (slices * columns) as usize;
         Ok(LiveList {
             slices,
             columns,

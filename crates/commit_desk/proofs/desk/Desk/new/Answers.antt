@@ -1,4 +1,4 @@
-use Rattle.std.proofs.Common.{◌*◌, ◌^◌, ◌%◌, List, sym, refl, ap, ◌∙◌, subst, arith, replicate, vec_capacity}
+use Rattle.std.proofs.Common.{◌*◌, ◌^◌, ◌%◌, ◌<◌, List, sym, refl, ap, ◌∙◌, subst, arith, replicate, vec_capacity}
 use Rattle.document_store.specs.Slots.{free_slot}
 use Rattle.funnel_model.specs.Configuration.{IsInRange}
 use Rattle.funnel_model.specs.declared.config.Config.{Config}
@@ -6,7 +6,7 @@ use Rattle.funnel_model.specs.declared.event.Event.{Event}
 use Rattle.funnel_model.specs.Legal.{Limits, awaited}
 use Rattle.slice_rule.specs.Pools.{limits_of}
 use Rattle.commit_desk.specs.Kept.{Books, AreBooksOf}
-use Rattle.commit_desk.proofs.KeptNew.{columns_as_made, kept-new, some_columns}
+use Rattle.commit_desk.proofs.KeptNew.{columns_as_made, few_columns, kept-new, some_columns}
 use Rattle.commit_desk.proofs.desk.Desk.new.Goals as goal
 
 pub invariant_of-result : goal.invariant_of-result
@@ -40,3 +40,7 @@ invariant_of-result c =
           c.in_ok-new.ensures.slices (c.in_ok-new.ensures.columns ∙ columns) (c.in_ok-new.ensures.free ∙ ap (λ n. replicate (config.slices * n) free_slot) columns) c.in_ok-new-2.ensures.empty c.in_ok-new-2.ensures.slices (c.in_ok-new-2.ensures.slice_columns ∙ columns)
           c.in_ok-new-3.ensures (c.in_ok-new-4.ensures.columns ∙ columns) c.in_ok-new-4.ensures.stages c.in_ok-new-4.ensures.mark)));
     }
+
+pub new-requires-2 : goal.new-requires-2
+new-requires-2 c =
+    subst (λ n. c.args.config.now.slices * n < 2 ^ 32) (sym (columns_as_made c.args.config.now c.requires.config)) (few_columns c.args.config.now c.requires.config)
