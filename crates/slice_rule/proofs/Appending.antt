@@ -25,7 +25,7 @@ use Rattle.slice_rule.specs.declared.view.Fact.{Fact}
 use Rattle.slice_rule.specs.declared.view.Fact.TheVariants as fact
 use Rattle.slice_rule.specs.declared.view.View.{View}
 use Rattle.slice_rule.specs.Pools.{ask_word, first_row, row_words}
-use Rattle.slice_rule.specs.Rule.{Fits, FitsRole, IsKept, IsKnownSet, IsKnownZero, IsTrueFact}
+use Rattle.slice_rule.specs.Rule.{CountsPasses, Fits, FitsRole, IsKept, IsKnownSet, IsKnownZero, IsTrueFact}
 use Rattle.slice_rule.specs.Numbers.{last_number, takes_in}
 use Rattle.slice_rule.specs.Seats.{IsBacked}
 use Rattle.slice_rule.proofs.Facts.{all_later}
@@ -35,7 +35,7 @@ use Rattle.slice_rule.specs.Views.{with_event}
 use Rattle.slice_rule.specs.Worlds.{LacksAtMostOne, World, made_by}
 use Rattle.slice_rule.proofs.Numbering.{home_at}
 use Rattle.slice_rule.proofs.Prefixes.{made_by-other, made_by-own, prefix_more, prefix_self, prefix_trans}
-use Rattle.slice_rule.proofs.Seating.{each-set, seat-set}
+use Rattle.slice_rule.proofs.Seating.{each-set, given-set, same_kind}
 
 -- the world after the event
 abbrev pub longer_world : World → Event → World
@@ -140,17 +140,17 @@ module _ (limits : Limits) where
   -- what another seat knows when the history has one more event
   other_role : (world : World) (words : List ℕ) (id n j : ℕ) (e : Event) (front asked : List Event) → id ≡ world.home → (j ≡ id → ⊥) → (role : Role)
       → FitsRole world words j front asked role → FitsRole (longer_world world e) (set words 0 n) j front asked role
-  other_role world words id n j e front asked home apart (role.Home made seats) fits = absurd (apart (fits.one ∙ sym home))
-  other_role world words id n j e front asked home apart (role.Pass pass) fits = record { made = fits.made; one = fits.one; all = fits.all; seen = fits.seen }
+  other_role world words id n j e front asked home apart (role.Home numbered seats) fits = absurd (apart (fits.one ∙ sym home))
+  other_role world words id n j e front asked home apart (role.Pass pass) fits = record { seated = fits.seated; one = fits.one; all = fits.all; seen = fits.seen }
   other_role world words id n j e front asked home apart role.Note fits = tt
   other_role world words id n j e front asked home apart role.Spent fits = tt
 
-  appends_at : (s : State (Unit {0}) View) (r : IsKept limits s) (id : ℕ) (v : View) (made seats n : ℕ) (e : Event) → get_elem? s.views id ≡ some v → v.role ≡ role.Home made seats
+  appends_at : (s : State (Unit {0}) View) (r : IsKept limits s) (id : ℕ) (v : View) (numbered seats n : ℕ) (e : Event) → get_elem? s.views id ≡ some v → v.role ≡ role.Home numbered seats
       → n ≡ length v.front + 1 → n < 2 ^ 63 → IsAllowed limits v.front e → IsBacked limits v.told v.front e → Contains v.told (fact.Asked (pass_of e) (made_by (pass_of e) v.front ++ e ∷ []))
       → IsKept limits (record { words = set s.words 0 n; homes = s.homes; views = set s.views id (with_event v e) })
-  appends_at s r id v made seats n e at is next few allowed backed known =
+  appends_at s r id v numbered seats n e at is next few allowed backed known =
       let mine = r.seats id v at in
-      let home = home_at limits s r id v made seats at is in
+      let home = home_at limits s r id v numbered seats at is in
       let laid = r.laid in
       let whole = home.whole in
       let world : World = longer_world r.world e in
@@ -164,6 +164,7 @@ module _ (limits : Limits) where
       subst (λ (ws : List ℕ). All (IsTrueFact limits world ws) facts) (sym rows)
       (all_later limits r.world world (row_words limits s.words) (e ∷ []) refl (λ pass. refl) facts before) in
       let next_allowed = subst (λ (h : List Event). IsAllowed limits h e) whole allowed in
+      let given = given-set r.world s.views id v (with_event v e) at (same_kind v.role v.role refl) r.given in
       let next_backed = subst (λ (h : List Event). IsBacked limits v.told h e) whole backed in
       record {
         world = world;
@@ -173,6 +174,7 @@ module _ (limits : Limits) where
           few = subst (λ (k : ℕ). k < 2 ^ 63) count few;
           legal = legal-push limits r.world.history e r.events.legal next_allowed;
         };
+        passes = subst (CountsPasses limits r.world.seated) (sym (get_or-set_other s.words 0 1 n 0 (λ e. omega arith))) r.passes;
         asked = record {
           count = λ pass small. get_or-set_other s.words 0 (ask_word pass) n 0 (λ e. omega arith) ∙ r.asked.count pass small;
           made = λ pass. made_push r.world e pass (r.asked.made pass) asked;
@@ -182,7 +184,7 @@ module _ (limits : Limits) where
             (covers_next limits r.world.history (row_words limits s.words) r.events.legal r.world refl v.told mine.told e next_allowed next_backed r.covers);
         fresh = subst (λ (ws : List ℕ). AreFresh limits ws (r.world.history ++ e ∷ [])) (sym rows)
             (fresh_next limits r.world.history (row_words limits s.words) r.events.legal r.world refl v.told mine.told e next_allowed next_backed r.fresh);
-        passes = seat-set r.world s.views id v (with_event v e) at (λ p is. is) r.passes;
+        given = record { home = given.home; passes = given.passes };
         seats = each-set (Fits limits world (set s.words 0 n)) s.views id (with_event v e)
             (record {
               sizes = mine.sizes;
@@ -196,8 +198,6 @@ module _ (limits : Limits) where
                     whole = ap (λ (h : List Event). h ++ e ∷ []) whole;
                     counts = get_or-set_other s.words 0 1 n 0 (λ e. omega arith) ∙ home.counts;
                     seated = home.seated;
-                    no_more = home.no_more;
-                    all_but_last = home.all_but_last;
                   });
             })
             (λ j w apart there. let theirs = r.seats j w there in record {
@@ -210,16 +210,16 @@ module _ (limits : Limits) where
             });
       }
 
-  pub appends : (slots id : ℕ) (me : Seated) (made seats : ℕ) (e : Event) → me.0.role ≡ role.Home made seats → length me.0.front < 2 ^ 63 - 1 → IsAllowed limits me.0.front e → IsBacked limits me.0.told me.0.front e
+  pub appends : (slots id : ℕ) (me : Seated) (numbered seats : ℕ) (e : Event) → me.0.role ≡ role.Home numbered seats → length me.0.front < 2 ^ 63 - 1 → IsAllowed limits me.0.front e → IsBacked limits me.0.told me.0.front e
       → Contains me.0.told (fact.Asked (pass_of e) (made_by (pass_of e) me.0.front ++ e ∷ []))
       → Allows (IsKept limits) slots id me 0 (λ n. (n + 1) % 2 ^ 64) (AppendsEvent e (step slots 0 1 0 none) me)
-  appends slots id me made seats e is room allowed backed known s r homes at small =
-      let home = home_at limits s r id me.0 made seats at is in
+  appends slots id me numbered seats e is room allowed backed known s r homes at small =
+      let home = home_at limits s r id me.0 numbered seats at is in
       let found : get_or s.words 0 0 ≡ length me.0.front = r.events.events ∙ ap length (sym home.whole) in
       let next : (get_or s.words 0 0 + 1) % 2 ^ 64 ≡ length me.0.front + 1 = omega arith in (
         with_event me.0 e,
         keeps,
         tt,
-        appends_at s r id me.0 made seats ((get_or s.words 0 0 + 1) % 2 ^ 64) e at is next (omega arith) allowed backed known,
+        appends_at s r id me.0 numbered seats ((get_or s.words 0 0 + 1) % 2 ^ 64) e at is next (omega arith) allowed backed known,
         record { view = refl; number = found },
       )

@@ -12,7 +12,7 @@ use Rattle.slice_rule.specs.declared.view.Role.TheVariants as role
 use Rattle.slice_rule.specs.declared.view.Fact.{Fact}
 use Rattle.slice_rule.specs.declared.view.View.{View}
 use Rattle.slice_rule.specs.Pools.{ask_word, first_row, row_words}
-use Rattle.slice_rule.specs.Rule.{Fits, FitsRole, IsKept, IsPassOf, IsTrueFact}
+use Rattle.slice_rule.specs.Rule.{CountsPasses, Fits, FitsRole, IsKept, IsPassOf, IsTrueFact}
 use Rattle.slice_rule.specs.Tells.{AsksFor, Seated}
 use Rattle.slice_rule.specs.Views.{with_asked}
 use Rattle.slice_rule.specs.Worlds.{LacksAtMostOne, World, made_by}
@@ -21,7 +21,7 @@ use Rattle.std.proofs.lemmas.List.{drop-set-lt}
 use Rattle.std.specs.List.{All}
 use Rattle.funnel_model.specs.RowWords.{AreFresh, Covers}
 use Rattle.slice_rule.proofs.Facts.{all_of_more}
-use Rattle.slice_rule.proofs.Seating.{each-set, seat-set}
+use Rattle.slice_rule.proofs.Seating.{each-set, given-set, same_kind}
 
 -- the world after the pass asked one more event
 abbrev pub asked_world : World → ℕ → Event → World
@@ -48,21 +48,27 @@ module _ (limits : Limits) where
       → IsPassOf r.world id pass v.front v.asked
   pass_at s r id v pass at is = subst (FitsRole r.world s.words id v.front v.asked) is (r.seats id v at).role
 
+  -- a pass that has a seat is one of those that the sizes have
+  pub pass_in_range : (s : State (Unit {0}) View) (r : IsKept limits s) (id : ℕ) (v : View) (pass : ℕ) → get_elem? s.views id ≡ some v → v.role ≡ role.Pass pass → pass < limits.passes
+  pass_in_range s r id v pass at is =
+      let seated = (pass_at s r id v pass at is).seated in
+      let no_more = r.passes.no_more in
+      let in_range = r.passes.in_range in
+      omega arith
+
   -- what another seat knows when the pass asks
   other_role : (world : World) (words : List ℕ) (pass id n j : ℕ) (e : Event) (front asked : List Event) → id ≡ world.seat pass → (j ≡ id → ⊥) → (role : Role)
       → FitsRole world words j front asked role → FitsRole (asked_world world pass e) (set words (ask_word pass) n) j front asked role
-  other_role world words pass id n j e front asked one apart (role.Home made seats) fits = record {
+  other_role world words pass id n j e front asked one apart (role.Home numbered seats) fits = record {
     one = fits.one;
     whole = fits.whole;
     counts = get_or-set_other words (ask_word pass) 1 n 0 (λ e. omega arith) ∙ fits.counts;
     seated = fits.seated;
-    no_more = fits.no_more;
-    all_but_last = fits.all_but_last;
   }
   other_role world words pass id n j e front asked one apart (role.Pass other) fits =
       let same = asked_other world pass e other (λ is. apart (fits.one ∙ ap world.seat is ∙ sym one)) in
       record {
-        made = fits.made;
+        seated = fits.seated;
         one = fits.one;
         all = fits.all ∙ sym same;
         seen = subst (LacksAtMostOne (made_by other front)) (sym same) fits.seen;
@@ -83,12 +89,14 @@ module _ (limits : Limits) where
           few = omega arith;
         }
 
-    asks_at : get_elem? s.views id ≡ some v → v.role ≡ role.Pass pass → pass < limits.passes → v.asked ≡ made_by pass v.front → n ≡ length v.asked + 1
+    asks_at : get_elem? s.views id ≡ some v → v.role ≡ role.Pass pass → v.asked ≡ made_by pass v.front → n ≡ length v.asked + 1
         → IsKept limits (record { words = set s.words (ask_word pass) n; homes = s.homes; views = set s.views id (with_asked v e) })
-    asks_at at is in_range all next =
+    asks_at at is all next =
         let seat = r.seats id v at in
         let mine = pass_at s r id v pass at is in
         let laid = r.laid in
+        let given = given-set r.world s.views id v (with_asked v e) at (same_kind v.role v.role refl) r.given in
+        let in_range : pass < limits.passes = pass_in_range s r id v pass at is in
         let world : World = asked_world r.world pass e in
         let same = asked_same r.world pass e pass refl in
         let within : ask_word pass < length s.words = omega arith in
@@ -105,6 +113,7 @@ module _ (limits : Limits) where
             few = r.events.few;
             legal = r.events.legal;
           };
+          passes = subst (CountsPasses limits r.world.seated) (sym (get_or-set_other s.words (ask_word pass) 1 n 0 (λ e. omega arith))) r.passes;
           asked = record {
             count = λ other small. ⊎_elim
                 (λ (own : other ≡ pass). subst (λ (q : ℕ). get_or (set s.words (ask_word pass) n) (ask_word q) 0 ≡ length (world.asked q)) (sym own)
@@ -118,11 +127,11 @@ module _ (limits : Limits) where
                 (made_but_last mine all seat.front r.world.history seat.front (r.asked.made pass).begins)))
                 (λ (not : other ≡ pass → ⊥). subst (LacksAtMostOne (made_by other r.world.history)) (sym (asked_other r.world pass e other not)) (r.asked.made other))
                 (cases_eq other pass);
-            none = λ other above. asked_other r.world pass e other (λ own. let made = mine.made in omega arith) ∙ r.asked.none other above;
+            none = λ other above. asked_other r.world pass e other (λ own. let seated = mine.seated in omega arith) ∙ r.asked.none other above;
           };
           covers = subst (λ (ws : List ℕ). Covers ws r.world.history) (sym rows) r.covers;
           fresh = subst (λ (ws : List ℕ). AreFresh limits ws r.world.history) (sym rows) r.fresh;
-          passes = seat-set r.world s.views id v (with_asked v e) at (λ p is. is) r.passes;
+          given = record { home = given.home; passes = given.passes };
           seats = each-set (Fits limits world (set s.words (ask_word pass) n)) s.views id (with_asked v e)
               (record {
                 sizes = seat.sizes;
@@ -132,7 +141,7 @@ module _ (limits : Limits) where
                 told = keeps v.told seat.told;
                 role = subst (FitsRole world (set s.words (ask_word pass) n) id v.front (v.asked ++ e ∷ [])) (sym is)
                     (record {
-                      made = mine.made;
+                      seated = mine.seated;
                       one = mine.one;
                       all = ap (λ (xs : List Event). xs ++ e ∷ []) mine.all ∙ sym same;
                       seen = subst (LacksAtMostOne (made_by pass v.front)) (sym same)
@@ -149,12 +158,12 @@ module _ (limits : Limits) where
               });
         }
 
-  pub asks : (slots id : ℕ) (me : Seated) (pass n : ℕ) (e : Event) → me.0.role ≡ role.Pass pass → pass < limits.passes → me.0.asked ≡ made_by pass me.0.front → n ≡ length me.0.asked + 1
+  pub asks : (slots id : ℕ) (me : Seated) (pass n : ℕ) (e : Event) → me.0.role ≡ role.Pass pass → me.0.asked ≡ made_by pass me.0.front → n ≡ length me.0.asked + 1
       → Allows (IsKept limits) slots id me (2 + pass) (λ _. n) (λ _. AsksFor e (step slots (2 + pass) n 0 none) me n)
-  asks slots id me pass n e is in_range all next s r homes at small = (
+  asks slots id me pass n e is all next s r homes at small = (
     with_asked me.0 e,
     keeps,
     tt,
-    asks_at s r id me.0 pass n e at is in_range all next,
+    asks_at s r id me.0 pass n e at is all next,
     refl,
   )

@@ -16,7 +16,7 @@ use Rattle.funnel_model.proofs.Invariants.{passes_in_range}
 use Rattle.slice_rule.specs.declared.view.View.{View}
 use Rattle.slice_rule.specs.Kept.{CanBeKept, EachCanBeKept, home_after, pass_after, pool_after}
 use Rattle.slice_rule.specs.Pools.{ask_word, first_row, row_words}
-use Rattle.slice_rule.specs.Rule.{EachHasSeat, Fits, IsKept, IsTrueFact}
+use Rattle.slice_rule.specs.Rule.{Fits, HaveSeats, IsKept, IsTrueFact}
 use Rattle.slice_rule.specs.Worlds.{LacksAtMostOne, World, made_by}
 use Rattle.slice_rule.proofs.Prefixes.{prefix_self}
 
@@ -82,7 +82,7 @@ module _ (limits : Limits) (history : List Event) (rows : List ℕ) (can : CanBe
     met = (history, refl);
     own = All-nil (IsTrueFact limits world (row_words limits words));
     told = All-nil (IsTrueFact limits world (row_words limits words));
-    role = record { made = small; one = is; all = refl; seen = lacks_none (made_by pass history) };
+    role = record { seated = small; one = is; all = refl; seen = lacks_none (made_by pass history) };
   }
 
   home_fits : Fits limits world words 0 (home_after limits history)
@@ -92,7 +92,7 @@ module _ (limits : Limits) (history : List Event) (rows : List ℕ) (can : CanBe
     met = (history, refl);
     own = All-nil (IsTrueFact limits world (row_words limits words));
     told = All-nil (IsTrueFact limits world (row_words limits words));
-    role = record { one = refl; whole = refl; counts = refl; seated = refl; no_more = omega arith; all_but_last = omega arith };
+    role = record { one = refl; whole = refl; counts = refl; seated = refl };
   }
 
   seat_fits : (id : ℕ) (v : View) → get_elem? (home_after limits history ∷ map (pass_after limits history) (range_with_len 0 limits.passes)) id ≡ some v → Fits limits world words id v
@@ -103,22 +103,26 @@ module _ (limits : Limits) (history : List Event) (rows : List ℕ) (can : CanBe
       let e : 0 + j ≡ j = omega arith in
       subst (Fits limits world words (suc j)) (sym (is.1 ∙ ap (pass_after limits history) e)) (pass_fits (suc j) j small (omega arith))
 
-  has_seat : EachHasSeat world (home_after limits history ∷ map (pass_after limits history) (range_with_len 0 limits.passes))
-  has_seat pass small =
-      let e : 0 + pass ≡ pass = omega arith in
-      let next : pass + 1 ≡ suc pass = omega arith in
-      record {
-        view = pass_after limits history pass;
-        at = ap (get_elem? (home_after limits history ∷ map (pass_after limits history) (range_with_len 0 limits.passes))) next
-            ∙ map_range_at (pass_after limits history) 0 limits.passes pass small ∙ ap (λ p. some (pass_after limits history p)) e;
-        role = refl;
-      }
+  have_seats : HaveSeats world (home_after limits history ∷ map (pass_after limits history) (range_with_len 0 limits.passes))
+  have_seats = record {
+    home = record { view = home_after limits history; at = refl; kind = tt };
+    passes = λ pass small.
+        let e : 0 + pass ≡ pass = omega arith in
+        let next : pass + 1 ≡ suc pass = omega arith in
+        record {
+          view = pass_after limits history pass;
+          at = ap (get_elem? (home_after limits history ∷ map (pass_after limits history) (range_with_len 0 limits.passes))) next
+              ∙ map_range_at (pass_after limits history) 0 limits.passes pass small ∙ ap (λ p. some (pass_after limits history p)) e;
+          kind = refl;
+        };
+  }
 
   kept : IsKept limits (pool_after limits history rows)
   kept = record {
     world = world;
     laid = omega (arith, length-append (length history ∷ limits.passes ∷ counts) rows, length-map-range_with_len (λ p. length (made_by p history)) 0 limits.passes, can.laid);
     events = record { events = refl; few = can.few; legal = can.legal };
+    passes = record { in_range = omega arith; no_more = omega arith; all_but_last = omega arith };
     asked = record {
       count = count_is;
       made = λ pass. lacks_none (made_by pass history);
@@ -126,7 +130,7 @@ module _ (limits : Limits) (history : List Event) (rows : List ℕ) (can : CanBe
     };
     covers = subst (λ (ws : List ℕ). Covers ws history) (sym rows_are) can.covers;
     fresh = subst (λ (ws : List ℕ). AreFresh limits ws history) (sym rows_are) can.fresh;
-    passes = has_seat;
+    given = have_seats;
     seats = seat_fits;
   }
 

@@ -1,5 +1,5 @@
 -- The rule holds of a new pool.
-use Rattle.std.proofs.Common.{◌≡◌, ℕ, ◌+◌, ◌<◌, ◌≤◌, [], ◌∷◌, ◌++◌, map, get_or, replicate, refl, ap, sym, ◌∙◌, arith, ⊎_elim}
+use Rattle.std.proofs.Common.{◌≡◌, ℕ, ◌+◌, ◌<◌, ◌≤◌, [], ◌∷◌, ◌++◌, map, get_or, replicate, refl, ap, sym, ◌∙◌, subst, arith, ⊎_elim}
 use Rattle.std.proofs.lemmas.Bool.{cases_lt}
 use Rattle.std.proofs.lemmas.List.{get_or-drop, get_or-replicate, get_or_past, length-replicate}
 use Rattle.std.proofs.lemmas.List.Elements.{All-nil}
@@ -12,7 +12,7 @@ use mathlib.Core.Option.{some-ne-none}
 use Rattle.atomic_table.specs.Table.{opening}
 use Rattle.funnel_model.specs.declared.config.Config.{Config}
 use Rattle.funnel_model.specs.Legal.{Limits}
-use Rattle.slice_rule.specs.Rule.{Fits, IsKept, IsTrueFact}
+use Rattle.slice_rule.specs.Rule.{CountsPasses, Fits, IsKept, IsTrueFact}
 use Rattle.slice_rule.specs.Views.{home_at_start}
 use Rattle.slice_rule.specs.Worlds.{new_world}
 use Rattle.funnel_model.proofs.RowWords.{covers-start, fresh-start}
@@ -32,6 +32,7 @@ opens limits config =
       world = new_world;
       laid = (let z : ℕ = 0 in length-replicate n z);
       events = record { events = zeros n 0; few = omega arith; legal = tt };
+      passes = subst (CountsPasses limits 0) (sym (zeros n 1)) (record { in_range = omega arith; no_more = omega arith; all_but_last = omega arith });
       asked = record {
         count = λ pass small. zeros n (ask_word pass);
         made = λ pass. record { begins = ([], refl); few = omega arith };
@@ -39,7 +40,10 @@ opens limits config =
       };
       covers = covers-start (row_words limits (replicate n 0));
       fresh = fresh-start limits (row_words limits (replicate n 0)) (λ slice small word inside. get_or-drop (first_row limits) (replicate n 0) word 0 ∙ zeros n (first_row limits + word));
-      passes = λ pass none. absurd (omega arith);
+      given = record {
+        home = record { view = home_at_start limits config; at = refl; kind = tt };
+        passes = λ pass none. absurd (omega arith);
+      };
       seats = each-snoc (Fits limits new_world (replicate n 0)) [] (home_at_start limits config) (λ id v at. absurd (some-ne-none v (sym at)))
           (record {
             sizes = refl;
@@ -47,7 +51,7 @@ opens limits config =
             met = ([], refl);
             own = All-nil (IsTrueFact limits new_world (row_words limits (replicate n 0)));
             told = All-nil (IsTrueFact limits new_world (row_words limits (replicate n 0)));
-            role = record { one = refl; whole = refl; counts = zeros n 1; seated = refl; no_more = omega arith; all_but_last = omega arith };
+            role = record { one = refl; whole = refl; counts = zeros n 1; seated = refl };
           });
     }
 

@@ -1,5 +1,5 @@
 -- A row word changes.
-use Rattle.std.proofs.Common.{◌≡◌, ℕ, ◌+◌, ◌*◌, ◌<◌, ◌≤◌, List, set, sym, ◌∙◌, subst, arith, length-set, get_or-set_other}
+use Rattle.std.proofs.Common.{◌≡◌, ℕ, ◌+◌, ◌*◌, ◌<◌, ◌≤◌, List, set, refl, sym, ◌∙◌, subst, arith, length-set, get_or-set_other}
 use Rattle.std.proofs.lemmas.List.{drop-set-add}
 use Rattle.std.proofs.lemmas.List.Elements.{All-cons}
 use Rattle.std.proofs.lemmas.Nat.{mul-le}
@@ -16,24 +16,22 @@ use Rattle.slice_rule.specs.declared.view.Role.TheVariants as role
 use Rattle.slice_rule.specs.declared.view.Fact.{Fact}
 use Rattle.slice_rule.specs.declared.view.View.{View}
 use Rattle.slice_rule.specs.Pools.{ask_word, first_row, pool_words, row_words}
-use Rattle.slice_rule.specs.Rule.{Fits, FitsRole, IsKept, IsTrueFact}
+use Rattle.slice_rule.specs.Rule.{CountsPasses, Fits, FitsRole, IsKept, IsTrueFact}
 use Rattle.slice_rule.specs.Views.{with_own}
 use Rattle.slice_rule.specs.Worlds.{World, made_by}
 use Rattle.slice_rule.proofs.Asking.{pass_at}
 use Rattle.slice_rule.proofs.Facts.{KeepsFacts, all_in}
 use Rattle.slice_rule.proofs.Prefixes.{front_is, none_since}
-use Rattle.slice_rule.proofs.Seating.{each-set, seat-set}
+use Rattle.slice_rule.proofs.Seating.{each-set, given-set, same_kind}
 
 -- what a seat knows by its role doesn't speak of row words
 role_kept : (world : World) (words : List ℕ) (i n j : ℕ) (front asked : List Event) → 2 ≤ i → (role : Role) → FitsRole world words j front asked role
     → FitsRole world (set words i n) j front asked role
-role_kept world words i n j front asked row (role.Home made seats) fits = record {
+role_kept world words i n j front asked row (role.Home numbered seats) fits = record {
   one = fits.one;
   whole = fits.whole;
   counts = get_or-set_other words i 1 n 0 (λ e. omega arith) ∙ fits.counts;
   seated = fits.seated;
-  no_more = fits.no_more;
-  all_but_last = fits.all_but_last;
 }
 role_kept world words i n j front asked row (role.Pass pass) fits = fits
 role_kept world words i n j front asked row role.Note fits = tt
@@ -70,6 +68,7 @@ module _ (limits : Limits) where
           few = r.events.few;
           legal = r.events.legal;
         };
+        passes = subst (CountsPasses limits r.world.seated) (sym (get_or-set_other s.words i 1 n 0 (λ e. omega arith))) r.passes;
         asked = record {
           count = λ pass small. get_or-set_other s.words i (ask_word pass) n 0 (λ e. omega arith) ∙ r.asked.count pass small;
           made = r.asked.made;
@@ -77,7 +76,7 @@ module _ (limits : Limits) where
         };
         covers = subst (λ (ws : List ℕ). Covers ws r.world.history) (sym rows) covers;
         fresh = subst (λ (ws : List ℕ). AreFresh limits ws r.world.history) (sym rows) fresh;
-        passes = seat-set r.world s.views id v (with_own v f) at (λ pass is. is) r.passes;
+        given = given-set r.world s.views id v (with_own v f) at (same_kind v.role v.role refl) r.given;
         seats = each-set (Fits limits r.world (set s.words i n)) s.views id (with_own v f)
             (record {
               sizes = mine.sizes;

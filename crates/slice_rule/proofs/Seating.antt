@@ -9,7 +9,7 @@ use Rattle.atomic_table.specs.Table.{State, Splits, Joins}
 use Rattle.atomic_table.proofs.Lists.{at_longer, at_set, set_else, set_here}
 use Rattle.funnel_model.specs.Legal.{Limits}
 use Rattle.slice_rule.specs.declared.view.View.{View}
-use Rattle.slice_rule.specs.Rule.{EachHasSeat, Fits, FitsRole, HasSizes, IsKept, IsTrueFact}
+use Rattle.slice_rule.specs.Rule.{Fits, FitsRole, HasSizes, HaveSeats, IsHomeRole, IsKept, IsPassRole, IsSeatOf, IsTrueFact}
 use Rattle.slice_rule.specs.declared.view.Role.{Role}
 use Rattle.slice_rule.specs.declared.view.Role.TheVariants as role
 use Rattle.slice_rule.specs.declared.view.Fact.TheVariants as fact
@@ -25,34 +25,63 @@ there_is [] i a e = absurd (some-ne-none a (sym e))
 there_is (x ∷ xs) zero a e = omega arith
 there_is (x ∷ xs) (suc i) a e = let n = there_is xs i a e in omega arith
 
--- each pass has its seat still where a seat gets a view of the same number
-pub seat-set : (world : World) (views : List View) (id : ℕ) (v w : View) → get_elem? views id ≡ some v → ((pass : ℕ) → v.role ≡ role.Pass pass → w.role ≡ role.Pass pass)
-    → EachHasSeat world views → EachHasSeat world (set views id w)
-seat-set world views id v w at keeps each pass small =
-    let has = each pass small in
+-- what a seat's new role owes: it is that of the home, or of a pass, where the old one was
+pub record KeepsKind (before after : Role) : Type 0 where
+  pub home : IsHomeRole before → IsHomeRole after
+  pub pass : (pass : ℕ) → IsPassRole pass before → IsPassRole pass after
+
+pub same_kind : (before after : Role) → after ≡ before → KeepsKind before after
+same_kind before after same = record {
+  home = subst IsHomeRole (sym same);
+  pass = λ pass. subst (IsPassRole pass) (sym same);
+}
+
+-- a note is neither
+pub note_kind : (before after : Role) → before ≡ role.Note → KeepsKind before after
+note_kind before after is = record {
+  home = λ home. absurd (subst IsHomeRole is home);
+  pass = λ pass other. absurd (let both = sym is ∙ other in cc);
+}
+
+-- the home stays the home
+pub home_kind : (before after : Role) (numbered seats : ℕ) → before ≡ role.Home numbered seats → IsHomeRole after → KeepsKind before after
+home_kind before after numbered seats is still = record {
+  home = λ _. still;
+  pass = λ pass other. absurd (let both = sym is ∙ other in cc);
+}
+
+-- a seat of a kind is there still where a seat gets a view of that kind, if it had one
+kind-set : (HasKind : Role → Type 0) (views : List View) (id at_id : ℕ) (v w : View) → get_elem? views id ≡ some v → (HasKind v.role → HasKind w.role)
+    → IsSeatOf HasKind views at_id → IsSeatOf HasKind (set views id w) at_id
+kind-set HasKind views id at_id v w at keeps has =
     ⊎_elim
-    (λ (here : world.seat pass ≡ id).
+    (λ (here : at_id ≡ id).
     let same : has.view ≡ v = some-injective has.view v (sym has.at ∙ ap (get_elem? views) here ∙ at) in
     record {
       view = w;
       at = ap (get_elem? (set views id w)) here ∙ set_here views id w (there_is views id v at);
-      role = keeps pass (ap (λ (x : View). x.role) (sym same) ∙ has.role);
+      kind = keeps (subst (λ (x : View). HasKind x.role) same has.kind);
     })
-    (λ (other : world.seat pass ≡ id → ⊥). record { view = has.view; at = set_else views id (world.seat pass) w other ∙ has.at; role = has.role })
-    (cases_eq (world.seat pass) id)
+    (λ (other : at_id ≡ id → ⊥). record { view = has.view; at = set_else views id at_id w other ∙ has.at; kind = has.kind })
+    (cases_eq at_id id)
 
 -- and where there is a new seat
-pub seat-snoc : (world : World) (views : List View) (w : View) → EachHasSeat world views → EachHasSeat world (views ++ w ∷ [])
-seat-snoc world views w each pass small =
-    let has = each pass small in
-    record { view = has.view; at = at_longer views (w ∷ []) (world.seat pass) has.view has.at; role = has.role }
+pub kind-snoc : (HasKind : Role → Type 0) (views : List View) (id : ℕ) (w : View) → IsSeatOf HasKind views id → IsSeatOf HasKind (views ++ w ∷ []) id
+kind-snoc HasKind views id w has = record { view = has.view; at = at_longer views (w ∷ []) id has.view has.at; kind = has.kind }
 
--- a home and a note are no pass
-pub home_is_none : (v w : View) (made seats : ℕ) → v.role ≡ role.Home made seats → (pass : ℕ) → v.role ≡ role.Pass pass → w.role ≡ role.Pass pass
-home_is_none v w made seats is pass other = absurd (let both = sym is ∙ other in cc)
+-- the home and each pass have their seats still where a seat gets a view of the same kind
+pub given-set : (world : World) (views : List View) (id : ℕ) (v w : View) → get_elem? views id ≡ some v → KeepsKind v.role w.role → HaveSeats world views → HaveSeats world (set views id w)
+given-set world views id v w at keeps given = record {
+  home = kind-set IsHomeRole views id world.home v w at keeps.home given.home;
+  passes = λ pass small. kind-set (IsPassRole pass) views id (world.seat pass) v w at (keeps.pass pass) (given.passes pass small);
+}
 
-pub note_is_none : (v w : View) → v.role ≡ role.Note → (pass : ℕ) → v.role ≡ role.Pass pass → w.role ≡ role.Pass pass
-note_is_none v w is pass other = absurd (let both = sym is ∙ other in cc)
+-- and where there is a new seat
+pub given-snoc : (world : World) (views : List View) (w : View) → HaveSeats world views → HaveSeats world (views ++ w ∷ [])
+given-snoc world views w given = record {
+  home = kind-snoc IsHomeRole views world.home w given.home;
+  passes = λ pass small. kind-snoc (IsPassRole pass) views (world.seat pass) w (given.passes pass small);
+}
 
 abbrev pub EachSeat : (ℕ → View → Type 0) → List View → Type 0
 EachSeat P views = (id : ℕ) (v : View) → get_elem? views id ≡ some v → P id v
@@ -82,7 +111,7 @@ IsLive _ = Unit {0}
 
 -- and so it has the sizes of the pool
 pub live_sizes : (limits known : Limits) (role : Role) → IsLive role → HasSizes limits known role → known ≡ limits
-live_sizes limits known (role.Home made seats) live sizes = sizes
+live_sizes limits known (role.Home numbered seats) live sizes = sizes
 live_sizes limits known (role.Pass pass) live sizes = sizes
 live_sizes limits known role.Note live sizes = sizes
 live_sizes limits known role.Spent live sizes = absurd live
@@ -95,17 +124,18 @@ module _ (limits : Limits) where
     world = r.world;
     laid = r.laid;
     events = r.events;
+    passes = r.passes;
     asked = r.asked;
     covers = r.covers;
     fresh = r.fresh;
-    passes = seat-set r.world s.views id v w at (λ pass is. same ∙ is) r.passes;
+    given = given-set r.world s.views id v w at (same_kind v.role w.role same) r.given;
     seats = each-set (Fits limits r.world s.words) s.views id w fits (λ j x _. r.seats j x);
   }
 
   -- all that a seat can tell is true
   tells : (s : State (Unit {0}) View) (r : IsKept limits s) (id : ℕ) (v : View) (role : Role) → Fits limits r.world s.words id v → FitsRole r.world s.words id v.front v.asked role
       → All (IsTrueFact limits r.world (row_words limits s.words)) (facts_of role v)
-  tells s r id v (role.Home made seats) fits role_fits = fits.told
+  tells s r id v (role.Home numbered seats) fits role_fits = fits.told
   tells s r id v (role.Pass pass) fits role_fits =
       All-cons (IsTrueFact limits r.world (row_words limits s.words)) (fact.Asked pass v.asked) (v.own ++ v.told)
       (subst (IsPrefix v.asked) role_fits.all (prefix_self v.asked))
@@ -129,10 +159,11 @@ module _ (limits : Limits) where
     world = r.world;
     laid = r.laid;
     events = r.events;
+    passes = r.passes;
     asked = r.asked;
     covers = r.covers;
     fresh = r.fresh;
-    passes = seat-snoc r.world (set s.views id v) (note_of v) (seat-set r.world s.views id v v at (λ pass is. is) r.passes);
+    given = given-snoc r.world (set s.views id v) (note_of v) (given-set r.world s.views id v v at (same_kind v.role v.role refl) r.given);
     seats = each-snoc (Fits limits r.world s.words) (set s.views id v) (note_of v)
         (each-set (Fits limits r.world s.words) s.views id v (r.seats id v at) (λ j w _. r.seats j w))
         (note_fits s r id v (length (set s.views id v)) live (r.seats id v at));
@@ -156,11 +187,12 @@ module _ (limits : Limits) where
         world = r.world;
         laid = r.laid;
         events = r.events;
+        passes = r.passes;
         asked = r.asked;
         covers = r.covers;
         fresh = r.fresh;
-        passes = seat-set r.world (set s.views id (taken_in v w)) other w spent there (note_is_none w spent is_note)
-            (seat-set r.world s.views id v (taken_in v w) at (λ pass is. is) r.passes);
+        given = given-set r.world (set s.views id (taken_in v w)) other w spent there (note_kind w.role role.Spent is_note)
+            (given-set r.world s.views id v (taken_in v w) at (same_kind v.role v.role refl) r.given);
         seats = each-set (Fits limits r.world s.words) (set s.views id (taken_in v w)) other spent
             (record { sizes = tt; front = (r.world.history, refl); met = (r.world.history, refl); own = All-nil (IsTrueFact limits r.world (row_words limits s.words)); told = All-nil (IsTrueFact limits r.world (row_words limits s.words)); role = tt })
             (λ j x _ here. each-set (Fits limits r.world s.words) s.views id (taken_in v w) both (λ k y _. r.seats k y) j x here);

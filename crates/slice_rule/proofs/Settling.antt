@@ -28,18 +28,18 @@ module _ (limits : Limits) where
   -- a seat's role with a front between its own and the history
   role_fits : (s : State (Unit {0}) View) (r : IsKept limits s) (id : ℕ) (before asked front : List Event) → IsPrefix before front → IsPrefix front r.world.history
       → (role : Role) → FitsRole r.world s.words id before asked role → FitsRole r.world s.words id front asked role × Learns role before asked front
-  role_fits s r id before asked front begins within (role.Home made seats) fits =
+  role_fits s r id before asked front begins within (role.Home numbered seats) fits =
       let n = prefix_length front r.world.history within in
       let m = prefix_length before front begins in
       let l : length before ≡ length r.world.history = ap length fits.whole in
       let e : front ≡ r.world.history = prefix_whole front r.world.history within (omega arith) in
-      (record { one = fits.one; whole = e; counts = fits.counts; seated = fits.seated; no_more = fits.no_more; all_but_last = fits.all_but_last }, e ∙ sym fits.whole)
+      (record { one = fits.one; whole = e; counts = fits.counts; seated = fits.seated }, e ∙ sym fits.whole)
   role_fits s r id before asked front begins within (role.Pass pass) fits =
       let lacks = lacks_between (made_by pass before) (made_by pass front) (r.world.asked pass) fits.seen
       (made_by-prefix pass before front begins)
       (prefix_trans (made_by pass front) (made_by pass r.world.history) (r.world.asked pass)
       (made_by-prefix pass front r.world.history within) (r.asked.made pass).begins) in (
-        record { made = fits.made; one = fits.one; all = fits.all; seen = lacks },
+        record { seated = fits.seated; one = fits.one; all = fits.all; seen = lacks },
         subst (LacksAtMostOne (made_by pass front)) (sym fits.all) lacks,
       )
   role_fits s r id before asked front begins within role.Note fits = (tt, tt)
@@ -52,7 +52,7 @@ module _ (limits : Limits) where
   -- a front of a seat that isn't spent is legal
   sound : (s : State (Unit {0}) View) (r : IsKept limits s) (known : Limits) (front : List Event) → IsPrefix front r.world.history → (role : Role) → HasSizes limits known role → HasLegalFront role known front
   sound s r known front within role.Spent sizes = tt
-  sound s r known front within (role.Home made seats) sizes = legal_front s r known front within sizes
+  sound s r known front within (role.Home numbered seats) sizes = legal_front s r known front within sizes
   sound s r known front within (role.Pass pass) sizes = legal_front s r known front within sizes
   sound s r known front within role.Note sizes = legal_front s r known front within sizes
 

@@ -57,26 +57,30 @@ IsTrueFact limits world rows (fact.BitSet number b) = IsKnownSet limits world.hi
 IsTrueFact limits world rows (fact.WordZero number word) = IsKnownZero limits world.history rows number word
 IsTrueFact limits world rows (fact.WordRead number word value) = Unit {0}
 
--- the home is one seat, it has seen the whole history, and word 1 counts the passes that it has numbered; each of these has its
--- seat, but for the last of them, which may be about to get it
-pub record IsHome (world : World) (words : List ℕ) (id made seats : ℕ) (front : List Event) : Type 0 where
+-- so many passes are numbered, no more than the sizes have, and each of them has its seat, but for the last, which may be about to
+-- get it
+pub record CountsPasses (limits : Limits) (seated numbered : ℕ) : Type 0 where
+  pub in_range : numbered ≤ limits.passes
+  pub no_more : seated ≤ numbered
+  pub all_but_last : numbered ≤ seated + 1
+
+-- the home is one seat, it has seen the whole history, and it knows how many passes word 1 counts and how many of these have a seat
+pub record IsHome (world : World) (words : List ℕ) (id numbered seats : ℕ) (front : List Event) : Type 0 where
   pub one : id ≡ world.home
   pub whole : front ≡ world.history
-  pub counts : slice_index words 1 ≡ made
+  pub counts : slice_index words 1 ≡ numbered
   pub seated : seats ≡ world.seated
-  pub no_more : seats ≤ made
-  pub all_but_last : made ≤ seats + 1
 
 -- the number of a pass belongs to one seat, which knows what the pass asked; its front lacks at most the last of it
 pub record IsPassOf (world : World) (id pass : ℕ) (front asked : List Event) : Type 0 where
-  pub made : pass < world.seated
+  pub seated : pass < world.seated
   pub one : id ≡ world.seat pass
   pub all : asked ≡ world.asked pass
   pub seen : LacksAtMostOne (made_by pass front) (world.asked pass)
 
 -- what a seat knows by its role
 abbrev pub FitsRole : World → List ℕ → ℕ → List Event → List Event → Role → Type 0
-FitsRole world words id front asked (role.Home made seats) = IsHome world words id made seats front
+FitsRole world words id front asked (role.Home numbered seats) = IsHome world words id numbered seats front
 FitsRole world words id front asked (role.Pass pass) = IsPassOf world id pass front asked
 FitsRole world words id front asked _ = Unit {0}
 
@@ -94,15 +98,25 @@ pub record Fits (limits : Limits) (world : World) (words : List ℕ) (id : ℕ) 
   pub told : All (IsTrueFact limits world (row_words limits words)) v.told
   pub role : FitsRole world words id v.front v.asked v.role
 
--- the seat with this id is that of the pass
-pub record IsSeatOfPass (views : List View) (id pass : ℕ) : Type 0 where
+-- the seat with this id has a role of this kind
+pub record IsSeatOf (HasKind : Role → Type 0) (views : List View) (id : ℕ) : Type 0 where
   pub view : View
   pub at : get_elem? views id ≡ some view
-  pub role : view.role ≡ role.Pass pass
+  pub kind : HasKind view.role
 
--- each pass that was given a seat has it
-abbrev pub EachHasSeat : World → List View → Type 0
-EachHasSeat world views = (pass : ℕ) → pass < world.seated → IsSeatOfPass views (world.seat pass) pass
+-- the role is that of the home, whatever it counts
+abbrev pub IsHomeRole : Role → Type 0
+IsHomeRole (role.Home numbered seats) = Unit {0}
+IsHomeRole _ = ⊥
+
+-- the role is that of the pass
+abbrev pub IsPassRole : ℕ → Role → Type 0
+IsPassRole pass r = r ≡ role.Pass pass
+
+-- the home has its seat, and so has each pass that was given one
+pub record HaveSeats (world : World) (views : List View) : Type 0 where
+  pub home : IsSeatOf IsHomeRole views world.home
+  pub passes : (pass : ℕ) → pass < world.seated → IsSeatOf (IsPassRole pass) views (world.seat pass)
 
 -- the rule: beside the counts and what the seats know, the row words have each bit that the history has committed, and the words
 -- of a slice without a claimed column are zero
@@ -110,8 +124,9 @@ pub record IsKept (limits : Limits) (s : State (Unit {0}) View) : Type 0 where
   pub world : World
   pub laid : length s.words ≡ pool_words limits
   pub events : CountsEvents limits world s.words
+  pub passes : CountsPasses limits world.seated (slice_index s.words 1)
   pub asked : CountsAsked limits world s.words
   pub covers : Covers (row_words limits s.words) world.history
   pub fresh : AreFresh limits (row_words limits s.words) world.history
-  pub passes : EachHasSeat world s.views
+  pub given : HaveSeats world s.views
   pub seats : (id : ℕ) (v : View) → get_elem? s.views id ≡ some v → Fits limits world s.words id v

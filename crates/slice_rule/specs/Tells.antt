@@ -11,7 +11,7 @@ use Rattle.slice_rule.specs.declared.view.Role.TheVariants as role
 use Rattle.slice_rule.specs.declared.view.Fact.TheVariants as fact
 use Rattle.slice_rule.specs.declared.view.View.{View}
 use Rattle.slice_rule.specs.Pools.{first_row}
-use Rattle.slice_rule.specs.Views.{last_of, pass_of_role, numbered, settled, with_asked, with_event, with_own}
+use Rattle.slice_rule.specs.Views.{last_of, pass_of_role, settled, with_asked, with_event, with_number, with_own}
 use Rattle.slice_rule.specs.Worlds.{LacksAtMostOne, made_by}
 
 abbrev pub Seated : Type 0
@@ -19,12 +19,12 @@ Seated = Me (Unit {0}) View
 
 -- one more pass is numbered
 abbrev pub Numbers : Step (Unit {0}) → Seated → ℕ → Seated → Type 0
-Numbers st before found after = after ≡ (numbered before.0, before.1)
+Numbers st before found after = after ≡ (with_number before.0, before.1)
 
 -- what a seat of this role learns of its new front: a pass that it has all that it asked, or all but the last; the home that
 -- it had seen all before
 abbrev pub Learns : Role → List Event → List Event → List Event → Type 0
-Learns (role.Home made seats) before asked front = front ≡ before
+Learns (role.Home numbered seats) before asked front = front ≡ before
 Learns (role.Pass pass) before asked front = LacksAtMostOne (made_by pass front) asked
 Learns _ before asked front = Unit {0}
 

@@ -10,7 +10,7 @@ use Rattle.slice_rule.specs.declared.view.Fact.{Fact}
 use Rattle.slice_rule.specs.declared.view.Fact.TheVariants as fact
 use Rattle.slice_rule.specs.declared.view.View.{View}
 
--- the configuration of a seat that is spent
+-- a configuration of zeros: that of a seat that is spent, and of views and pools of which the configuration doesn't matter
 abbrev pub no_config : Config
 no_config = record { passes = 0; slices = 0; blocks = 0; max_rank = 0; commits = 0; one_in = 0; snr = 0; documents = 0; tail = 0; max_rows = 0; words = [] }
 
@@ -24,24 +24,26 @@ home_at_start limits config = view_at_start limits config (role.Home 0 0)
 
 -- the role of the home after one more pass is numbered
 abbrev pub numbered_role : Role → Role
-numbered_role (role.Home made seated) = role.Home (made + 1) seated
+numbered_role (role.Home numbered seats) = role.Home (numbered + 1) seats
 numbered_role other = other
 
 -- and after one more pass has its seat
 abbrev pub seated_role : Role → Role
-seated_role (role.Home made seated) = role.Home made (seated + 1)
+seated_role (role.Home numbered seats) = role.Home numbered (seats + 1)
 seated_role other = other
 
 -- the role of the pass that gets its seat next
 abbrev pub new_role : Role → Role
-new_role (role.Home made seated) = role.Pass seated
+new_role (role.Home numbered seats) = role.Pass seats
 new_role other = role.Note
 
-abbrev pub numbered : View → View
-numbered v = record v { role = numbered_role v.role }
+-- the home after one more pass is numbered
+abbrev pub with_number : View → View
+with_number v = record v { role = numbered_role v.role }
 
-abbrev pub seated : View → View
-seated v = record v { role = seated_role v.role }
+-- and after one more pass has its seat
+abbrev pub with_seat : View → View
+with_seat v = record v { role = seated_role v.role }
 
 -- the seat of a new pass
 abbrev pub new_pass : View → View
@@ -84,11 +86,11 @@ with_event v e = record v { front = v.front ++ e ∷ [] }
 abbrev pub with_own : View → Fact → View
 with_own v f = record v { own = f ∷ v.own }
 
--- the number of the pass, where the seat is that of a pass
+-- the number of the pass, where the seat is that of a pass; 0, and of no meaning, for the home, a note and a seat that is spent
 abbrev pub pass_of_role : Role → ℕ
 pass_of_role (role.Pass pass) = pass
 pass_of_role _ = 0
 
--- the number of the last event that the seat's pass made and it has seen
+-- the number of the last event that the seat's pass made and it has seen, where the seat is that of a pass
 abbrev pub last_of : View → ℕ
 last_of v = last_number (pass_of_role v.role) v.front

@@ -29,9 +29,9 @@ impl Play<(), View> for Number {
 pub struct ToPass;
 
 impl Split<View> for ToPass {
-    ghost use Rattle.slice_rule.specs.Views.{seated, new_pass};
+    ghost use Rattle.slice_rule.specs.Views.{new_pass, with_seat};
 
-    ghost left = { seated };
+    ghost left = { with_seat };
 
     ghost right = { new_pass };
 }

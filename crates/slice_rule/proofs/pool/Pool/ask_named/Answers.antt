@@ -23,5 +23,5 @@ store-requires g c =
       search rules,
       omega arith,
       asks key c.self.inside.table.shared.table_id.slots c.seat.inside.seat.id me c.seat.inside.number (c.seat.inside.asked + 1) g.J.EventName.named
-          c.seat.invariant.role within all (ap (λ (n : ℕ). n + 1) c.seat.invariant.count),
+          c.seat.invariant.role all (ap (λ (n : ℕ). n + 1) c.seat.invariant.count),
     )

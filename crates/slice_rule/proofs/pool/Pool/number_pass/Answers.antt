@@ -1,4 +1,5 @@
-use Rattle.std.proofs.Common.{refl, ◌+◌, rules, arith, ap, ◌∙◌}
+use Rattle.std.proofs.Common.{refl, ◌+◌, ◌<◌, rules, arith, ap, sym, ◌∙◌, subst}
+use Rattle.slice_rule.specs.Pools.{PoolId}
 use Rattle.slice_rule.specs.Tells.{Seated}
 use Rattle.slice_rule.specs.Views.{numbered_role}
 use Rattle.slice_rule.proofs.Numbering.{numbers, splits_pass}
@@ -6,10 +7,11 @@ use Rattle.slice_rule.proofs.pool.Pool.number_pass.Goals as goal
 
 pub fetch_add-requires : goal.fetch_add-requires
 fetch_add-requires c =
-    let key = c.self.inside.table.shared.key.sizes in (
+    let key = c.self.inside.table.shared.key.sizes in
+    let in_range = subst (λ (p : PoolId). c.args.number < p.limits.passes) (sym c.self.view_is) c.requires.in_range in (
       search rules,
       search rules,
-      numbers key c.self.inside.table.shared.table_id.slots c.args.home.now.id c.args.home.now.me c.args.number c.args.number (ap (λ (me : Seated). me.0.role) c.requires.home) refl (omega (arith, c.ranges.number.fits)),
+      numbers key c.self.inside.table.shared.table_id.slots c.args.home.now.id c.args.home.now.me c.args.number c.args.number (ap (λ (me : Seated). me.0.role) c.requires.home) refl in_range (omega (arith, c.ranges.number.fits)),
     )
 
 pub split_seat-requires : goal.split_seat-requires
