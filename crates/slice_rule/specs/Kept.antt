@@ -1,4 +1,5 @@
--- A pool in the middle of its work, as the rule sees it: every pass has seen the whole history.
+-- After each legal history the rule holds of some pool: one whose passes have all seen the whole history, asked nothing that it lacks,
+-- and know nothing of bits and words.
 use Rattle.std.specs.Prelude.{◌≡◌, ℕ, ◌*◌, ◌^◌, ◌<◌, List, [], ◌∷◌, ◌++◌, length, map}
 use Rattle.std.specs.List.{range_with_len}
 use Rattle.atomic_table.specs.Table.{State}
@@ -11,14 +12,14 @@ use Rattle.slice_rule.specs.Rule.{IsKept}
 use Rattle.slice_rule.specs.Views.{no_config, view_at_start}
 use Rattle.slice_rule.specs.Worlds.{made_by}
 
--- the home and a pass, after the history
+-- the home, and a pass that made its events of the history and asked no more
 abbrev pub home_after : Limits → List Event → View
 home_after limits history = record (view_at_start limits no_config (role.Home limits.passes limits.passes)) { front = history }
 
 abbrev pub pass_after : Limits → List Event → ℕ → View
 pass_after limits history pass = record (view_at_start limits no_config (role.Pass pass)) { front = history; asked = made_by pass history }
 
--- the pool after the history, with these row words
+-- the pool after the history, with these row words: each pass has its seat, and there is no note
 abbrev pub pool_after : Limits → List Event → List ℕ → State (Unit {0}) View
 pool_after limits history rows = record {
   words = (length history ∷ limits.passes ∷ map (λ pass. length (made_by pass history)) (range_with_len 0 limits.passes)) ++ rows;
@@ -34,6 +35,6 @@ pub record CanBeKept (limits : Limits) (history : List Event) (rows : List ℕ) 
   pub covers : Covers rows history
   pub fresh : AreFresh limits rows history
 
--- whatever the history is
+-- the rule holds of that pool, whatever the history is
 abbrev pub EachCanBeKept : Type 0
 EachCanBeKept = (limits : Limits) (history : List Event) (rows : List ℕ) → CanBeKept limits history rows → IsKept limits (pool_after limits history rows)

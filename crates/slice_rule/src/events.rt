@@ -1,4 +1,4 @@
-//! One event of a pass, from the ask to the pass's own sight of it.
+//! One event of a pass: what it sees before, and then all from the ask to its own sight of the event.
 ghost use Rattle.std.specs.Prelude.{◌≡◌, ◌-◌, ◌^◌, ◌<◌, ◌++◌, length, All};
 ghost use mathlib.Core.List.{IsPrefix};
 ghost use Rattle.funnel_model.specs.Events.{pass_of};

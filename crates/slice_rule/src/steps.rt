@@ -80,7 +80,7 @@ impl Pool {
         self.table.shared.load::<Settle>(&mut home.seat, 0);
     }
 
-    /// A pass asks for an event. It asks for no other one until the history has it.
+    /// A pass asks for an event. It asks for no other one until its front has it.
     pub fn ask<E: Entry>(&self, seat: &mut PassSeat, entry: &E)
         requires pool { seat.old.pool ≡ self.now }
         requires own { pass_of (E.event entry.now) ≡ seat.old.number }
