@@ -35,7 +35,7 @@ use Rattle.slice_rule.specs.Views.{with_event}
 use Rattle.slice_rule.specs.Worlds.{LacksAtMostOne, World, made_by}
 use Rattle.slice_rule.proofs.Numbering.{home_at}
 use Rattle.slice_rule.proofs.Prefixes.{made_by-other, made_by-own, prefix_more, prefix_self, prefix_trans}
-use Rattle.slice_rule.proofs.Seating.{each-set, given-set, same_kind}
+use Rattle.slice_rule.proofs.Seating.{each-set, given-set, refits, same_kind}
 
 -- the world after the event
 abbrev pub longer_world : World → Event → World
@@ -200,14 +200,8 @@ module _ (limits : Limits) where
                     seated = home.seated;
                   });
             })
-            (λ j w apart there. let theirs = r.seats j w there in record {
-              sizes = theirs.sizes;
-              front = prefix_trans w.front r.world.history (r.world.history ++ e ∷ []) theirs.front more;
-              met = prefix_trans w.met r.world.history (r.world.history ++ e ∷ []) theirs.met more;
-              own = keeps w.own theirs.own;
-              told = keeps w.told theirs.told;
-              role = other_role r.world s.words id n j e w.front w.asked home.one apart w.role theirs.role;
-            });
+            (λ j w apart there. refits limits r.world world s.words (set s.words 0 n) j w more keeps
+            (other_role r.world s.words id n j e w.front w.asked home.one apart w.role) (r.seats j w there));
       }
 
   pub appends : (slots id : ℕ) (me : Seated) (numbered seats : ℕ) (e : Event) → me.0.role ≡ role.Home numbered seats → length me.0.front < 2 ^ 63 - 1 → IsAllowed limits me.0.front e → IsBacked limits me.0.told me.0.front e

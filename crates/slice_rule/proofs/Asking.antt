@@ -21,7 +21,7 @@ use Rattle.std.proofs.lemmas.List.{drop-set-lt}
 use Rattle.std.specs.List.{All}
 use Rattle.funnel_model.specs.RowWords.{AreFresh, Covers}
 use Rattle.slice_rule.proofs.Facts.{all_of_more}
-use Rattle.slice_rule.proofs.Seating.{each-set, given-set, same_kind}
+use Rattle.slice_rule.proofs.Seating.{each-set, given-set, refits, same_kind}
 
 -- the world after the pass asked one more event
 abbrev pub asked_world : World → ℕ → Event → World
@@ -148,14 +148,8 @@ module _ (limits : Limits) where
                           (made_but_last mine all seat.front v.front (prefix_self v.front) (subst (IsPrefix (made_by pass v.front)) (sym all ∙ mine.all) (prefix_self (made_by pass v.front))));
                     });
               })
-              (λ j w apart there. let theirs = r.seats j w there in record {
-                sizes = theirs.sizes;
-                front = theirs.front;
-                met = theirs.met;
-                own = keeps w.own theirs.own;
-                told = keeps w.told theirs.told;
-                role = other_role r.world s.words pass id n j e w.front w.asked mine.one apart w.role theirs.role;
-              });
+              (λ j w apart there. refits limits r.world world s.words (set s.words (ask_word pass) n) j w (prefix_self r.world.history) keeps
+              (other_role r.world s.words pass id n j e w.front w.asked mine.one apart w.role) (r.seats j w there));
         }
 
   pub asks : (slots id : ℕ) (me : Seated) (pass n : ℕ) (e : Event) → me.0.role ≡ role.Pass pass → me.0.asked ≡ made_by pass me.0.front → n ≡ length me.0.asked + 1

@@ -28,7 +28,7 @@ use Rattle.slice_rule.specs.Rule.{IsKept, IsKnownSet, IsKnownZero}
 use Rattle.slice_rule.specs.Tells.{ClearsWord, Seated}
 use Rattle.slice_rule.specs.Views.{last_of, pass_of_role, with_own}
 use Rattle.slice_rule.specs.Worlds.{made_by}
-use Rattle.slice_rule.proofs.Facts.{KeepsFacts}
+use Rattle.slice_rule.proofs.Facts.{KeepsFacts, still_set, still_zero}
 use Rattle.slice_rule.proofs.RowChanges.{front_at, in_pool, writes_row}
 use Rattle.slice_rule.proofs.Since.{comes_later, is_last, none_filled, number-front, one_event}
 
@@ -69,34 +69,19 @@ module _ (limits : Limits) (history : List Event) (rows : List ℕ) (legal : IsL
         (cases_eq other word)
 
     keeps_set : (number : ℕ) (b : Bit) → IsKnownSet limits history rows number b → IsKnownSet limits history less number b
-    keeps_set number b known = record {
-      pass = known.pass;
-      slice = known.slice;
-      column = known.column;
-      take = known.take;
-      inside = known.inside;
-      set = ⊎_elim
-          (λ set. ⊎_elim
-          (λ (same : b.word ≡ word).
-          let slices : slice ≡ known.slice = slices_apart limits.slice_words slice known.slice word inside (subst (IsInSlice limits.slice_words known.slice) same known.inside) in
-          inr (cleared_in known.slice slices number known.pass known.column known.take))
-          (λ (apart : b.word ≡ word → ⊥). inl (subst (λ (n : ℕ). IsBitSet n b.bit) (sym (get_or-set_other rows word b.word 0 0 apart)) set))
-          (cases_eq b.word word))
-          (λ cleared. inr cleared)
-          known.set;
-    } where
-      cleared_in : (other : ℕ) → slice ≡ other → (k taker column : ℕ) (take : HasEvent history k (event.Take taker other column)) → list_any (clears other) take.later ≡ true
-      cleared_in other same k taker column =
-          subst (λ (t : ℕ). (take : HasEvent history k (event.Take taker t column)) → list_any (clears t) take.later ≡ true) same (cleared_since k taker column)
+    keeps_set number b known = still_set limits known
+        (λ set. ⊎_elim
+        (λ (same : b.word ≡ word).
+        let slices : slice ≡ known.slice = slices_apart limits.slice_words slice known.slice word inside (subst (IsInSlice limits.slice_words known.slice) same known.inside) in
+        inr (cleared_in known.slice slices number known.pass known.column known.take))
+        (λ (apart : b.word ≡ word → ⊥). inl (subst (λ (n : ℕ). IsBitSet n b.bit) (sym (get_or-set_other rows word b.word 0 0 apart)) set))
+        (cases_eq b.word word)) where
+          cleared_in : (other : ℕ) → slice ≡ other → (k taker column : ℕ) (take : HasEvent history k (event.Take taker other column)) → list_any (clears other) take.later ≡ true
+          cleared_in other same k taker column =
+              subst (λ (t : ℕ). (take : HasEvent history k (event.Take taker t column)) → list_any (clears t) take.later ≡ true) same (cleared_since k taker column)
 
     keeps_zero : (number other : ℕ) → IsKnownZero limits history rows number other → IsKnownZero limits history less number other
-    keeps_zero number other known = record {
-      pass = known.pass;
-      slice = known.slice;
-      clear = known.clear;
-      inside = known.inside;
-      zero = ⊎_elim (λ zero. inl (stays_zero other zero)) (λ taken. inr taken) known.zero;
-    }
+    keeps_zero number other known = still_zero limits known (λ zero. inl (stays_zero other zero))
 
     pub clear_keeps : KeepsFacts limits history rows less
     clear_keeps = record { set = keeps_set; zero = keeps_zero }

@@ -1,15 +1,17 @@
 -- What a seat knows stays true.
-use Rattle.std.proofs.Common.{◌≡◌, ℕ, ⊎_elim, inl, inr, Bool, true, List, ◌++◌, sym, ◌∙◌, subst}
+use Rattle.std.proofs.Common.{◌≡◌, ℕ, ◌⊎◌, ⊎_elim, inl, inr, Bool, true, List, ◌++◌, sym, ◌∙◌, subst}
 use Rattle.std.proofs.lemmas.Bool.{or_left}
 use Rattle.std.proofs.lemmas.List.Elements.{All-weaker}
 use Rattle.std.proofs.lemmas.List.Folds.{list_any-append}
 use Rattle.std.specs.List.{All, list_any}
+use Rattle.std.specs.Prelude.{slice_index}
 use mathlib.Core.List.{IsPrefix}
 use Rattle.funnel_model.specs.declared.bit_list.Bit.{Bit}
 use Rattle.funnel_model.specs.declared.event.Event.{Event}
 use Rattle.funnel_model.specs.declared.event.Event.TheVariants as event
 use Rattle.funnel_model.specs.Events.{clears}
 use Rattle.funnel_model.specs.Legal.{Limits}
+use Rattle.funnel_model.specs.RowWords.{IsSetIn}
 use Rattle.slice_rule.specs.declared.view.Fact.{Fact}
 use Rattle.slice_rule.specs.declared.view.Fact.TheVariants as fact
 use Rattle.slice_rule.specs.Numbers.{takes_in}
@@ -61,6 +63,28 @@ module _ (limits : Limits) where
   pub all_later : (world more : World) (rows : List ℕ) (later : List Event) → more.history ≡ world.history ++ later → ((pass : ℕ) → more.asked pass ≡ world.asked pass) → (facts : List Fact)
       → All (IsTrueFact limits world rows) facts → All (IsTrueFact limits more rows) facts
   all_later world more rows later goes asked = All-weaker (IsTrueFact limits world rows) (IsTrueFact limits more rows) (true_later world more rows later goes asked)
+
+  -- a bit stays known set, and a word known zero, by what changed row words owe it
+  pub still_set : {history : List Event} {rows more : List ℕ} {number : ℕ} {b : Bit} (known : IsKnownSet limits history rows number b)
+      → (IsSetIn rows b → IsSetIn more b ⊎ (list_any (clears known.slice) known.take.later ≡ true)) → IsKnownSet limits history more number b
+  still_set known stays = record {
+    pass = known.pass;
+    slice = known.slice;
+    column = known.column;
+    take = known.take;
+    inside = known.inside;
+    set = ⊎_elim stays (λ cleared. inr cleared) known.set;
+  }
+
+  pub still_zero : {history : List Event} {rows more : List ℕ} {number word : ℕ} (known : IsKnownZero limits history rows number word)
+      → (slice_index rows word ≡ 0 → (slice_index more word ≡ 0) ⊎ (list_any (takes_in known.slice) known.clear.later ≡ true)) → IsKnownZero limits history more number word
+  still_zero known stays = record {
+    pass = known.pass;
+    slice = known.slice;
+    clear = known.clear;
+    inside = known.inside;
+    zero = ⊎_elim stays (λ taken. inr taken) known.zero;
+  }
 
   -- what changed row words owe the facts about bits and words
   pub record KeepsFacts (history : List Event) (rows more : List ℕ) : Type 0 where

@@ -22,7 +22,7 @@ use Rattle.funnel_model.specs.RowWords.{AreFresh, Covers}
 use Rattle.slice_rule.specs.declared.view.Fact.{Fact}
 use Rattle.slice_rule.proofs.Facts.{all_of_more}
 use Rattle.slice_rule.proofs.Prefixes.{prefix_self}
-use Rattle.slice_rule.proofs.Seating.{each-set, each-snoc, given-set, given-snoc, home_kind}
+use Rattle.slice_rule.proofs.Seating.{each-set, each-snoc, given-set, given-snoc, home_kind, refits}
 
 module _ (limits : Limits) where
   -- what the home's seat knows
@@ -75,14 +75,8 @@ module _ (limits : Limits) where
               role = subst (λ (x : Role). FitsRole r.world (set s.words 1 n) id v.front v.asked (numbered_role x)) (sym is)
                   (record { one = home.one; whole = home.whole; counts = get_or-set_same s.words 1 n 0 at_one ∙ next; seated = home.seated });
             })
-            (λ j w apart there. let theirs = r.seats j w there in record {
-              sizes = theirs.sizes;
-              front = theirs.front;
-              met = theirs.met;
-              own = keeps w.own theirs.own;
-              told = keeps w.told theirs.told;
-              role = other_role r.world s.words id n j w.front w.asked home.one apart w.role theirs.role;
-            });
+            (λ j w apart there. refits limits r.world r.world s.words (set s.words 1 n) j w (prefix_self r.world.history) keeps
+            (other_role r.world s.words id n j w.front w.asked home.one apart w.role) (r.seats j w there));
       }
 
   pub numbers : (slots id : ℕ) (me : Seated) (numbered seats : ℕ) → me.0.role ≡ role.Home numbered seats → numbered ≡ seats → numbered < limits.passes → numbered < 2 ^ 32
@@ -173,14 +167,8 @@ module _ (limits : Limits) where
               role = subst (λ (x : Role). FitsRole world s.words id v.front v.asked (seated_role x)) (sym is)
                   (record { one = home.one; whole = home.whole; counts = home.counts; seated = ap (λ (n : ℕ). n + 1) home.seated });
             })
-            (λ j w apart there. let theirs = r.seats j w there in record {
-              sizes = theirs.sizes;
-              front = theirs.front;
-              met = theirs.met;
-              own = keeps w.own theirs.own;
-              told = keeps w.told theirs.told;
-              role = unseated_role r.world s.words id new j w.front w.asked home.one apart w.role theirs.role;
-            }))
+            (λ j w apart there. refits limits r.world world s.words s.words j w (prefix_self r.world.history) keeps
+            (unseated_role r.world s.words id new j w.front w.asked home.one apart w.role) (r.seats j w there)))
             (record {
               sizes = subst (λ (x : Role). HasSizes limits v.limits (new_role x)) (sym is) sizes;
               front = (r.world.history, refl);

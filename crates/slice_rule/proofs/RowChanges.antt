@@ -21,8 +21,8 @@ use Rattle.slice_rule.specs.Views.{with_own}
 use Rattle.slice_rule.specs.Worlds.{World, made_by}
 use Rattle.slice_rule.proofs.Asking.{pass_at}
 use Rattle.slice_rule.proofs.Facts.{KeepsFacts, all_in}
-use Rattle.slice_rule.proofs.Prefixes.{front_is, none_since}
-use Rattle.slice_rule.proofs.Seating.{each-set, given-set, same_kind}
+use Rattle.slice_rule.proofs.Prefixes.{front_is, none_since, prefix_self}
+use Rattle.slice_rule.proofs.Seating.{each-set, given-set, refits, same_kind}
 
 -- what a seat knows by its role doesn't speak of row words
 role_kept : (world : World) (words : List ℕ) (i n j : ℕ) (front asked : List Event) → 2 ≤ i → (role : Role) → FitsRole world words j front asked role
@@ -87,14 +87,8 @@ module _ (limits : Limits) where
               told = facts v.told mine.told;
               role = role_kept r.world s.words i n id v.front v.asked (omega arith) v.role mine.role;
             })
-            (λ j w apart there. let theirs = r.seats j w there in record {
-              sizes = theirs.sizes;
-              front = theirs.front;
-              met = theirs.met;
-              own = facts w.own theirs.own;
-              told = facts w.told theirs.told;
-              role = role_kept r.world s.words i n j w.front w.asked (omega arith) w.role theirs.role;
-            });
+            (λ j w apart there. refits limits r.world r.world s.words (set s.words i n) j w (prefix_self r.world.history) facts
+            (role_kept r.world s.words i n j w.front w.asked (omega arith) w.role) (r.seats j w there));
       }
 
   -- a pass that has nothing outstanding: the history has no event of it that its front lacks

@@ -12,11 +12,12 @@ use Rattle.slice_rule.specs.declared.view.View.{View}
 use Rattle.slice_rule.specs.Rule.{Fits, FitsRole, HasSizes, HaveSeats, IsHomeRole, IsKept, IsPassRole, IsSeatOf, IsTrueFact}
 use Rattle.slice_rule.specs.declared.view.Role.{Role}
 use Rattle.slice_rule.specs.declared.view.Role.TheVariants as role
+use Rattle.slice_rule.specs.declared.view.Fact.{Fact}
 use Rattle.slice_rule.specs.declared.view.Fact.TheVariants as fact
 use Rattle.slice_rule.specs.Pools.{row_words}
 use Rattle.slice_rule.specs.Views.{facts_of, note_of, spent, taken_in}
 use Rattle.slice_rule.specs.Worlds.{World}
-use Rattle.slice_rule.proofs.Prefixes.{prefix_self}
+use Rattle.slice_rule.proofs.Prefixes.{prefix_self, prefix_trans}
 use Rattle.std.specs.List.{All}
 
 -- a place where something stands is one of the list
@@ -117,10 +118,10 @@ live_sizes limits known role.Note live sizes = sizes
 live_sizes limits known role.Spent live sizes = absurd live
 
 module _ (limits : Limits) where
-  -- one seat has a new view, and no word changes
-  pub viewed : (s : State (Unit {0}) View) (r : IsKept limits s) (id : ℕ) (v w : View) → get_elem? s.views id ≡ some v → w.role ≡ v.role → Fits limits r.world s.words id w
-      → IsKept limits (record { words = s.words; homes = s.homes; views = set s.views id w })
-  viewed s r id v w at same fits = record {
+  -- no word changes
+  seats_change : (s : State (Unit {0}) View) (r : IsKept limits s) (views : List View) → HaveSeats r.world views → EachSeat (Fits limits r.world s.words) views
+      → IsKept limits (record { words = s.words; homes = s.homes; views = views })
+  seats_change s r views given seats = record {
     world = r.world;
     laid = r.laid;
     events = r.events;
@@ -128,8 +129,28 @@ module _ (limits : Limits) where
     asked = r.asked;
     covers = r.covers;
     fresh = r.fresh;
-    given = given-set r.world s.views id v w at (same_kind v.role w.role same) r.given;
-    seats = each-set (Fits limits r.world s.words) s.views id w fits (λ j x _. r.seats j x);
+    given = given;
+    seats = seats;
+  }
+
+  -- one seat has a new view, and no word changes
+  pub viewed : (s : State (Unit {0}) View) (r : IsKept limits s) (id : ℕ) (v w : View) → get_elem? s.views id ≡ some v → w.role ≡ v.role → Fits limits r.world s.words id w
+      → IsKept limits (record { words = s.words; homes = s.homes; views = set s.views id w })
+  viewed s r id v w at same fits =
+      seats_change s r (set s.views id w) (given-set r.world s.views id v w at (same_kind v.role w.role same) r.given)
+      (each-set (Fits limits r.world s.words) s.views id w fits (λ j x _. r.seats j x))
+
+  -- a seat fits another world and other words, by what these owe its fronts, its facts and its role
+  pub refits : (world more : World) (words new : List ℕ) (id : ℕ) (v : View) → IsPrefix world.history more.history
+      → ((facts : List Fact) → All (IsTrueFact limits world (row_words limits words)) facts → All (IsTrueFact limits more (row_words limits new)) facts)
+      → (FitsRole world words id v.front v.asked v.role → FitsRole more new id v.front v.asked v.role) → Fits limits world words id v → Fits limits more new id v
+  refits world more words new id v goes keeps role fits = record {
+    sizes = fits.sizes;
+    front = prefix_trans v.front world.history more.history fits.front goes;
+    met = prefix_trans v.met world.history more.history fits.met goes;
+    own = keeps v.own fits.own;
+    told = keeps v.told fits.told;
+    role = role fits.role;
   }
 
   -- all that a seat can tell is true
@@ -155,19 +176,13 @@ module _ (limits : Limits) where
   }
 
   pub splits_note : (id : ℕ) (v : View) → IsLive v.role → Splits (IsKept limits) id v v (note_of v)
-  splits_note id v live s r at = record {
-    world = r.world;
-    laid = r.laid;
-    events = r.events;
-    passes = r.passes;
-    asked = r.asked;
-    covers = r.covers;
-    fresh = r.fresh;
-    given = given-snoc r.world (set s.views id v) (note_of v) (given-set r.world s.views id v v at (same_kind v.role v.role refl) r.given);
-    seats = each-snoc (Fits limits r.world s.words) (set s.views id v) (note_of v)
-        (each-set (Fits limits r.world s.words) s.views id v (r.seats id v at) (λ j w _. r.seats j w))
-        (note_fits s r id v (length (set s.views id v)) live (r.seats id v at));
-  }
+  splits_note id v live s r at =
+      let views = set s.views id v in
+      seats_change s r (views ++ note_of v ∷ [])
+      (given-snoc r.world views (note_of v) (given-set r.world s.views id v v at (same_kind v.role v.role refl) r.given))
+      (each-snoc (Fits limits r.world s.words) views (note_of v)
+      (each-set (Fits limits r.world s.words) s.views id v (r.seats id v at) (λ j w _. r.seats j w))
+      (note_fits s r id v (length views) live (r.seats id v at)))
 
   pub joins_note : (id : ℕ) (v : View) (other : ℕ) (w : View) → w.role ≡ role.Note → Joins (IsKept limits) id v other w (taken_in v w) spent
   joins_note id v other w is_note s r at apart there =
@@ -183,17 +198,11 @@ module _ (limits : Limits) where
         told = All-append (IsTrueFact limits r.world (row_words limits s.words)) w.told v.told note.told mine.told;
         role = mine.role;
       } in
-      record {
-        world = r.world;
-        laid = r.laid;
-        events = r.events;
-        passes = r.passes;
-        asked = r.asked;
-        covers = r.covers;
-        fresh = r.fresh;
-        given = given-set r.world (set s.views id (taken_in v w)) other w spent there (note_kind w.role role.Spent is_note)
-            (given-set r.world s.views id v (taken_in v w) at (same_kind v.role v.role refl) r.given);
-        seats = each-set (Fits limits r.world s.words) (set s.views id (taken_in v w)) other spent
-            (record { sizes = tt; front = (r.world.history, refl); met = (r.world.history, refl); own = All-nil (IsTrueFact limits r.world (row_words limits s.words)); told = All-nil (IsTrueFact limits r.world (row_words limits s.words)); role = tt })
-            (λ j x _ here. each-set (Fits limits r.world s.words) s.views id (taken_in v w) both (λ k y _. r.seats k y) j x here);
-      }
+      let nothing = All-nil (IsTrueFact limits r.world (row_words limits s.words)) in
+      let views = set s.views id (taken_in v w) in
+      seats_change s r (set views other spent)
+      (given-set r.world views other w spent there (note_kind w.role role.Spent is_note)
+      (given-set r.world s.views id v (taken_in v w) at (same_kind v.role v.role refl) r.given))
+      (each-set (Fits limits r.world s.words) views other spent
+      (record { sizes = tt; front = (r.world.history, refl); met = (r.world.history, refl); own = nothing; told = nothing; role = tt })
+      (λ j x _ here. each-set (Fits limits r.world s.words) s.views id (taken_in v w) both (λ k y _. r.seats k y) j x here))

@@ -34,7 +34,7 @@ use Rattle.slice_rule.specs.Rule.{IsKept, IsKnownSet, IsKnownZero}
 use Rattle.slice_rule.specs.Tells.{Seated, SetsBit}
 use Rattle.slice_rule.specs.Views.{last_of, pass_of_role, with_own}
 use Rattle.slice_rule.specs.Worlds.{made_by}
-use Rattle.slice_rule.proofs.Facts.{KeepsFacts}
+use Rattle.slice_rule.proofs.Facts.{KeepsFacts, still_set, still_zero}
 use Rattle.slice_rule.proofs.RowChanges.{front_at, in_pool, writes_row}
 use Rattle.slice_rule.proofs.Since.{comes_later, is_last, none_cleared, number-front, one_event}
 
@@ -100,34 +100,19 @@ module _ (limits : Limits) (history : List Event) (rows : List ℕ) (legal : IsL
         get_or-set_other rows word other (bit_or (get_or rows word 0) (2 ^ bit)) 0 (λ same. outside (subst (IsInSlice limits.slice_words slice) (sym same) inside)) ∙ zero
 
     keeps_set : (number : ℕ) (b : Bit) → IsKnownSet limits history rows number b → IsKnownSet limits history more number b
-    keeps_set number b known = record {
-      pass = known.pass;
-      slice = known.slice;
-      column = known.column;
-      take = known.take;
-      inside = known.inside;
-      set = ⊎_elim (λ set. inl (stays_set b set)) (λ cleared. inr cleared) known.set;
-    }
+    keeps_set number b known = still_set limits known (λ set. inl (stays_set b set))
 
     keeps_zero : (number other : ℕ) → IsKnownZero limits history rows number other → IsKnownZero limits history more number other
-    keeps_zero number other known = record {
-      pass = known.pass;
-      slice = known.slice;
-      clear = known.clear;
-      inside = known.inside;
-      zero = ⊎_elim
-          (λ zero. ⊎_elim
-          (λ (same : other ≡ word).
-          let slices : slice ≡ known.slice = slices_apart limits.slice_words slice known.slice word inside (subst (IsInSlice limits.slice_words known.slice) same known.inside) in
-          inr (taken_in known.slice slices number known.pass known.clear))
-          (λ (apart : other ≡ word → ⊥). inl (get_or-set_other rows word other (bit_or (get_or rows word 0) (2 ^ bit)) 0 apart ∙ zero))
-          (cases_eq other word))
-          (λ taken. inr taken)
-          known.zero;
-    } where
-      taken_in : (other_slice : ℕ) → slice ≡ other_slice → (k cleaner : ℕ) (clear : HasEvent history k (event.Clear cleaner other_slice)) → list_any (takes_in other_slice) clear.later ≡ true
-      taken_in other_slice same k cleaner =
-          subst (λ (t : ℕ). (clear : HasEvent history k (event.Clear cleaner t)) → list_any (takes_in t) clear.later ≡ true) same (taken_since k cleaner)
+    keeps_zero number other known = still_zero limits known
+        (λ zero. ⊎_elim
+        (λ (same : other ≡ word).
+        let slices : slice ≡ known.slice = slices_apart limits.slice_words slice known.slice word inside (subst (IsInSlice limits.slice_words known.slice) same known.inside) in
+        inr (taken_in known.slice slices number known.pass known.clear))
+        (λ (apart : other ≡ word → ⊥). inl (get_or-set_other rows word other (bit_or (get_or rows word 0) (2 ^ bit)) 0 apart ∙ zero))
+        (cases_eq other word)) where
+          taken_in : (other_slice : ℕ) → slice ≡ other_slice → (k cleaner : ℕ) (clear : HasEvent history k (event.Clear cleaner other_slice)) → list_any (takes_in other_slice) clear.later ≡ true
+          taken_in other_slice same k cleaner =
+              subst (λ (t : ℕ). (clear : HasEvent history k (event.Clear cleaner t)) → list_any (takes_in t) clear.later ≡ true) same (taken_since k cleaner)
 
     pub set_keeps : KeepsFacts limits history rows more
     set_keeps = record { set = keeps_set; zero = keeps_zero }
