@@ -1,9 +1,12 @@
 -- Calls on a stream, one after another.
-use Rattle.std.proofs.Common.{◌≡◌, ◌<◌, ◌+◌, ◌-◌, ℕ, true, false, List, [], ◌∷◌, ◌++◌, length, take, drop, sym, refl, ap, ◌∙◌, arith, length-append, length-take, length-drop, take-append-drop}
+use Rattle.std.proofs.Common.{◌≡◌, ◌<◌, ◌+◌, ◌-◌, ℕ, true, false, List, [], ◌∷◌, ◌++◌, length, take, drop, sym, refl, ap, ◌∙◌, arith, append_assoc, append-nil, length-append, length-take, length-drop, take-append-drop}
 use Rattle.std.proofs.lemmas.List.{take_rest}
 use Rattle.std.proofs.Math.Seq.{take-length}
-use Rattle.funnel_io.specs.Calls.{Write, Leads, AreOfRest, IsOfRest, TookBytes, WritesAs, bytes_written}
+use Rattle.funnel_io.specs.Answers.{MatchGot, read_failed}
+use Rattle.funnel_io.specs.Calls.{Read, Write, Leads, AreOfRest, GaveBytes, IsOfRest, TookBytes, WritesAs, bytes_read, bytes_written, found_end, is_end, last_failed}
 use Rattle.funnel_io.specs.declared.sink.Put.TheVariants as put
+use Rattle.funnel_io.specs.declared.source.Got.{Got}
+use Rattle.funnel_io.specs.declared.source.Got.TheVariants as got
 use Rattle.funnel_io.proofs.Sending.{take-sent}
 
 -- the first bytes went out by these writes
@@ -61,3 +64,27 @@ writes_all gives bytes sent before now p all = record {
   of_rest = p.of_rest;
   sent = p.sent_are ∙ (ap (λ n. take n bytes) all ∙ take-length bytes);
 }
+
+-- where the last read found no end and didn't fail, it gave bytes
+pub gave_bytes : (reads : List Read) → found_end reads ≡ false → last_failed reads ≡ false → GaveBytes reads
+gave_bytes [] no_end no_failure = tt
+gave_bytes (read ∷ earlier) no_end no_failure = gave read.answer no_end no_failure where
+  gave : (answer : Got) → is_end answer ≡ false → read_failed answer ≡ false → MatchGot answer (λ _. Unit {0}) ⊥ ⊥
+  gave (got.Bytes n) not_end not_failed = tt
+  gave got.End not_end not_failed = cc
+  gave got.Failed not_end not_failed = cc
+
+-- the bytes of reads come behind those of the reads before them
+pub bytes_read-append : (reads earlier : List Read) → bytes_read (reads ++ earlier) ≡ bytes_read earlier ++ bytes_read reads
+bytes_read-append [] earlier = sym (append-nil (bytes_read earlier))
+bytes_read-append (read ∷ reads) earlier =
+    ap (λ bs. bs ++ read.bytes) (bytes_read-append reads earlier) ∙ append_assoc (bytes_read earlier) (bytes_read reads) read.bytes
+
+-- what the last of the reads did, it did after those before them
+pub gave_bytes-append : (reads earlier : List Read) → GaveBytes reads → GaveBytes earlier → GaveBytes (reads ++ earlier)
+gave_bytes-append [] earlier gave gave_before = gave_before
+gave_bytes-append (read ∷ reads) earlier gave gave_before = gave
+
+pub last_failed-append : (reads earlier : List Read) → last_failed reads ≡ false → last_failed earlier ≡ false → last_failed (reads ++ earlier) ≡ false
+last_failed-append [] earlier none none_before = none_before
+last_failed-append (read ∷ reads) earlier none none_before = none

@@ -6,8 +6,8 @@ use Rattle.std.proofs.lemmas.Bool.Decides.{leb_tells}
 use Rattle.std.proofs.lemmas.List.Concat.{flat_map-append}
 use Rattle.std.proofs.lemmas.List.Elements.{All-append, All-contains, All-push, All-nil}
 use Rattle.funnel_io.specs.Lines.{Cut, HasNoNewline, with_newlines, last_line, lines, cut, whole_lines, rest_of}
-use Rattle.funnel_io.specs.LineReading.{ReaderState, HoldsEnd, HasGiven, IsCutAtNewline, IsCutAtEnd, Gives, GivesLine, IsDecided}
-use Rattle.funnel_io.specs.LineSteps.{KeepsEnd}
+use Rattle.funnel_io.specs.LineReading.{ReaderState, HoldsEnd, HasGiven, IsCutAtNewline, IsCutAtEnd, Gives, GivesLine, IsDecided, line_failed}
+use Rattle.funnel_io.specs.LineSteps.{IsOfBytes, KeepsEnd}
 use Rattle.funnel_io.specs.declared.line_reader.Line.{Line}
 use Rattle.funnel_io.specs.declared.line_reader.Line.TheVariants as answer
 use Rattle.funnel_io.proofs.CutLaws.{only_cut, cut_on}
@@ -206,6 +206,14 @@ still_given now bytes clean not_at_end taken given so_far =
     (further taken given so_far.rest bytes (at_newline taken given so_far.rest now.ended not_at_end so_far.cut))
     (subst HasNoNewline (sym (ap (λ xs. xs ++ bytes) end.joined ∙ append_assoc end.dropped now.held bytes)) (clean-append end.dropped (now.held ++ bytes) end.clean clean))
     ∙ append-nil given
+
+-- what the bytes at hand decide is no failure
+pub not_failed : (given : Line) → IsOfBytes given → line_failed given ≡ false
+not_failed answer.Whole so = refl
+not_failed answer.Long so = refl
+not_failed answer.Finished so = refl
+not_failed answer.Failed so = absurd so
+not_failed answer.Limit so = absurd so
 
 -- after lines that newlines ended, what follows is cut by itself
 pub lines_on : (taken : List ℕ) (given : List (List ℕ)) (rest : List ℕ) (ended : Bool) → IsCutAtNewline taken given rest

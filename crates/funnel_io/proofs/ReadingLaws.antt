@@ -1,10 +1,10 @@
 -- The reads that a line is read by.
 use Rattle.std.proofs.Common.{◌≡◌, ◌≢◌, ◌<◌, ◌+◌, ℕ, Bool, true, false, ◌||◌, List, [], ◌∷◌, ◌++◌, length, refl, sym, ap, ◌∙◌, subst, arith, append_assoc, append-nil, length-append}
 use Rattle.std.proofs.lemmas.List.Elements.{All-append, All-tail}
-use Rattle.funnel_io.specs.Answers.{MatchGot}
-use Rattle.funnel_io.specs.Calls.{Read, Leads, GaveBytes, bytes_read, found_end, is_end}
+use Rattle.funnel_io.specs.Answers.{MatchGot, read_failed}
+use Rattle.funnel_io.specs.Calls.{Read, Leads, GaveBytes, bytes_read, found_end, is_end, last_failed}
 use Rattle.funnel_io.specs.LineBuffers.{ReadsOnce}
-use Rattle.funnel_io.specs.LineReading.{ReaderState, HasGiven, Gives, NextLine, AreNeeded, IsNeeded}
+use Rattle.funnel_io.specs.LineReading.{ReaderState, HasGiven, Gives, NextLine, AreNeeded, IsNeeded, line_failed}
 use Rattle.funnel_io.specs.LineSteps.{KeepsEnd, ReadsNext}
 use Rattle.funnel_io.specs.Lines.{HasNoNewline}
 use Rattle.funnel_io.specs.Streams.{Incoming, Takes}
@@ -75,6 +75,15 @@ no_end (read ∷ earlier) going_on = no_end_of read.answer going_on where
   no_end_of got.End so = absurd so
   no_end_of got.Failed so = absurd so
 
+-- nor are they a failure
+no_failure : (reads : List Read) → GaveBytes reads → last_failed reads ≡ false
+no_failure [] going_on = refl
+no_failure (read ∷ earlier) going_on = no_failure_of read.answer going_on where
+  no_failure_of : (answer : Got) → MatchGot answer (λ _. Unit {0}) ⊥ ⊥ → read_failed answer ≡ false
+  no_failure_of (got.Bytes n) so = refl
+  no_failure_of got.End so = absurd so
+  no_failure_of got.Failed so = absurd so
+
 module _ {S : Type 0} (incoming : S → Incoming) (gives : S → Read → S → Type 0) (before now : S) (old reader : ReaderState) (may still : ℕ)
     (p : HasRead incoming gives before now old reader may still) where
   -- what the reader's answer says of the bytes that it took before it
@@ -82,12 +91,14 @@ module _ {S : Type 0} (incoming : S → Incoming) (gives : S → Read → S → 
   Answers from new answer = (taken : List ℕ) (given : List (List ℕ)) → HasGiven from taken given → Gives answer taken given new
 
   -- an answer, where no further read was made
-  pub answered : (new : ReaderState) (line : Line) → new.ended ≡ reader.ended → Answers reader new line → NextLine incoming gives old new line before now may still
-  answered new line same answers = record {
+  pub answered : (new : ReaderState) (line : Line) → new.ended ≡ reader.ended → line_failed line ≡ false → Answers reader new line
+      → NextLine incoming gives old new line before now may still
+  answered new line same not_failed answers = record {
     reads = p.reads;
     lead = p.lead;
     needed = p.needed;
     ended = same ∙ (p.ended ∙ (sym (or-false old.ended) ∙ ap (λ b. old.ended || b) (sym (no_end p.reads p.going_on))));
+    failed = no_failure p.reads p.going_on ∙ sym not_failed;
     takes = p.takes;
     count = p.count;
     gives = λ taken given so_far. answers (taken ++ bytes_read p.reads) given (p.keeps taken given so_far);
@@ -118,12 +129,14 @@ module _ {S : Type 0} (incoming : S → Incoming) (gives : S → Read → S → 
         subst P (append_assoc taken (bytes_read p.reads) n.read.bytes) (n.keeps (taken ++ bytes_read p.reads) given (p.keeps taken given so_far))
 
     -- an answer, where one more read was made
-    pub answered_then : (new : ReaderState) (line : Line) → new.ended ≡ next.ended → Answers next new line → NextLine incoming gives old new line before after may may'
-    answered_then new line same answers = record {
+    pub answered_then : (new : ReaderState) (line : Line) → new.ended ≡ next.ended → read_failed answer ≡ line_failed line → Answers next new line
+        → NextLine incoming gives old new line before after may may'
+    answered_then new line same failed answers = record {
       reads = n.read ∷ p.reads;
       lead = (now, p.lead, n.step);
       needed = (p.needed, need);
       ended = same ∙ (n.ended ∙ (ap (λ b. b || is_end answer) p.ended ∙ ap (λ a. old.ended || is_end a) (sym n.answered)));
+      failed = ap read_failed n.answered ∙ failed;
       takes = takes_all;
       count = count_all;
       gives = λ taken given so_far. answers (taken ++ (bytes_read p.reads ++ n.read.bytes)) given (keeps_all taken given so_far);

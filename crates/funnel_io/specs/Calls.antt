@@ -1,6 +1,6 @@
 -- Calls on a stream, one after another.
 use Rattle.std.specs.Prelude.{◌≡◌, ◌<◌, ⊤, ℕ, Bool, true, false, List, [], ◌∷◌, ◌++◌, length, MatchBool}
-use Rattle.funnel_io.specs.Answers.{MatchGot, MatchPut, bytes_put}
+use Rattle.funnel_io.specs.Answers.{MatchGot, MatchPut, bytes_put, read_failed}
 use Rattle.funnel_io.specs.declared.source.Got.{Got}
 use Rattle.funnel_io.specs.declared.source.Got.TheVariants as got
 use Rattle.funnel_io.specs.declared.sink.Put.{Put}
@@ -41,6 +41,11 @@ is_end got.Failed = false
 abbrev pub found_end : List Read → Bool
 found_end [] = false
 found_end (read ∷ earlier) = is_end read.answer
+
+-- the last of the reads failed
+abbrev pub last_failed : List Read → Bool
+last_failed [] = false
+last_failed (read ∷ earlier) = read_failed read.answer
 
 -- the bytes that the writes took
 abbrev pub bytes_written : List Write → List ℕ

@@ -1,7 +1,7 @@
 -- What a reader of lines holds, and the lines that it gives of the bytes that it takes.
 use Rattle.std.specs.Prelude.{◌≡◌, ◌+◌, ◌<◌, ◌≤◌, ◌⊎◌, ⊤, ℕ, Bool, true, false, ◌||◌, List, [], ◌∷◌, ◌++◌, length, All, Contains, MatchBool, if◌then◌else◌}
 use Rattle.std.specs.Io.KnownBytes.{IsAtEnd}
-use Rattle.funnel_io.specs.Calls.{Read, Leads, GaveBytes, bytes_read, found_end}
+use Rattle.funnel_io.specs.Calls.{Read, Leads, GaveBytes, bytes_read, found_end, last_failed}
 use Rattle.funnel_io.specs.Lines.{HasNoNewline, lines, with_newlines}
 use Rattle.funnel_io.specs.Streams.{Incoming, Takes}
 use Rattle.funnel_io.specs.declared.line_reader.TheConstants.{MAX_LINE_LEN}
@@ -75,12 +75,19 @@ abbrev pub AreNeeded : ReaderState → ℕ → List Read → Type 0
 AreNeeded reader may [] = ⊤
 AreNeeded reader may (read ∷ earlier) = AreNeeded reader may earlier × IsNeeded reader may earlier read.room
 
--- the source was read as often as the line has to be read for, and the answer is that of all bytes taken then
+-- the read of the call failed
+abbrev pub line_failed : Line → Bool
+line_failed answer.Failed = true
+line_failed _ = false
+
+-- the source was read as often as the line has to be read for, and the answer is that of all bytes taken then; it tells
+-- whether the last read failed
 pub record NextLine {S : Type 0} (incoming : S → Incoming) (step : S → Read → S → Type 0) (old new : ReaderState) (answer : Line) (before after : S) (may may' : ℕ) : Type 0 where
   pub reads : List Read
   pub lead : Leads step before reads after
   pub needed : AreNeeded old may reads
   pub ended : new.ended ≡ (old.ended || found_end reads)
+  pub failed : last_failed reads ≡ line_failed answer
   pub takes : Takes (bytes_read reads) (incoming before) (incoming after)
   pub count : may' + length (bytes_read reads) ≡ may
   pub gives : (taken : List ℕ) (given : List (List ℕ)) → HasGiven old taken given → Gives answer (taken ++ bytes_read reads) given new
@@ -92,11 +99,6 @@ IsDecided reader may = Contains reader.held 10 ⊎ (reader.ended ≡ true) ⊎ (
 -- where the reader is at the end, nothing is left in the source, and it was found by a read that was allowed
 abbrev pub KnowsEnd : ReaderState → Incoming → ℕ → Type 0
 KnowsEnd reader incoming may = reader.ended ≡ true → IsAtEnd incoming.left × (0 < may)
-
--- the read of the call failed
-abbrev pub line_failed : Line → Bool
-line_failed answer.Failed = true
-line_failed _ = false
 
 -- an answer that says that a line ended
 abbrev pub IsLine : Line → Type 0

@@ -1,6 +1,6 @@
 use Rattle.std.proofs.Common.{refl, sym, ◌∙◌, arith}
 use Rattle.funnel_io.specs.LineReading.{IsDecided}
-use Rattle.funnel_io.proofs.LineLaws.{undecided, stopped}
+use Rattle.funnel_io.proofs.LineLaws.{not_failed, undecided, stopped}
 use Rattle.funnel_io.proofs.ReadingLaws.{answered, answered_then, has_read_on, read_none}
 use Rattle.funnel_io.proofs.line_reader.LineReader.next_line.Goals as goal
 
@@ -40,12 +40,12 @@ loop-line-preserved g c =
 pub returns-in-Some-clause-next : goal.returns-in-Some-clause-next
 returns-in-Some-clause-next g c =
     answered g.C.Source.incoming g.C.Source.read_gives c.args.conn.now c.loop-line.conn c.args.self.now c.loop-line.self c.args.left.now c.loop-line.left c.loop-line.invariant.has_read
-    c.held_line.new.self c.in-Some.line c.held_line.ensures.ended c.in-Some.ensures.line
+    c.held_line.new.self c.in-Some.line c.held_line.ensures.ended (not_failed c.in-Some.line c.in-Some.ensures.no_read) c.in-Some.ensures.line
 
 pub returns-then-left-eq0-clause-next : goal.returns-then-left-eq0-clause-next
 returns-then-left-eq0-clause-next g c =
     answered g.C.Source.incoming g.C.Source.read_gives c.args.conn.now c.loop-line.conn c.args.self.now c.loop-line.self c.args.left.now c.loop-line.left c.loop-line.invariant.has_read
-    c.held_line.new.self _ c.held_line.ensures.ended
+    c.held_line.new.self _ c.held_line.ensures.ended refl
     (rw (← c.in_default.ensures.line)
     (λ taken given so_far. (stopped c.held_line.new.self c.in_default.ensures.undecided.0 c.in_default.ensures.undecided.1 taken given so_far, so_far)))
 
@@ -54,12 +54,12 @@ returns-in-End-clause-next g c =
     answered_then g.C.Source.incoming g.C.Source.read_gives c.args.conn.now c.loop-line.conn c.args.self.now c.loop-line.self c.args.left.now c.loop-line.left c.loop-line.invariant.has_read
     c.read_more.new.conn c.read_more.new.self _ c.read_more.new.left (rw c.in_default.ensures.line at c.in-End.ensures.next)
     (rw c.in_default.ensures.line at c.in_default.ensures.undecided.0) (rw c.in_default.ensures.line at c.in_default.ensures.undecided.1) (omega arith)
-    c.last_line.new.self _ (c.last_line.ensures.ended ∙ sym c.in-End.ensures.ended) c.last_line.ensures.line
+    c.last_line.new.self _ (c.last_line.ensures.ended ∙ sym c.in-End.ensures.ended) (sym (not_failed _ c.last_line.ensures.no_read)) c.last_line.ensures.line
 
 pub returns-in-Failed-clause-next : goal.returns-in-Failed-clause-next
 returns-in-Failed-clause-next g c =
     answered_then g.C.Source.incoming g.C.Source.read_gives c.args.conn.now c.loop-line.conn c.args.self.now c.loop-line.self c.args.left.now c.loop-line.left c.loop-line.invariant.has_read
     c.read_more.new.conn c.read_more.new.self _ c.read_more.new.left (rw c.in_default.ensures.line at c.in-Failed.ensures.next)
     (rw c.in_default.ensures.line at c.in_default.ensures.undecided.0) (rw c.in_default.ensures.line at c.in_default.ensures.undecided.1) (omega arith)
-    c.read_more.new.self _ refl
+    c.read_more.new.self _ refl refl
     (λ taken given so_far. (stopped c.read_more.new.self c.in-Failed.ensures.clean c.in-Failed.ensures.ended taken given so_far, so_far))
