@@ -19,7 +19,7 @@ use Rattle.line_proto.proofs.Rendering.{not_long, without_memory}
 use Rattle.line_proto.specs.Forms.{Item, Asks, Malformed, TooLong, item_of, items, items_of}
 use Rattle.line_proto.specs.Services.{Caller}
 use Rattle.line_proto.specs.Texts.{text_of, texts}
-use Rattle.session.specs.Ends.{IsWithin, LeavesNothing, Serves, Stand, is_read_fault, is_write_fault}
+use Rattle.session.specs.Ends.{IsWithin, Leaves, Serves, Stand, is_read_fault, is_write_fault}
 use Rattle.session.specs.Sessions.{Answers, AnswersAll, AnswersItem, AnswersSome, Session}
 use Rattle.session.specs.Steps.{AnswersNext, EndsNext, HasServedLines, IsRendered}
 
@@ -162,7 +162,10 @@ module _ (caller : Caller) (limit may may' : ℕ) (reader reader' : ReaderState)
             session = some_of all.0 all.1;
             faults = record { reads = a.faults ∙ p.reads_stay; writes = rose ∙ ap raised p.writes_stay };
             within = omega (arith, p.count, a.count, length-append p.taken a.bytes);
-            leaves = λ more. (a.knows_end p.knows_end (last_ended reader' (p.taken ++ a.bytes) lines_now has_given_now (subst (λ n. length (lines (p.taken ++ a.bytes) false) < n) (length-map lines_now item_of) more))).0;
+            leaves = λ more.
+                let ended = last_ended reader' (p.taken ++ a.bytes) lines_now has_given_now (subst (λ n. length (lines (p.taken ++ a.bytes) false) < n) (length-map lines_now item_of) more) in
+                let knows = a.knows_end p.knows_end ended in
+                (knows.0, omega (arith, p.count, a.count, length-append p.taken a.bytes, knows.1));
           }
 
   -- no further line was given, and all that was taken holds no other
@@ -180,7 +183,7 @@ module _ (caller : Caller) (limit may may' : ℕ) (reader reader' : ReaderState)
 
   over : (end : End) (e : EndsNext limit reader reader' now.incoming incoming' may may' now.front front' end) → is_write_fault end ≡ false
       → (session : Session caller old.front front' (p.taken ++ e.bytes) (texts p.replies) end) → IsWithin limit (length (p.taken ++ e.bytes)) end
-      → LeavesNothing caller old (record { front = front'; incoming = incoming'; outgoing = now.outgoing }) (p.taken ++ e.bytes) (texts p.replies) end session
+      → Leaves caller limit old (record { front = front'; incoming = incoming'; outgoing = now.outgoing }) (p.taken ++ e.bytes) (texts p.replies) end session
       → IsOver end
   over end e no_write session within leaves = record {
     taken = p.taken ++ e.bytes;

@@ -102,14 +102,14 @@ one_more taken some =
 pub last_line_answered : (caller : Caller) (limit : ℕ) (old new : Stand) (served : Serves caller limit old new end_of.WriteFault)
     → served.session.others ≡ [] → rest_of served.taken ≢ [] → IsAtEnd new.incoming.left
 last_line_answered caller limit old new served all some =
-    served.leaves (omega (
+    (served.leaves (omega (
       arith,
       one_more served.taken some,
       length-map (lines served.taken true) item_of,
       ap length served.session.asked_are,
       length-append served.session.first served.session.others,
       ap length all,
-    ))
+    ))).0
 
 pub by_count : (caller : Caller) (limit : ℕ) (old new : Stand) (end : End) (served : Serves caller limit old new end)
     → EndsByCount caller limit old new end served

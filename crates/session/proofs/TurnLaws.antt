@@ -1,75 +1,146 @@
 -- A session's calls on its connection, line by line.
-use Rattle.std.proofs.Common.{◌≡◌, ℕ, true, false, List, [], ◌∷◌, ◌++◌, length, refl, ap, ◌∙◌, subst, inl, inr, arith, length-append}
+use Rattle.std.proofs.Common.{◌≡◌, ℕ, true, false, ◌||◌, List, [], ◌∷◌, ◌++◌, length, refl, sym, ap, ◌∙◌, subst, inl, inr, arith, length-append}
+use Rattle.std.proofs.Math.Bool.{or-false}
+use Rattle.funnel_io.proofs.CallLaws.{bytes_read-append, gave_bytes, gave_bytes-append, last_failed-append}
 use Rattle.funnel_io.proofs.LineLaws.{still_given}
-use Rattle.funnel_io.specs.Calls.{Read, Write, AreOfRest, WritesAs, bytes_read}
+use Rattle.funnel_io.specs.Calls.{Read, Write, AreOfRest, WritesAs, bytes_read, found_end, is_end}
 use Rattle.funnel_io.specs.LineReading.{ReaderState, AreNeeded, HasGiven, unused}
+use Rattle.funnel_io.specs.Lines.{lines}
+use Rattle.funnel_io.specs.Streams.{Incoming}
+use Rattle.funnel_io.specs.declared.end.End.{End}
+use Rattle.funnel_io.specs.declared.end.End.TheVariants as end_of
+use Rattle.funnel_model.specs.declared.event.Event.{Event}
 use Rattle.funnel_model.specs.declared.reply.Reply.{Reply}
-use Rattle.funnel_model.specs.declared.reply.Reply.TheVariants as reply
+use Rattle.funnel_model.specs.declared.reply.Reply.TheVariants as reply_of
 use Rattle.line_proto.specs.Texts.{text_of}
-use Rattle.session.specs.Steps.{HasGone, IsRendered, ReadsOn}
-use Rattle.session.specs.Turns.{Turn, AreReadInTurn, AreLast, Follows, GoesInTurns, IsWritten, bytes_taken}
+use Rattle.session.specs.Steps.{EndsNext, HasGone, IsRendered, ReadsOn}
+use Rattle.session.specs.Turns.{Turn, AreBelow, AreReadInTurn, AreLast, Follows, GoesInTurns, IsWritten, StopsReading, reads_of}
 
 -- a text that was rendered is a reply's
-reply_of : (given : Reply) (room : ℕ) (text : List ℕ) → IsRendered given room text → (other : Reply) × (text ≡ text_of other)
-reply_of given room text (inl is) = (given, is)
-reply_of given room text (inr wanting) = (reply.Memory, wanting.2)
+reply_to : (reply : Reply) (room : ℕ) (text : List ℕ) → IsRendered reply room text → (other : Reply) × (text ≡ text_of other)
+reply_to reply room text (inl is) = (reply, is)
+reply_to reply room text (inr wanting) = (reply_of.Memory, wanting.2)
 
--- reads that have to be made come where every line that ended had its turn
-in_turn : (reader : ReaderState) (may : ℕ) (turns : List Turn) (given : List (List ℕ)) → HasGiven reader (bytes_taken turns) given
-    → length given ≡ length turns → (reads : List Read) → AreNeeded reader may reads → AreReadInTurn turns reads
-in_turn reader may turns given has_given count [] needed = tt
-in_turn reader may turns given has_given count (read ∷ earlier) needed = (
-  in_turn reader may turns given has_given count earlier needed.0,
-  ap length (still_given reader (bytes_read earlier) needed.1.undecided needed.1.not_ended (bytes_taken turns) given has_given) ∙ count,
-)
+-- the last read of all, some of which had to be made, found the end where the reader is at it now
+found_on : (reader reader' : ReaderState) (may : ℕ) (reads earlier : List Read) → AreNeeded reader may reads
+    → reader'.ended ≡ (reader.ended || found_end reads) → found_end earlier ≡ reader.ended → found_end (reads ++ earlier) ≡ reader'.ended
+found_on reader reader' may [] earlier needed ended before = before ∙ (sym (or-false reader.ended) ∙ sym ended)
+found_on reader reader' may (read ∷ reads) earlier needed ended before = sym (ended ∙ ap (λ b. b || is_end read.answer) needed.1.not_ended)
 
--- and where the last reply was written whole
+-- where the last reply was written whole, the reads of no line may come
 last_in_turn : (turns : List Turn) (reads : List Read) → AreReadInTurn turns reads → IsWritten turns → AreLast turns reads
 last_in_turn turns [] in_turn written = tt
 last_in_turn turns (read ∷ earlier) in_turn written = (in_turn, written)
 
 module _ {S : Type 0} (read_gives : S → Read → S → Type 0) (write_gives : S → Write → S → Type 0) where
   -- nothing was done yet
-  pub gone_none : (now : S) → HasGiven unused [] [] → HasGone read_gives write_gives now now unused
-  gone_none now none = record { turns = []; turn_by_turn = refl; are = tt; written = tt; given = []; has_given = none; count = refl }
+  pub gone_none : (limit : ℕ) (now : S) → HasGiven unused [] [] → HasGone read_gives write_gives limit limit now now unused
+  gone_none limit now none = record {
+    turns = [];
+    turn_by_turn = refl;
+    are = tt;
+    written = tt;
+    given = [];
+    has_given = none;
+    answered = refl;
+    count = omega arith;
+    below = tt;
+    ended = refl;
+    none_failed = refl;
+  }
 
   -- and nothing was
   pub goes_nowhere : (now : S) → GoesInTurns read_gives write_gives now now
   goes_nowhere now = record { turns = []; middle = now; turn_by_turn = refl; are = tt; last = []; last_lead = refl; last_are = tt }
 
-  module _ (before now : S) (reader : ReaderState) (p : HasGone read_gives write_gives before now reader) (middle : S) (reader' : ReaderState) (may : ℕ) where
-    -- no further line came
-    pub goes_last : ReadsOn read_gives now middle reader reader' may false → GoesInTurns read_gives write_gives before middle
-    goes_last r = record {
-      turns = p.turns;
-      middle = now;
-      turn_by_turn = p.turn_by_turn;
-      are = p.are;
-      last = r.reads;
-      last_lead = r.lead;
-      last_are = last_in_turn p.turns r.reads (in_turn reader may p.turns p.given p.has_given p.count r.reads r.needed) p.written;
-    }
+  pub stops_at_once : (limit : ℕ) (done : Type 0) (now : S) → (done → ⊥) → StopsReading read_gives write_gives limit done now now
+  unfolding goes_nowhere
+  stops_at_once limit done now never = record { goes = goes_nowhere now; below = tt; at_end = λ is. absurd (never is) }
 
-    module _ (r : ReadsOn read_gives now middle reader reader' may true) (given : Reply) (room : ℕ) (text : List ℕ) (rendered : IsRendered given room text) (after : S) where
+  module _ (limit may may' : ℕ) (before now : S) (reader reader' : ReaderState) (p : HasGone read_gives write_gives limit may before now reader) (middle : S) where
+    -- reads that have to be made come where every line that ended had its turn, and every read gave bytes
+    in_turn : (reads : List Read) → AreNeeded reader may reads → AreReadInTurn p.turns reads
+    in_turn [] needed = tt
+    in_turn (read ∷ earlier) needed =
+        let need = needed.1 in (
+          in_turn earlier needed.0,
+          record {
+            going_on = gave_bytes-append earlier (reads_of p.turns) need.going_on (gave_bytes (reads_of p.turns) (p.ended ∙ need.not_ended) p.none_failed);
+            answered = ap (λ bs. length (lines bs false)) (bytes_read-append earlier (reads_of p.turns))
+                ∙ (ap length (still_given reader (bytes_read earlier) need.undecided need.not_ended (bytes_read (reads_of p.turns)) p.given p.has_given) ∙ p.answered);
+          },
+        )
+
+    -- and below the limit
+    below_on : (reads : List Read) → AreNeeded reader may reads → AreBelow limit (reads ++ reads_of p.turns)
+    below_on [] needed = p.below
+    below_on (read ∷ earlier) needed = (
+      below_on earlier needed.0,
+      omega (
+        arith,
+        needed.1.still_is,
+        needed.1.some,
+        p.count,
+        ap length (bytes_read-append earlier (reads_of p.turns)),
+        length-append (bytes_read (reads_of p.turns)) (bytes_read earlier),
+      ),
+    )
+
+    -- no further line came
+    module _ (r : ReadsOn read_gives now middle reader reader' may may' false) where
+      goes_last : GoesInTurns read_gives write_gives before middle
+      goes_last = record {
+        turns = p.turns;
+        middle = now;
+        turn_by_turn = p.turn_by_turn;
+        are = p.are;
+        last = r.reads;
+        last_lead = r.lead;
+        last_are = last_in_turn p.turns r.reads (in_turn r.reads r.needed) p.written;
+      }
+
+      -- where the session is done, the reader is at the end
+      done_at_end : (old new : Incoming) (front front' : List Event) (end : End) → EndsNext limit reader reader' old new may may' front front' end
+          → end ≡ end_of.Done → reader'.ended ≡ true
+      done_at_end old new front front' end_of.Done e done = (e.ends (bytes_read (reads_of p.turns)) p.given p.has_given).1
+      done_at_end old new front front' end_of.ReadFault e done = cc
+      done_at_end old new front front' (end_of.ByteLimit told) e done = cc
+      done_at_end old new front front' end_of.WriteFault e done = cc
+      done_at_end old new front front' end_of.Memory e done = cc
+
+      pub stops_last : (old new : Incoming) (front front' : List Event) (end : End) → EndsNext limit reader reader' old new may may' front front' end
+          → StopsReading read_gives write_gives limit (end ≡ end_of.Done) before middle
+      unfolding goes_last
+      stops_last old new front front' end e = record {
+        goes = goes_last;
+        below = below_on r.reads r.needed;
+        at_end = λ done. found_on reader reader' may r.reads (reads_of p.turns) r.needed r.ended p.ended ∙ done_at_end old new front front' end e done;
+      }
+
+    -- a line came
+    module _ (r : ReadsOn read_gives now middle reader reader' may may' true) (reply : Reply) (room : ℕ) (text : List ℕ) (rendered : IsRendered reply room text) (after : S) where
       is_reply : (other : Reply) × (text ≡ text_of other)
-      is_reply = reply_of given room text rendered
+      is_reply = reply_to reply room text rendered
 
       turn_of : List Write → Turn
-      turn_of writes = record { reads = r.reads; given = is_reply.0; writes = writes }
+      turn_of writes = record { reads = r.reads; reply = is_reply.0; writes = writes }
 
       follows : (writes : List Write) → AreOfRest text writes → Follows p.turns (turn_of writes)
       unfolding turn_of
       follows writes of_rest = record {
         written = p.written;
-        reads = in_turn reader may p.turns p.given p.has_given p.count r.reads r.needed;
+        reads = in_turn r.reads r.needed;
         one_text = subst (λ (bs : List ℕ). AreOfRest bs writes) is_reply.1 of_rest;
       }
 
-      next : (line : List ℕ) × HasGiven reader' (bytes_taken p.turns ++ bytes_read r.reads) (p.given ++ line ∷ [])
-      next = r.next (bytes_taken p.turns) p.given p.has_given
+      all_bytes : bytes_read (r.reads ++ reads_of p.turns) ≡ bytes_read (reads_of p.turns) ++ bytes_read r.reads
+      all_bytes = bytes_read-append r.reads (reads_of p.turns)
 
-      -- a line had its turn
-      pub gone_on : WritesAs write_gives text middle after false → HasGone read_gives write_gives before after reader'
+      next : (line : List ℕ) × HasGiven reader' (bytes_read (reads_of p.turns) ++ bytes_read r.reads) (p.given ++ line ∷ [])
+      next = r.next (bytes_read (reads_of p.turns)) p.given p.has_given
+
+      -- it had its turn
+      pub gone_on : WritesAs write_gives text middle after false → HasGone read_gives write_gives limit may' before after reader'
       unfolding turn_of
       gone_on w = record {
         turns = turn_of w.writes ∷ p.turns;
@@ -77,19 +148,27 @@ module _ {S : Type 0} (read_gives : S → Read → S → Type 0) (write_gives : 
         are = (p.are, follows w.writes w.of_rest);
         written = w.sent ∙ is_reply.1;
         given = p.given ++ next.0 ∷ [];
-        has_given = next.1;
-        count = omega (arith, p.count, length-append p.given (next.0 ∷ []));
+        has_given = subst (λ (bs : List ℕ). HasGiven reader' bs (p.given ++ next.0 ∷ [])) (sym all_bytes) next.1;
+        answered = omega (arith, p.answered, length-append p.given (next.0 ∷ []));
+        count = omega (arith, p.count, r.count, ap length all_bytes, length-append (bytes_read (reads_of p.turns)) (bytes_read r.reads));
+        below = below_on r.reads r.needed;
+        ended = found_on reader reader' may r.reads (reads_of p.turns) r.needed r.ended p.ended;
+        none_failed = last_failed-append r.reads (reads_of p.turns) (r.failed refl) p.none_failed;
       }
 
-      -- a line had its turn, and a write failed
-      pub goes_failed : WritesAs write_gives text middle after true → GoesInTurns read_gives write_gives before after
+      -- it had its turn, and a write failed
+      pub stops_failed : WritesAs write_gives text middle after true → StopsReading read_gives write_gives limit (end_of.WriteFault ≡ end_of.Done) before after
       unfolding turn_of
-      goes_failed w = record {
-        turns = turn_of w.writes ∷ p.turns;
-        middle = after;
-        turn_by_turn = (now, p.turn_by_turn, record { middle = middle; reads = r.lead; writes = w.lead });
-        are = (p.are, follows w.writes w.of_rest);
-        last = [];
-        last_lead = refl;
-        last_are = tt;
+      stops_failed w = record {
+        goes = record {
+          turns = turn_of w.writes ∷ p.turns;
+          middle = after;
+          turn_by_turn = (now, p.turn_by_turn, record { middle = middle; reads = r.lead; writes = w.lead });
+          are = (p.are, follows w.writes w.of_rest);
+          last = [];
+          last_lead = refl;
+          last_are = tt;
+        };
+        below = below_on r.reads r.needed;
+        at_end = λ done. cc;
       }

@@ -31,7 +31,7 @@ pub record CountsFaults (old new : Stand) (end : End) : Type 0 where
   pub reads : new.incoming.faults ≡ counted (is_read_fault end) old.incoming.faults
   pub writes : new.outgoing.faults ≡ counted (is_write_fault end) old.outgoing.faults
 
--- how many bytes are taken: as many as may be with ByteLimit, and fewer where another byte might have been read
+-- how many bytes are taken: as many as may be with ByteLimit, fewer with Done and where a read failed, and no more where a write failed
 abbrev pub IsWithin : ℕ → ℕ → End → Type 0
 IsWithin limit count end_of.Done = count < limit
 IsWithin limit count end_of.ReadFault = count < limit
@@ -39,12 +39,13 @@ IsWithin limit count end_of.WriteFault = count ≤ limit
 IsWithin limit count (end_of.ByteLimit told) = (told ≡ limit) × (count ≡ limit)
 IsWithin limit count end_of.Memory = ⊤
 
--- nothing is left to be read at the end of the input; so it is where a write failed, if more lines were answered than
--- newlines ended: the last of them ended at the end of the input
-abbrev pub LeavesNothing : (caller : Caller) (old new : Stand) (taken written : List ℕ) (end : End) → Session caller old.front new.front taken written end → Type 0
-LeavesNothing caller old new taken written end_of.Done session = IsAtEnd new.incoming.left
-LeavesNothing caller old new taken written end_of.WriteFault session = length (lines taken false) < length session.first → IsAtEnd new.incoming.left
-LeavesNothing caller old new taken written _ session = ⊤
+-- what is left to be read: nothing at the end of the input. So it is where a write failed, if more lines were answered than
+-- newlines ended: the last of them ended at the end of the input, which was found below the limit
+abbrev pub Leaves : (caller : Caller) (limit : ℕ) (old new : Stand) (taken written : List ℕ) (end : End) → Session caller old.front new.front taken written end → Type 0
+Leaves caller limit old new taken written end_of.Done session = IsAtEnd new.incoming.left
+Leaves caller limit old new taken written end_of.WriteFault session =
+    length (lines taken false) < length session.first → IsAtEnd new.incoming.left × (length taken < limit)
+Leaves caller limit old new taken written _ session = ⊤
 
 -- a session took and wrote some bytes, and this is how it went and ended
 pub record Serves (caller : Caller) (limit : ℕ) (old new : Stand) (end : End) : Type 0 where
@@ -55,4 +56,4 @@ pub record Serves (caller : Caller) (limit : ℕ) (old new : Stand) (end : End) 
   pub session : Session caller old.front new.front taken written end
   pub faults : CountsFaults old new end
   pub within : IsWithin limit (length taken) end
-  pub leaves : LeavesNothing caller old new taken written end session
+  pub leaves : Leaves caller limit old new taken written end session

@@ -1,6 +1,6 @@
 -- How far a session has come, for the clauses of functions that are not public.
-use Rattle.std.specs.Prelude.{◌≡◌, ◌+◌, ◌<◌, ◌⊎◌, ⊤, ℕ, Bool, true, false, List, [], ◌∷◌, ◌++◌, length, MatchBool}
-use Rattle.funnel_io.specs.Calls.{Read, Write, Leads, bytes_read}
+use Rattle.std.specs.Prelude.{◌≡◌, ◌+◌, ◌<◌, ◌⊎◌, ⊤, ℕ, Bool, true, false, ◌||◌, List, [], ◌∷◌, ◌++◌, length, MatchBool}
+use Rattle.funnel_io.specs.Calls.{Read, Write, Leads, bytes_read, found_end, last_failed}
 use Rattle.funnel_io.specs.Counts.{counted}
 use Rattle.funnel_io.specs.LineReading.{ReaderState, AreNeeded, HasGiven, GivesLine, KnowsEnd}
 use Rattle.funnel_io.specs.Streams.{Incoming, Takes, Writes}
@@ -9,18 +9,18 @@ use Rattle.funnel_io.specs.declared.end.End.{End}
 use Rattle.funnel_io.specs.declared.end.End.TheVariants as end_of
 use Rattle.funnel_model.specs.declared.event.Event.{Event}
 use Rattle.funnel_model.specs.declared.reply.Reply.{Reply}
-use Rattle.funnel_model.specs.declared.reply.Reply.TheVariants as reply
+use Rattle.funnel_model.specs.declared.reply.Reply.TheVariants as reply_of
 use Rattle.line_proto.specs.Forms.{item_of, items_of}
 use Rattle.line_proto.specs.Services.{Caller}
 use Rattle.line_proto.specs.Texts.{is_list, text_of, texts}
 use Rattle.session.specs.Sessions.{Answers, AnswersItem}
 use Rattle.session.specs.Ends.{Stand, is_read_fault}
-use Rattle.session.specs.Turns.{Turn, GoesBy, AreTurns, IsWritten, bytes_taken}
+use Rattle.session.specs.Turns.{Turn, GoesBy, AreBelow, AreTurns, IsWritten, reads_of}
 
 -- the text is the reply's, or that of a want of memory, for a list whose text has more bytes than there was room for
 abbrev pub IsRendered : Reply → ℕ → List ℕ → Type 0
-IsRendered given room text =
-    (text ≡ text_of given) ⊎ ((is_list given ≡ true) × (room < length (text_of given)) × (text ≡ text_of reply.Memory))
+IsRendered reply room text =
+    (text ≡ text_of reply) ⊎ ((is_list reply ≡ true) × (room < length (text_of reply)) × (text ≡ text_of reply_of.Memory))
 
 -- the lines that were given were answered and their replies written, and no call failed
 pub record HasServedLines (caller : Caller) (limit may : ℕ) (reader : ReaderState) (old now : Stand) : Type 0 where
@@ -37,14 +37,14 @@ pub record HasServedLines (caller : Caller) (limit may : ℕ) (reader : ReaderSt
   pub writes_stay : now.outgoing.faults ≡ old.outgoing.faults
 
 -- some bytes were taken, of the number that may be, and a next line was given and is answered by this reply
-pub record AnswersNext (caller : Caller) (old_reader reader : ReaderState) (before after : Incoming) (may may' : ℕ) (front front' : List Event) (given : Reply) : Type 0 where
+pub record AnswersNext (caller : Caller) (old_reader reader : ReaderState) (before after : Incoming) (may may' : ℕ) (front front' : List Event) (reply : Reply) : Type 0 where
   pub bytes : List ℕ
   pub takes : Takes bytes before after
   pub count : may' + length bytes ≡ may
   pub faults : after.faults ≡ before.faults
   pub knows_end : KnowsEnd old_reader before may → KnowsEnd reader after may'
   pub next : (taken : List ℕ) (so_far : List (List ℕ)) → HasGiven old_reader taken so_far →
-      (line : List ℕ) × GivesLine reader (taken ++ bytes) so_far line × AnswersItem caller front (item_of line) given front'
+      (line : List ℕ) × GivesLine reader (taken ++ bytes) so_far line × AnswersItem caller front (item_of line) reply front'
 
 -- what each end that comes before a line says of all bytes taken, of the lines given before, and of those that may still be taken
 abbrev pub EndsAfter : End → List ℕ → List (List ℕ) → ReaderState → ℕ → ℕ → Type 0
@@ -64,20 +64,27 @@ pub record EndsNext (limit : ℕ) (old_reader reader : ReaderState) (before afte
   pub knows_end : KnowsEnd old_reader before may → KnowsEnd reader after may'
   pub ends : (taken : List ℕ) (given : List (List ℕ)) → HasGiven old_reader taken given → EndsAfter end (taken ++ bytes) given reader may' limit
 
--- every line that was given had its turn, and every reply was written whole
-pub record HasGone {S : Type 0} (read_gives : S → Read → S → Type 0) (write_gives : S → Write → S → Type 0) (before now : S) (reader : ReaderState) : Type 0 where
+-- every line that was given had its turn, every reply was written whole, and no call failed
+pub record HasGone {S : Type 0} (read_gives : S → Read → S → Type 0) (write_gives : S → Write → S → Type 0) (limit may : ℕ) (before now : S) (reader : ReaderState) : Type 0 where
   pub turns : List Turn
   pub turn_by_turn : Leads (GoesBy read_gives write_gives) before turns now
   pub are : AreTurns turns
   pub written : IsWritten turns
   pub given : List (List ℕ)
-  pub has_given : HasGiven reader (bytes_taken turns) given
-  pub count : length given ≡ length turns
+  pub has_given : HasGiven reader (bytes_read (reads_of turns)) given
+  pub answered : length given ≡ length turns
+  pub count : may + length (bytes_read (reads_of turns)) ≡ limit
+  pub below : AreBelow limit (reads_of turns)
+  pub ended : found_end (reads_of turns) ≡ reader.ended
+  pub none_failed : last_failed (reads_of turns) ≡ false
 
 -- the reads of which a next line came, or none
-pub record ReadsOn {S : Type 0} (read_gives : S → Read → S → Type 0) (before after : S) (old new : ReaderState) (may : ℕ) (more : Bool) : Type 0 where
+pub record ReadsOn {S : Type 0} (read_gives : S → Read → S → Type 0) (before after : S) (old new : ReaderState) (may may' : ℕ) (more : Bool) : Type 0 where
   pub reads : List Read
   pub lead : Leads read_gives before reads after
   pub needed : AreNeeded old may reads
+  pub count : may' + length (bytes_read reads) ≡ may
+  pub ended : new.ended ≡ (old.ended || found_end reads)
+  pub failed : more ≡ true → last_failed reads ≡ false
   pub next : (taken : List ℕ) (given : List (List ℕ)) → HasGiven old taken given →
       MatchBool more ((line : List ℕ) × HasGiven new (taken ++ bytes_read reads) (given ++ line ∷ [])) ⊤

@@ -1,5 +1,6 @@
-//! A session: the lines of one connection, answered by a service. Each line is answered and its
-//! reply written before the next one is read, so that who sends a line and waits gets its reply.
+//! A session: the lines of one connection, answered by a service. Each line that has ended is
+//! answered, and its reply written whole, before anything more is read, so that who sends a line and
+//! waits gets its reply.
 #![tactic(auto)]
 
 mod answering;

@@ -2,7 +2,7 @@ ghost use Rattle.std.specs.Prelude.{◌≡◌, ◌<◌, ◌≤◌, ◌+◌, OnOk
 ghost use Rattle.funnel_io.specs.LineReading.{most_lines, unused};
 ghost use Rattle.session.specs.Ends.{Serves, Stand, is_read_fault, is_write_fault};
 ghost use Rattle.session.specs.Steps.{AnswersNext, EndsNext, HasGone, HasServedLines, ReadsOn};
-ghost use Rattle.session.specs.Turns.{GoesInTurns};
+ghost use Rattle.session.specs.Turns.{GoesInTurns, StopsReading};
 ghost use Rattle.session.specs.declared.serving.TheConstants.{MOST_BYTES};
 
 use crate::answering::{TEXT_ROOM, answer, render};
@@ -15,9 +15,9 @@ use std::alloc::Global;
 pub const MOST_BYTES: u64 = 1 << 40;
 
 /// Answers the lines of a connection, until its input is at its end, or `limit` bytes were taken, or
-/// a read or a write fails. Each reply goes out whole before more than the present read is taken, and
-/// nothing is tried again. Want of memory ends it at the start alone; a reply whose text finds no
-/// memory is written as such.
+/// a read or a write fails. A read may bring several lines: each is answered, and its reply goes out
+/// whole, before the next read. No read or write that failed is tried again. Want of memory ends it
+/// at the start alone; where no memory is found for a reply's text, `refused memory` is written.
 pub fn serve_session<S: Service, C: Connection>(
     alloc: Global,
     service: &mut S,
@@ -33,8 +33,12 @@ pub fn serve_session<S: Service, C: Connection>(
         record { front = S.front service.new; incoming = C.incoming conn.new; outgoing = C.outgoing conn.new }
         result }
 
-    // Every line that ended has its reply written whole, at one go, before anything more is read.
+    // A line has its turn only where the reply before it was written whole, at one go. Anything more is read only where
+    // each line that ended so far had its turn, and every read gave bytes.
     ensures in_turns { GoesInTurns C.read_gives C.write_gives conn.old conn.new }
+
+    // Nothing is read once `limit` bytes were taken, and with `Done` the last read found the end.
+    ensures stops { StopsReading C.read_gives C.write_gives limit (result ≡ End.Done) conn.old conn.new }
     ensures untouched { result ≡ End.Memory → (conn.new ≡ conn.old) × (service.new ≡ service.old) }
 {
     let Ok(reader) = LineReader::new(alloc) else {
@@ -83,9 +87,9 @@ impl Server {
             record { front = S.front service.new; incoming = C.incoming conn.new; outgoing = C.outgoing conn.new })
             (Serves (S.caller service.old) limit old
             record { front = S.front service.new; incoming = C.incoming conn.new; outgoing = C.outgoing conn.new }) }
-        ensures in_turns { (first : C) → HasGone C.read_gives C.write_gives first conn.old self.old.reader →
-            MatchOption result (HasGone C.read_gives C.write_gives first conn.new self.new.reader)
-            (λ _. GoesInTurns C.read_gives C.write_gives first conn.new) }
+        ensures in_turns { (first : C) → HasGone C.read_gives C.write_gives limit self.old.left first conn.old self.old.reader →
+            MatchOption result (HasGone C.read_gives C.write_gives limit self.new.left first conn.new self.new.reader)
+            (λ end. StopsReading C.read_gives C.write_gives limit (end ≡ End.Done) first conn.new) }
         ensures started { result ≡ Some End.Memory → ⊥ }
         ensures fewer { IfNone result (most_lines self.new.reader.held self.new.reader.long + self.new.left
             < most_lines self.old.reader.held self.old.reader.long + self.old.left) }
@@ -116,7 +120,7 @@ impl Server {
             (C.incoming conn.old) (C.incoming conn.new) self.old.left self.new.left (S.front service.old) (S.front service.new)) }
         ensures ends { IfErr result (EndsNext limit self.old.reader self.new.reader
             (C.incoming conn.old) (C.incoming conn.new) self.old.left self.new.left (S.front service.old) (S.front service.new)) }
-        ensures reads { ReadsOn C.read_gives conn.old conn.new self.old.reader self.new.reader self.old.left (is_ok result) }
+        ensures reads { ReadsOn C.read_gives conn.old conn.new self.old.reader self.new.reader self.old.left self.new.left (is_ok result) }
         ensures started { result ≡ Err End.Memory → ⊥ }
         ensures fewer { OnOk result (most_lines self.new.reader.held self.new.reader.long + self.new.left
             < most_lines self.old.reader.held self.old.reader.long + self.old.left) }

@@ -76,6 +76,9 @@ returns-in-Whole-clause-reads g c = record {
   reads = c.in-Whole.ensures.next.reads;
   lead = c.in-Whole.ensures.next.lead;
   needed = c.in-Whole.ensures.next.needed;
+  count = c.in-Whole.ensures.next.count;
+  ended = c.in-Whole.ensures.next.ended;
+  failed = λ more. c.in-Whole.ensures.next.failed;
   next = λ taken given has_given. (c.next_line.new.self.line, c.in-Whole.ensures.next.gives taken given has_given);
 }
 
@@ -84,6 +87,9 @@ returns-in-Long-clause-reads g c = record {
   reads = c.in-Long.ensures.next.reads;
   lead = c.in-Long.ensures.next.lead;
   needed = c.in-Long.ensures.next.needed;
+  count = c.in-Long.ensures.next.count;
+  ended = c.in-Long.ensures.next.ended;
+  failed = λ more. c.in-Long.ensures.next.failed;
   next = λ taken given has_given. let gives = c.in-Long.ensures.next.gives taken given has_given in (gives.0, gives.2);
 }
 
@@ -92,6 +98,9 @@ returns-in-Finished-clause-reads g c = record {
   reads = c.in-Finished.ensures.next.reads;
   lead = c.in-Finished.ensures.next.lead;
   needed = c.in-Finished.ensures.next.needed;
+  count = c.in-Finished.ensures.next.count;
+  ended = c.in-Finished.ensures.next.ended;
+  failed = λ more. cc;
   next = λ taken given has_given. tt;
 }
 
@@ -100,6 +109,9 @@ returns-in-Failed-clause-reads g c = record {
   reads = c.in-Failed.ensures.next.reads;
   lead = c.in-Failed.ensures.next.lead;
   needed = c.in-Failed.ensures.next.needed;
+  count = c.in-Failed.ensures.next.count;
+  ended = c.in-Failed.ensures.next.ended;
+  failed = λ more. cc;
   next = λ taken given has_given. tt;
 }
 
@@ -108,5 +120,8 @@ returns-in-Limit-clause-reads g c = record {
   reads = c.in-Limit.ensures.next.reads;
   lead = c.in-Limit.ensures.next.lead;
   needed = c.in-Limit.ensures.next.needed;
+  count = c.in-Limit.ensures.next.count;
+  ended = c.in-Limit.ensures.next.ended;
+  failed = λ more. cc;
   next = λ taken given has_given. tt;
 }
