@@ -1,8 +1,9 @@
 -- Gates in memory, as contracts see them.
-use Rattle.std.specs.Prelude.{◌≡◌, ◌↔◌, ℕ, ◌+◌, List, [], ◌∷◌, Contains}
+use Rattle.std.specs.Prelude.{◌≡◌, ◌↔◌, ℕ, ◌+◌, ◌-◌, List, [], ◌∷◌, ◌++◌, Contains}
 use Rattle.funnel_io.specs.Counts.{raised, counted}
 use Rattle.funnel_io.specs.Answers.{MatchNext, gate_failed}
 use Rattle.funnel_io.specs.Memory.{SourceState, SinkState, incoming_of, outgoing_of}
+use Rattle.funnel_io.specs.declared.end.End.{End}
 use Rattle.funnel_io.specs.declared.gate.Next.{Next}
 use Rattle.funnel_io.specs.declared.gate.Next.TheVariants as next
 use Rattle.funnel_io.specs.Served.{Served, served_as, IsFresh}
@@ -42,3 +43,7 @@ pub record IsNext (old : MemGateState) (answer : Next MemConn) (new : MemGateSta
       ((old.waiting ≡ []) × (new.waiting ≡ [])) (new.waiting ≡ old.waiting)
   pub out : MatchNext answer (λ _. new.out ≡ old.out + 1) (new.out ≡ old.out) (new.out ≡ old.out)
   pub served : new.served ≡ old.served
+
+-- a connection that comes back stands behind those that came back before, with the end of its session
+abbrev pub IsTakenBack : MemGateState → MemConn → End → MemGateState → Type 0
+IsTakenBack old conn end new = new ≡ record old { out = old.out - 1; served = old.served ++ record { conn = conn; session_end = end } ∷ [] }

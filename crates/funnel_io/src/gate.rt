@@ -1,4 +1,4 @@
-ghost use Rattle.std.specs.Prelude.{◌≡◌, ◌<◌, ◌+◌, ℕ, Bool, true, List, [], ◌∷◌, ◌++◌, Option, IfSome, OnSome, ⊤};
+ghost use Rattle.std.specs.Prelude.{◌≡◌, ◌<◌, ◌+◌, ℕ, Bool, true, false, List, [], ◌∷◌, ◌++◌, Option, IfSome, OnSome, ⊤};
 ghost use Rattle.std.specs.Option.{option_map};
 ghost use Rattle.funnel_io.specs.Counts.{counted};
 ghost use Rattle.funnel_io.specs.Answers.{MatchNext, gate_failed};
@@ -22,6 +22,9 @@ pub enum Next<C> {
 pub trait Gate {
     type Conn: Connection;
 
+    ghost use Rattle.funnel_io.specs.declared.end.End.{End};
+    ghost use Rattle.funnel_io.specs.declared.gate.Next.{Next};
+
     // How many calls of `next` failed, up to the counter's last value.
     ghost gate_faults: { Self → ℕ };
 
@@ -36,6 +39,12 @@ pub trait Gate {
 
     // The connections that came back, oldest first, where the gate tells them.
     ghost served: { Self → Option (List Served) };
+
+    // What else a gate tells of its calls: that a `next` with its answer, and a `done` with what it was
+    // handed, lead from one state to the next. So a caller can't leave one out where it says which calls it made.
+    ghost next_gives: { Self → Next Self.Conn → Self → Type 0 } = { λ _ _ _. ⊤ };
+
+    ghost done_gives: { Self → Self.Conn → End → Self → Type 0 } = { λ _ _ _ _. ⊤ };
 
     /// Waits for the next connection and hands it out.
     fn next(&mut self) -> Next<Self::Conn>
@@ -52,15 +61,21 @@ pub trait Gate {
         ensures fresh { MatchNext result
             (λ conn. IsFresh (Self.Conn.incoming conn) (Self.Conn.outgoing conn)) ⊤ ⊤ }
         ensures closed { MatchNext result (λ _. ⊤) (IfSome (waiting self.old) (λ conns. conns ≡ [])) ⊤ }
-        ensures is_closed { MatchNext result (λ _. ⊤) (is_closed self.new ≡ true) ⊤ };
+        ensures is_closed { MatchNext result
+            (λ _. is_closed self.old ≡ false)
+            (is_closed self.new ≡ true)
+            (is_closed self.new ≡ is_closed self.old) }
+        ensures gives { next_gives self.old result self.new };
 
     /// Takes back a connection of its own, with the end of its session.
     fn done(&mut self, conn: Self::Conn, end: End)
         requires { OnSome (waiting self.old) (0 < out self.old) }
         ensures count { gate_faults self.new ≡ gate_faults self.old }
         ensures waiting { waiting self.new ≡ waiting self.old }
+        ensures is_closed { is_closed self.new ≡ is_closed self.old }
         ensures out { OnSome (waiting self.old) (out self.old ≡ out self.new + 1) }
         ensures served { served self.new ≡ option_map
             (λ list. list ++ served_as (Self.Conn.incoming conn) (Self.Conn.outgoing conn) end ∷ [])
-            (served self.old) };
+            (served self.old) }
+        ensures gives { done_gives self.old conn end self.new };
 }

@@ -1,5 +1,5 @@
 ghost use Rattle.std.specs.Prelude.{◌≡◌, ◌<◌, ◌≤◌, ◌+◌, ◌-◌, [], ◌∷◌, ◌++◌, Some, IfOk, map, ⊤, All};
-ghost use Rattle.funnel_io.specs.MemGates.{MemGateState, IsNext, IsUnused, served_of};
+ghost use Rattle.funnel_io.specs.MemGates.{MemGateState, IsNext, IsTakenBack, IsUnused, served_of};
 ghost use Rattle.funnel_io.specs.Answers.{MatchNext};
 
 use crate::duplex::MemConn;
@@ -79,7 +79,7 @@ impl Gate for MemGate {
     type Conn = MemConn;
 
     ghost use Rattle.std.specs.Prelude.{◌==◌, Some, length, map};
-    ghost use Rattle.funnel_io.specs.MemGates.{served_of};
+    ghost use Rattle.funnel_io.specs.MemGates.{IsNext, IsTakenBack, served_of};
 
     ghost gate_faults = { λ g. g.faults };
 
@@ -90,6 +90,10 @@ impl Gate for MemGate {
     ghost out = { λ g. g.out };
 
     ghost served = { λ g. Some (map served_of g.served) };
+
+    ghost next_gives = { IsNext };
+
+    ghost done_gives = { IsTakenBack };
 
     fn next(&mut self) -> Next<MemConn>
         ensures fresh { MatchNext result IsUnused ⊤ ⊤ }
@@ -110,10 +114,7 @@ impl Gate for MemGate {
 
     fn done(&mut self, conn: MemConn, end: End)
         requires { 0 < self.old.out }
-        ensures { self.new ≡ record self.old {
-          out = self.old.out - 1;
-          served = self.old.served ++ record { conn = conn; session_end = end } ∷ [];
-        } }
+        ensures { IsTakenBack self.old conn end self.new }
     {
         let served = ServedConn {
             conn,

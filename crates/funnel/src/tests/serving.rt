@@ -213,12 +213,13 @@ struct MeetingGate<'a> {
     served: Option<(Meeting<'a>, End)>,
 }
 
+// Contracts see whether its connection is gone.
 impl<'a> Model for MeetingGate<'a> {
-    ghost use Rattle.std.specs.Prelude.{◌≡◌, ⊤, IfSome};
+    ghost use Rattle.std.specs.Prelude.{◌≡◌, Bool, IfSome, is_none};
 
-    ghost Value = { ⊤ };
+    ghost Value = { Bool };
 
-    ghost view = { λ _. tt };
+    ghost view = { λ g. is_none g.waiting };
 
     ghost invariant = { λ g. IfSome g.waiting (λ m. (m.faults ≡ 0) × (m.write_faults ≡ 0)) };
 }
@@ -226,13 +227,13 @@ impl<'a> Model for MeetingGate<'a> {
 impl<'a> Gate for MeetingGate<'a> {
     type Conn = Meeting<'a>;
 
-    ghost use Rattle.std.specs.Prelude.{None, true};
+    ghost use Rattle.std.specs.Prelude.{None};
 
     ghost gate_faults = { λ _. 0 };
 
     ghost waiting = { λ _. None };
 
-    ghost is_closed = { λ _. true };
+    ghost is_closed = { λ is_gone. is_gone };
 
     ghost out = { λ _. 0 };
 

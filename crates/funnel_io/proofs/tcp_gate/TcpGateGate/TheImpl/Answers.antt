@@ -1,4 +1,4 @@
-use Rattle.std.specs.Prelude.{refl, ⊤}
+use Rattle.std.specs.Prelude.{◌≡◌, refl, true, false, ⊤}
 use Rattle.funnel_io.specs.Answers.{MatchNext}
 use Rattle.funnel_io.specs.declared.gate.Next.{Next}
 use Rattle.funnel_io.specs.declared.gate.Next.TheVariants as next
@@ -17,11 +17,11 @@ of_conn (next.Conn conn) step fact = step conn fact
 of_conn next.Closed step fact = fact
 of_conn next.Fault step fact = fact
 
--- what holds of a gate that was closed holds where none was
-never : {C : Type 0} (Q : Type 0) (answer : Next C) → MatchNext answer (λ _. ⊤) ⊥ ⊤ → MatchNext answer (λ _. ⊤) Q ⊤
-never Q (next.Conn conn) fact = tt
-never Q next.Closed fact = absurd fact
-never Q next.Fault fact = tt
+-- a gate that is never closed, and says so of itself, never answers that it is
+never_closed : {C : Type 0} (answer : Next C) → MatchNext answer (λ _. ⊤) ⊥ ⊤ → MatchNext answer (λ _. false ≡ false) (false ≡ true) (false ≡ false)
+never_closed (next.Conn conn) fact = refl
+never_closed next.Closed fact = absurd fact
+never_closed next.Fault fact = refl
 
 pub next-tells : goal.next-tells
 next-tells g c = record {
@@ -31,5 +31,6 @@ next-tells g c = record {
   out = for_each c.result (λ _. tt) refl refl;
   fresh = of_conn c.result (λ conn none. search) c.ensures.fresh;
   closed = for_each c.result (λ _. tt) tt tt;
-  is_closed = never _ c.result c.ensures.never_closed;
+  is_closed = never_closed c.result c.ensures.never_closed;
+  gives = tt;
 }
