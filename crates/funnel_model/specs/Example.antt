@@ -76,3 +76,11 @@ same_number = event.Take 0 0 0 ∷ event.Take 1 0 1 ∷ event.Add 0 4 [] 0 0 [] 
 -- the replies to its calls, in order
 abbrev pub same_number_replies : List Reply
 same_number_replies = reply.Added 1 ∷ reply.Present 1 ∷ []
+
+-- both take a column, and pass 0 adds its document; where that was the last commit that the journal has room for, pass 1 drops its own
+abbrev pub last_commit : List Event
+last_commit = event.Take 0 0 0 ∷ event.Take 1 0 1 ∷ event.Add 0 4 [] 0 0 [] ∷ event.Drop 1 5 [] 0 1 ∷ []
+
+-- the replies to its calls, in order
+abbrev pub last_commit_replies : List Reply
+last_commit_replies = reply.Added 1 ∷ reply.JournalFull ∷ []

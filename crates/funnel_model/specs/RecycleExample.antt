@@ -39,6 +39,13 @@ covering = 0 ∷ 1 ∷ 0 ∷ 0 ∷ 0 ∷ 2 ^ 63 ∷ 0 ∷ 0 ∷ []
 abbrev pub not_covering : List ℕ
 not_covering = 0 ∷ 1 ∷ 0 ∷ 0 ∷ 0 ∷ 1 ∷ 0 ∷ 0 ∷ []
 
+-- ones that have the first bit alone, and the second alone
+abbrev pub first_set : List ℕ
+first_set = 0 ∷ 1 ∷ 0 ∷ 0 ∷ 0 ∷ 0 ∷ 0 ∷ 0 ∷ []
+
+abbrev pub second_set : List ℕ
+second_set = 0 ∷ 0 ∷ 0 ∷ 0 ∷ 0 ∷ 2 ^ 63 ∷ 0 ∷ 0 ∷ []
+
 -- so a recycle is refused; then the find ends
 abbrev pub unguarded : List Event
 unguarded = guarded ++ event.No 0 call.Recycle ∷ event.End 1 ∷ []

@@ -5,10 +5,10 @@ ghost use Rattle.funnel_model.specs.Blocks.{AreBlocks};
 ghost use Rattle.funnel_model.specs.declared.block.Block.TheVariants as block;
 ghost use Rattle.funnel_model.specs.declared.call.Call.TheVariants as call;
 ghost use Rattle.funnel_model.specs.declared.event.Event.TheVariants as event;
-ghost use Rattle.funnel_model.specs.Example.{AreReplies, episode, episode_calls, episode_replies, filling_and_deleting, reuse, reuse_replies, same_number, same_number_replies, shared, small};
+ghost use Rattle.funnel_model.specs.Example.{AreReplies, episode, episode_calls, episode_replies, filling_and_deleting, last_commit, last_commit_replies, reuse, reuse_replies, same_number, same_number_replies, shared, small};
 ghost use Rattle.funnel_model.specs.History.{own};
 ghost use Rattle.funnel_model.specs.Legal.{IsFull, IsLegal};
-ghost use Rattle.funnel_model.specs.RecycleExample.{both_clearing, covering, guarded, held, low_bit, not_covering, paired, recycled, together, together_replies, unguarded};
+ghost use Rattle.funnel_model.specs.RecycleExample.{both_clearing, covering, first_set, guarded, held, low_bit, not_covering, paired, recycled, second_set, together, together_replies, unguarded};
 ghost use Rattle.funnel_model.specs.RowWords.{AreFresh, Covers, IsCommitted};
 ghost use Rattle.funnel_model.specs.declared.reply.Reply.TheVariants as reply;
 ghost use Rattle.funnel_model.specs.Steps.{Linear, Step};
@@ -32,11 +32,14 @@ pub fn reuse_example()
 {}
 
 /// There is a legal history in which two passes add the same number at once, and the later one is dropped. These are its
-/// replies, and the dropped add is the later pass's own call.
+/// replies, and the dropped add is the later pass's own call. In another one the later document is dropped since the journal
+/// is full by then.
 pub fn drop_example()
     ensures legal { IsLegal shared same_number }
     ensures replies { AreReplies shared same_number same_number_replies }
     ensures own { own 1 same_number ≡ call.Add 4 [] ∷ [] }
+    ensures full_legal { IsLegal (record shared { commits = 1 }) last_commit }
+    ensures full_replies { AreReplies (record shared { commits = 1 }) last_commit last_commit_replies }
 {}
 
 /// There is a legal history of two slices with a recycle that is refused where nothing is retired, one that is refused with its
@@ -66,13 +69,16 @@ pub fn blocks_example()
 {}
 
 /// Row words cover the history where both documents' bits are set, deleted or not, and not with another bit in place of one.
-/// Words of a slice without a claimed column have to be zero, also once it was opened again, and others not.
+/// Words of a slice without a claimed column have to be zero, whichever slice it is and also once it was opened again, and
+/// others not.
 pub fn row_words_example()
     ensures covers { Covers covering guarded }
     ensures other_bit { Covers not_covering guarded → ⊥ }
     ensures claimed { AreFresh paired covering guarded }
     ensures unclaimed { AreFresh paired covering [] → ⊥ }
+    ensures second { AreFresh paired second_set [] → ⊥ }
     ensures opened { AreFresh paired covering recycled → ⊥ }
+    ensures beside { AreFresh paired first_set (event.Take 0 0 0 ∷ []) }
 {}
 
 /// The bits of a deleted document stay committed until its slice is cleared.

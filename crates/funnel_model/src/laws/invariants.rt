@@ -10,7 +10,8 @@ ghost use Rattle.funnel_model.specs.Events.{pass_of};
 ghost use Rattle.funnel_model.specs.History.{last_by};
 ghost use Rattle.funnel_model.specs.Legal.{IsAllowed, IsIdle, IsInSlice, IsLegal, Limits, OnlyReads, awaited};
 ghost use Rattle.funnel_model.specs.Slices.{Pending, IsFilled, IsInState, IsRetired, IsRetiredAt, claimed, is_claimed, is_clearing, is_clearing_by};
-ghost use Rattle.funnel_model.specs.Tokens.{HasToken};
+ghost use Rattle.funnel_model.specs.Steps.{IsLowestGuarded};
+ghost use Rattle.funnel_model.specs.Tokens.{Guards, HasToken};
 
 /// Each event of a legal history is of one of the engine's passes.
 pub fn events_are_of_the_engines_passes()
@@ -84,6 +85,17 @@ pub fn slices_retire_by_a_delete_or_a_drop()
         (at : IsRetiredAt limits.columns slice history number) →
         ((pass : ℕ) × (id : ℕ) × (at.event ≡ event.Del pass id))
         ⊎ ((pass : ℕ) × (id : ℕ) × (text : List ℕ) × (column : ℕ) × (at.event ≡ event.Drop pass id text slice column)) }
+{}
+
+/// A find guards a slice that is retired exactly where it is open and began before the slice retired, whatever it may read. So one
+/// that began later guards nothing. The guard that a refused recycle is told is the lowest.
+pub fn finds_guard_what_retires_after_them()
+    ensures earlier { (columns : ℕ) (history : List Event) (slice pass number retired_at : ℕ) → HasToken history pass number →
+        IsRetired columns slice history → IsRetiredAt columns slice history retired_at → number < retired_at → Guards columns history slice pass number }
+    ensures later { (columns : ℕ) (history : List Event) (slice pass number retired_at : ℕ) → Guards columns history slice pass number →
+        IsRetiredAt columns slice history retired_at → number < retired_at }
+    ensures lowest { (limits : Limits) (history : List Event) (slice pass lower number : ℕ) → IsLowestGuarded limits history slice pass → lower < pass →
+        Guards limits.columns history slice lower number → ⊥ }
 {}
 
 /// In a legal history in which nothing is awaited, each call of an idle pass can begin: its add takes a column, clears a slice or

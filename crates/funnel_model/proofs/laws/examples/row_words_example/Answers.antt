@@ -1,12 +1,12 @@
-use Rattle.std.proofs.Common.{◌≡◌, ℕ, List, [], ◌∷◌, ◌++◌, codes, slice_index, refl, arith}
+use Rattle.std.proofs.Common.{◌≡◌, ℕ, zero, suc, ◌^◌, ◌≤◌, List, [], ◌∷◌, ◌++◌, codes, slice_index, refl, arith}
 use Rattle.std.specs.List.{All}
 use Rattle.std.proofs.lemmas.List.Elements.{All-cons, All-nil}
 use Rattle.funnel_model.specs.declared.bit_list.Bit.{Bit}
 use Rattle.funnel_model.specs.declared.call.Call.TheVariants as call
 use Rattle.funnel_model.specs.declared.event.Event.{Event}
 use Rattle.funnel_model.specs.declared.event.Event.TheVariants as event
-use Rattle.funnel_model.specs.RecycleExample.{covering, guarded, high_bit, low_bit, slices_filled}
-use Rattle.funnel_model.specs.RowWords.{Covers, IsSetIn}
+use Rattle.funnel_model.specs.RecycleExample.{covering, first_set, guarded, high_bit, low_bit, paired, second_set, slices_filled}
+use Rattle.funnel_model.specs.RowWords.{Covers, IsSetIn, IsZeroIn}
 use Rattle.funnel_model.specs.Slices.{claimed}
 use Rattle.funnel_model.proofs.ExampleLemmas.{two_columns}
 use Rattle.funnel_model.proofs.RowWords.{covers-add, covers-silent, covers-start}
@@ -57,10 +57,34 @@ returns-clause-claimed c slice in' none word within =
 
 -- a number isn't both
 apart : (n : ℕ) → n ≡ 1 → n ≡ 0 → ⊥
-apart n one zero = omega arith
+apart n is_one is_zero = omega arith
 
 pub returns-clause-unclaimed : goal.returns-clause-unclaimed
 returns-clause-unclaimed c fresh = apart (slice_index covering 1) refl (fresh 0 (omega arith) refl 1 (record { from = omega arith; to = omega arith }))
 
+top_apart : (n : ℕ) → n ≡ 2 ^ 63 → n ≡ 0 → ⊥
+top_apart n high is_zero = omega arith
+
+pub returns-clause-second : goal.returns-clause-second
+returns-clause-second c fresh = top_apart (slice_index second_set 5) refl (fresh 1 (omega arith) refl 5 (record { from = omega arith; to = omega arith }))
+
 pub returns-clause-opened : goal.returns-clause-opened
 returns-clause-opened c fresh = apart (slice_index covering 1) refl (fresh 0 (omega arith) refl 1 (record { from = omega arith; to = omega arith }))
+
+-- the words from 4 on are zero
+zero_from : (word : ℕ) → 4 ≤ word → slice_index first_set word ≡ 0
+zero_from (suc (suc zero)) high = absurd (omega (arith, high))
+zero_from (suc zero) high = absurd (omega (arith, high))
+zero_from zero high = absurd (omega (arith, high))
+zero_from (suc (suc (suc zero))) high = absurd (omega (arith, high))
+zero_from (suc (suc (suc (suc zero)))) high = refl
+zero_from (suc (suc (suc (suc (suc zero))))) high = refl
+zero_from (suc (suc (suc (suc (suc (suc zero)))))) high = refl
+zero_from (suc (suc (suc (suc (suc (suc (suc zero))))))) high = refl
+zero_from (suc (suc (suc (suc (suc (suc (suc (suc n)))))))) high = refl
+
+pub returns-clause-beside : goal.returns-clause-beside
+returns-clause-beside c =
+    two_columns (λ s. claimed s (event.Take 0 0 0 ∷ []) ≡ [] → IsZeroIn paired first_set s)
+    (λ none. absurd (let no : claimed 0 (event.Take 0 0 0 ∷ []) ≡ [] → ⊥ = λ empty. cc in no none))
+    (λ none word within. zero_from word (omega (arith, within.from)))
