@@ -15,13 +15,14 @@ ghost use Rattle.funnel_model.specs.Tokens.{MayRead};
 
 /// Not legal are a take of slice 1 while slice 0 has an unclaimed column, the clear of slice 1 while slice 0 can be cleared,
 /// that of a slice that isn't retired, that of one under a token that may read it, a refused recycle while a retired slice is
-/// unguarded, and an opening of a slice that wasn't cleared.
+/// unguarded, also where the journal is full, and an opening of a slice that wasn't cleared.
 pub fn slices_out_of_turn()
     ensures take { IsLegal paired (event.Take 0 1 0 ∷ []) → ⊥ }
     ensures clear { IsLegal paired (unguarded ++ event.Clear 0 1 ∷ []) → ⊥ }
     ensures live { IsLegal paired (slices_filled ++ event.Clear 0 0 ∷ []) → ⊥ }
     ensures reader { IsLegal paired (guarded ++ event.Clear 0 0 ∷ []) → ⊥ }
     ensures recycle { IsLegal paired (unguarded ++ event.No 0 call.Recycle ∷ []) → ⊥ }
+    ensures full { IsLegal (record paired { commits = 4 }) (unguarded ++ event.No 0 call.Recycle ∷ []) → ⊥ }
     ensures opened { IsLegal paired (event.Opened 0 0 true ∷ []) → ⊥ }
 {}
 
