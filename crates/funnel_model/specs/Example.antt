@@ -77,6 +77,10 @@ same_number = event.Take 0 0 0 ∷ event.Take 1 0 1 ∷ event.Add 0 4 [] 0 0 [] 
 abbrev pub same_number_replies : List Reply
 same_number_replies = reply.Added 1 ∷ reply.Present 1 ∷ []
 
+-- both take a column, and pass 1 has added its document
+abbrev pub later_added : List Event
+later_added = event.Take 0 0 0 ∷ event.Take 1 0 1 ∷ event.Add 1 9 [] 0 1 [] ∷ []
+
 -- both take a column, and pass 0 adds its document; where that was the last commit that the journal has room for, pass 1 drops its own
 abbrev pub last_commit : List Event
 last_commit = event.Take 0 0 0 ∷ event.Take 1 0 1 ∷ event.Add 0 4 [] 0 0 [] ∷ event.Drop 1 5 [] 0 1 ∷ []

@@ -32,7 +32,7 @@ slices_filled =
 abbrev pub guarded : List Event
 guarded = slices_filled ++ event.Find 1 (codes "A") ∷ event.Del 0 9 ∷ event.Del 0 7 ∷ []
 
--- row words that have these bits, and ones that have another bit in place of the second
+-- row words that have the bits of both documents, and ones that have another bit in place of the second
 abbrev pub covering : List ℕ
 covering = 0 ∷ 1 ∷ 0 ∷ 0 ∷ 0 ∷ 2 ^ 63 ∷ 0 ∷ 0 ∷ []
 
@@ -46,7 +46,7 @@ first_set = 0 ∷ 1 ∷ 0 ∷ 0 ∷ 0 ∷ 0 ∷ 0 ∷ 0 ∷ []
 abbrev pub second_set : List ℕ
 second_set = 0 ∷ 0 ∷ 0 ∷ 0 ∷ 0 ∷ 2 ^ 63 ∷ 0 ∷ 0 ∷ []
 
--- so a recycle is refused; then the find ends
+-- a recycle is refused, since both slices are guarded; then the find ends
 abbrev pub unguarded : List Event
 unguarded = guarded ++ event.No 0 call.Recycle ∷ event.End 1 ∷ []
 

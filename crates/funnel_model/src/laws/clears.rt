@@ -37,7 +37,7 @@ pub fn readable_slices_are_guarded()
 {}
 
 /// In a legal history nothing is claimed, added or dropped in a slice from its clear until it is opened.
-pub fn cleared_slices_are_not_filled()
+pub fn slices_being_cleared_are_left_alone()
     ensures { (limits : Limits) (before between later : List Event) (pass slice : ℕ) →
         IsLegal limits (before ++ event.Clear pass slice ∷ (between ++ later)) → list_any (opens slice) between ≡ false →
         list_any (fills slice) between ≡ false }

@@ -27,13 +27,15 @@ pub fn slices_out_of_turn()
 {}
 
 /// Not legal are an event of a pass that isn't there, a take after the pass's own take, one in the middle of its find, an end
-/// without a find and one of another pass's find, and an event of another pass between an opening for an add and its take.
+/// without a find and one of another pass's find, and an event of another pass between an opening for an add and its take. The
+/// pass that opened a slice for an add is in the middle of its call.
 pub fn passes_out_of_turn()
     ensures unknown { IsLegal paired (event.Find 2 [] ∷ []) → ⊥ }
     ensures twice { IsLegal paired (event.Take 0 0 0 ∷ event.Take 0 1 0 ∷ []) → ⊥ }
     ensures finding { IsLegal paired (event.Find 0 [] ∷ event.Take 0 0 0 ∷ []) → ⊥ }
     ensures unbegun { IsLegal paired (event.End 0 ∷ []) → ⊥ }
     ensures other_end { IsLegal paired (event.Find 1 [] ∷ event.End 0 ∷ []) → ⊥ }
+    ensures opening { IsIdle 0 (event.Opened 0 0 false ∷ []) → ⊥ }
     ensures between { IsLegal paired (unguarded ++ event.Clear 0 0 ∷ event.Opened 0 0 false ∷ event.Find 1 [] ∷ []) → ⊥ }
 {}
 
@@ -74,7 +76,8 @@ pub fn the_lowest_guarded_slice_is_told()
     ensures { IsReply paired guarded (event.No 0 call.Recycle) (reply.Guarded 1 1) → ⊥ }
 {}
 
-/// A call that is made is answered by the reply of its own event, which is the pass's last call: by no reply of an earlier one.
+/// The last call of a pass is one call, and its event gives one reply. By that a call which is made is answered, and not by the
+/// reply of an earlier one.
 pub fn steps_answer_their_call()
     ensures call { (limits : Limits) (pass : ℕ) (history : List Event) (asked other : Call) (given also : Reply) →
         AnswersLast limits pass history asked given → AnswersLast limits pass history other also → asked ≡ other }
@@ -84,7 +87,7 @@ pub fn steps_answer_their_call()
 
 /// A step is made between calls of the pass. Only a history with so many events is answered Spent, and then the call isn't made;
 /// and only an add, which isn't made then, a find and a journal are answered by want of memory. No step is answered as a
-/// malformed or a too long line, and no place by Spent. The second add of a number is not answered by the reply to the first,
+/// malformed or a too long line, and no place that is read by Spent. The second add of a number is not answered by the reply to the first,
 /// and no step makes both adds.
 pub fn steps_have_their_cause()
     ensures spent { (limits : Limits) (pass : ℕ) (before after : List Event) (asked : Call) → Step limits pass before after asked reply.Spent →

@@ -1,11 +1,11 @@
-//! Histories that are legal, and their replies, steps and blocks. What is not legal, no reply and no step stands in
-//! `counter_examples`.
+//! Histories, most of them shown to be legal, with their replies, steps and blocks, and what row words owe them. What is not
+//! legal, no reply and no step stands in `counter_examples`.
 ghost use Rattle.std.specs.Prelude.{◌≡◌, true, false, [], ◌∷◌, ◌++◌};
 ghost use Rattle.funnel_model.specs.Blocks.{AreBlocks};
 ghost use Rattle.funnel_model.specs.declared.block.Block.TheVariants as block;
 ghost use Rattle.funnel_model.specs.declared.call.Call.TheVariants as call;
 ghost use Rattle.funnel_model.specs.declared.event.Event.TheVariants as event;
-ghost use Rattle.funnel_model.specs.Example.{AreReplies, episode, episode_calls, episode_replies, filling_and_deleting, last_commit, last_commit_replies, reuse, reuse_replies, same_number, same_number_replies, shared, small};
+ghost use Rattle.funnel_model.specs.Example.{AreReplies, episode, episode_calls, episode_replies, filling_and_deleting, last_commit, last_commit_replies, later_added, reuse, reuse_replies, same_number, same_number_replies, shared, small};
 ghost use Rattle.funnel_model.specs.History.{own};
 ghost use Rattle.funnel_model.specs.Legal.{IsFull, IsLegal};
 ghost use Rattle.funnel_model.specs.RecycleExample.{both_clearing, covering, first_set, guarded, held, low_bit, not_covering, paired, recycled, second_set, together, together_replies, unguarded};
@@ -32,12 +32,13 @@ pub fn reuse_example()
 {}
 
 /// There is a legal history in which two passes add the same number at once, and the later one is dropped. These are its
-/// replies, and the dropped add is the later pass's own call. In another one the later document is dropped since the journal
-/// is full by then.
+/// replies, also where the journal is full by then, and the dropped add is the later pass's own call. In another one the later
+/// document is dropped for the full journal alone.
 pub fn drop_example()
     ensures legal { IsLegal shared same_number }
     ensures replies { AreReplies shared same_number same_number_replies }
     ensures own { own 1 same_number ≡ call.Add 4 [] ∷ [] }
+    ensures present_first { AreReplies (record shared { commits = 1 }) same_number same_number_replies }
     ensures full_legal { IsLegal (record shared { commits = 1 }) last_commit }
     ensures full_replies { AreReplies (record shared { commits = 1 }) last_commit last_commit_replies }
 {}
@@ -59,16 +60,17 @@ pub fn steps_without_events()
     ensures spent { Step (record small { events = 0 }) 0 [] [] call.Place reply.Spent }
 {}
 
-/// These are the blocks of full engines: a live and a pending column, the lower of two live ones, two slices under the token of
-/// pass 1, and two that are being cleared.
+/// These are the blocks of full engines: a live and a pending column of two slices, the lower of a pending and a live one of one
+/// slice, the lower of two live ones, two slices under the token of pass 1, and two that are being cleared.
 pub fn blocks_example()
     ensures held { IsFull paired held × AreBlocks paired held (block.Live 0 ∷ block.Pending 0 1 ∷ []) }
+    ensures mixed { IsFull shared later_added × AreBlocks shared later_added (block.Pending 0 0 ∷ []) }
     ensures lowest { IsFull small episode × AreBlocks small episode (block.Live 0 ∷ []) }
     ensures guarded { IsFull paired guarded × AreBlocks paired guarded (block.Guarded 1 6 ∷ block.Guarded 1 6 ∷ []) }
     ensures clearing { IsFull paired both_clearing × AreBlocks paired both_clearing (block.Clearing 0 ∷ block.Clearing 1 ∷ []) }
 {}
 
-/// Row words cover the history where both documents' bits are set, deleted or not, and not with another bit in place of one.
+/// Row words cover the history where both deleted documents' bits are set, and not with another bit in place of one.
 /// Words of a slice without a claimed column have to be zero, whichever slice it is and also once it was opened again, and
 /// others not.
 pub fn row_words_example()

@@ -34,6 +34,9 @@ returns-clause-other_end c legal =
     let before = event.Find 1 [] ∷ [] in
     let none = (allowed_within paired (before ++ event.End 0 ∷ []) before (event.End 0) [] legal refl).rule.begun in cc
 
+pub returns-clause-opening : goal.returns-clause-opening
+returns-clause-opening c idle = cc
+
 pub returns-clause-between : goal.returns-clause-between
 returns-clause-between c legal =
     let before = unguarded ++ event.Clear 0 0 ∷ event.Opened 0 0 false ∷ [] in

@@ -8,7 +8,7 @@ use Rattle.funnel_model.specs.declared.event.Event.{Event}
 use Rattle.funnel_model.specs.declared.event.Event.TheVariants as event
 use Rattle.funnel_model.specs.Blocks.{AreBlocks, IsBlock}
 use Rattle.funnel_model.specs.Events.{deletes, opens}
-use Rattle.funnel_model.specs.Example.{episode, first_added}
+use Rattle.funnel_model.specs.Example.{episode, first_added, later_added}
 use Rattle.funnel_model.specs.RecycleExample.{both_clearing, guarded, held, paired}
 use Rattle.funnel_model.proofs.ExampleLemmas.{one_slice, two_columns}
 use Rattle.funnel_model.proofs.RecycleFacts.{high_guarded, low_guarded, lowest_guard}
@@ -48,6 +48,20 @@ returns-clause-held c = (
     held = tt;
     lowest = λ lower in'. absurd (omega arith);
   }),
+)
+
+pub returns-clause-mixed : goal.returns-clause-mixed
+returns-clause-mixed c = (
+  one_slice _ (inl (two_columns _ refl refl, not_retired 2 0 0 later_added (omega arith) refl refl)),
+  record {
+    count = refl;
+    each = λ slice d. one_slice (λ s. IsBlock 2 later_added s (slice_index_or (block.Pending 0 0 ∷ []) s d)) (record {
+      in_range = omega arith;
+      is_in = record { taken = refl; not_added = refl; not_dropped = refl };
+      held = tt;
+      lowest = λ lower in'. absurd (omega arith);
+    }) slice;
+  },
 )
 
 pub returns-clause-lowest : goal.returns-clause-lowest

@@ -45,6 +45,10 @@ pub returns-clause-replies : goal.returns-clause-replies
 unfolding unicode_segmentation
 returns-clause-replies c = inl (refl, inl (refl, inr (_, _, refl, refl, inr (_, _, refl, refl, refl))))
 
+pub returns-clause-present_first : goal.returns-clause-present_first
+unfolding unicode_segmentation
+returns-clause-present_first c = inl (refl, inl (refl, inr (_, _, refl, refl, inr (_, _, refl, refl, refl))))
+
 pub returns-clause-own : goal.returns-clause-own
 returns-clause-own c = refl
 
