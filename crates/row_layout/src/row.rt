@@ -4,7 +4,7 @@ use funnel_model::Bit;
 
 /// A row of a slice: its bits stand in the `width` words from the slice's word `start` on, each for 2^`rank` columns.
 ///
-/// It takes 8 bytes with its fields in this order, and so std sorts short runs of rows without a branch.
+/// With its fields in this order it takes 8 bytes, so that std sorts short runs of rows without branches.
 #[derive(Clone, Copy, Debug, PartialEq, Eq)]
 pub struct Row {
     /// Its first word within a slice.

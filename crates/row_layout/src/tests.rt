@@ -7,6 +7,7 @@ ghost use Rattle.funnel_model.specs.Sizes.{columns_of_slice};
 use super::*;
 use funnel_model::{Config, Listed, Memory, WordSet};
 use std::alloc::{AllocError, Global};
+use std::mem::size_of;
 use std::test::Fail;
 use treatment::sizes;
 
@@ -104,6 +105,11 @@ fn pairs(alloc: Global, bits: &Bits) -> Result<Vec<(u32, u32)>, AllocError> {
         pairs.push((bit.word, bit.bit))?;
     }
     Ok(pairs)
+}
+
+#[test]
+fn a_row_takes_8_bytes(rt: HostRuntime) {
+    assert_eq!(rt; size_of::<Row>(), 8);
 }
 
 #[test]
