@@ -2,7 +2,7 @@
 use Rattle.std.proofs.Common.{◌≡◌, ◌≢◌, ℕ, ◌+◌, ◌≤◌, Bool, true, false, cond, List, [], ◌∷◌, ◌++◌, map, take, drop, take-append-drop, Some, rules, arith, sym, refl, ap, ◌∙◌, subst}
 use Rattle.std.proofs.lemmas.Bool.{or_parts}
 use Rattle.std.proofs.lemmas.List.{append_cancel_left, length-map}
-use Rattle.std.proofs.lemmas.List.Elements.{All-cons, All-head, All-nil, All-tail}
+use Rattle.std.proofs.lemmas.List.Elements.{All-cons, All-head, All-map, All-nil, All-tail, All-weaker}
 use Rattle.std.specs.List.{All, AllZip, list_any}
 use Rattle.engine.specs.Engines.{ClosedState}
 use Rattle.funnel_io.specs.Counts.{Rose, counted, raised}
@@ -10,8 +10,9 @@ use Rattle.funnel_io.specs.Served.{Served}
 use Rattle.funnel_io.specs.declared.end.End.TheVariants as end_of
 use Rattle.funnel_model.specs.declared.config.Config.{Config}
 use Rattle.funnel_model.specs.Legal.{Limits}
-use Rattle.funnel_server.proofs.Ends.{are_all, kept_ends, serve_all, visit_ends_well}
+use Rattle.funnel_server.proofs.Ends.{are_all, fits_kept, kept_ends, serve_all, visit_ends_well}
 use Rattle.funnel_server.specs.Gates.{GateState, Sides}
+use Rattle.funnel_server.specs.Laws.{FitsKept}
 use Rattle.funnel_server.specs.Workers.{IsVisit, Visit, WorkerState, Works, is_memory, served_by, sides_before}
 use Rattle.line_proto.specs.Services.{Caller}
 use Rattle.funnel.specs.declared.ended.Why.{Why}
@@ -70,6 +71,7 @@ gate_is_served : (before after : WorkerState) (works : Works before after) (why 
 gate_is_served before after works why no_fault memory = record {
   gained = map served_by works.visits;
   kept = works.serves.served;
+  fit = All-map FitsKept served_by works.visits (All-weaker (IsVisit before.caller) (λ (visit : Visit). FitsKept (served_by visit)) (fits_kept before.caller) works.visits works.serves.sessions);
   most = omega (arith, works.serves.count, length-map works.visits served_by);
   first = first_kept before after works no_fault;
   left = others_wait before after works no_fault;

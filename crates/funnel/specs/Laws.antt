@@ -16,7 +16,7 @@ use Rattle.funnel_model.specs.declared.reply.Reply.{Reply}
 use Rattle.funnel_model.specs.declared.reply.Reply.TheVariants as reply
 use Rattle.funnel_model.specs.History.{own}
 use Rattle.funnel_server.specs.Gates.{GateState, Sides}
-use Rattle.funnel_server.specs.Laws.{HasCause, HasFewBytes, HasSeen, MakesCalls}
+use Rattle.funnel_server.specs.Laws.{FitsKept, HasCause, HasFewBytes, HasSeen, MakesCalls}
 use Rattle.funnel_server.specs.Workers.{Visit, WorkerState}
 use Rattle.funnel_stats.specs.Configurations.{configuration}
 use Rattle.line_proto.specs.Forms.{Item, items}
@@ -142,11 +142,13 @@ pub record IsKeptOf (sides : Sides) (served : Served) : Type 0 where
   pub cause : HasCause sides served
   pub good : HasFewBytes sides → KeepsNoFault served → KeepsGoodEnd served
 
--- A gate had connections served, no more than may be, and keeps an end for each. Where it tells which connections wait, they are the first
--- of these, as many as may be, and the others still wait. Where the serve is done, each found memory
+-- A gate had connections served, no more than may be, and keeps an end for each, where it tells those that came back. Each such end fits
+-- what is kept with it. Where the gate tells which connections wait, they are the first of these, as many as may be, and the others still
+-- wait. Where the serve is done, each found memory
 pub record GateIsServed (connections : ℕ) (why : Why) (before after : GateState) : Type 0 where
   pub gained : List Served
   pub kept : after.served ≡ option_map (λ earlier. earlier ++ gained) before.served
+  pub fit : All FitsKept gained
   pub most : length gained ≤ connections
   pub first : (waiting : List Sides) → before.waiting ≡ Some waiting → AllZip IsKeptOf (take connections waiting) gained
   pub left : (waiting : List Sides) → before.waiting ≡ Some waiting → after.waiting ≡ Some (drop connections waiting)

@@ -48,8 +48,9 @@ pub fn the_calls_of_a_serve_are_those_of_its_sessions()
         AllCallsAreOfSessions closed.history (new_workers (limits_by config) connections 0 before) served.workers served.work }
 {}
 
-/// Each gate of a serve, unless a call of it failed, had the first of its connections served, up to the stated number, and keeps an
-/// end for each: with few bytes and no failed read or write it is Done, or want of memory where the serve as a whole isn't done.
+/// Each gate of a serve, unless a call of it failed, had the first of its connections served, up to the stated number. Where it tells
+/// those that came back, it keeps an end for each: with few bytes and no failed read or write it is Done, or want of memory where the
+/// serve as a whole isn't done.
 pub fn gates_without_a_fault_are_served()
     ensures { (config : Config) (connections : ℕ) (before after : List GateState) (why : Why) (closed : ClosedState) →
         HaveAllServed config connections before after why closed → AllZip (IsServedUnlessFailed connections why) before after }

@@ -7,10 +7,11 @@ use Rattle.funnel_model.specs.declared.event.Event.{Event}
 use Rattle.funnel_model.specs.declared.reply.Reply.{Reply}
 use Rattle.funnel_model.specs.declared.reply.Reply.TheVariants as reply
 use Rattle.funnel_model.proofs.StepCauses.{memory_cause}
+use Rattle.funnel_model.proofs.StepLemmas.{prefix_refl}
 use Rattle.funnel_model.specs.Steps.{Step}
 use Rattle.line_proto.specs.Services.{AnswersCall, Caller}
 use Rattle.funnel_server.proofs.JoinedCalls.{linear-append}
-use Rattle.funnel_server.specs.Loads.{AreAsked, LooksForName}
+use Rattle.funnel_server.specs.Loads.{AreAsked}
 use Rattle.funnel_server.specs.Shares.{EndsEarly, IsDone}
 
 -- what holds anyhow holds where there is an error
@@ -69,16 +70,28 @@ stopped-later caller before middle after calls more (replies, first) stopped = r
   };
 }
 
--- calls of which none is made, since there is no memory for the name that the first one looks for
-pub stopped-none : (caller : Caller) (front : List Event) (asked : Call) (others : List Call) → LooksForName asked →
-    EndsEarly caller front front (asked ∷ others)
-stopped-none caller front asked others looks = record {
-  asked = [];
-  next = asked;
-  later = others;
-  calls_are = refl;
-  stops = record { middle = front; replies = []; answered = asked-none caller front; ends = inl (looks, refl) };
-}
+-- a find that is not asked after a call, since there is no memory for the name that it looks for
+pub stopped-none : (caller : Caller) (before front : List Event) (asked : Call) (given : Reply) (query : List ℕ) (others : List Call) →
+    AreAsked caller before front (asked ∷ []) (given ∷ []) → EndsEarly caller front front (call.Find query ∷ others)
+stopped-none caller before front asked given query others answered =
+    let step = subst (λ h. Step caller.limits caller.pass before h asked given) answered.run.2 answered.run.1 in record {
+      asked = [];
+      next = call.Find query;
+      later = others;
+      calls_are = refl;
+      stops = record {
+        middle = front;
+        replies = [];
+        answered = asked-none caller front;
+        ends = record {
+          grows = prefix_refl front;
+          legal = step.legal;
+          idle_before = step.idle_after;
+          idle_after = step.idle_after;
+          outcome = inr (inl (record { reply = refl; call = inl refl }));
+        };
+      };
+    }
 
 -- a call that finds no memory
 pub stopped-one : (caller : Caller) (before after : List Event) (asked : Call) → AnswersCall caller before after asked reply.Memory →
@@ -88,7 +101,7 @@ stopped-one caller before after asked answers = record {
   next = asked;
   later = [];
   calls_are = refl;
-  stops = record { middle = before; replies = []; answered = asked-none caller before; ends = inr answers.step };
+  stops = record { middle = before; replies = []; answered = asked-none caller before; ends = answers.step };
 }
 
 -- a delete is asked, and its reply is no want of memory

@@ -14,7 +14,7 @@ use Rattle.line_proto.specs.Services.{Caller}
 use Rattle.session.specs.Ends.{Serves, Stand, is_read_fault, is_write_fault}
 use Rattle.session.specs.declared.serving.TheConstants.{MOST_BYTES}
 use Rattle.funnel_server.specs.Gates.{Sides}
-use Rattle.funnel_server.specs.Laws.{CountsAs, SessionEndsWell, HasCause, HasFewBytes, VisitHasNoFault, KeepsInput, TakesAs, TellsInput}
+use Rattle.funnel_server.specs.Laws.{CountsAs, FitsKept, SessionEndsWell, HasCause, HasFewBytes, VisitHasNoFault, KeepsInput, TakesAs, TellsInput}
 use Rattle.funnel_server.specs.Workers.{GivesNoMore, IsStopped, IsVisit, Visit, WorkerState, Works, is_memory, served_by, sides_before}
 
 -- bytes that were taken of an input are its first ones, and all of it where nothing is left
@@ -70,14 +70,16 @@ limit_told caller old new end_of.WriteFault served limit is = cc
 limit_told caller old new (end_of.ByteLimit told) served limit is = let told_is : told ≡ MOST_BYTES = served.within.0 in cc
 limit_told caller old new end_of.Memory served limit is = cc
 
-pub kept_ends : (caller : Caller) (visit : Visit) → IsVisit caller visit → HasCause (sides_before visit) (served_by visit)
-kept_ends caller visit session = record {
+pub fits_kept : (caller : Caller) (visit : Visit) → IsVisit caller visit → FitsKept (served_by visit)
+fits_kept caller visit session = record {
   counts = visit_counts caller visit session;
   limit = limit_told caller visit.before visit.after visit.end session.serves;
-  input = keeps_input caller visit session;
   nothing_read = λ memory. subst (λ (stand : Stand). IfSome stand.incoming.taken (λ bytes. bytes ≡ [])) (sym (session.untouched memory)) session.fresh.nothing_read;
   nothing_written = λ memory. subst (λ (stand : Stand). IfSome stand.outgoing.written (λ bytes. bytes ≡ [])) (sym (session.untouched memory)) session.fresh.nothing_written;
 }
+
+pub kept_ends : (caller : Caller) (visit : Visit) → IsVisit caller visit → HasCause (sides_before visit) (served_by visit)
+kept_ends caller visit session = record { fits = fits_kept caller visit session; input = keeps_input caller visit session }
 
 -- those that left the waiting ones, and those that still wait, are all that waited
 pub record AreAll (left : Option (List Sides)) (waiting gone : List Sides) : Type 0 where

@@ -104,13 +104,17 @@ pub record KeepsInput (input : List ℕ) (served : Served) : Type 0 where
   pub first : IsPrefix bytes input
   pub by_end : TakesAs served.session_end input bytes
 
--- the end that is kept of a connection has its cause in what else is kept of it
-pub record HasCause (sides : Sides) (served : Served) : Type 0 where
+-- the end that is kept of a connection fits the counts and the bytes that are kept with it
+pub record FitsKept (served : Served) : Type 0 where
   pub counts : CountsAs served.session_end served.read_faults served.write_faults
   pub limit : (limit : ℕ) → served.session_end ≡ end_of.ByteLimit limit → limit ≡ MOST_BYTES
-  pub input : (input : List ℕ) → TellsInput sides.incoming input → KeepsInput input served
   pub nothing_read : served.session_end ≡ end_of.Memory → IfSome served.bytes_in (λ bytes. bytes ≡ [])
   pub nothing_written : served.session_end ≡ end_of.Memory → IfSome served.bytes_out (λ bytes. bytes ≡ [])
+
+-- it has its cause in them, and where the connection tells its bytes in what there was to be read
+pub record HasCause (sides : Sides) (served : Served) : Type 0 where
+  pub fits : FitsKept served
+  pub input : (input : List ℕ) → TellsInput sides.incoming input → KeepsInput input served
 
 -- a connection has fewer bytes to be read than a session may take
 pub record HasFewBytes (sides : Sides) : Type 0 where

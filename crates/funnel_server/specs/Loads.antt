@@ -4,7 +4,6 @@ use Rattle.std.specs.List.{All}
 use Rattle.std.specs.Option.{option_map_or}
 use mathlib.Core.List.{IsPrefix}
 use Rattle.funnel_model.specs.declared.call.Call.{Call}
-use Rattle.funnel_model.specs.declared.call.Call.TheVariants as call
 use Rattle.funnel_model.specs.declared.event.Event.{Event}
 use Rattle.funnel_model.specs.declared.reply.Reply.{Reply}
 use Rattle.funnel_model.specs.declared.reply.Reply.TheVariants as reply
@@ -12,7 +11,6 @@ use Rattle.funnel_model.specs.History.{IsFrontOf}
 use Rattle.funnel_model.specs.Legal.{Limits}
 use Rattle.funnel_model.specs.Steps.{Linear, Step}
 use Rattle.line_proto.specs.Services.{Caller}
-use Rattle.load_gen.specs.Documents.{name_of_document}
 use Rattle.load_gen.specs.Jobs.{adds_of, deletes_of, queries_of, share}
 use Rattle.load_gen.specs.Queries.{queries}
 use Rattle.load_laws.specs.Replies.{result_in}
@@ -57,26 +55,20 @@ pub record IsPut (limits : Limits) (texts : List (List ℕ)) (workers : ℕ) (be
   pub count : length results ≡ length queries
   pub results_are : (worker : ℕ) → worker < workers → map (λ item. item.1) (share results workers worker) ≡ map result_in (to_queries worker)
 
--- the call looks for a document by its name; a worker takes memory for the name before it asks
-abbrev pub LooksForName : Call → Type 0
-LooksForName (call.Find query) = (id : ℕ) × (query ≡ name_of_document id)
-LooksForName _ = ⊥
-
--- The first of the calls that are left was asked, and no memory was found for it; or it looks for a name, and was not asked, as no
--- memory was found for the name
+-- of the calls that are left, if there are any, the first one found no memory; so a find that was not asked, as there was no memory for
+-- the name that it looks for, is told as one that found none
 abbrev pub GoesNoFurther : Caller → List Event → List Event → List Call → Type 0
 GoesNoFurther caller before after [] = before ≡ after
-GoesNoFurther caller before after (asked ∷ calls) =
-    (LooksForName asked × (before ≡ after)) ⊎ Step caller.limits caller.pass before after asked reply.Memory
+GoesNoFurther caller before after (asked ∷ calls) = Step caller.limits caller.pass before after asked reply.Memory
 
--- the caller asked the first calls, and found memory for each, and went no further with those that are left
+-- the caller asked all calls or the first ones, and found memory for each, and went no further with those that are left
 pub record StopsAfter (caller : Caller) (before after : List Event) (asked left : List Call) : Type 0 where
   pub middle : List Event
   pub replies : List Reply
   pub answered : AreAsked caller before middle asked replies
   pub ends : GoesNoFurther caller middle after left
 
--- a part of the load ended early: each worker asked the first of its calls, and some worker has calls left
+-- a part of the load ended early: each worker asked the first ones of its calls, or all, and some worker has calls left
 pub record EndsPartEarly (limits : Limits) (workers : ℕ) (calls : ℕ → List Call) (before after : ℕ → List Event) : Type 0 where
   pub asked : ℕ → List Call
   pub left : ℕ → List Call

@@ -19,7 +19,7 @@ returns-in_err-write_name-clause-stopped g c =
     on_err c.from_residual-in_err-write_name.result
     (subst (EndsEarly caller before after) (sym (checked c.args.n c.args.id c.args.text.now c.if-n-eq0.true))
     (stopped-later caller before after after (call.Add c.args.id c.args.text.now ∷ []) (call.Find (name_of_document c.args.id) ∷ []) (_, c.in_ok-ask.ensures.answered)
-    (stopped-none caller after (call.Find (name_of_document c.args.id)) [] (c.args.id, refl))))
+    (stopped-none caller before after (call.Add c.args.id c.args.text.now) c.in_ok-ask.field-0 (name_of_document c.args.id) [] c.in_ok-ask.ensures.answered)))
 
 pub returns-in_err-ask-2-clause-stopped : goal.returns-in_err-ask-2-clause-stopped
 returns-in_err-ask-2-clause-stopped g c =
