@@ -6,7 +6,7 @@ use Rattle.std.proofs.lemmas.List.Elements.{All-append, All-cons, All-contains, 
 use Rattle.std.proofs.lemmas.List.FromFn.{get_or-map-range_with_len, get_or-range_with_len, length-map-range_with_len, length-range_with_len}
 use Rattle.std.proofs.lemmas.Simd.{map-map}
 use Rattle.std.specs.List.{All, Contains, list_any, range_with_len, remove}
-use Rattle.std.specs.Prelude.{◌==◌}
+use Rattle.std.specs.Prelude.{◌==◌, ◌||◌, Bool}
 use Rattle.commit_desk.specs.Passes.{IsResting}
 use Rattle.engine.specs.Clients.{caller_of}
 use Rattle.engine.specs.Engines.{ClosedState, EndsIn}
@@ -15,8 +15,13 @@ use Rattle.funnel_model.specs.declared.event.Event.{Event}
 use Rattle.funnel_model.specs.Events.{pass_of}
 use Rattle.funnel_model.specs.History.{IsFrontOf}
 use Rattle.funnel_model.specs.Legal.{IsLegal, Limits}
+use Rattle.funnel_io.specs.Calls.{Read, Write}
+use Rattle.funnel_io.specs.Streams.{Incoming, Outgoing}
+use Rattle.funnel_io.specs.declared.end.End.{End}
+use Rattle.funnel_io.specs.declared.gate.Next.{Next}
 use Rattle.funnel_server.specs.Gates.{GateState}
-use Rattle.funnel_server.specs.Workers.{HasMetNoFault, WorkerState, Works}
+use Rattle.funnel_server.specs.GateTurns.{WorksInTurns}
+use Rattle.funnel_server.specs.Workers.{HasMetNoFault, WorkerState, WorkerWithGate}
 use Rattle.row_layout.specs.Sound.{IsSound}
 use Rattle.slice_rule.specs.Pools.{PoolId}
 use Rattle.slice_rule.specs.Seats.{PassState, new_pass_state}
@@ -25,7 +30,8 @@ use Rattle.funnel.specs.declared.ended.Why.{Why}
 use Rattle.funnel.specs.Runs.{limits_by}
 use Rattle.funnel.specs.Served.{AllWork, HaveAllServed, new_worker, new_workers, why_of_workers}
 use Rattle.funnel.specs.Serving.{new_passes}
-use Rattle.funnel.specs.Workers.{AreEquipped, ComeBack, GaveBack, HaveWorked, stand_of, stand_of_worker}
+use Rattle.funnel.specs.Turns.{GatesGoInTurns}
+use Rattle.funnel.specs.Workers.{AreEquipped, ComeBack, GaveBack, HaveWorked, gates_of, stand_of, stand_of_worker, states_of}
 
 -- ---- the gates and passes go to workers
 
@@ -104,6 +110,18 @@ equip-more {G} state pool connections all (g ∷ gs) rest gate passes others pas
     (equip-one pool connections (map state all) (state g) (map state gs) passes others pass workers more worker so_far (omega (arith, enough, length-map all state)) is left_are
     (made_of ∙ ap (λ (x : G). record { gate = state x; caller = caller_of pass; front = pass.front; left = connections; fault = false; memory = false }) first) more_are)
 
+-- a gate that was the first of those that were left is the last one that has a worker
+pub moved_on : {G : Type 0} (workers more : List (WorkerWithGate G)) (worker : WorkerWithGate G) (gates rest all : List G) → gates_of workers ++ gates ≡ all →
+    0 < length gates → worker.gate ≡ slice_index_or gates 0 worker.gate → rest ≡ remove gates 0 → more ≡ workers ++ worker ∷ [] → gates_of more ++ rest ≡ all
+moved_on {G} workers more worker [] rest all so_far some first rest_are more_are = absurd (omega arith)
+moved_on {G} workers more worker (gate ∷ gates) rest all so_far some first rest_are more_are =
+    ap (λ (gs : List G). gates_of more ++ gs) rest_are
+    ∙ ap (λ (ws : List (WorkerWithGate G)). gates_of ws ++ gates) more_are
+    ∙ ap (λ (gs : List G). gs ++ gates) (map-append (λ (w : WorkerWithGate G). w.gate) workers (worker ∷ []))
+    ∙ append_assoc (gates_of workers) (worker.gate ∷ []) gates
+    ∙ ap (λ (g : G). gates_of workers ++ g ∷ gates) first
+    ∙ so_far
+
 -- all workers are made
 pub equip-end : (pool : PoolId) (connections : ℕ) (all left : List GateState) (passes : List PassState) (workers : List WorkerState) →
     AreEquipped pool connections all left passes workers → left ≡ [] →
@@ -130,15 +148,76 @@ all_ready limits connections pass (gate ∷ gates) =
     All-cons HasMetNoFault (new_worker limits connections pass gate) (new_workers limits connections (pass + 1) gates) (record { no_fault = refl; no_memory = refl })
     (all_ready limits connections (pass + 1) gates)
 
+-- what holds of some worker holds of its state
+pub any_of_states : {G : Type 0} (test : WorkerState → Bool) (workers : List (WorkerWithGate G)) → list_any (λ worker. test worker.state) workers ≡ list_any test (states_of workers)
+any_of_states {G} test [] = refl
+any_of_states {G} test (worker ∷ workers) = ap (λ b. test worker.state || b) (any_of_states test workers)
+
+pub all_with_gate : {G : Type 0} (workers : List (WorkerWithGate G)) → All HasMetNoFault (states_of workers) → All (λ worker. HasMetNoFault worker.state) workers
+all_with_gate {G} [] ready = All-nil (λ (worker : WorkerWithGate G). HasMetNoFault worker.state)
+all_with_gate {G} (worker ∷ workers) ready =
+    All-cons (λ (worker : WorkerWithGate G). HasMetNoFault worker.state) worker workers (All-head HasMetNoFault worker.state (states_of workers) ready)
+    (all_with_gate workers (All-tail HasMetNoFault worker.state (states_of workers) ready))
+
 -- ---- the workers work
 
-pub all_work : (befores afters : List WorkerState) → length afters ≡ length befores →
-    ((k : ℕ) (d : WorkerState) → k < length befores → Works (slice_index_or befores k d) (slice_index_or afters k d)) → AllWork befores afters
-all_work [] [] same work = tt
-all_work (before ∷ befores) [] same work = absurd (omega (arith, same))
-all_work [] (after ∷ afters) same work = absurd (omega (arith, same))
-all_work (before ∷ befores) (after ∷ afters) same work =
-    (work 0 before (omega arith), all_work befores afters (omega (arith, same)) (λ k d small. work (suc k) d (omega (arith, small))))
+-- of workers with their gates
+module _ {G C : Type 0} (next_gives : G → Next C → G → Type 0) (done_gives : G → C → End → G → Type 0)
+    (read_gives : C → Read → C → Type 0) (write_gives : C → Write → C → Type 0) (incoming : C → Incoming) (outgoing : C → Outgoing) where
+  pub all_work : (befores afters : List (WorkerWithGate G)) → length afters ≡ length befores →
+      ((k : ℕ) (d : WorkerWithGate G) → k < length befores →
+      WorksInTurns next_gives done_gives read_gives write_gives incoming outgoing (slice_index_or befores k d) (slice_index_or afters k d)) →
+      AllWork (states_of befores) (states_of afters)
+  all_work [] [] same work = tt
+  all_work (before ∷ befores) [] same work = absurd (omega (arith, same))
+  all_work [] (after ∷ afters) same work = absurd (omega (arith, same))
+  all_work (before ∷ befores) (after ∷ afters) same work =
+      ((work 0 before (omega arith)).works, all_work befores afters (omega (arith, same)) (λ k d small. work (suc k) d (omega (arith, small))))
+
+  -- so each gate was called turn by turn
+  gates_in_turns : (state : G → GateState) (limits : Limits) (connections pass : ℕ) (befores afters : List (WorkerWithGate G)) → length afters ≡ length befores →
+      ((k : ℕ) (d : WorkerWithGate G) → k < length befores →
+      WorksInTurns next_gives done_gives read_gives write_gives incoming outgoing (slice_index_or befores k d) (slice_index_or afters k d)) →
+      states_of befores ≡ new_workers limits connections pass (map state (gates_of befores)) →
+      map (λ (worker : WorkerState). worker.gate) (states_of afters) ≡ map state (gates_of afters) →
+      GatesGoInTurns next_gives done_gives read_gives write_gives incoming outgoing state connections (gates_of befores) (gates_of afters)
+  gates_in_turns state limits connections pass [] [] same work made told = tt
+  gates_in_turns state limits connections pass (before ∷ befores) [] same work made told = absurd (omega (arith, same))
+  gates_in_turns state limits connections pass [] (after ∷ afters) same work made told = absurd (omega (arith, same))
+  gates_in_turns state limits connections pass (before ∷ befores) (after ∷ afters) same work made told =
+      let is : before.state ≡ new_worker limits connections pass (state before.gate) = ap (λ (ws : List WorkerState). slice_index_or ws 0 before.state) made in (
+        record {
+          first = before.state;
+          last = after.state;
+          work = work 0 before (omega arith);
+          count = ap (λ (w : WorkerState). w.left) is;
+          told_first = ap (λ (w : WorkerState). w.gate) is;
+          told_last = ap (λ (gs : List GateState). slice_index_or gs 0 after.state.gate) told;
+        },
+        gates_in_turns state limits connections (pass + 1) befores afters (omega (arith, same)) (λ k d small. work (suc k) d (omega (arith, small)))
+            (ap (λ (ws : List WorkerState). remove ws 0) made) (ap (λ (gs : List GateState). remove gs 0) told),
+      )
+
+  -- those that went to the workers and came back
+  pub all_in_turns : (state : G → GateState) (limits : Limits) (connections : ℕ) (gates none back : List G) (befores afters : List (WorkerWithGate G)) →
+      length afters ≡ length befores →
+      ((k : ℕ) (d : WorkerWithGate G) → k < length befores →
+      WorksInTurns next_gives done_gives read_gives write_gives incoming outgoing (slice_index_or befores k d) (slice_index_or afters k d)) →
+      states_of befores ≡ new_workers limits connections 0 (map state gates) → gates_of befores ≡ gates → none ≡ [] →
+      map state back ≡ map state none ++ map (λ (worker : WorkerState). worker.gate) (states_of afters) → back ≡ none ++ gates_of afters →
+      GatesGoInTurns next_gives done_gives read_gives write_gives incoming outgoing state connections gates back
+  all_in_turns state limits connections gates none back befores afters same work made theirs empty told back_are =
+      let came : back ≡ gates_of afters = back_are ∙ ap (λ (gs : List G). gs ++ gates_of afters) empty in
+      let tells : map (λ (worker : WorkerState). worker.gate) (states_of afters) ≡ map state (gates_of afters) =
+      sym (told ∙ ap (λ (gs : List G). map state gs ++ map (λ (worker : WorkerState). worker.gate) (states_of afters)) empty) ∙ ap (map state) came in
+      subst (λ (gs : List G). GatesGoInTurns next_gives done_gives read_gives write_gives incoming outgoing state connections gs back) theirs
+      (subst (λ (gs : List G). GatesGoInTurns next_gives done_gives read_gives write_gives incoming outgoing state connections (gates_of befores) gs) (sym came)
+      (gates_in_turns state limits connections 0 befores afters same work
+      (made ∙ ap (λ (gs : List G). new_workers limits connections 0 (map state gs)) (sym theirs)) tells))
+
+pub as_many : {G : Type 0} (befores afters : List (WorkerWithGate G)) → length afters ≡ length befores → length (states_of afters) ≡ length (states_of befores)
+as_many {G} befores afters same =
+    length-map afters (λ (worker : WorkerWithGate G). worker.state) ∙ same ∙ sym (length-map befores (λ (worker : WorkerWithGate G). worker.state))
 
 -- their passes are those of their gates, in order
 passes_of : (limits : Limits) (connections pass : ℕ) (gates : List GateState) (workers : List WorkerState) → AllWork (new_workers limits connections pass gates) workers →
@@ -189,6 +268,16 @@ back-more pool workers left rest worker before now after gate others passes more
       };
     }
 
+-- a gate that was the first of those that are to come back is the last one that did
+pub moved_back : {G : Type 0} (gates more : List G) (left rest : List (WorkerWithGate G)) (worker : WorkerWithGate G) (gate : G) (all : List G) →
+    gates ++ gates_of left ≡ all → left ≡ worker ∷ rest → gate ≡ worker.gate → more ≡ gates ++ gate ∷ [] → more ++ gates_of rest ≡ all
+moved_back {G} gates more left rest worker gate all so_far next is more_are =
+    ap (λ (gs : List G). gs ++ gates_of rest) more_are
+    ∙ append_assoc gates (gate ∷ []) (gates_of rest)
+    ∙ ap (λ (g : G). gates ++ g ∷ gates_of rest) is
+    ∙ ap (λ (ws : List (WorkerWithGate G)). gates ++ gates_of ws) (sym next)
+    ∙ so_far
+
 -- all came back
 pub back-end : (pool : PoolId) (workers left : List WorkerState) (before after : List GateState) (others passes : List PassState) →
     GaveBack pool workers left before after others passes → left ≡ [] →
@@ -203,12 +292,12 @@ back-end pool workers left before after others passes all none =
 pub have_worked : {G : Type 0} (state : G → GateState) (named pool : PoolId) (connections : ℕ) (gates none back : List G) (why : Why) (left passes : List PassState)
     (fresh workers : List WorkerState) → pool ≡ named →
     fresh ≡ new_workers pool.limits connections 0 (map state gates) → none ≡ [] → left ≡ new_passes pool (length gates) (pool.config.passes - length gates) →
-    length workers ≡ length fresh → ((k : ℕ) (d : WorkerState) → k < length fresh → Works (slice_index_or fresh k d) (slice_index_or workers k d)) →
+    AllWork fresh workers →
     map state back ≡ map state none ++ map (λ (worker : WorkerState). worker.gate) workers → why ≡ why_of_workers workers → ComeBack named workers left passes →
     HaveWorked pool connections (map state gates) (map state back) why passes
-have_worked {G} state named pool connections gates none back why left passes fresh workers named_is made empty left_are same work back_are cause come = record {
+have_worked {G} state named pool connections gates none back why left passes fresh workers named_is made empty left_are work back_are cause come = record {
   workers = workers;
-  work = subst (λ (ws : List WorkerState). AllWork ws workers) made (all_work fresh workers same work);
+  work = subst (λ (ws : List WorkerState). AllWork ws workers) made work;
   gates = back_are ∙ ap (λ (gs : List G). map state gs ++ map (λ (worker : WorkerState). worker.gate) workers) empty;
   cause = cause;
   back =

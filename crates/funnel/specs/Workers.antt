@@ -3,7 +3,7 @@ use Rattle.std.specs.Prelude.{◌≡◌, ℕ, ◌+◌, ◌-◌, List, ◌++◌, 
 use Rattle.commit_desk.specs.Passes.{IsResting}
 use Rattle.funnel_model.specs.declared.event.Event.{Event}
 use Rattle.funnel_server.specs.Gates.{GateState}
-use Rattle.funnel_server.specs.Workers.{WorkerState}
+use Rattle.funnel_server.specs.Workers.{WorkerState, WorkerWithGate}
 use Rattle.slice_rule.specs.Pools.{PoolId}
 use Rattle.slice_rule.specs.Seats.{PassState}
 use Rattle.funnel.specs.Served.{AllWork, new_workers, why_of_workers}
@@ -16,6 +16,14 @@ stand_of pass = (pass.number, pass.front)
 
 abbrev pub stand_of_worker : WorkerState → ℕ × List Event
 stand_of_worker worker = (worker.caller.pass, worker.front)
+
+-- the workers without their gates themselves
+abbrev pub states_of : {G : Type 0} → List (WorkerWithGate G) → List WorkerState
+states_of workers = map (λ worker. worker.state) workers
+
+-- and their gates
+abbrev pub gates_of : {G : Type 0} → List (WorkerWithGate G) → List G
+gates_of workers = map (λ worker. worker.gate) workers
 
 -- the passes of the workers came back behind others, in order
 pub record ComeBack (pool : PoolId) (workers : List WorkerState) (others passes : List PassState) : Type 0 where

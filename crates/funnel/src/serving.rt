@@ -1,12 +1,13 @@
 //! A serve: the connections of each gate are answered by a pass of its own of one new engine.
-ghost use Rattle.std.specs.Prelude.{◌≡◌, ◌≤◌, ◌+◌, ◌-◌, ◌++◌, [], length, map, IfNone, vec_capacity};
+ghost use Rattle.std.specs.Prelude.{◌≡◌, ◌≤◌, ◌+◌, ◌-◌, ◌++◌, [], length, map, IfNone, IfSome, if◌then◌else◌, vec_capacity};
 ghost use Rattle.std.specs.List.{list_any};
 ghost use Rattle.funnel_model.specs.Configuration.{IsValid};
 ghost use Rattle.funnel_server.specs.Gates.{gate_state};
 ghost use Rattle.funnel.specs.Runs.{limits_by};
-ghost use Rattle.funnel.specs.Served.{EndsServe, new_workers, why_of_workers};
+ghost use Rattle.funnel.specs.Served.{EndsServe, new_workers};
 ghost use Rattle.funnel.specs.Serving.{new_passes};
-ghost use Rattle.funnel.specs.Workers.{ComeBack, HaveWorked};
+ghost use Rattle.funnel.specs.Turns.{GatesGoInTurns};
+ghost use Rattle.funnel.specs.Workers.{ComeBack, HaveWorked, gates_of, states_of};
 
 use crate::ended::{Ended, Why};
 use engine::{Blank, Client, Engine, Pass, PoolName};
@@ -35,6 +36,8 @@ where
         (map (gate_state G.is_closed G.gate_faults G.waiting G.Conn.incoming G.Conn.outgoing G.served) gates.items)
         (map (gate_state G.is_closed G.gate_faults G.waiting G.Conn.incoming G.Conn.outgoing G.served) result.gates.items)
         result.why result.closed }
+    ensures in_turns { IfSome result.closed (λ _. GatesGoInTurns G.next_gives G.done_gives G.Conn.read_gives G.Conn.write_gives G.Conn.incoming G.Conn.outgoing
+        (gate_state G.is_closed G.gate_faults G.waiting G.Conn.incoming G.Conn.outgoing G.served) connections gates.items result.gates.items) }
     ensures untouched { IfNone result.closed (result.gates ≡ gates) }
     ensures count { length result.gates.items ≡ length gates.items }
 {
@@ -71,6 +74,8 @@ where
         (map (gate_state G.is_closed G.gate_faults G.waiting G.Conn.incoming G.Conn.outgoing G.served) gates.items)
         (map (gate_state G.is_closed G.gate_faults G.waiting G.Conn.incoming G.Conn.outgoing G.served) result.1.items)
         result.0 result.2.items }
+    ensures in_turns { GatesGoInTurns G.next_gives G.done_gives G.Conn.read_gives G.Conn.write_gives G.Conn.incoming G.Conn.outgoing
+        (gate_state G.is_closed G.gate_faults G.waiting G.Conn.incoming G.Conn.outgoing G.served) connections gates.items result.1.items }
 {
     let mut gates = gates;
     let mut passes = passes;
@@ -105,8 +110,9 @@ fn equip<'a, N: PoolName, R: Wait, G: Gate + Drop>(
     requires enough { length gates.old.items ≤ engine.now.config.passes }
     requires empty { workers.old.items ≡ [] }
     requires room { length gates.old.items ≤ vec_capacity workers.old }
-    ensures workers { workers.new.items ≡ new_workers engine.now.limits connections 0
+    ensures workers { states_of workers.new.items ≡ new_workers engine.now.limits connections 0
         (map (gate_state G.is_closed G.gate_faults G.waiting G.Conn.incoming G.Conn.outgoing G.served) gates.old.items) }
+    ensures theirs { gates_of workers.new.items ≡ gates.old.items }
     ensures gates { gates.new.items ≡ [] }
     ensures passes { passes.new.items ≡ new_passes engine.now (length gates.old.items)
         (engine.now.config.passes - length gates.old.items) }
@@ -137,7 +143,8 @@ fn equip<'a, N: PoolName, R: Wait, G: Gate + Drop>(
 
 /// Why a serve ends, where its workers ended so.
 fn why_of_workers<N: PoolName, R: Wait, G: Gate>(workers: &[Worker<G, N, R>]) -> Why
-    ensures { result ≡ why_of_workers workers.now }
+    ensures { result ≡ (if list_any (λ worker. worker.state.fault) workers.now then Why.GateFault
+        else (if list_any (λ worker. worker.state.memory) workers.now then Why.Memory else Why.Done)) }
 {
     if any_gate_failed(workers) {
         Why::GateFault
@@ -149,15 +156,23 @@ fn why_of_workers<N: PoolName, R: Wait, G: Gate>(workers: &[Worker<G, N, R>]) ->
 }
 
 fn any_gate_failed<N: PoolName, R: Wait, G: Gate>(workers: &[Worker<G, N, R>]) -> bool
-    ensures { result ≡ list_any (λ worker. worker.fault) workers.now }
+    ensures { result ≡ list_any (λ worker. worker.state.fault) workers.now }
 {
-    workers.iter().any(|worker| worker.fault)
+    workers.iter().any(
+        |worker: &Worker<G, N, R>|
+            ensures { result ≡ worker.now.state.fault }
+        { worker.fault },
+    )
 }
 
 fn any_found_no_memory<N: PoolName, R: Wait, G: Gate>(workers: &[Worker<G, N, R>]) -> bool
-    ensures { result ≡ list_any (λ worker. worker.memory) workers.now }
+    ensures { result ≡ list_any (λ worker. worker.state.memory) workers.now }
 {
-    workers.iter().any(|worker| worker.memory)
+    workers.iter().any(
+        |worker: &Worker<G, N, R>|
+            ensures { result ≡ worker.now.state.memory }
+        { worker.memory },
+    )
 }
 
 /// Takes the gates and the passes of the workers back.
@@ -168,10 +183,11 @@ fn take_back<N: PoolName, R: Wait, G: Gate + Drop>(
 )
     requires room_of_gates { length gates.old.items + length workers.items ≤ vec_capacity gates.old }
     requires room_of_passes { length passes.old.items + length workers.items ≤ vec_capacity passes.old }
-    ensures gates { map (gate_state G.is_closed G.gate_faults G.waiting G.Conn.incoming G.Conn.outgoing G.served) gates.new.items
+    ensures gates { gates.new.items ≡ gates.old.items ++ gates_of workers.entry.items }
+    ensures told { map (gate_state G.is_closed G.gate_faults G.waiting G.Conn.incoming G.Conn.outgoing G.served) gates.new.items
         ≡ map (gate_state G.is_closed G.gate_faults G.waiting G.Conn.incoming G.Conn.outgoing G.served) gates.old.items
-        ++ map (λ worker. worker.gate) workers.entry.items }
-    ensures passes { ComeBack N.pool workers.entry.items passes.old.items passes.new.items }
+        ++ map (λ worker. worker.gate) (states_of workers.entry.items) }
+    ensures passes { ComeBack N.pool (states_of workers.entry.items) passes.old.items passes.new.items }
 {
     for worker in workers {
         let Worker { gate, client, .. } = worker;

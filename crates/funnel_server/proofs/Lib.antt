@@ -1,4 +1,5 @@
 pub mod Visits
+pub mod GateTurns
 pub mod Calls
 pub mod Ends
 pub mod JoinedCalls

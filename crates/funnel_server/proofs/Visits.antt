@@ -12,35 +12,35 @@ use Rattle.funnel_server.specs.Gates.{Sides}
 use Rattle.funnel_server.specs.Turns.{GetsNone, ServesNext, WorksOn}
 use Rattle.funnel_server.specs.Workers.{AreInOrder, HasMetNoFault, IsVisit, Visit, WorkerState, Works, is_memory, served_by, sides_before}
 
-in_order-push : (front middle after : List Event) (visits : List Visit) (visit : Visit) → AreInOrder front visits middle → visit.before.front ≡ middle
+pub in_order-push : (front middle after : List Event) (visits : List Visit) (visit : Visit) → AreInOrder front visits middle → visit.before.front ≡ middle
     → visit.after.front ≡ after → AreInOrder front (visits ++ visit ∷ []) after
 in_order-push front middle after [] visit order begins ends = (begins ∙ sym order, ends)
 in_order-push front middle after (first ∷ visits) visit order begins ends =
     (order.0, in_order-push first.after.front middle after visits visit order.1 begins ends)
 
 -- those that waited at first are the first ones, then one, and then those that wait at last
-waited-push : (first : List Sides) (one : Sides) (before now after : Option (List Sides)) → before ≡ option_map (λ rest. first ++ rest) now
+pub waited-push : (first : List Sides) (one : Sides) (before now after : Option (List Sides)) → before ≡ option_map (λ rest. first ++ rest) now
     → now ≡ option_map (λ rest. one ∷ rest) after → before ≡ option_map (λ rest. (first ++ one ∷ []) ++ rest) after
 waited-push first one before now None so then = so ∙ ap (option_map (λ rest. first ++ rest)) then
 waited-push first one before now (Some rest) so then =
     so ∙ (ap (option_map (λ rest. first ++ rest)) then ∙ ap Some (sym (append_assoc first (one ∷ []) rest)))
 
 -- lists that were put at the end of a list, one after another, are at its end
-at_end : {A : Type 0} (first second : List A) (before now after : Option (List A)) → now ≡ option_map (λ earlier. earlier ++ first) before
+pub at_end : {A : Type 0} (first second : List A) (before now after : Option (List A)) → now ≡ option_map (λ earlier. earlier ++ first) before
     → after ≡ option_map (λ earlier. earlier ++ second) now → after ≡ option_map (λ earlier. earlier ++ (first ++ second)) before
 at_end first second None now after so then = then ∙ ap (option_map (λ earlier. earlier ++ second)) so
 at_end first second (Some earlier) now after so then =
     then ∙ (ap (option_map (λ earlier. earlier ++ second)) so ∙ ap Some (append_assoc earlier first second))
 
-nothing_more : {A : Type 0} (known : Option (List A)) → known ≡ option_map (λ earlier. earlier ++ []) known
+pub nothing_more : {A : Type 0} (known : Option (List A)) → known ≡ option_map (λ earlier. earlier ++ []) known
 nothing_more None = refl
 nothing_more (Some earlier) = ap Some (sym (append-nil earlier))
 
-nothing_less : {A : Type 0} (known : Option (List A)) → known ≡ option_map (λ rest. [] ++ rest) known
+pub nothing_less : {A : Type 0} (known : Option (List A)) → known ≡ option_map (λ rest. [] ++ rest) known
 nothing_less None = refl
 nothing_less (Some rest) = refl
 
-memory-push : (visits : List Visit) (visit : Visit) (before after : Bool) → before ≡ list_any (λ v. is_memory v.end) visits
+pub memory-push : (visits : List Visit) (visit : Visit) (before after : Bool) → before ≡ list_any (λ v. is_memory v.end) visits
     → after ≡ (before || is_memory visit.end) → after ≡ list_any (λ v. is_memory v.end) (visits ++ visit ∷ [])
 memory-push visits visit before after so then =
     then ∙ (ap (λ b. b || is_memory visit.end) so
@@ -48,7 +48,7 @@ memory-push visits visit before after so then =
     ∙ sym (list_any-append (λ (v : Visit). is_memory v.end) visits (visit ∷ []))))
 
 -- a worker that is ready served nothing yet
-pub serves_none : (worker : WorkerState) → HasMetNoFault worker → WorksOn worker worker
+abbrev pub serves_none : (worker : WorkerState) → HasMetNoFault worker → WorksOn worker worker
 serves_none worker ready = record {
   visits = [];
   serves = record {
@@ -65,10 +65,10 @@ serves_none worker ready = record {
 }
 
 -- a worker's gate failed no more often so far
-same_faults : (before now : WorkerState) → now.fault ≡ false → now.gate.faults ≡ counted now.fault before.gate.faults → now.gate.faults ≡ before.gate.faults
+pub same_faults : (before now : WorkerState) → now.fault ≡ false → now.gate.faults ≡ counted now.fault before.gate.faults → now.gate.faults ≡ before.gate.faults
 same_faults before now none faults = faults ∙ ap (λ b. counted b before.gate.faults) none
 
-pub serves_one : (start before after : WorkerState) → WorksOn start before → ServesNext before after → WorksOn start after
+abbrev pub serves_one : (start before after : WorkerState) → WorksOn start before → ServesNext before after → WorksOn start after
 serves_one start before after so then =
     let visit = then.visit in
     let earlier = so.serves in record {
@@ -90,7 +90,7 @@ serves_one start before after so then =
     }
 
 -- without another connection a worker's visits are those that it made
-pub stops_without : (start before after : WorkerState) → WorksOn start before → GetsNone before after → Works start after
+abbrev pub stops_without : (start before after : WorkerState) → WorksOn start before → GetsNone before after → Works start after
 stops_without start before after so then =
     let earlier = so.serves in record {
       visits = so.visits;
@@ -108,7 +108,7 @@ stops_without start before after so then =
     }
 
 -- a worker that served as many as it may has stopped
-pub stops_at_limit : (start now : WorkerState) → WorksOn start now → now.left ≡ 0 → Works start now
+abbrev pub stops_at_limit : (start now : WorkerState) → WorksOn start now → now.left ≡ 0 → Works start now
 stops_at_limit start now so none = record { visits = so.visits; serves = so.serves; stopped = inl none }
 
 -- where no connection waits none is seen to wait

@@ -9,6 +9,10 @@ pub record Sides : Type 0 where
   pub incoming : Incoming
   pub outgoing : Outgoing
 
+-- those of a connection, by what it tells of each
+abbrev pub sides_of : {C : Type 0} → (C → Incoming) → (C → Outgoing) → C → Sides
+sides_of incoming outgoing conn = record { incoming = incoming conn; outgoing = outgoing conn }
+
 -- a gate: whether it is closed, how many of its calls failed, and, where it tells them, the connections that wait and those that came back
 pub record GateState : Type 0 where
   pub is_closed : Bool
@@ -21,6 +25,6 @@ abbrev pub gate_state : {G C : Type 0} → (G → Bool) → (G → ℕ) → (G �
 gate_state is_closed faults waiting incoming outgoing served gate = record {
   is_closed = is_closed gate;
   faults = faults gate;
-  waiting = option_map (map (λ conn. record { incoming = incoming conn; outgoing = outgoing conn })) (waiting gate);
+  waiting = option_map (map (sides_of incoming outgoing)) (waiting gate);
   served = served gate;
 }

@@ -1,5 +1,6 @@
 pub mod Gates
 pub mod Workers
+pub mod GateTurns
 pub mod Turns
 pub mod Laws
 pub mod Loads

@@ -12,8 +12,8 @@ use Rattle.session.specs.Ends.{Serves, Stand}
 use Rattle.session.specs.declared.serving.TheConstants.{MOST_BYTES}
 use Rattle.funnel_server.specs.Gates.{GateState, Sides}
 
--- a worker: its gate, its pass and what this has seen, how many more connections it serves, and whether its gate failed and
--- whether a session of it found no memory
+-- a worker: what its gate tells, its pass and what the pass has seen, how many more connections it serves, and whether its gate
+-- failed and whether a session of it found no memory
 pub record WorkerState : Type 0 where
   pub gate : GateState
   pub caller : Caller
@@ -21,6 +21,11 @@ pub record WorkerState : Type 0 where
   pub left : ℕ
   pub fault : Bool
   pub memory : Bool
+
+-- a worker and its gate itself, of which the worker's state has what it tells
+pub record WorkerWithGate (G : Type 0) : Type 0 where
+  pub gate : G
+  pub state : WorkerState
 
 -- a worker that met no fault and no want of memory yet
 pub record HasMetNoFault (worker : WorkerState) : Type 0 where
@@ -48,6 +53,10 @@ AreInOrder front (visit ∷ visits) after = (visit.before.front ≡ front) × Ar
 -- the connection as it came from the gate
 abbrev pub sides_before : Visit → Sides
 sides_before visit = record { incoming = visit.before.incoming; outgoing = visit.before.outgoing }
+
+-- and as it went back
+abbrev pub sides_after : Visit → Sides
+sides_after visit = record { incoming = visit.after.incoming; outgoing = visit.after.outgoing }
 
 -- what the gate keeps of it
 abbrev pub served_by : Visit → Served

@@ -50,7 +50,7 @@ fn worker_of<'a, N: PoolName, R: Wait>(
     texts: [&str; 3],
     fails: &[u64],
 ) -> Result<Worker<'a, MemGate, N, R>, Fail>
-    ensures { IfOk result HasMetNoFault }
+    ensures { IfOk result (λ worker. HasMetNoFault worker.state) }
 {
     Ok(Worker {
         gate: gate_of(client.alloc, texts, fails)?,
@@ -89,7 +89,7 @@ fn workers_of<'a, N: PoolName, R: Wait>(
 ) -> Result<Vec<Worker<'a, MemGate, N, R>>, Fail>
     requires first { IsResting N.pool first }
     requires second { IsResting N.pool second }
-    ensures { IfOk result (λ workers. All HasMetNoFault workers.items) }
+    ensures { IfOk result (λ workers. All (λ worker. HasMetNoFault worker.state) workers.items) }
 {
     let mut workers = Vec::new(alloc);
     let client = Client {

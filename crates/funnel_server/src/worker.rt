@@ -1,9 +1,11 @@
 ghost use Rattle.std.specs.Prelude.{◌≡◌, ◌<◌, false, MatchBool};
 ghost use Rattle.engine.specs.Clients.{caller_of};
 ghost use Rattle.session.specs.Ends.{Serves};
+ghost use Rattle.session.specs.Turns.{GoesInTurns};
 ghost use Rattle.session.specs.declared.serving.TheConstants.{MOST_BYTES};
-ghost use Rattle.funnel_server.specs.Turns.{GetsNone, ServesNext};
-ghost use Rattle.funnel_server.specs.Workers.{HasMetNoFault, Works, is_memory};
+ghost use Rattle.funnel_server.specs.GateTurns.{WorksInTurns};
+ghost use Rattle.funnel_server.specs.Turns.{AsksInVain, ServesInTurn};
+ghost use Rattle.funnel_server.specs.Workers.{HasMetNoFault, is_memory};
 
 use engine::{Client, PoolName};
 use funnel_io::{Connection, End, Gate, Next};
@@ -11,7 +13,7 @@ use session::{MOST_BYTES, serve_session};
 use std::marker::Model;
 use std::sync::Wait;
 
-/// What answers the connections of a gate by one pass of an engine. Contracts see what the gate and the client tell.
+/// What answers the connections of a gate by one pass of an engine. Contracts see the gate itself, and what it and the client tell.
 #[derive(Drop)]
 pub struct Worker<'a, G: Gate, N: PoolName, R: Wait> {
     pub gate: G,
@@ -27,25 +29,28 @@ pub struct Worker<'a, G: Gate, N: PoolName, R: Wait> {
 impl<'a, G: Gate, N: PoolName, R: Wait> Model for Worker<'a, G, N, R> {
     ghost use Rattle.engine.specs.Clients.{caller_of};
     ghost use Rattle.funnel_server.specs.Gates.{gate_state};
-    ghost use Rattle.funnel_server.specs.Workers.{WorkerState};
+    ghost use Rattle.funnel_server.specs.Workers.{WorkerWithGate};
 
-    ghost Value = { WorkerState };
+    ghost Value = { WorkerWithGate G };
 
     ghost view = { λ w. record {
-      gate = gate_state G.is_closed G.gate_faults G.waiting G.Conn.incoming G.Conn.outgoing G.served w.gate;
-      caller = caller_of w.client;
-      front = w.client.front;
-      left = w.left;
-      fault = w.fault;
-      memory = w.memory;
+      gate = w.gate;
+      state = record {
+        gate = gate_state G.is_closed G.gate_faults G.waiting G.Conn.incoming G.Conn.outgoing G.served w.gate;
+        caller = caller_of w.client;
+        front = w.client.front;
+        left = w.left;
+        fault = w.fault;
+        memory = w.memory;
+      };
     } };
 }
 
 impl<'a, G: Gate, N: PoolName, R: Wait> Worker<'a, G, N, R> {
     /// Serves the connections of its gate, until it stops.
     pub(crate) fn work(&mut self)
-        requires { HasMetNoFault self.old }
-        ensures { Works self.old self.new }
+        requires { HasMetNoFault self.old.state }
+        ensures { WorksInTurns G.next_gives G.done_gives G.Conn.read_gives G.Conn.write_gives G.Conn.incoming G.Conn.outgoing self.old self.new }
     {
         while self.left > 0 {
             if !self.serve_next() {
@@ -56,9 +61,11 @@ impl<'a, G: Gate, N: PoolName, R: Wait> Worker<'a, G, N, R> {
 
     /// Serves the next connection, or says that there is none.
     fn serve_next(&mut self) -> bool
-        requires some { 0 < self.old.left }
-        requires no_fault { self.old.fault ≡ false }
-        ensures { MatchBool result (ServesNext self.old self.new) (GetsNone self.old self.new) }
+        requires some { 0 < self.old.state.left }
+        requires no_fault { self.old.state.fault ≡ false }
+        ensures { MatchBool result
+            (ServesInTurn G.next_gives G.done_gives G.Conn.read_gives G.Conn.write_gives G.Conn.incoming G.Conn.outgoing self.old self.new)
+            (AsksInVain G.next_gives self.old self.new) }
     {
         let mut conn = match self.gate.next() {
             Next::Conn(conn) => conn,
@@ -83,6 +90,7 @@ fn answer<N: PoolName, R: Wait, C: Connection>(client: &mut Client<'_, N, R>, co
         record { front = client.old.front; incoming = C.incoming conn.old; outgoing = C.outgoing conn.old }
         record { front = client.new.front; incoming = C.incoming conn.new; outgoing = C.outgoing conn.new }
         result }
+    ensures in_turns { GoesInTurns C.read_gives C.write_gives conn.old conn.new }
     ensures untouched { result ≡ End.Memory → (conn.new ≡ conn.old) × (client.new ≡ client.old) }
 {
     let alloc = client.alloc;

@@ -1,5 +1,6 @@
 ghost use Rattle.std.specs.Prelude.{◌≡◌, ◌<◌, ℕ, All, length, slice_index_or};
-ghost use Rattle.funnel_server.specs.Workers.{HasMetNoFault, Works};
+ghost use Rattle.funnel_server.specs.GateTurns.{WorksInTurns};
+ghost use Rattle.funnel_server.specs.Workers.{HasMetNoFault};
 
 use crate::worker::Worker;
 use engine::PoolName;
@@ -16,10 +17,11 @@ pub fn run_workers<'a, N: PoolName + Send + Sync, R: Threads + Wait + Sync, G: G
 ) -> Vec<Worker<'a, G, N, R>>
 where
     G::Conn: Send,
-    requires ready { All HasMetNoFault workers.items }
+    requires ready { All (λ worker. HasMetNoFault worker.state) workers.items }
     ensures all { length result.items ≡ length workers.entry.items }
     ensures work { (k : ℕ) (d : _) → k < length workers.entry.items →
-        Works (slice_index_or workers.entry.items k d) (slice_index_or result.items k d) }
+        WorksInTurns G.next_gives G.done_gives G.Conn.read_gives G.Conn.write_gives G.Conn.incoming G.Conn.outgoing
+        (slice_index_or workers.entry.items k d) (slice_index_or result.items k d) }
 {
     let threads = workers.len();
     if threads > 0 {
@@ -28,8 +30,8 @@ where
             &mut workers,
             threads,
             &|_, worker: &mut Worker<G, N, R>|
-                requires { HasMetNoFault worker.old }
-                ensures { Works worker.old worker.new }
+                requires { HasMetNoFault worker.old.state }
+                ensures { WorksInTurns G.next_gives G.done_gives G.Conn.read_gives G.Conn.write_gives G.Conn.incoming G.Conn.outgoing worker.old worker.new }
             { worker.work() },
         );
     }

@@ -1,21 +1,23 @@
-use Rattle.std.proofs.Common.{rules, ◌≡◌, ◌++◌, ◌∷◌, [], ◌<◌, length, false, refl}
+use Rattle.std.proofs.Common.{rules, ◌≡◌, ◌++◌, ◌∷◌, [], ◌<◌, List, length, false, ap, refl, ◌∙◌}
 use Rattle.engine.specs.Clients.{caller_of}
 use Rattle.funnel_server.specs.Gates.{gate_state}
-use Rattle.funnel_server.specs.Workers.{WorkerState}
-use Rattle.funnel.proofs.Served.{equip-more, next_rests}
+use Rattle.funnel_server.specs.Workers.{WorkerState, WorkerWithGate}
+use Rattle.std.proofs.lemmas.List.{map-append}
+use Rattle.funnel.specs.Workers.{states_of}
+use Rattle.funnel.proofs.Served.{equip-more, moved_on, next_rests}
 use Rattle.funnel.proofs.serving.equip.Goals as goal
 
 pub invariant_of-client : goal.invariant_of-client
 invariant_of-client g c =
     let some : 0 < length c.loop-alloc.gates.items = search rules in
     next_rests (gate_state g.G.Gate.is_closed g.G.Gate.gate_faults g.G.Gate.waiting g.G.Conn.Source.incoming g.G.Conn.Sink.outgoing g.G.Gate.served) _ c.args.engine.now c.args.connections
-    c.args.gates.now.items c.loop-alloc.gates.items c.loop-alloc.passes.items c.loop-alloc.workers.items c.remove.result
+    c.args.gates.now.items c.loop-alloc.gates.items c.loop-alloc.passes.items (states_of c.loop-alloc.workers.items) c.remove.result
     c.requires.named c.loop-alloc.invariant.0 some c.requires.enough c.remove.ensures.value
 
 pub loop-alloc-preserved : goal.loop-alloc-preserved
 loop-alloc-preserved g c =
     let some : 0 < length c.loop-alloc.gates.items = search rules in
-    let worker : WorkerState = record {
+    let state : WorkerState = record {
       gate = gate_state g.G.Gate.is_closed g.G.Gate.gate_faults g.G.Gate.waiting g.G.Conn.Source.incoming g.G.Conn.Sink.outgoing g.G.Gate.served c.remove-gate.result;
       caller = caller_of c.remove.result;
       front = c.remove.result.front;
@@ -23,11 +25,16 @@ loop-alloc-preserved g c =
       fault = false;
       memory = false;
     } in
-    let pushed : c.push.new.self.items ≡ c.loop-alloc.workers.items ++ worker ∷ [] = search rules in (
+    let worker : WorkerWithGate _ = record { gate = c.remove-gate.result; state = state } in
+    let pushed : c.push.new.self.items ≡ c.loop-alloc.workers.items ++ worker ∷ [] = search rules in
+    let more : states_of c.push.new.self.items ≡ states_of c.loop-alloc.workers.items ++ state ∷ [] =
+    ap states_of pushed ∙ map-append (λ (w : WorkerWithGate _). w.state) c.loop-alloc.workers.items (worker ∷ []) in (
       equip-more (gate_state g.G.Gate.is_closed g.G.Gate.gate_faults g.G.Gate.waiting g.G.Conn.Source.incoming g.G.Conn.Sink.outgoing g.G.Gate.served) c.args.engine.now c.args.connections
           c.args.gates.now.items c.loop-alloc.gates.items c.remove-gate.new.self.items c.remove-gate.result c.loop-alloc.passes.items c.remove.new.self.items c.remove.result
-          c.loop-alloc.workers.items c.push.new.self.items worker c.loop-alloc.invariant.0 c.requires.enough some
-          c.remove-gate.ensures.value c.remove-gate.ensures.items c.remove.ensures.value c.remove.ensures.items refl pushed,
+          (states_of c.loop-alloc.workers.items) (states_of c.push.new.self.items) state c.loop-alloc.invariant.0 c.requires.enough some
+          c.remove-gate.ensures.value c.remove-gate.ensures.items c.remove.ensures.value c.remove.ensures.items refl more,
+      moved_on c.loop-alloc.workers.items c.push.new.self.items worker c.loop-alloc.gates.items c.remove-gate.new.self.items _ c.loop-alloc.invariant.1 some
+          c.remove-gate.ensures.value c.remove-gate.ensures.items pushed,
       search rules,
       search rules,
       search rules,

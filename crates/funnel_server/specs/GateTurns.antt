@@ -1,0 +1,58 @@
+-- A worker's calls on its gate and on the connections that it was handed, turn by turn. What a call leads to is known to the gate and the
+-- connection alone, so the calls that are told are those that were made.
+use Rattle.std.specs.Prelude.{◌≡◌, ◌<◌, ◌⊎◌, Bool, true, false, List, reverse}
+use Rattle.funnel_io.specs.Calls.{Leads, Read, Write}
+use Rattle.funnel_io.specs.Streams.{Incoming, Outgoing}
+use Rattle.funnel_io.specs.declared.end.End.{End}
+use Rattle.funnel_io.specs.declared.end.End.TheVariants as end_of
+use Rattle.funnel_io.specs.declared.gate.Next.{Next}
+use Rattle.funnel_io.specs.declared.gate.Next.TheVariants as next
+use Rattle.session.specs.Turns.{GoesInTurns}
+use Rattle.funnel_server.specs.Gates.{sides_of}
+use Rattle.funnel_server.specs.Workers.{Visit, WorkerState, WorkerWithGate, Works, sides_after, sides_before}
+
+-- A turn: the gate handed out a connection; a session led it, line by line, from there to where it went back, and touched nothing where
+-- there was no memory; and the gate was given it back, with the end of the session
+pub record TakesTurn {G C : Type 0} (next_gives : G → Next C → G → Type 0) (done_gives : G → C → End → G → Type 0)
+    (read_gives : C → Read → C → Type 0) (write_gives : C → Write → C → Type 0) (incoming : C → Incoming) (outgoing : C → Outgoing)
+    (before : G) (visit : Visit) (after : G) : Type 0 where
+  pub handed_out : C
+  pub middle : G
+  pub asked : next_gives before (next.Conn handed_out) middle
+  pub handed_back : C
+  pub session : GoesInTurns read_gives write_gives handed_out handed_back
+  pub untouched : visit.end ≡ end_of.Memory → handed_back ≡ handed_out
+  pub done : done_gives middle handed_back visit.end after
+  pub came : sides_before visit ≡ sides_of incoming outgoing handed_out
+  pub went : sides_after visit ≡ sides_of incoming outgoing handed_back
+
+-- what a gate answers that hands out none, where it failed and where it didn't
+abbrev pub none_by : {C : Type 0} → Bool → Next C
+none_by true = next.Fault
+none_by false = next.Closed
+
+-- a worker that may serve no more asked for no further connection
+pub record AsksNoMore {G : Type 0} (served : G) (worker : WorkerWithGate G) : Type 0 where
+  pub none_left : worker.state.left ≡ 0
+  pub no_fault : worker.state.fault ≡ false
+  pub same : worker.gate ≡ served
+
+-- a worker that may serve more asked once more, and its gate answered that it is closed, or that it failed
+pub record GetsNoMore {G C : Type 0} (next_gives : G → Next C → G → Type 0) (served : G) (worker : WorkerWithGate G) : Type 0 where
+  pub some_left : 0 < worker.state.left
+  pub asked : next_gives served (none_by worker.state.fault) worker.gate
+
+-- all calls of a worker on its gate and its connections: one turn for each visit, and what comes after the last one
+pub record CallsInTurns {G C : Type 0} (next_gives : G → Next C → G → Type 0) (done_gives : G → C → End → G → Type 0)
+    (read_gives : C → Read → C → Type 0) (write_gives : C → Write → C → Type 0) (incoming : C → Incoming) (outgoing : C → Outgoing)
+    (before : G) (visits : List Visit) (after : WorkerWithGate G) : Type 0 where
+  pub served : G
+  pub turns : Leads (TakesTurn next_gives done_gives read_gives write_gives incoming outgoing) before (reverse visits) served
+  pub stops : AsksNoMore served after ⊎ GetsNoMore next_gives served after
+
+-- a worker served some connections and stopped, and these are its calls
+pub record WorksInTurns {G C : Type 0} (next_gives : G → Next C → G → Type 0) (done_gives : G → C → End → G → Type 0)
+    (read_gives : C → Read → C → Type 0) (write_gives : C → Write → C → Type 0) (incoming : C → Incoming) (outgoing : C → Outgoing)
+    (before after : WorkerWithGate G) : Type 0 where
+  pub works : Works before.state after.state
+  pub in_turns : CallsInTurns next_gives done_gives read_gives write_gives incoming outgoing before.gate works.visits after
