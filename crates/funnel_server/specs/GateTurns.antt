@@ -9,7 +9,7 @@ use Rattle.funnel_io.specs.declared.gate.Next.{Next}
 use Rattle.funnel_io.specs.declared.gate.Next.TheVariants as next
 use Rattle.session.specs.Turns.{GoesInTurns}
 use Rattle.funnel_server.specs.Gates.{sides_of}
-use Rattle.funnel_server.specs.Workers.{Visit, WorkerState, WorkerWithGate, Works, sides_after, sides_before}
+use Rattle.funnel_server.specs.Workers.{Visit, WorkerWithGate, Works, sides_after, sides_before}
 
 -- A turn: the gate handed out a connection; a session led it, line by line, from there to where it went back, and touched nothing where
 -- there was no memory; and the gate was given it back, with the end of the session

@@ -1,4 +1,4 @@
-use Rattle.std.proofs.Common.{rules, ◌≡◌, ◌++◌, ◌∷◌, [], ◌<◌, List, length, false, ap, refl, ◌∙◌}
+use Rattle.std.proofs.Common.{rules, ◌≡◌, ◌++◌, ◌∷◌, [], ◌<◌, length, false, ap, refl, ◌∙◌}
 use Rattle.engine.specs.Clients.{caller_of}
 use Rattle.funnel_server.specs.Gates.{gate_state}
 use Rattle.funnel_server.specs.Workers.{WorkerState, WorkerWithGate}
