@@ -1,9 +1,17 @@
 -- Calls on a connection that is made of two streams, as those on its streams.
-use Rattle.std.proofs.Common.{◌≡◌, List, [], ◌∷◌, ap, subst}
+use Rattle.std.proofs.Common.{◌≡◌, ℕ, List, [], ◌∷◌, refl, sym, ap, ◌∙◌, subst}
 use Rattle.funnel_io.specs.Calls.{Leads, Read, Write}
-use Rattle.session.proofs.TurnLaws.{goes_nowhere}
-use Rattle.session.specs.Turns.{GoesBy, GoesInTurns, Turn}
+use Rattle.funnel_io.specs.declared.end.End.{End}
+use Rattle.funnel_io.specs.declared.end.End.TheVariants as end_of
+use Rattle.session.proofs.TurnLaws.{stops_at_once}
+use Rattle.session.specs.Turns.{GoesBy, GoesInTurns, StopsReading, Turn}
+use Rattle.session.specs.declared.serving.TheConstants.{MOST_BYTES}
+use Rattle.funnel_stats.specs.declared.fault.ConfigFault.{ConfigFault}
+use Rattle.funnel_stats.specs.declared.fault.ConfigFault.TheVariants as config
+use Rattle.funnel.specs.Ends.{why_of_config, why_of_end}
 use Rattle.funnel.specs.Turns.{RunsInTurns, reads_input, writes_output}
+use Rattle.funnel.specs.declared.ended.Why.{Why}
+use Rattle.funnel.specs.declared.ended.Why.TheVariants as why_of
 
 -- calls that lead on, where each state is seen as another
 leads_as : {S T C : Type 0} (gives : S → C → S → Type 0) (gives_as : T → C → T → Type 0) (seen : S → T) →
@@ -25,7 +33,7 @@ module _ {S T : Type 0} (read_gives : S → Read → S → Type 0) (write_gives 
   }
 
   -- so they go in turns there too
-  pub turns_as : (before after : S) → GoesInTurns read_gives write_gives before after → GoesInTurns read_as write_as (seen before) (seen after)
+  turns_as : (before after : S) → GoesInTurns read_gives write_gives before after → GoesInTurns read_as write_as (seen before) (seen after)
   turns_as before after goes = record {
     turns = goes.turns;
     middle = seen goes.middle;
@@ -36,15 +44,40 @@ module _ {S T : Type 0} (read_gives : S → Read → S → Type 0) (write_gives 
     last_are = goes.last_are;
   }
 
--- by the states at which the two streams are known to end
-pub turns_to : {S K : Type 0} (read_gives : S × K → Read → S × K → Type 0) (write_gives : S × K → Write → S × K → Type 0) (before : S × K)
-    (input later_input : S) (output later_output : K) → input ≡ later_input → output ≡ later_output →
-    GoesInTurns read_gives write_gives before (input, output) → GoesInTurns read_gives write_gives before (later_input, later_output)
-turns_to {S} {K} read_gives write_gives before input later_input output later_output input_is output_is goes =
-    subst (λ (k : K). GoesInTurns read_gives write_gives before (later_input, k)) output_is
-    (subst (λ (s : S). GoesInTurns read_gives write_gives before (s, output)) input_is goes)
+  -- and stop reading there
+  pub stops_as : (limit : ℕ) (done : Type 0) (before after : S) → StopsReading read_gives write_gives limit done before after →
+      StopsReading read_as write_as limit done (seen before) (seen after)
+  unfolding turns_as
+  stops_as limit done before after stops = record { goes = turns_as before after stops.goes; below = stops.below; at_end = stops.at_end }
 
--- where nothing is done, nothing is out of turn
-pub runs_nowhere : {S K : Type 0} (read_gives : S → Read → S → Type 0) (write_gives : K → Write → K → Type 0) (now : S × K) →
-    RunsInTurns read_gives write_gives now now
-runs_nowhere read_gives write_gives now = goes_nowhere (reads_input read_gives) (writes_output write_gives) now
+-- by the states at which the two streams are known to end
+pub stops_to : {S K : Type 0} (read_gives : S × K → Read → S × K → Type 0) (write_gives : S × K → Write → S × K → Type 0) (limit : ℕ) (done : Type 0)
+    (before : S × K) (input later_input : S) (output later_output : K) → input ≡ later_input → output ≡ later_output →
+    StopsReading read_gives write_gives limit done before (input, output) → StopsReading read_gives write_gives limit done before (later_input, later_output)
+stops_to {S} {K} read_gives write_gives limit done before input later_input output later_output input_is output_is stops =
+    subst (λ (k : K). StopsReading read_gives write_gives limit done before (later_input, k)) output_is
+    (subst (λ (s : S). StopsReading read_gives write_gives limit done before (s, output)) input_is stops)
+
+-- where a run is done, so is its session
+done_by : (end : End) (why : Why) → why ≡ why_of_end end → why ≡ why_of.Done → end ≡ end_of.Done
+done_by end_of.Done why ends done = refl
+done_by end_of.ReadFault why ends done = cc
+done_by end_of.WriteFault why ends done = cc
+done_by (end_of.ByteLimit told) why ends done = cc
+done_by end_of.Memory why ends done = cc
+
+pub runs_by : {S K : Type 0} (read_gives : S → Read → S → Type 0) (write_gives : K → Write → K → Type 0) (before after : S × K) (end : End) (why : Why) →
+    why ≡ why_of_end end → RunsInTurns read_gives write_gives (end ≡ end_of.Done) before after → RunsInTurns read_gives write_gives (why ≡ why_of.Done) before after
+runs_by read_gives write_gives before after end why ends runs = record { goes = runs.goes; below = runs.below; at_end = λ done. runs.at_end (done_by end why ends done) }
+
+-- where nothing is done, as the end tells, nothing is out of turn
+pub runs_nowhere : {S K : Type 0} (read_gives : S → Read → S → Type 0) (write_gives : K → Write → K → Type 0) (now : S × K) (why other : Why) →
+    why ≡ other → (other ≡ why_of.Done → ⊥) → RunsInTurns read_gives write_gives (why ≡ why_of.Done) now now
+runs_nowhere read_gives write_gives now why other is never =
+    stops_at_once (reads_input read_gives) (writes_output write_gives) MOST_BYTES (why ≡ why_of.Done) now (λ done. never (sym is ∙ done))
+
+-- a configuration that is refused is another end
+pub refused_not_done : (fault : ConfigFault) → why_of_config fault ≡ why_of.Done → ⊥
+refused_not_done config.ReadFault is = cc
+refused_not_done config.Memory is = cc
+refused_not_done fault is = cc

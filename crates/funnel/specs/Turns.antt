@@ -8,7 +8,8 @@ use Rattle.funnel_io.specs.declared.gate.Next.{Next}
 use Rattle.funnel_server.specs.Gates.{GateState}
 use Rattle.funnel_server.specs.GateTurns.{WorksInTurns}
 use Rattle.funnel_server.specs.Workers.{WorkerState}
-use Rattle.session.specs.Turns.{GoesInTurns}
+use Rattle.session.specs.Turns.{StopsReading}
+use Rattle.session.specs.declared.serving.TheConstants.{MOST_BYTES}
 
 -- The input and the output of a run are two streams, and the states of both together are that of a connection: a read of the input leaves the
 -- output as it was
@@ -19,9 +20,10 @@ reads_input gives before read after = gives before.0 read after.0 × (after.1 �
 abbrev pub writes_output : {S K : Type 0} → (K → Write → K → Type 0) → S × K → Write → S × K → Type 0
 writes_output gives before write after = gives before.1 write after.1 × (after.0 ≡ before.0)
 
--- each line that ended has its reply written whole, at one go, before anything more is read
-abbrev pub RunsInTurns : {S K : Type 0} → (S → Read → S → Type 0) → (K → Write → K → Type 0) → S × K → S × K → Type 0
-RunsInTurns read_gives write_gives before after = GoesInTurns (reads_input read_gives) (writes_output write_gives) before after
+-- the calls of a run go as those of a session, which is done where the run is
+abbrev pub RunsInTurns : {S K : Type 0} → (S → Read → S → Type 0) → (K → Write → K → Type 0) → Type 0 → S × K → S × K → Type 0
+RunsInTurns read_gives write_gives done before after =
+    StopsReading (reads_input read_gives) (writes_output write_gives) MOST_BYTES done before after
 
 -- the calls on a gate and its connections are those of a worker that served so many connections, turn by turn
 pub record GateGoesInTurns {G C : Type 0} (next_gives : G → Next C → G → Type 0) (done_gives : G → C → End → G → Type 0)

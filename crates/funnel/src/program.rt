@@ -54,7 +54,7 @@ where
         }
         result.why result.closed }
     ensures in_turns { command_of (map (λ word. word.now) words.now) ≡ Some command.Run →
-        RunsInTurns S.read_gives K.write_gives (input.old, output.old) (input.new, output.new) }
+        RunsInTurns S.read_gives K.write_gives (result.why ≡ Why.Done) (input.old, output.old) (input.new, output.new) }
     ensures gates_in_turns { (serve : ServeCommand) → command_of (map (λ word. word.now) words.now) ≡ Some (command.Serve serve) →
         IfSome result.closed (λ _. GatesGoInTurns G.next_gives G.done_gives G.Conn.read_gives G.Conn.write_gives G.Conn.incoming G.Conn.outgoing
         (gate_state G.is_closed G.gate_faults G.waiting G.Conn.incoming G.Conn.outgoing G.served) serve.connections gates.items result.gates.items) }

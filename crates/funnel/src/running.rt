@@ -31,7 +31,7 @@ pub(crate) fn run<N: PoolName, R: Wait, S: Source, K: Sink>(
     requires limits { blank.limits ≡ limits_by config.now }
     requires named { blank ≡ N.pool }
     ensures ran { RanOrNot config.now (S.incoming input.old) (S.incoming input.new) (K.outgoing output.old) (K.outgoing output.new) result.0 result.1 }
-    ensures in_turns { RunsInTurns S.read_gives K.write_gives (input.old, output.old) (input.new, output.new) }
+    ensures in_turns { RunsInTurns S.read_gives K.write_gives (result.0 ≡ Why.Done) (input.old, output.old) (input.new, output.new) }
     ensures input_untouched { IfNone result.1 (input.new ≡ input.old) }
     ensures output_untouched { IfNone result.1 (output.new ≡ output.old) }
     ensures without_memory { result.0 ≡ Why.Memory → (input.new ≡ input.old) × (output.new ≡ output.old) }
@@ -62,7 +62,7 @@ fn serve<N: PoolName, R: Wait, S: Source, K: Sink>(
         record { front = []; incoming = S.incoming input.old; outgoing = K.outgoing output.old }
         record { front = front; incoming = S.incoming input.new; outgoing = K.outgoing output.new }
         result.0) }
-    ensures in_turns { RunsInTurns S.read_gives K.write_gives (input.old, output.old) (input.new, output.new) }
+    ensures in_turns { RunsInTurns S.read_gives K.write_gives (result.0 ≡ End.Done) (input.old, output.old) (input.new, output.new) }
     ensures without_memory { result.0 ≡ End.Memory → (input.new ≡ input.old) × (output.new ≡ output.old) }
     ensures source_borrowed { S.borrowed input.new ≡ S.borrowed input.old }
     ensures sink_borrowed { K.borrowed output.new ≡ K.borrowed output.old }

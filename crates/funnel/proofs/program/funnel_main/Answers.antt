@@ -1,10 +1,12 @@
-use Rattle.std.proofs.Common.{rules, ◌≡◌, List, length, map, None, refl, sym, subst}
+use Rattle.std.proofs.Common.{rules, ◌≡◌, List, length, map, None, refl, sym, ap, ◌∙◌, subst}
 use Rattle.std.proofs.lemmas.List.{length-map}
 use Rattle.funnel_server.specs.Gates.{gate_state}
+use Rattle.funnel.specs.Ends.{why_of_config}
 use Rattle.funnel.specs.Misfits.{misfit_of}
 use Rattle.funnel.specs.Programs.{Ends, Streams}
+use Rattle.funnel.specs.declared.ended.Why.TheVariants as why_of
 use Rattle.funnel.proofs.Endings.{ends_without_engine}
-use Rattle.funnel.proofs.Turns.{runs_nowhere}
+use Rattle.funnel.proofs.Turns.{refused_not_done, runs_nowhere}
 use Rattle.funnel.proofs.program.funnel_main.Goals as goal
 
 pub returns-in_default-new-clause-ends : goal.returns-in_default-new-clause-ends
@@ -26,10 +28,16 @@ returns-in_default-new-clause-ends g c =
     (subst (λ n. misfit_of command n config ≡ None) (sym (length-map c.args.gates.items state)) fits) refl refl refl)
 
 pub returns-in-Err-Memory-clause-in_turns : goal.returns-in-Err-Memory-clause-in_turns
-returns-in-Err-Memory-clause-in_turns g c is_run = runs_nowhere g.S.Source.read_gives g.K.Sink.write_gives (c.args.input.now, c.args.output.now)
+returns-in-Err-Memory-clause-in_turns g c is_run =
+    runs_nowhere g.S.Source.read_gives g.K.Sink.write_gives (c.args.input.now, c.args.output.now) c.unopened-in-Err-Memory.result.why why_of.Memory
+    (ap (λ ended. ended.why) c.unopened-in-Err-Memory.ensures) (λ is. cc)
 
 pub returns-in-Err-clause-in_turns : goal.returns-in-Err-clause-in_turns
-returns-in-Err-clause-in_turns g c is_run = runs_nowhere g.S.Source.read_gives g.K.Sink.write_gives (c.args.input.now, c.args.output.now)
+returns-in-Err-clause-in_turns g c is_run =
+    runs_nowhere g.S.Source.read_gives g.K.Sink.write_gives (c.args.input.now, c.args.output.now) c.unopened-in-Err.result.why (why_of_config c.in-Err.fault)
+    (ap (λ ended. ended.why) c.unopened-in-Err.ensures ∙ c.from.ensures) (refused_not_done c.in-Err.fault)
 
 pub returns-in_default-new-clause-in_turns : goal.returns-in_default-new-clause-in_turns
-returns-in_default-new-clause-in_turns g c is_run = runs_nowhere g.S.Source.read_gives g.K.Sink.write_gives (c.args.input.now, c.args.output.now)
+returns-in_default-new-clause-in_turns g c is_run =
+    runs_nowhere g.S.Source.read_gives g.K.Sink.write_gives (c.args.input.now, c.args.output.now) c.unopened-in_default-new.result.why why_of.Memory
+    (ap (λ ended. ended.why) c.unopened-in_default-new.ensures) (λ is. cc)

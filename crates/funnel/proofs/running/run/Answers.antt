@@ -1,11 +1,15 @@
-use Rattle.std.proofs.Common.{◌≡◌, ◌≤◌, rules}
+use Rattle.std.proofs.Common.{◌≡◌, ◌≤◌, refl, rules}
 use Rattle.funnel.proofs.Alone.{have_run}
-use Rattle.funnel.proofs.Turns.{runs_nowhere}
+use Rattle.funnel.proofs.Turns.{runs_by, runs_nowhere}
 use Rattle.funnel.specs.Runs.{limits_by}
+use Rattle.funnel.specs.declared.ended.Why.TheVariants as why_of
 use Rattle.funnel.proofs.running.run.Goals as goal
 
 pub returns-in_default-clause-in_turns : goal.returns-in_default-clause-in_turns
-returns-in_default-clause-in_turns g c = runs_nowhere g.S.Source.read_gives g.K.Sink.write_gives (c.args.input.now, c.args.output.now)
+returns-in_default-clause-in_turns g c = runs_nowhere g.S.Source.read_gives g.K.Sink.write_gives (c.args.input.now, c.args.output.now) why_of.Memory why_of.Memory refl (λ is. cc)
+
+pub returns-clause-in_turns : goal.returns-clause-in_turns
+returns-clause-in_turns g c = runs_by g.S.Source.read_gives g.K.Sink.write_gives (c.args.input.now, c.args.output.now) _ c.serve-end.result.0 c.from.result c.from.ensures c.serve-end.ensures.in_turns
 
 pub returns-clause-ran : goal.returns-clause-ran
 returns-clause-ran g c =

@@ -1,5 +1,7 @@
-use Rattle.std.proofs.Common.{rules}
-use Rattle.funnel.proofs.Turns.{turns_as, turns_to}
+use Rattle.std.proofs.Common.{◌≡◌, rules}
+use Rattle.funnel_io.specs.declared.end.End.TheVariants as end_of
+use Rattle.session.specs.declared.serving.TheConstants.{MOST_BYTES}
+use Rattle.funnel.proofs.Turns.{stops_as, stops_to}
 use Rattle.funnel.specs.Turns.{reads_input, writes_output}
 use Rattle.funnel.proofs.running.serve.Goals as goal
 
@@ -7,5 +9,6 @@ pub returns-clause-in_turns : goal.returns-clause-in_turns
 returns-clause-in_turns g c =
     let reads = reads_input g.S.Source.read_gives in
     let writes = writes_output g.K.Sink.write_gives in
-    turns_to reads writes (c.args.input.now, c.args.output.now) c.serve_session-end.new.conn.source.now _ c.serve_session-end.new.conn.sink.now _ (search rules) (search rules)
-    (turns_as _ _ reads writes (λ conn. (conn.source.now, conn.sink.now)) (λ x read y gives. gives) (λ x write y gives. gives) _ _ c.serve_session-end.ensures.in_turns)
+    let done : Type 0 = c.serve_session-end.result ≡ end_of.Done in
+    stops_to reads writes MOST_BYTES done (c.args.input.now, c.args.output.now) c.serve_session-end.new.conn.source.now _ c.serve_session-end.new.conn.sink.now _ (search rules) (search rules)
+    (stops_as _ _ reads writes (λ conn. (conn.source.now, conn.sink.now)) (λ x read y gives. gives) (λ x write y gives. gives) MOST_BYTES done _ _ c.serve_session-end.ensures.stops)
