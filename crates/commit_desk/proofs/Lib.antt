@@ -1,3 +1,4 @@
+pub mod CallEnds
 pub mod CaughtUp
 pub mod Checks
 pub mod DocumentEvents
@@ -26,7 +27,5 @@ pub mod Sorting
 pub mod StageFacts
 pub mod StageReadings
 pub mod StagesKept
-pub mod TestScans
-pub mod TestSteps
 pub mod TokenEvents
 pub mod Turns

@@ -5,4 +5,3 @@ pub mod Laws
 pub mod Passes
 pub mod Records
 pub mod Scans
-pub mod Tested

@@ -23,6 +23,3 @@ mod refusing;
 pub use answers::{AddFault, ClearRefusal, CommitFault, DeleteFault, JournalFault, Spent, Taken};
 pub use desk::Desk;
 pub use named::Named;
-
-#[cfg(test)]
-mod tests;

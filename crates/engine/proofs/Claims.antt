@@ -25,7 +25,7 @@ use Rattle.commit_desk.specs.Answers.{AnswersCommit, events_of_commit}
 use Rattle.commit_desk.specs.Passes.{HasWritten, IsToWrite}
 use Rattle.commit_desk.specs.declared.answers.CommitFault.{CommitFault}
 use Rattle.commit_desk.specs.declared.answers.Taken.TheVariants as taken
-use Rattle.commit_desk.proofs.TestSteps.{seated_still}
+use Rattle.commit_desk.proofs.CallEnds.{seated_still}
 use Rattle.slice_recycler.specs.Turns.{IsTurn}
 use Rattle.engine.specs.Adds.{ClaimTurns, ClearsFirst, CommitTurns, TakeTurn}
 use Rattle.engine.specs.Engines.{IsOfConfig}

@@ -4,7 +4,7 @@ pub mod Claims
 pub mod DeskTurns
 pub mod Ends
 pub mod Finds
+pub mod NewPasses
 pub mod OpenFinds
 pub mod Scans
 pub mod Sizes
-pub mod TestsSetting

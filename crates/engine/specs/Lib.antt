@@ -4,4 +4,3 @@ pub mod Engines
 pub mod Finds
 pub mod Replies
 pub mod Scans
-pub mod Tested

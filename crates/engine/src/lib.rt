@@ -42,7 +42,7 @@
 //! }
 //! ```
 //!
-//! This program, with the clauses that tie a pass to its engine, is a proved test of the crate (`tests/example.rt`).
+//! This program, with the clauses that tie a pass to its engine, is a proved test (`example.rt` of the crate `engine_tests`).
 //!
 //! The calls that make events wait for the lock, and hold it for short turns alone: no column is written, no slice is
 //! scanned and none is cleared under it. `Blank::new`, `open`, `note`, `meet` and `close` wait for nobody. `Blank::new`,
@@ -70,6 +70,3 @@ pub use open_find::OpenFind;
 pub use slice_recycler::{Clearer, Recycled};
 pub use slice_rule::{Note, PassSeat as Pass, PoolName};
 pub use work::{Direct, Work};
-
-#[cfg(test)]
-mod tests;

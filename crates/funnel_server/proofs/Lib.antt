@@ -16,4 +16,3 @@ pub mod LoadWorkers
 pub mod Meetings
 pub mod Puts
 pub mod LoadPasses
-pub mod NewPasses

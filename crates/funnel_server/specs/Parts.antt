@@ -45,10 +45,12 @@ pub record EndsLastPart (workers worker : ℕ) (before after : LoaderState) : Ty
   pub part : EndsPart (queries_of workers worker) before after
   pub found : after.stopped ≡ false → HasResults (caller_of before.pass) before.pass.front after.pass.front workers worker after.results
 
--- a worker came to the end of its second part: it asked all its calls
+-- a worker came to the end of its second part: it asked all its calls, and did nothing else
 pub record EndsDeletes (calls : List Call) (before after : LoaderState) : Type 0 where
   pub same_caller : caller_of after.pass ≡ caller_of before.pass
   pub done : IsDone (caller_of before.pass) before.pass.front after.pass.front calls
+  pub results : after.results ≡ before.results
+  pub stopped : after.stopped ≡ before.stopped
 
 -- each worker came to the end of a part
 abbrev pub EachEnds : (ℕ → LoaderState → LoaderState → Type 0) → List LoaderState → List LoaderState → Type 0

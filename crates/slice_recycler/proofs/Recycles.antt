@@ -17,7 +17,7 @@ use Rattle.slice_rule.specs.Seats.{HoldsJob, PassState}
 use Rattle.commit_desk.specs.Passes.{HasCleared, IsToClear}
 use Rattle.commit_desk.specs.declared.answers.ClearRefusal.{ClearRefusal}
 use Rattle.commit_desk.specs.declared.answers.ClearRefusal.TheVariants as clear
-use Rattle.commit_desk.proofs.TestSteps.{seated_still}
+use Rattle.commit_desk.proofs.CallEnds.{seated_still}
 use Rattle.slice_recycler.specs.Cleared.{IsZeroOf}
 use Rattle.slice_recycler.specs.Recycles.{IsRefusedTurn, RecycleTurns, refused_as, reply_of_recycle}
 use Rattle.slice_recycler.specs.Turns.{IsTurn}

@@ -1,5 +1,5 @@
 use Rattle.std.proofs.Common.{sym, ◌∙◌}
-use Rattle.commit_desk.proofs.TestSteps.{clears_or_rests}
+use Rattle.commit_desk.proofs.CallEnds.{clears_or_rests}
 use Rattle.slice_recycler.proofs.turns.start.Goals as goal
 
 pub returns-clause-next : goal.returns-clause-next

@@ -1,5 +1,5 @@
 use Rattle.std.proofs.Common.{sym, ◌∙◌}
-use Rattle.commit_desk.proofs.TestSteps.{rests_delete}
+use Rattle.commit_desk.proofs.CallEnds.{rests_delete}
 use Rattle.engine.proofs.DeskTurns.{delete_made}
 use Rattle.engine.proofs.engine.Engine.delete.Goals as goal
 

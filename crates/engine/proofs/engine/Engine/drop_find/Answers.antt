@@ -1,6 +1,6 @@
 use Rattle.std.proofs.Common.{refl}
 use Rattle.funnel_model.specs.declared.event.Event.TheVariants as event
-use Rattle.commit_desk.proofs.TestSteps.{rests_one}
+use Rattle.commit_desk.proofs.CallEnds.{rests_one}
 use Rattle.engine.proofs.engine.Engine.drop_find.Goals as goal
 
 pub returns-clause-rests : goal.returns-clause-rests

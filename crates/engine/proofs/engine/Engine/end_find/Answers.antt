@@ -3,7 +3,7 @@ use Rattle.funnel_model.specs.declared.event.Event.{Event}
 use Rattle.funnel_model.specs.declared.event.Event.TheVariants as event
 use Rattle.funnel_model.specs.History.{answer}
 use Rattle.funnel_model.specs.Words.{AreWordsOf}
-use Rattle.commit_desk.proofs.TestSteps.{rests_one}
+use Rattle.commit_desk.proofs.CallEnds.{rests_one}
 use Rattle.engine.proofs.OpenFinds.{begun_last}
 use Rattle.engine.proofs.engine.Engine.end_find.Goals as goal
 

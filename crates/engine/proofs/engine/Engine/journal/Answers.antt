@@ -1,5 +1,5 @@
 use Rattle.std.proofs.Common.{sym, ◌∙◌}
-use Rattle.commit_desk.proofs.TestSteps.{rests_journal}
+use Rattle.commit_desk.proofs.CallEnds.{rests_journal}
 use Rattle.engine.proofs.DeskTurns.{journal_made}
 use Rattle.engine.proofs.engine.Engine.journal.Goals as goal
 

@@ -1,4 +1,4 @@
-use Rattle.commit_desk.proofs.TestSteps.{finds_or_rests}
+use Rattle.commit_desk.proofs.CallEnds.{finds_or_rests}
 use Rattle.engine.proofs.engine.Engine.open_find.Goals as goal
 
 pub returns-clause-next : goal.returns-clause-next

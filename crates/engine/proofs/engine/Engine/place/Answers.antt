@@ -1,5 +1,5 @@
 use Rattle.std.proofs.Common.{sym, ◌∙◌}
-use Rattle.commit_desk.proofs.TestSteps.{rests_place}
+use Rattle.commit_desk.proofs.CallEnds.{rests_place}
 use Rattle.engine.proofs.DeskTurns.{place_made}
 use Rattle.engine.proofs.engine.Engine.place.Goals as goal
 

@@ -1,5 +1,5 @@
 use Rattle.std.proofs.Common.{sym, ◌∙◌}
-use Rattle.commit_desk.proofs.TestSteps.{is_to_do}
+use Rattle.commit_desk.proofs.CallEnds.{is_to_do}
 use Rattle.engine.proofs.engine.Engine.take.Goals as goal
 
 pub returns-clause-next : goal.returns-clause-next

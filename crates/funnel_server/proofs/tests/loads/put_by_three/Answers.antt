@@ -2,7 +2,7 @@ use Rattle.std.proofs.Common.{subst, sym}
 use Rattle.std.specs.List.{All, range_with_len}
 use Rattle.commit_desk.specs.Passes.{IsResting}
 use Rattle.slice_rule.specs.Pools.{PoolId}
-use Rattle.funnel_server.proofs.NewPasses.{new_rest}
+use Rattle.engine.proofs.NewPasses.{new_rest}
 use Rattle.funnel_server.proofs.tests.loads.put_by_three.Goals as goal
 
 pub run_load-passes-requires-clause-rest : goal.run_load-passes-requires-clause-rest

@@ -1,0 +1,143 @@
+-- What the calls at the desk leave of a pass.
+use Rattle.std.proofs.Common.{◌≡◌, ℕ, ◌<◌, false, List, [], ◌∷◌, ◌++◌, Result, Ok, Err, Some, IfOk, MatchResult, sym, refl, ap, ◌∙◌, subst, append-nil}
+use Rattle.std.specs.Prelude.{IfSome}
+use Rattle.funnel_model.specs.declared.claim.Claim.{Claim}
+use Rattle.funnel_model.specs.declared.claim.ClearJob.{ClearJob}
+use Rattle.funnel_model.specs.declared.claim.Token.{Token}
+use Rattle.funnel_model.specs.declared.commit.Commit.{Commit}
+use Rattle.funnel_model.specs.declared.call.Call.TheVariants as call
+use Rattle.funnel_model.specs.declared.event.Event.{Event}
+use Rattle.funnel_model.specs.declared.event.Event.TheVariants as event
+use Rattle.funnel_model.specs.declared.bit_list.Bit.{Bit}
+use Rattle.funnel_model.specs.Events.{leaves_open, pass_of}
+use Rattle.funnel_model.specs.History.{last_by}
+use Rattle.funnel_model.specs.Legal.{IsIdle, IsLegal}
+use Rattle.funnel_model.proofs.Claims.{take_within}
+use Rattle.funnel_model.proofs.Clears.{last_by-front}
+use Rattle.funnel_model.proofs.Histories.{allowed_within, legal_before}
+use Rattle.funnel_model.proofs.Spans.{last_by-own}
+use Rattle.slice_rule.specs.Pools.{PoolId}
+use Rattle.slice_rule.specs.Seats.{HasNoneOutstanding, HoldsToken, PassState}
+use Rattle.commit_desk.specs.Answers.{AnswersClear, AnswersTake, events_of_clear, events_of_commit, events_of_delete, events_of_find, events_of_journal, events_of_place, events_of_take}
+use Rattle.commit_desk.specs.declared.answers.AddFault.TheVariants as add
+use Rattle.commit_desk.specs.declared.answers.ClearRefusal.{ClearRefusal}
+use Rattle.commit_desk.specs.declared.answers.ClearRefusal.TheVariants as clear
+use Rattle.commit_desk.specs.declared.answers.CommitFault.{CommitFault}
+use Rattle.commit_desk.specs.declared.answers.DeleteFault.{DeleteFault}
+use Rattle.commit_desk.specs.declared.answers.DeleteFault.TheVariants as delete
+use Rattle.commit_desk.specs.declared.answers.JournalFault.{JournalFault}
+use Rattle.commit_desk.specs.declared.answers.Spent.{Spent}
+use Rattle.commit_desk.specs.declared.answers.Taken.{Taken}
+use Rattle.commit_desk.specs.declared.answers.Taken.TheVariants as taken
+use Rattle.commit_desk.specs.Desks.{DeskState, Makes, NothingUnderLast, NothingYet}
+use Rattle.commit_desk.specs.Passes.{IsFinding, IsResting, IsSeated, IsToClear, IsToDo, IsToWrite}
+
+-- the last event of the pass is the one that it made
+last_made : (before after : DeskState) (seat next : PassState) (e : Event) → pass_of e ≡ seat.number → Makes (e ∷ []) before after seat next → last_by next.number next.front ≡ Some e
+last_made before after seat next e own made =
+    ap (λ n. last_by n next.front) made.number ∙ ap (last_by seat.number) (made.front ∙ made.history) ∙ last_by-own seat.number before.history e own
+
+-- or the one that it had made before
+last_kept : (before after : DeskState) (seat next : PassState) → Makes [] before after seat next → last_by next.number next.front ≡ last_by seat.number seat.front
+last_kept before after seat next made =
+    ap (λ n. last_by n next.front) made.number ∙ ap (last_by seat.number) (made.front ∙ made.history ∙ append-nil before.history)
+    ∙ last_by-front seat.number seat.front before.history made.seen
+
+module _ (pool : PoolId) (before after : DeskState) (seat next : PassState) (here : seat.pool ≡ pool) (none : HasNoneOutstanding next) where
+  seated_by : (events : List Event) → Makes events before after seat next → IsSeated pool next
+  seated_by events made = record { same = made.same ∙ here; none_outstanding = none }
+
+  -- a call that makes no event
+  rests_none : IsIdle seat.number seat.front → Makes [] before after seat next → IsResting pool next
+  rests_none idle made = record {
+    seated = seated_by [] made;
+    idle = subst (λ o. IfSome o (λ e. leaves_open e ≡ false)) (sym (last_kept before after seat next made)) idle;
+  }
+
+  -- a call that is over with one event
+  pub rests_one : (e : Event) → pass_of e ≡ seat.number → leaves_open e ≡ false → Makes (e ∷ []) before after seat next → IsResting pool next
+  rests_one e own shut made = record {
+    seated = seated_by (e ∷ []) made;
+    idle = subst (λ o. IfSome o (λ x. leaves_open x ≡ false)) (sym (last_made before after seat next e own made)) shut;
+  }
+
+  pub rests_commit : (id : ℕ) (text : List ℕ) (claim : Claim) (bits : List Bit) (answer : Result ℕ CommitFault) → Makes (events_of_commit seat.number id text claim bits answer) before after seat next → IsResting pool next
+  rests_commit id text claim bits (Ok place) made = rests_one (event.Add seat.number id text claim.slice claim.column bits) refl refl made
+  rests_commit id text claim bits (Err fault) made = rests_one (event.Drop seat.number id text claim.slice claim.column) refl refl made
+
+  module _ (idle : IsIdle seat.number seat.front) where
+    pub rests_place : (answer : Result ℕ Spent) → Makes (events_of_place seat.number answer) before after seat next → IsResting pool next
+    rests_place (Ok place) made = rests_one (event.Read seat.number call.Place) refl refl made
+    rests_place (Err spent) made = rests_none idle made
+
+    pub rests_journal : (from : ℕ) (answer : Result (List Commit) JournalFault) → Makes (events_of_journal seat.number from answer) before after seat next → IsResting pool next
+    rests_journal from (Ok commits) made = rests_one (event.Read seat.number (call.Journal from)) refl refl made
+    rests_journal from (Err fault) made = rests_none idle made
+
+    pub rests_delete : (id : ℕ) (answer : Result ℕ DeleteFault) → Makes (events_of_delete seat.number id answer) before after seat next → IsResting pool next
+    rests_delete id (Ok place) made = rests_one (event.Del seat.number id) refl refl made
+    rests_delete id (Err (delete.Spent events)) made = rests_none idle made
+    rests_delete id (Err delete.Absent) made = rests_one (event.No seat.number (call.Delete id)) refl refl made
+    rests_delete id (Err (delete.JournalFull count)) made = rests_one (event.No seat.number (call.Delete id)) refl refl made
+
+    pub finds_or_rests : (query : List ℕ) (answer : Result Token Spent) → IfOk answer (λ token. HoldsToken next token) → Makes (events_of_find seat.number query answer) before after seat next →
+        MatchResult answer (λ token. IsFinding pool token next) (λ _. IsResting pool next)
+    finds_or_rests query (Ok token) holds made = record { seated = seated_by (event.Find seat.number query ∷ []) made; holds = holds }
+    finds_or_rests query (Err spent) holds made = rests_none idle made
+
+    module _ (of : before.pool ≡ pool) (most : ℕ) where
+      -- the slice that the pass began to clear
+      to_clear : (slice : ℕ) → slice < before.pool.limits.slices → Makes (event.Clear seat.number slice ∷ []) before after seat next → IsToClear pool (record { slice = slice }) next
+      to_clear slice in' made =
+          let e = event.Clear seat.number slice in record {
+            seated = seated_by (e ∷ []) made;
+            holds = last_made before after seat next e refl made ∙ ap (λ n. Some (event.Clear n slice)) (sym made.number);
+            in_range = subst (λ (p : PoolId). slice < p.limits.slices) of in';
+          }
+
+      pub clears_or_rests : (answer : Result ClearJob ClearRefusal) → AnswersClear most before.pool.limits before.history seat.number answer → Makes (events_of_clear seat.number answer) before after seat next →
+          MatchResult answer (λ job. IsToClear pool job next) (λ _. IsResting pool next)
+      clears_or_rests (Ok job) may made = to_clear job.slice may.1.in_range made
+      clears_or_rests (Err (clear.Spent events)) may made = rests_none idle made
+      clears_or_rests (Err clear.NoneRetired) may made = rests_one (event.No seat.number call.Recycle) refl refl made
+      clears_or_rests (Err (clear.Guarded slice guard opened_at)) may made = rests_one (event.No seat.number call.Recycle) refl refl made
+
+      -- the column that the pass claimed
+      pub to_write : (events : List Event) (slice column : ℕ) → slice < before.pool.limits.slices → column < before.pool.limits.columns → last_by next.number next.front ≡ Some (event.Take next.number slice column) →
+          NothingUnderLast next → Makes events before after seat next → IsToWrite pool (record { slice = slice; column = column }) next
+      to_write events slice column in' within holds nothing made = record {
+        seated = seated_by events made;
+        holds = holds;
+        nothing = nothing;
+        in_range = subst (λ (p : PoolId). slice < p.limits.slices) of in';
+        column = subst (λ (p : PoolId). column < p.limits.columns) of within;
+      }
+
+      -- a column that is taken is one of its slice
+      taken_within : (slice column : ℕ) → Makes (event.Take seat.number slice column ∷ []) before after seat next → column < before.pool.limits.columns
+      taken_within slice column made =
+          let e = event.Take seat.number slice column in
+          let legal : IsLegal before.pool.limits (before.history ++ e ∷ []) =
+          subst (IsLegal before.pool.limits) made.history (subst (λ (p : PoolId). IsLegal p.limits after.history) made.pool made.legal) in
+          take_within before.pool.limits before.history seat.number slice column (legal_before before.pool.limits before.history (e ∷ []) legal)
+          (allowed_within before.pool.limits (before.history ++ e ∷ []) before.history e [] legal refl)
+
+      pub is_to_do : (id : ℕ) (text : List ℕ) (answer : Taken) → AnswersTake most before.pool.limits before.history seat.number id answer → NothingYet answer next →
+          Makes (events_of_take seat.number id text answer) before after seat next → IsToDo pool answer next
+      is_to_do id text (taken.Claim claim) may nothing made =
+          let e = event.Take seat.number claim.slice claim.column in
+          to_write (e ∷ []) claim.slice claim.column may.1.in_range (taken_within claim.slice claim.column made)
+          (last_made before after seat next e refl made ∙ ap (λ n. Some (event.Take n claim.slice claim.column)) (sym made.number)) nothing made
+      is_to_do id text (taken.Clear job) may nothing made = to_clear job.slice may.2.in_range made
+      is_to_do id text (taken.Refused (add.Spent events)) may nothing made = rests_none idle made
+      is_to_do id text (taken.Refused (add.Present added)) may nothing made = rests_one (event.No seat.number (call.Add id text)) refl refl made
+      is_to_do id text (taken.Refused (add.JournalFull count)) may nothing made = rests_one (event.No seat.number (call.Add id text)) refl refl made
+      is_to_do id text (taken.Refused (add.Full blocks)) may nothing made = rests_one (event.No seat.number (call.Add id text)) refl refl made
+      is_to_do id text (taken.Refused add.Memory) may nothing made = rests_one (event.No seat.number (call.Add id text)) refl refl made
+
+-- the pass is seated still after it did something itself
+pub seated_still : (pool : PoolId) (seat next : PassState) → next ≡ record seat { own = next.own } → IsSeated pool seat → IsSeated pool next
+seated_still pool seat next is seated = record {
+  same = ap (λ (p : PassState). p.pool) is ∙ seated.same;
+  none_outstanding = subst HasNoneOutstanding (sym is) seated.none_outstanding;
+}

@@ -1,0 +1,202 @@
+//! A pass with its calls.
+ghost use Rattle.std.specs.Prelude.{◌≡◌};
+
+use engine::{
+    AddFault, DeleteFault, Direct, Engine, FindFault, JournalFault, OpenFind, Pass, PoolName,
+    Recycled, Spent, Work,
+};
+use funnel_model::{Commits, Ids, Memory};
+use std::alloc::Global;
+use std::marker::Model;
+use std::sync::Wait;
+use std::test::Fail;
+
+/// A pass of an engine, which rests between its calls. Contracts see its number.
+#[derive(Drop)]
+pub(crate) struct Caller<'e, N: PoolName, R: Wait> {
+    pub engine: &'e Engine<N>,
+    pub pass: Pass,
+    pub rt: &'e R,
+    pub alloc: Global,
+}
+
+impl<'e, N: PoolName, R: Wait> Model for Caller<'e, N, R> {
+    ghost use Rattle.std.specs.Prelude.{◌≡◌, ℕ};
+    ghost use Rattle.commit_desk.specs.Passes.{IsResting};
+
+    ghost Value = { ℕ };
+
+    ghost view = { λ c. c.pass.number };
+
+    ghost invariant = { λ c. (c.engine.now ≡ N.pool) × IsResting N.pool c.pass };
+}
+
+impl<'e, N: PoolName, R: Wait> Caller<'e, N, R> {
+    pub fn number(&self) -> u32 {
+        self.pass.number()
+    }
+
+    pub fn add(&mut self, id: u64, text: &str) -> Result<u64, AddFault>
+        ensures { self.new ≡ self.old }
+    {
+        self.engine
+            .add(self.rt, self.alloc, &mut self.pass, id, text)
+    }
+
+    pub fn add_by<W: Work>(&mut self, id: u64, text: &str, work: &mut W) -> Result<u64, AddFault>
+        ensures { self.new ≡ self.old }
+    {
+        self.engine
+            .add_by(self.rt, self.alloc, &mut self.pass, id, text, work)
+    }
+
+    pub fn delete(&mut self, id: u64) -> Result<u64, DeleteFault>
+        ensures { self.new ≡ self.old }
+    {
+        self.engine.delete(self.rt, &mut self.pass, id)
+    }
+
+    pub fn find(&mut self, query: &str) -> Result<Ids, FindFault>
+        ensures { self.new ≡ self.old }
+    {
+        self.engine.find(self.rt, self.alloc, &mut self.pass, query)
+    }
+
+    pub fn find_by<W: Work>(&mut self, query: &str, work: &mut W) -> Result<Ids, FindFault>
+        ensures { self.new ≡ self.old }
+    {
+        self.engine
+            .find_by(self.rt, self.alloc, &mut self.pass, query, work)
+    }
+
+    pub fn place(&mut self) -> Result<u64, Spent>
+        ensures { self.new ≡ self.old }
+    {
+        self.engine.place(self.rt, &mut self.pass)
+    }
+
+    pub fn journal(&mut self, from: u64) -> Result<Commits, JournalFault>
+        ensures { self.new ≡ self.old }
+    {
+        self.engine
+            .journal(self.rt, self.alloc, &mut self.pass, from)
+    }
+
+    pub fn recycle(&mut self) -> Recycled
+        ensures { self.new ≡ self.old }
+    {
+        self.engine.recycle(self.rt, &mut self.pass)
+    }
+
+    pub fn recycle_by<W: Work>(&mut self, work: &mut W) -> Recycled
+        ensures { self.new ≡ self.old }
+    {
+        self.engine.recycle_by(self.rt, &mut self.pass, work)
+    }
+
+    /// Sees what the other one has seen.
+    pub fn see_as_much(&mut self, other: &mut Self)
+        ensures same { self.new ≡ self.old }
+        ensures other { other.new ≡ other.old }
+    {
+        let note = other.engine.note(&mut other.pass);
+        self.engine.meet(&mut self.pass, note)
+    }
+
+    /// Begins a find.
+    pub fn begin(self, query: &str) -> Result<Finding<'e, N, R>, Fail> {
+        let Caller {
+            engine,
+            pass,
+            rt,
+            alloc,
+        } = self;
+        match engine.begin_find(rt, alloc, pass, query) {
+            Ok(find) => Ok(Finding {
+                engine,
+                find,
+                rt,
+                alloc,
+            }),
+            Err(_) => Err(Fail::new("a find begins")),
+        }
+    }
+
+    /// Adds documents with these numbers and one word, which are answered by the places after `before`.
+    pub fn add_all(&mut self, ids: (u64, u64), before: u64) -> bool
+        ensures { self.new ≡ self.old }
+    {
+        self.add_all_by(ids, before, &mut Direct)
+    }
+
+    /// So by `work`.
+    pub fn add_all_by<W: Work>(&mut self, ids: (u64, u64), before: u64, work: &mut W) -> bool
+        ensures { self.new ≡ self.old }
+    {
+        let mut as_wanted = true;
+        let mut place = before;
+        for id in ids.0..ids.1 {
+            place = place.wrapping_add(1);
+            let answer = self.add_by(id, "x", work);
+            as_wanted = as_wanted && answer.ok() == Some(place);
+        }
+        as_wanted
+    }
+
+    /// Deletes documents with these numbers, which are answered by the places after `before`.
+    pub fn delete_all(&mut self, ids: (u64, u64), before: u64) -> bool
+        ensures { self.new ≡ self.old }
+    {
+        let mut as_wanted = true;
+        let mut place = before;
+        for id in ids.0..ids.1 {
+            place = place.wrapping_add(1);
+            as_wanted = as_wanted && self.delete(id) == Ok(place);
+        }
+        as_wanted
+    }
+}
+
+/// A find that was begun by a caller.
+pub(crate) struct Finding<'e, N: PoolName, R: Wait> {
+    engine: &'e Engine<N>,
+    find: OpenFind,
+    rt: &'e R,
+    alloc: Global,
+}
+
+impl<'e, N: PoolName, R: Wait> Model for Finding<'e, N, R> {
+    ghost use Rattle.std.specs.Prelude.{◌≡◌, ℕ};
+
+    ghost Value = { ℕ };
+
+    ghost view = { λ f. f.find.number };
+
+    ghost invariant = { λ f. (f.engine.now ≡ N.pool) × (f.find.pool ≡ N.pool) };
+}
+
+impl<'e, N: PoolName, R: Wait> Finding<'e, N, R> {
+    pub fn finish(self) -> (Caller<'e, N, R>, Result<Ids, Memory>) {
+        let Finding {
+            engine,
+            find,
+            rt,
+            alloc,
+        } = self;
+        let (pass, ids) = engine.finish_find(rt, alloc, find);
+        (
+            Caller {
+                engine,
+                pass,
+                rt,
+                alloc,
+            },
+            ids,
+        )
+    }
+}
+
+/// Whether these are the numbers from the first up to the second, in order.
+pub(crate) fn is_range(ids: &Ids, range: (u64, u64)) -> bool {
+    ids.as_slice().iter().copied().eq(range.0..range.1)
+}

@@ -1,0 +1,195 @@
+//! The lock is free while a column is written, while slices are scanned, and while one is cleared: a second thread is
+//! answered in that time.
+ghost use Rattle.std.specs.Prelude.{◌≡◌};
+
+use crate::beside::{Task, work_beside};
+use crate::caller::{Caller, is_range};
+use crate::setting::config;
+use engine::{Clearer, Direct, PoolName, Recycled, Work};
+use funnel_model::{Candidates, Claim, ClearJob, Memory};
+use row_layout::{Bits, Layout, Plan};
+use row_read::Shared;
+use slice_rule::{PassSeat, Pool};
+use std::sync::atomic::{AtomicU64, Ordering};
+use std::sync::{Mutex, Wait};
+use std::test::*;
+use std::thread;
+
+/// What two threads tell each other.
+#[derive(Drop)]
+struct Board {
+    /// The number of the job that the first thread is at.
+    raised: AtomicU64,
+    /// The last number for which the second thread was answered.
+    marked: AtomicU64,
+    /// Not 0 once the first thread is through.
+    over: AtomicU64,
+}
+
+impl Board {
+    fn new() -> Board {
+        Board {
+            raised: AtomicU64::new(0),
+            marked: AtomicU64::new(0),
+            over: AtomicU64::new(0),
+        }
+    }
+}
+
+/// How many jobs were done, by their kinds, and how many waits were in vain.
+#[derive(Clone, Copy, Debug, PartialEq, Eq)]
+struct Counts {
+    writes: u32,
+    scans: u32,
+    clears: u32,
+    in_vain: u32,
+}
+
+/// Does each job once the second thread was answered.
+#[derive(Drop)]
+struct Watched<'a> {
+    board: &'a Board,
+    counts: Counts,
+}
+
+impl<'a> Watched<'a> {
+    /// Waits until the second thread was answered, so many turns at most. After one wait in vain it waits no more.
+    fn wait(&mut self) {
+        let number = self
+            .board
+            .raised
+            .fetch_add(1, Ordering::SeqCst)
+            .wrapping_add(1);
+        if self.counts.in_vain > 0 {
+            return;
+        }
+        for _turn in 0..1_000_000 {
+            if number <= self.board.marked.load(Ordering::SeqCst) {
+                return;
+            }
+            thread::yield_now();
+        }
+        self.counts.in_vain = 1;
+    }
+}
+
+impl<'a> Clearer for Watched<'a> {
+    fn clear(&mut self, pool: &Pool, seat: &mut PassSeat, layout: &Layout, job: &ClearJob) {
+        self.wait();
+        self.counts.clears = self.counts.clears.saturating_add(1);
+        Direct.clear(pool, seat, layout, job)
+    }
+}
+
+impl<'a> Work for Watched<'a> {
+    fn write(&mut self, pool: &Pool, seat: &mut PassSeat, claim: &Claim, bits: &Bits) {
+        self.wait();
+        self.counts.writes = self.counts.writes.saturating_add(1);
+        Direct.write(pool, seat, claim, bits)
+    }
+
+    fn scan(
+        &mut self,
+        rows: &mut Shared<'_>,
+        layout: &Layout,
+        plan: &Plan,
+        slice: u32,
+        out: &mut Candidates,
+    ) -> Result<(), Memory> {
+        self.wait();
+        self.counts.scans = self.counts.scans.saturating_add(1);
+        Direct.scan(rows, layout, plan, slice, out)
+    }
+}
+
+/// The first pass works through its jobs, and the second one is answered beside it.
+#[derive(Drop)]
+struct Watch {
+    board: Board,
+    /// Whether each call of the first pass was answered as it has to be, and how its jobs went, once it is through.
+    seen: Mutex<Option<(bool, Counts)>>,
+}
+
+impl Task for Watch {
+    fn work<N: PoolName, R: Wait>(&self, caller: &mut Caller<'_, N, R>) {
+        if caller.number() == 0 {
+            let seen = work_through(caller, &self.board);
+            self.board.over.store(1, Ordering::SeqCst);
+            *self.seen.lock(caller.rt) = Some(seen);
+        } else {
+            answer(caller, &self.board);
+        }
+    }
+}
+
+fn work_through<N: PoolName, R: Wait>(
+    caller: &mut Caller<'_, N, R>,
+    board: &Board,
+) -> (bool, Counts)
+    ensures { caller.new ≡ caller.old }
+{
+    let counts = Counts {
+        writes: 0,
+        scans: 0,
+        clears: 0,
+        in_vain: 0,
+    };
+    let mut work = Watched { board, counts };
+    let as_wanted = caller.add_all_by((1, 65), 0, &mut work)
+        && has_all(caller, &mut work)
+        && caller.delete_all((1, 65), 64)
+        && caller.recycle_by(&mut work) == Recycled::Done(0)
+        && caller.add_all((1, 65), 128)
+        && caller.delete_all((1, 65), 192)
+        && caller.add_by(500, "y", &mut work).ok() == Some(257);
+    (as_wanted, work.counts)
+}
+
+/// Whether a find has the documents 1 to 64.
+fn has_all<N: PoolName, R: Wait>(caller: &mut Caller<'_, N, R>, work: &mut Watched<'_>) -> bool
+    ensures { caller.new ≡ caller.old }
+{
+    match caller.find_by("x", work) {
+        Ok(ids) => is_range(&ids, (1, 65)),
+        Err(_) => false,
+    }
+}
+
+/// Makes a call for each number that was raised, and marks the number then.
+fn answer<N: PoolName, R: Wait>(caller: &mut Caller<'_, N, R>, board: &Board)
+    ensures { caller.new ≡ caller.old }
+{
+    let mut marked = 0;
+    for _call in caller.rt.forever() {
+        if board.over.load(Ordering::SeqCst) != 0 {
+            break;
+        }
+        let raised = board.raised.load(Ordering::SeqCst);
+        if raised == marked {
+            thread::yield_now();
+        } else {
+            let _ = caller.place();
+            board.marked.store(raised, Ordering::SeqCst);
+            marked = raised;
+        }
+    }
+}
+
+#[test]
+fn others_are_answered_while_a_pass_works(rt: HostRuntime) -> Result<(), Fail> {
+    let alloc = rt.alloc();
+    let config = config(alloc, 2, 1, 1, 1024);
+    let watch = Watch {
+        board: Board::new(),
+        seen: Mutex::new(None),
+    };
+    work_beside(&rt, alloc, &config, &watch)?;
+    let wanted = Counts {
+        writes: 65,
+        scans: 1,
+        clears: 2,
+        in_vain: 0,
+    };
+    assert_eq!(rt; watch.seen.into_inner(), Some((true, wanted)));
+    Ok(())
+}

@@ -1,0 +1,21 @@
+//! Tests of whole engines: what passes are answered beside each other, on one thread and on several.
+#![tactic(auto)]
+
+#[cfg(test)]
+mod answers;
+#[cfg(test)]
+mod beside;
+#[cfg(test)]
+mod caller;
+#[cfg(test)]
+mod example;
+#[cfg(test)]
+mod four_passes;
+#[cfg(test)]
+mod free_lock;
+#[cfg(test)]
+mod guards;
+#[cfg(test)]
+mod setting;
+#[cfg(test)]
+mod threads;

@@ -1,0 +1,159 @@
+//! What a test begins with: an engine, and its passes.
+ghost use Rattle.std.specs.Prelude.{◌≡◌, ◌≤◌, All, IfOk, [], OnOk};
+ghost use Rattle.commit_desk.specs.Passes.{IsResting};
+ghost use Rattle.funnel_model.specs.Configuration.{IsBetween, IsInRange, IsValid};
+
+use crate::caller::Caller;
+use engine::{Blank, Engine, Pass, PoolName};
+use funnel_model::{Config, Listed};
+use std::alloc::Global;
+use std::marker::{Brand, Model};
+use std::process::Abort;
+use std::sync::Wait;
+use std::test::*;
+use treatment::sizes;
+
+/// What is tested on one thread.
+pub(crate) trait Case {
+    fn run<N: PoolName, R: Wait + Abort>(
+        rt: &R,
+        alloc: Global,
+        opened: Opened<N>,
+    ) -> Result<(), Fail>;
+}
+
+/// An engine, and all its passes by their numbers.
+#[derive(Drop)]
+pub(crate) struct Opened<N: PoolName> {
+    pub engine: Engine<N>,
+    pub passes: Vec<Pass>,
+}
+
+impl<N: PoolName> Model for Opened<N> {
+    ghost use Rattle.std.specs.Prelude.{◌≡◌};
+    ghost use Rattle.engine_tests.specs.Tested.{AreAll};
+    ghost use Rattle.slice_rule.specs.Pools.{PoolId};
+
+    ghost Value = { PoolId };
+
+    ghost view = { λ o. o.engine };
+
+    ghost invariant = { λ o. (o.engine ≡ N.pool) × AreAll N.pool o.passes.items };
+}
+
+fn no_words(alloc: Global) -> Listed
+    ensures { result ≡ [] }
+{
+    Listed::new(Vec::new(alloc))
+}
+
+/// Without listed words, the rest by default.
+pub(crate) fn config(alloc: Global, passes: u32, slices: u32, blocks: u32, commits: u64) -> Config
+    requires passes { IsBetween 1 64 passes }
+    requires slices { IsBetween 1 1024 slices }
+    requires blocks { IsBetween 1 64 blocks }
+    requires commits { IsBetween 1 16777216 commits }
+    ensures in_range { IsInRange result }
+    ensures no_words { result.words ≡ [] }
+    ensures passes { result.passes ≡ passes }
+{
+    Config {
+        passes,
+        slices,
+        blocks,
+        max_rank: 0,
+        commits,
+        one_in: 10,
+        snr: 10,
+        documents: 1000,
+        tail: 10,
+        max_rows: 65536,
+        words: no_words(alloc),
+    }
+}
+
+/// The words of an engine with this configuration.
+pub(crate) fn blank(alloc: Global, config: &Config) -> Result<Blank, Fail>
+    requires in_range { IsInRange config.now }
+    requires no_words { config.now.words ≡ [] }
+    ensures made_with { IfOk result (λ blank. blank.config ≡ config.now) }
+    ensures valid { IfOk result (λ _. IsValid config.now) }
+{
+    let sizes = sizes(config);
+    if sizes.columns > 4_194_304 || sizes.pool_words > 33_554_432 {
+        return Err(Fail::new("the engine is too large"));
+    }
+    Ok(Blank::new(alloc, config)?)
+}
+
+/// An engine over these words.
+pub(crate) fn open<N: PoolName>(
+    alloc: Global,
+    config: &Config,
+    blank: Blank,
+) -> Result<Opened<N>, Fail>
+    requires made_with { blank.config ≡ config.now }
+    requires named { blank ≡ N.pool }
+{
+    let (engine, passes) = Engine::<N>::open(alloc, config, blank)?;
+    Ok(Opened { engine, passes })
+}
+
+/// Tests an engine with this configuration.
+pub(crate) fn test<C: Case, R: Wait + Abort>(
+    rt: &R,
+    alloc: Global,
+    config: &Config,
+) -> Result<(), Fail>
+    requires in_range { IsInRange config.now }
+    requires no_words { config.now.words ≡ [] }
+{
+    let blank = blank(alloc, config)?;
+    open_and_run::<C, Brand, _>(rt, alloc, config, blank)
+}
+
+fn open_and_run<C: Case, N: PoolName, R: Wait + Abort>(
+    rt: &R,
+    alloc: Global,
+    config: &Config,
+    blank: Blank,
+) -> Result<(), Fail>
+    requires made_with { blank.config ≡ config.now }
+    requires named { blank ≡ N.pool }
+{
+    let opened = open::<N>(alloc, config, blank)?;
+    C::run(rt, alloc, opened)
+}
+
+/// A pass with its calls.
+pub(crate) fn caller<'e, N: PoolName, R: Wait>(
+    rt: &'e R,
+    alloc: Global,
+    engine: &'e Engine<N>,
+    pass: Pass,
+) -> Caller<'e, N, R>
+    requires named { engine.now ≡ N.pool }
+    requires rests { IsResting N.pool pass }
+{
+    Caller {
+        engine,
+        pass,
+        rt,
+        alloc,
+    }
+}
+
+/// So the last of the passes.
+pub(crate) fn last<'e, N: PoolName, R: Wait>(
+    rt: &'e R,
+    alloc: Global,
+    engine: &'e Engine<N>,
+    passes: &mut Vec<Pass>,
+) -> Result<Caller<'e, N, R>, Fail>
+    requires named { engine.now ≡ N.pool }
+    requires rest { All (IsResting N.pool) passes.old.items }
+    ensures rest { All (IsResting N.pool) passes.new.items }
+{
+    let pass = passes.pop().ok_or("a pass")?;
+    Ok(caller(rt, alloc, engine, pass))
+}
