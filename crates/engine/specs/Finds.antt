@@ -17,17 +17,17 @@ use Rattle.slice_recycler.specs.Turns.{IsTurn}
 use Rattle.slice_rule.specs.Pools.{PoolId}
 use Rattle.slice_rule.specs.Seats.{PassState}
 
--- the pass's last event began a find of this query, after these events
+-- the last event that the pass has seen began its find of this query, after these events
 abbrev pub IsBegunAt : PassState → List Event → List ℕ → Type 0
 IsBegunAt pass earlier query = pass.front ≡ earlier ++ event.Find pass.number query ∷ []
 
--- the pass's last event began a find
+-- the last event that the pass has seen began its find
 pub record HasJustBegun (pass : PassState) : Type 0 where
   pub earlier : List Event
   pub query : List ℕ
   pub at : IsBegunAt pass earlier query
 
--- the pass has a find open, which its last event began, and which scans for these words: those of its query, by a plan of their rows
+-- the pass has a find open, which the last event that it has seen began, and which scans for these words: those of its query, by a plan of their rows
 pub record IsScanFor (pool : PoolId) (pass : PassState) (token : Token) (words : List (List ℕ)) (plan : List Row) : Type 0 where
   pub finding : IsFinding pool token pass
   pub begun : HasJustBegun pass

@@ -1,8 +1,8 @@
-ghost use Rattle.std.specs.Prelude.{◌≡◌, ℕ, ◌<◌, map, All, Contains, IfOk};
+ghost use Rattle.std.specs.Prelude.{◌≡◌, ℕ, ◌<◌, length, map, All, Contains, IfOk};
 ghost use Rattle.std.specs.List.{range_with_len};
 ghost use mathlib.Core.List.{IsPrefix};
 ghost use Rattle.funnel_model.specs.declared.call.Call.TheVariants as call;
-ghost use Rattle.funnel_model.specs.History.{IsFrontOf};
+ghost use Rattle.funnel_model.specs.History.{IsFrontOf, commits};
 ghost use Rattle.funnel_model.specs.Legal.{IsLegal};
 ghost use Rattle.funnel_model.specs.Steps.{AddsNone, Step};
 ghost use Rattle.commit_desk.specs.Answers.{AnswersDelete, AnswersJournal, AnswersPlace, events_of_delete, events_of_journal, events_of_place};
@@ -183,6 +183,8 @@ impl<N: PoolName> Engine<N> {
         ensures sound { IsSound self.config result.history }
         ensures passes { All (EndsIn result.history) passes.items }
         ensures calls { All (HasItsCalls result.history) passes.items }
+        ensures commits { result.commits ≡ commits result.history }
+        ensures events { result.events ≡ length result.history }
     {
         let Engine {
             pool,

@@ -37,7 +37,8 @@ pub enum FindFault {
 
 impl<N: PoolName> Engine<N> {
     /// The numbers of the documents that are live when the find begins and have every word of the query, in the order in
-    /// which they were added. It waits for the lock twice, or once where the engine is spent.
+    /// which they were added. It waits for the lock twice, or once where the engine is spent, and not at all where there is no
+    /// memory for its words and their rows.
     pub fn find<R: Wait>(
         &self,
         rt: &R,

@@ -3,7 +3,8 @@
 //! An engine has a fixed number of passes. A pass is a client's place in the history: it makes one call after another, and
 //! each call is answered by all that the pass has seen, and by what others did before the call's event. Threads that have a
 //! pass each call the same engine beside each other. Each call gives one step of one legal history, which the contracts say
-//! by `Step`; after `close` the calls of all passes stand in that history, each once.
+//! by `Step` (the two calls of an open find give one together); after `close` the calls of all passes stand in that history,
+//! each once.
 //!
 //! A program makes a `Blank`, and hands it to a function over a name of its pool, in which it opens the engine, uses it and
 //! closes it. The caller picks the name: `use_engine::<Brand, _>(&rt, alloc, &config, blank)`.

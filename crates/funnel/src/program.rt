@@ -1,4 +1,5 @@
 ghost use Rattle.std.specs.Prelude.{◌≡◌, Some, true, false, length, map, IfNone, IfSome};
+ghost use Rattle.engine.specs.Engines.{IsClosed};
 ghost use Rattle.funnel_server.specs.Gates.{gate_state};
 ghost use Rattle.funnel.specs.Commands.{command_of, is_serve};
 ghost use Rattle.funnel.specs.Programs.{Ends};
@@ -58,6 +59,7 @@ where
     ensures gates_in_turns { (serve : ServeCommand) → command_of (map (λ word. word.now) words.now) ≡ Some (command.Serve serve) →
         IfSome result.closed (λ _. GatesGoInTurns G.next_gives G.done_gives G.Conn.read_gives G.Conn.write_gives G.Conn.incoming G.Conn.outgoing
         (gate_state G.is_closed G.gate_faults G.waiting G.Conn.incoming G.Conn.outgoing G.served) serve.connections gates.items result.gates.items) }
+    ensures closed { IfSome result.closed IsClosed }
     ensures load_reads_nothing { (load : LoadCommand) → command_of (map (λ word. word.now) words.now) ≡ Some (command.Load load) → input.new ≡ input.old }
     ensures serve_uses_gates { is_serve (command_of (map (λ word. word.now) words.now)) ≡ true → (input.new ≡ input.old) × (output.new ≡ output.old) }
     ensures without_memory { result.why ≡ Why.Memory → (input.new ≡ input.old) × (output.new ≡ output.old) }

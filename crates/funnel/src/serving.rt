@@ -1,6 +1,7 @@
 //! A serve: the connections of each gate are answered by a pass of its own of one new engine.
 ghost use Rattle.std.specs.Prelude.{◌≡◌, ◌≤◌, ◌+◌, ◌-◌, ◌++◌, [], length, map, IfNone, IfSome, if◌then◌else◌, vec_capacity};
 ghost use Rattle.std.specs.List.{list_any};
+ghost use Rattle.engine.specs.Engines.{IsClosed};
 ghost use Rattle.funnel_model.specs.Configuration.{IsValid};
 ghost use Rattle.funnel_server.specs.Gates.{gate_state};
 ghost use Rattle.funnel.specs.Runs.{limits_by};
@@ -38,6 +39,7 @@ where
         result.why result.closed }
     ensures in_turns { IfSome result.closed (λ _. GatesGoInTurns G.next_gives G.done_gives G.Conn.read_gives G.Conn.write_gives G.Conn.incoming G.Conn.outgoing
         (gate_state G.is_closed G.gate_faults G.waiting G.Conn.incoming G.Conn.outgoing G.served) connections gates.items result.gates.items) }
+    ensures closed { IfSome result.closed IsClosed }
     ensures untouched { IfNone result.closed (result.gates ≡ gates) }
     ensures count { length result.gates.items ≡ length gates.items }
 {

@@ -1,5 +1,6 @@
 //! A load over a new engine, and its summary.
-ghost use Rattle.std.specs.Prelude.{◌≡◌, ◌≤◌, None, length};
+ghost use Rattle.std.specs.Prelude.{◌≡◌, ◌≤◌, None, IfSome, length};
+ghost use Rattle.engine.specs.Engines.{IsClosed};
 ghost use Rattle.funnel_model.specs.Configuration.{IsValid};
 ghost use Rattle.load_gen.specs.declared.limits.TheConstants.{MOST_DOCS, MOST_WORDS};
 ghost use Rattle.load_gen.specs.Summary.{summary_text};
@@ -38,6 +39,7 @@ pub(crate) fn make_load<N: PoolName + Send + Sync, R: Threads + Wait + Sync, K: 
     requires words { command.words ≤ MOST_WORDS }
     requires fits { misfit_of_load command config.now ≡ None }
     ensures ends { EndsLoad config.now command (K.outgoing output.old) (K.outgoing output.new) result.0 result.1 }
+    ensures closed { IfSome result.1 IsClosed }
     ensures borrowed { K.borrowed output.new ≡ K.borrowed output.old }
     ensures untouched { result.1 ≡ None → output.new ≡ output.old }
     ensures without_memory { result.0 ≡ Why.Memory → output.new ≡ output.old }
