@@ -7,12 +7,14 @@ use Rattle.funnel_io.specs.declared.end.End.{End}
 use Rattle.funnel_io.specs.declared.end.End.TheVariants as end_of
 use Rattle.funnel_io.specs.declared.gate.Next.{Next}
 use Rattle.funnel_io.specs.declared.gate.Next.TheVariants as next
-use Rattle.session.specs.Turns.{GoesInTurns}
+use Rattle.session.specs.Turns.{StopsReading}
+use Rattle.session.specs.declared.serving.TheConstants.{MOST_BYTES}
 use Rattle.funnel_server.specs.Gates.{sides_of}
 use Rattle.funnel_server.specs.Workers.{Visit, WorkerWithGate, Works, sides_after, sides_before}
 
--- A turn: the gate handed out a connection; a session led it, line by line, from there to where it went back, and touched nothing where
--- there was no memory; and the gate was given it back, with the end of the session
+-- A turn: the gate handed out a connection; a session led it, line by line, from there to where it went back, read nothing once it had taken
+-- as many bytes as it may, had found the end of the input where it is done, and touched nothing where there was no memory; and the gate was
+-- given it back, with the end of the session
 pub record TakesTurn {G C : Type 0} (next_gives : G → Next C → G → Type 0) (done_gives : G → C → End → G → Type 0)
     (read_gives : C → Read → C → Type 0) (write_gives : C → Write → C → Type 0) (incoming : C → Incoming) (outgoing : C → Outgoing)
     (before : G) (visit : Visit) (after : G) : Type 0 where
@@ -20,7 +22,7 @@ pub record TakesTurn {G C : Type 0} (next_gives : G → Next C → G → Type 0)
   pub middle : G
   pub asked : next_gives before (next.Conn handed_out) middle
   pub handed_back : C
-  pub session : GoesInTurns read_gives write_gives handed_out handed_back
+  pub session : StopsReading read_gives write_gives MOST_BYTES (visit.end ≡ end_of.Done) handed_out handed_back
   pub untouched : visit.end ≡ end_of.Memory → handed_back ≡ handed_out
   pub done : done_gives middle handed_back visit.end after
   pub came : sides_before visit ≡ sides_of incoming outgoing handed_out

@@ -1,7 +1,7 @@
 ghost use Rattle.std.specs.Prelude.{◌≡◌, ◌<◌, false, MatchBool};
 ghost use Rattle.engine.specs.Clients.{caller_of};
 ghost use Rattle.session.specs.Ends.{Serves};
-ghost use Rattle.session.specs.Turns.{GoesInTurns};
+ghost use Rattle.session.specs.Turns.{StopsReading};
 ghost use Rattle.session.specs.declared.serving.TheConstants.{MOST_BYTES};
 ghost use Rattle.funnel_server.specs.GateTurns.{WorksInTurns};
 ghost use Rattle.funnel_server.specs.Turns.{AsksInVain, ServesInTurn};
@@ -90,7 +90,7 @@ fn answer<N: PoolName, R: Wait, C: Connection>(client: &mut Client<'_, N, R>, co
         record { front = client.old.front; incoming = C.incoming conn.old; outgoing = C.outgoing conn.old }
         record { front = client.new.front; incoming = C.incoming conn.new; outgoing = C.outgoing conn.new }
         result }
-    ensures in_turns { GoesInTurns C.read_gives C.write_gives conn.old conn.new }
+    ensures in_turns { StopsReading C.read_gives C.write_gives MOST_BYTES (result ≡ End.Done) conn.old conn.new }
     ensures untouched { result ≡ End.Memory → (conn.new ≡ conn.old) × (client.new ≡ client.old) }
 {
     let alloc = client.alloc;
