@@ -3,6 +3,7 @@ use Rattle.std.proofs.Common.{◌≡◌, ℕ, zero, suc, ◌+◌, ◌-◌, ◌<�
 use Rattle.std.proofs.lemmas.List.Elements.{All-head, All-tail}
 use Rattle.std.specs.List.{All, Contains, list_any, range_with_len, remove}
 use Rattle.std.specs.Prelude.{◌==◌, slice_index_or}
+use Rattle.engine.proofs.NewPasses.{new_numbers}
 use Rattle.engine.specs.Engines.{EndsIn}
 use Rattle.funnel_model.specs.declared.event.Event.{Event}
 use Rattle.funnel_model.specs.Events.{pass_of}
@@ -27,11 +28,6 @@ front_at-drop (suc n) place [] = refl
 front_at-drop (suc n) place (pass ∷ passes) =
     let next : suc (n + place) ≡ suc n + place = omega arith in
     front_at-drop n place passes ∙ ap (front_at (pass ∷ passes)) next
-
--- the numbers of new passes are those from the first one on
-pub new_numbers : (pool : PoolId) (from count : ℕ) → map number_of (new_passes pool from count) ≡ range_with_len from count
-new_numbers pool from zero = refl
-new_numbers pool from (suc count) = ap (λ ns. from ∷ ns) (new_numbers pool (from + 1) count)
 
 -- the history goes on from what the pass at each place has seen, where the passes stand by their numbers
 front_by_place : (history : List Event) (passes : List PassState) (from count : ℕ) → map number_of passes ≡ range_with_len from count →

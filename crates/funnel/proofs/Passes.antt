@@ -3,9 +3,10 @@ use Rattle.std.proofs.Common.{◌≡◌, ℕ, zero, suc, ◌+◌, ◌-◌, ◌<�
 use Rattle.std.proofs.lemmas.List.{map-append}
 use Rattle.std.proofs.lemmas.Bool.{cases_eq, cases_lt}
 use Rattle.std.proofs.lemmas.List.Elements.{All-cons, All-nil, All-push, Contains-append_left, Contains-push}
-use Rattle.std.specs.List.{All, Contains, list_any}
+use Rattle.std.specs.List.{All, Contains, list_any, range_with_len}
 use Rattle.std.specs.Prelude.{◌==◌}
 use Rattle.commit_desk.specs.Passes.{IsResting}
+use Rattle.engine.proofs.NewPasses.{new_rest}
 use Rattle.funnel_model.proofs.Invariants.{passes_in_range}
 use Rattle.funnel_model.specs.declared.event.Event.{Event}
 use Rattle.funnel_model.specs.Events.{pass_of}
@@ -26,11 +27,6 @@ others_saw_nothing pool front from (suc count) some =
 
 pub new_pass_rests : (pool : PoolId) (number : ℕ) → IsResting pool (new_pass_state pool number)
 new_pass_rests pool number = record { seated = record { same = refl; none_outstanding = refl }; idle = tt }
-
-pub others_rest : (pool : PoolId) (from count : ℕ) → All (IsResting pool) (new_passes pool from count)
-others_rest pool from zero = All-nil (IsResting pool)
-others_rest pool from (suc count) =
-    All-cons (IsResting pool) (new_pass_state pool from) (new_passes pool (from + 1) count) (new_pass_rests pool from) (others_rest pool (from + 1) count)
 
 behind : (xs : List ℕ) (y x : ℕ) → Contains xs x → Contains (y ∷ xs) x
 behind xs y x contains = (suc contains.0, omega (arith, contains.1), contains.2)
@@ -63,7 +59,7 @@ only_first_used pool others all last some counted new back rests number =
     record {
       seen = subst (All (FirstHasSeen last.front)) (sym all_are) (All-push (FirstHasSeen last.front) (new_passes pool 1 (count - 1)) last
           (others_saw_nothing pool last.front 1 (count - 1) (omega arith)) (record { first = λ _. refl; other = λ positive. absurd (omega (arith, number, positive)) }));
-      rest = subst (All (IsResting pool)) (sym all_are) (All-push (IsResting pool) (new_passes pool 1 (count - 1)) last (others_rest pool 1 (count - 1)) rests);
+      rest = subst (All (IsResting pool)) (sym all_are) (All-push (IsResting pool) (new_passes pool 1 (count - 1)) last (new_rest pool (range_with_len 1 (count - 1))) rests);
       every = λ pass small. subst (λ xs. Contains (map number_of xs) pass) (sym all_are) (all_are_there pool count pass last number (omega arith));
     }
 

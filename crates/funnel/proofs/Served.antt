@@ -8,6 +8,7 @@ use Rattle.std.proofs.lemmas.Simd.{map-map}
 use Rattle.std.specs.List.{All, Contains, list_any, range_with_len, remove}
 use Rattle.std.specs.Prelude.{◌==◌, ◌||◌, Bool}
 use Rattle.commit_desk.specs.Passes.{IsResting}
+use Rattle.engine.proofs.NewPasses.{new_rest}
 use Rattle.engine.specs.Clients.{caller_of}
 use Rattle.engine.specs.Engines.{ClosedState, EndsIn}
 use Rattle.funnel_model.specs.declared.config.Config.{Config}
@@ -25,7 +26,7 @@ use Rattle.funnel_server.specs.Workers.{HasMetNoFault, WorkerState, WorkerWithGa
 use Rattle.row_layout.specs.Sound.{IsSound}
 use Rattle.slice_rule.specs.Pools.{PoolId}
 use Rattle.slice_rule.specs.Seats.{PassState, new_pass_state}
-use Rattle.funnel.proofs.Passes.{new_pass_rests, number_of, of_first_passes, others_are_there, others_rest}
+use Rattle.funnel.proofs.Passes.{new_pass_rests, number_of, of_first_passes, others_are_there}
 use Rattle.funnel.specs.declared.ended.Why.{Why}
 use Rattle.funnel.specs.Runs.{limits_by}
 use Rattle.funnel.specs.Served.{AllWork, HaveAllServed, new_worker, new_workers, why_of_workers}
@@ -329,7 +330,7 @@ module _ (pool : PoolId) (connections : ℕ) (before after : List GateState) (wh
   pub back_rest : All (IsResting pool) passes
   back_rest =
       subst (All (IsResting pool)) (sym worked.back.behind)
-      (All-append (IsResting pool) others worked.back.used (others_rest pool (length before) (pool.config.passes - length before)) worked.back.rest)
+      (All-append (IsResting pool) others worked.back.used (new_rest pool (range_with_len (length before) (pool.config.passes - length before))) worked.back.rest)
 
   numbers_used : map number_of worked.back.used ≡ range_with_len 0 (length before)
   numbers_used =

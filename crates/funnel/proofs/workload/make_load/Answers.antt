@@ -3,12 +3,13 @@ use Rattle.std.proofs.lemmas.List.FromFn.{length-map-range_with_len}
 use Rattle.std.specs.List.{All, range_with_len}
 use Rattle.std.specs.Prelude.{map}
 use Rattle.commit_desk.specs.Passes.{IsResting}
+use Rattle.engine.proofs.NewPasses.{new_numbers, new_rest}
 use Rattle.funnel_server.specs.Loads.{IsCutShort, IsPut, front_at}
 use Rattle.load_gen.specs.Documents.{documents}
 use Rattle.slice_rule.specs.Seats.{new_pass_state}
 use Rattle.funnel.proofs.LoadEnds.{HasClosed, ends_load, from_nothing, load_fits, on_fault, on_ok, part_of_load, whole_load}
-use Rattle.funnel.proofs.LoadPasses.{AreUsedBy, every_pass, new_numbers}
-use Rattle.funnel.proofs.Passes.{number_of, others_rest}
+use Rattle.funnel.proofs.LoadPasses.{AreUsedBy, every_pass}
+use Rattle.funnel.proofs.Passes.{number_of}
 use Rattle.funnel.specs.Runs.{limits_by}
 use Rattle.funnel.specs.Serving.{new_passes}
 use Rattle.funnel.proofs.workload.make_load.Goals as goal
@@ -26,7 +27,7 @@ pub run_load-passes-requires-clause-rest : goal.run_load-passes-requires-clause-
 run_load-passes-requires-clause-rest g c κs within =
     let pool = c.in-Ok-open.engine in
     let new : c.in-Ok-open.passes.items ≡ new_passes pool 0 pool.config.passes = search rules in
-    subst (All (IsResting pool)) (sym new) (others_rest pool 0 pool.config.passes)
+    subst (All (IsResting pool)) (sym new) (new_rest pool (range_with_len 0 pool.config.passes))
 
 pub run_load-passes-requires-clause-numbers : goal.run_load-passes-requires-clause-numbers
 run_load-passes-requires-clause-numbers g c κs within =
