@@ -77,7 +77,8 @@ impl<N: PoolName> Engine<N> {
         }
     }
 
-    /// Begins a find, which `finish_find` answers by what is live now, whatever others do meanwhile. It waits for the lock.
+    /// Begins a find, which `finish_find` answers by what is live now, whatever others do meanwhile. It waits for the lock once,
+    /// and not at all where there is no memory for its words and their rows.
     /// A refusal hands the pass back.
     pub fn begin_find<R: Wait>(
         &self,

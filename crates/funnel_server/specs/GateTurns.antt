@@ -12,9 +12,9 @@ use Rattle.session.specs.declared.serving.TheConstants.{MOST_BYTES}
 use Rattle.funnel_server.specs.Gates.{sides_of}
 use Rattle.funnel_server.specs.Workers.{Visit, WorkerWithGate, Works, sides_after, sides_before}
 
--- A turn: the gate handed out a connection; a session led it, line by line, from there to where it went back, read nothing once it had taken
--- as many bytes as it may, had found the end of the input where it is done, and touched nothing where there was no memory; and the gate was
--- given it back, with the end of the session
+-- A turn: the gate handed out a connection; a session led it, line by line, from there to where it went back; it read nothing once it had
+-- taken as many bytes as it may, with Done its last read found the end, and where there was no memory it touched nothing; the gate was given
+-- the connection back, with the end of the session; and what the visit tells of the connection's streams is how it came and how it went
 pub record TakesTurn {G C : Type 0} (next_gives : G → Next C → G → Type 0) (done_gives : G → C → End → G → Type 0)
     (read_gives : C → Read → C → Type 0) (write_gives : C → Write → C → Type 0) (incoming : C → Incoming) (outgoing : C → Outgoing)
     (before : G) (visit : Visit) (after : G) : Type 0 where

