@@ -32,7 +32,7 @@ fn numbers_from(alloc: Global, first: u32, count: u32) -> Result<Vec<u32>, Alloc
 }
 
 /// A gate on each of the ports, which doesn't listen yet.
-pub(crate) fn gates_on<'a, R: Net<Stream = TcpStream>>(
+pub fn gates_on<'a, R: Net<Stream = TcpStream>>(
     net: &'a R,
     alloc: Global,
     ports: &[u32],

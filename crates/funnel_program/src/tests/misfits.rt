@@ -1,7 +1,6 @@
 //! Numbers of a command that don't fit, and which of them is told.
 use super::source_of;
-use crate::ended::{Misfit, Why};
-use crate::program::funnel_main;
+use funnel::{Misfit, Why, funnel_main};
 use funnel_io::{MemGate, MemSink};
 use std::alloc::Global;
 use std::sync::Wait;

@@ -1,6 +1,5 @@
 //! Which command some words are.
-use crate::command::{Command, CommandFault, LoadCommand, ServeCommand, read_command};
-use crate::listening::ports;
+use funnel::{Command, CommandFault, LoadCommand, ServeCommand, ports, read_command};
 use std::test::Fail;
 
 const fn serve(port: u32, workers: u32, connections: u64) -> Result<Command, CommandFault> {

@@ -3,8 +3,7 @@ ghost use Rattle.std.specs.Prelude.{IfOk};
 ghost use Rattle.funnel_io.specs.MemGates.{IsUnused};
 
 use super::source_of;
-use crate::ended::Ended;
-use crate::program::funnel_main;
+use funnel::{Ended, funnel_main};
 use funnel_io::{
     Borrower, Connection, End, Gate, Got, MemConn, MemGate, MemSink, MemSource, Next, Put, Sink,
     Source,

@@ -3,8 +3,7 @@ mod misfits;
 mod serving;
 mod words;
 
-use crate::ended::Why;
-use crate::program::funnel_main;
+use funnel::{Why, funnel_main};
 use funnel_io::{MemGate, MemSink, MemSource};
 use std::alloc::{AllocError, Global};
 use std::process::Abort;

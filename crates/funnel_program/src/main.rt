@@ -1,23 +1,9 @@
-//! A search engine over a stream of documents: it answers which of them have every word of a query.
+//! The program: it hands its words, the file of its configuration, the standard streams and a gate on each of its ports to
+//! `funnel_main` of the crate `funnel`, and exits with the status that this gives.
 #![tactic(auto)]
 
-mod command;
-mod ended;
-mod first_pass;
-mod fitting;
-mod laws;
-mod listening;
-mod port_list;
-mod program;
-mod running;
-mod serving;
-mod workload;
-
-use command::{Command, read_command};
-use ended::Why;
+use funnel::{Command, Why, funnel_main, gates_on, ports, read_command};
 use funnel_io::{FileSource, StdinSource, StdoutSink};
-use listening::{gates_on, ports};
-use program::funnel_main;
 use std::alloc::Global;
 use std::env;
 use std::io::{ErrorKind, IsTerminal};

@@ -1,0 +1,34 @@
+//! A search engine over a stream of documents: it answers which of them have every word of a query. This is the program as one
+//! call: [`funnel_main`] takes the words after the program's name, a configuration, an input, an output and gates, and runs the
+//! command that the words are. It can be handed real streams, as the crate `funnel_program` does, or streams in memory, as that
+//! crate's tests do.
+//!
+//! [`ports`] tells on which ports a serve listens, and [`gates_on`] makes their gates, before the call. [`Ended`] is what a
+//! program gives back: why it ended, which tells its exit status, its gates, and what is left of its engine.
+#![tactic(auto)]
+
+mod command;
+mod ended;
+mod first_pass;
+mod fitting;
+mod laws;
+mod listening;
+mod port_list;
+mod program;
+mod running;
+mod serving;
+mod workload;
+
+pub use command::{
+    Command, CommandFault, LoadCommand, MOST_CONNECTIONS, MOST_PORT, ServeCommand, read_command,
+    words_are_a_command_where_clap_takes_them,
+};
+pub use ended::{Ended, Misfit, Why};
+pub use laws::{
+    gates_that_stay_open_are_served_to_their_number, gates_without_a_fault_are_served,
+    programs_without_a_fault_end_well, runs_take_every_call,
+    the_calls_of_a_serve_are_those_of_its_sessions,
+};
+pub use listening::{gates_on, ports};
+pub use port_list::Ports;
+pub use program::funnel_main;
