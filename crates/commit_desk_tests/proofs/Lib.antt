@@ -1,2 +1,2 @@
-pub mod CallLemmas
 pub mod Scans
+pub mod Settings

@@ -1,10 +1,14 @@
--- What the tests keep of a pool, and of a find.
-use Rattle.std.specs.Prelude.{◌≡◌, ℕ, List, map}
+-- What the tests keep of a pool and of its passes.
+use Rattle.std.specs.Prelude.{◌≡◌, ℕ, List, [], map}
 use Rattle.std.specs.List.{range_with_len}
+use Rattle.commit_desk.specs.Passes.{IsFinding}
 use Rattle.funnel_model.specs.declared.claim.Token.{Token}
 use Rattle.funnel_model.specs.declared.config.Config.{Config}
 use Rattle.funnel_model.specs.Sizes.{columns_of_slice, words_of_slice}
 use Rattle.funnel_model.specs.Tokens.{HasToken}
+use Rattle.row_layout.specs.declared.row.Row.{Row}
+use Rattle.row_layout.specs.DocumentBits.{CanPlace}
+use Rattle.row_layout.specs.Orders.{HasRowsOf}
 use Rattle.slice_rule.specs.Pools.{PoolId, limits_of}
 use Rattle.slice_rule.specs.Seats.{PassState}
 
@@ -15,10 +19,22 @@ pub record IsLaidBy (layout : Config) (pool : PoolId) : Type 0 where
   pub one : layout.slices ≡ 1
   pub columns : columns_of_slice layout ≡ 64
 
--- the find that this token is of has this query
-abbrev pub IsOfQuery : List ℕ → Token → PassState → Type 0
-IsOfQuery query token seat = (begun : HasToken seat.front seat.number token.opened_at) → begun.query ≡ query
+-- the pool has this name, and so has that of the desk
+pub record IsSetting (name : PoolId) (layout : Config) (pool desk : PoolId) : Type 0 where
+  pub of_name : pool ≡ name
+  pub desk_of_name : desk ≡ name
+  pub laid : IsLaidBy layout name
+
+-- the rows of a document are those of its words, and have bits in each column
+pub record IsDraft (layout : Config) (words : List (List ℕ)) (rows : List Row) : Type 0 where
+  pub rows_of : HasRowsOf layout words rows
+  pub can_place : CanPlace layout rows
+
+-- the pass has a find open, and its query is empty
+pub record IsFindingAll (pool : PoolId) (token : Token) (seat : PassState) : Type 0 where
+  pub finding : IsFinding pool token seat
+  pub query : (begun : HasToken seat.front seat.number token.opened_at) → begun.query ≡ []
 
 -- the first columns of slice 0
-abbrev pub columns_up_to : ℕ → List (ℕ × ℕ)
+unfoldable pub columns_up_to : ℕ → List (ℕ × ℕ)
 columns_up_to end = map (λ column. (0, column)) (range_with_len 0 end)

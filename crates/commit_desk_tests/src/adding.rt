@@ -1,18 +1,13 @@
-//! Two adds of one number.
-ghost use Rattle.std.specs.Prelude.{◌≡◌, OnOk};
-ghost use Rattle.commit_desk.specs.Passes.{IsResting};
-ghost use Rattle.commit_desk_tests.specs.Tested.{IsLaidBy};
+//! Adds, and two of them of one number.
+use crate::caller::{Caller, Claiming};
+use crate::setting::{Case, Setting, Two, run};
+use commit_desk::{CommitFault, Spent};
+use funnel_model::{Commit, Commits};
+use slice_rule::PoolName;
+use std::test::*;
 
-use crate::calls::{journal, place};
-use crate::documents::ready;
-use crate::making::two_passes;
-use crate::steps::{claim, finish};
-use commit_desk::{CommitFault, Desk};
-use funnel_model::{Claim, Commit, Memory};
-use row_layout::Layout;
-use slice_rule::{PassSeat, Pool};
-use std::alloc::Global;
-use std::test::Fail;
+/// The column of an add, its place, and whether the slice was cleared for it. None where it is refused or dropped.
+pub(crate) type Added = Option<(u32, u64, bool)>;
 
 /// The columns of two adds, and what their commits answer.
 pub(crate) type Both = (
@@ -21,69 +16,75 @@ pub(crate) type Both = (
     Result<u64, CommitFault>,
 );
 
-/// Two passes take a column for documents of one number, write both, and commit both: the columns, and what the commits
-/// answer.
-pub(crate) fn add_both(
-    alloc: Global,
-    desk: &mut Desk,
-    pool: &Pool,
-    layout: &Layout,
-    first: &mut PassSeat,
-    second: &mut PassSeat,
-) -> Result<Both, Memory>
-    requires laid { IsLaidBy layout.now pool.now }
-    requires desk { desk.old.pool ≡ pool.now }
-    requires first { IsResting pool.now first.old }
-    requires second { IsResting pool.now second.old }
-    ensures desk { OnOk result (desk.new.pool ≡ pool.now) }
-    ensures first { OnOk result (IsResting pool.now first.new) }
-    ensures second { OnOk result (IsResting pool.now second.new) }
-{
-    let (doc, bits, room) = ready(alloc, layout, 4)?;
-    let (other, more, more_room) = ready(alloc, layout, 4)?;
-    let Some((early, _)) = claim(desk, pool, first, layout, &doc, room) else {
-        return Err(Memory);
-    };
-    let (slice, column) = (early.slice, early.column);
-    let Some((late, _)) = claim(desk, pool, second, layout, &other, more_room) else {
-        let Claim {
-            slice: _,
-            column: _,
-        } = early;
-        return Err(Memory);
-    };
-    let columns = [(slice, column), (late.slice, late.column)];
-    let placed = finish(desk, pool, first, layout, early, doc, bits);
-    let dropped = finish(desk, pool, second, layout, late, other, more);
-    Ok((columns, placed, dropped))
+impl<N: PoolName> Claiming<N> {
+    fn at(&self) -> (u32, u32) {
+        (self.claim.slice, self.claim.column)
+    }
+}
+
+impl<N: PoolName> Setting<N> {
+    /// Adds a document with this number.
+    pub fn add(&mut self, caller: Caller<N>, id: u64) -> (Caller<N>, Added) {
+        match self.claim(caller, id) {
+            Ok(claiming) => {
+                let (_, column) = claiming.at();
+                let cleared = claiming.cleared;
+                let (caller, place) = self.commit(claiming);
+                match place {
+                    Ok(place) => (caller, Some((column, place, cleared))),
+                    Err(_) => (caller, None),
+                }
+            }
+            Err((caller, _)) => (caller, None),
+        }
+    }
+
+    /// Two passes claim a column for documents of one number, write both, and commit both: the columns, and what the
+    /// commits answer.
+    pub fn add_both(
+        &mut self,
+        first: Caller<N>,
+        second: Caller<N>,
+    ) -> Result<(Caller<N>, Caller<N>, Both), Fail> {
+        let Ok(early) = self.claim(first, 4) else {
+            return Err(Fail::new("a column"));
+        };
+        let late = self.claim(second, 4);
+        let at = early.at();
+        let (first, placed) = self.commit(early);
+        let Ok(late) = late else {
+            return Err(Fail::new("a second column"));
+        };
+        let columns = [at, late.at()];
+        let (second, dropped) = self.commit(late);
+        Ok((first, second, (columns, placed, dropped)))
+    }
 }
 
 /// Two passes add a document of one number: the later commit drops its document, and all is as before it.
 #[test]
 fn the_later_of_two_adds_of_a_number_is_dropped(rt: HostRuntime) -> Result<(), Fail> {
-    let alloc = rt.alloc();
-    let (layout, pool, mut desk, mut first, mut second) = two_passes(alloc, 1 << 62)?;
-    let (columns, placed, dropped) = add_both(
-        alloc,
-        &mut desk,
-        &pool,
-        &layout,
-        &mut first,
-        &mut second,
-    )?;
-    assert_eq!(rt; columns, [(0, 0), (0, 1)]);
-    assert_eq!(rt; placed, Ok(1));
-    assert_eq!(rt; dropped, Err(CommitFault::Present(1)));
-    assert_eq!(rt; place(&mut desk, &pool, &mut first), Ok(1));
-    let commits = journal(alloc, &mut desk, &pool, &mut first)?;
+    let ((both, place, read), kept) = run::<SameNumber, _>(&rt, rt.alloc(), 1 << 62)?;
+    let wanted = [Commit { add: true, id: 4 }];
     assert_eq!(rt;
-        commits.as_slice(),
-        [Commit { add: true, id: 4 }].as_slice()
+        both,
+        ([(0, 0), (0, 1)], Ok(1), Err(CommitFault::Present(1)))
     );
-    let (_home, commits) = desk.into_parts();
-    assert_eq!(rt;
-        commits.as_slice(),
-        [Commit { add: true, id: 4 }].as_slice()
-    );
+    assert_eq!(rt; place, Ok(1));
+    assert_eq!(rt; read.as_slice(), wanted.as_slice());
+    assert_eq!(rt; kept.as_slice(), wanted.as_slice());
     Ok(())
+}
+
+struct SameNumber;
+
+impl Case for SameNumber {
+    type Seen = (Both, Result<u64, Spent>, Commits);
+
+    fn run<N: PoolName>(setting: &mut Setting<N>, passes: Two<N>) -> Result<Self::Seen, Fail> {
+        let (first, second) = passes;
+        let (mut first, _, both) = setting.add_both(first, second)?;
+        let place = setting.place(&mut first);
+        Ok((both, place, setting.journal(&mut first)?))
+    }
 }

@@ -1,182 +1,126 @@
-//! One call of the desk or of the pool each, by a pass that may make it.
-ghost use Rattle.std.specs.Prelude.{◌≡◌, ◌≤◌, [], IfOk, MatchResult, vec_capacity};
-ghost use Rattle.commit_desk.specs.Passes.{HasCleared, HasWritten, IsFinding, IsResting, IsToClear, IsToDo, IsToWrite};
-ghost use Rattle.commit_desk_tests.specs.Tested.{IsLaidBy, IsOfQuery};
-ghost use Rattle.row_layout.specs.DocumentBits.{CanPlace};
-ghost use Rattle.row_layout.specs.Orders.{HasRowsOf};
-
+//! The calls of the desk, each by a pass that may make it.
+use crate::caller::{Caller, Claiming, Clearing, Finding};
+use crate::draft::Draft;
+use crate::setting::Setting;
 use column_writer::write_column;
-use commit_desk::{ClearRefusal, CommitFault, DeleteFault, Desk, JournalFault, Spent, Taken};
-use document_store::Doc;
-use funnel_model::{Block, Claim, ClearJob, Commits, Token};
-use row_layout::{Bits, Layout};
-use slice_rule::{PassSeat, Pool};
-use std::alloc::Global;
+use commit_desk::{AddFault, ClearRefusal, CommitFault, DeleteFault, JournalFault, Spent, Taken};
+use funnel_model::Commits;
+use slice_recycler::clear_slice;
+use slice_rule::PoolName;
 
-/// Begins a find.
-pub(crate) fn begin(
-    desk: &mut Desk,
-    pool: &Pool,
-    seat: &mut PassSeat,
-    query: &str,
-) -> Result<Token, Spent>
-    requires desk { desk.old.pool ≡ pool.now }
-    requires seat { IsResting pool.now seat.old }
-    ensures desk { desk.new.pool ≡ pool.now }
-    ensures seat { MatchResult result (λ token. IsFinding pool.now token seat.new) (λ _. IsResting pool.now seat.new) }
-    ensures query { IfOk result (λ token. IsOfQuery query.now token seat.new) }
-{
-    desk.open_find(pool, seat, query)
-}
-
-/// Ends a find without its candidates.
-pub(crate) fn end(desk: &mut Desk, pool: &Pool, seat: &mut PassSeat, token: Token)
-    requires desk { desk.old.pool ≡ pool.now }
-    requires seat { IsFinding pool.now token seat.old }
-    ensures desk { desk.new.pool ≡ pool.now }
-    ensures seat { IsResting pool.now seat.new }
-{
-    desk.drop_find(pool, seat, token);
-}
-
-pub(crate) fn delete(
-    desk: &mut Desk,
-    pool: &Pool,
-    seat: &mut PassSeat,
-    id: u64,
-) -> Result<u64, DeleteFault>
-    requires desk { desk.old.pool ≡ pool.now }
-    requires seat { IsResting pool.now seat.old }
-    ensures desk { desk.new.pool ≡ pool.now }
-    ensures seat { IsResting pool.now seat.new }
-{
-    desk.delete(pool, seat, id)
-}
-
-pub(crate) fn place(desk: &mut Desk, pool: &Pool, seat: &mut PassSeat) -> Result<u64, Spent>
-    requires desk { desk.old.pool ≡ pool.now }
-    requires seat { IsResting pool.now seat.old }
-    ensures desk { desk.new.pool ≡ pool.now }
-    ensures seat { IsResting pool.now seat.new }
-{
-    desk.read_place(pool, seat)
-}
-
-/// The commits so far.
-pub(crate) fn journal(
-    alloc: Global,
-    desk: &mut Desk,
-    pool: &Pool,
-    seat: &mut PassSeat,
-) -> Result<Commits, JournalFault>
-    requires desk { desk.old.pool ≡ pool.now }
-    requires seat { IsResting pool.now seat.old }
-    ensures desk { desk.new.pool ≡ pool.now }
-    ensures seat { IsResting pool.now seat.new }
-{
-    desk.read_journal(alloc, pool, seat, 0)
-}
-
-/// Begins to clear a slice for a recycle.
-pub(crate) fn start(
-    desk: &mut Desk,
-    pool: &Pool,
-    seat: &mut PassSeat,
-) -> Result<ClearJob, ClearRefusal>
-    requires desk { desk.old.pool ≡ pool.now }
-    requires seat { IsResting pool.now seat.old }
-    ensures desk { desk.new.pool ≡ pool.now }
-    ensures seat { MatchResult result (λ job. IsToClear pool.now job seat.new) (λ _. IsResting pool.now seat.new) }
-{
-    desk.start_clear(pool, seat)
-}
-
-pub(crate) fn take(
-    desk: &mut Desk,
-    pool: &Pool,
-    seat: &mut PassSeat,
-    doc: &Doc,
-    room: Vec<Block>,
-) -> Taken
-    requires desk { desk.old.pool ≡ pool.now }
-    requires seat { IsResting pool.now seat.old }
-    requires empty { room.items ≡ [] }
-    requires enough { pool.now.limits.slices ≤ vec_capacity room }
-    ensures desk { desk.new.pool ≡ pool.now }
-    ensures seat { IsToDo pool.now result seat.new }
-{
-    desk.take(pool, seat, doc, room)
-}
-
-/// Writes the bits of a document into its column.
-pub(crate) fn write(
-    pool: &Pool,
-    seat: &mut PassSeat,
-    layout: &Layout,
-    claim: &Claim,
-    doc: &Doc,
-    bits: &mut Bits,
-)
-    requires laid { IsLaidBy layout.now pool.now }
-    requires seat { IsToWrite pool.now claim.now seat.old }
-    requires rows { HasRowsOf layout.now doc.now.words bits.old.rows }
-    requires can_place { CanPlace layout.now bits.old.rows }
-    ensures { HasWritten pool.now claim.now doc.now.words bits.new.bits seat.new }
-{
-    bits.place(layout, claim.slice, claim.column);
-    write_column(pool, seat, claim, bits);
-}
-
-pub(crate) fn commit(
-    desk: &mut Desk,
-    pool: &Pool,
-    seat: &mut PassSeat,
-    claim: Claim,
-    doc: Doc,
-    bits: &Bits,
-) -> Result<u64, CommitFault>
-    requires desk { desk.old.pool ≡ pool.now }
-    requires seat { HasWritten pool.now claim doc.words bits.now.bits seat.old }
-    ensures desk { desk.new.pool ≡ pool.now }
-    ensures seat { IsResting pool.now seat.new }
-{
-    desk.commit(pool, seat, claim, doc, bits)
-}
-
-/// Clears each word of a slice.
-pub(crate) fn clear(pool: &Pool, seat: &mut PassSeat, layout: &Layout, job: &ClearJob)
-    requires laid { IsLaidBy layout.now pool.now }
-    requires seat { IsToClear pool.now job.now seat.old }
-    ensures { HasCleared pool.now job.now seat.new }
-{
-    let (first, words) = layout.slice_range(job.slice);
-    for word in first..first + words {
-        pool.clear_word(seat, job, word);
+impl<N: PoolName> Setting<N> {
+    pub fn delete(&mut self, caller: &mut Caller<N>, id: u64) -> Result<u64, DeleteFault> {
+        self.desk.delete(&self.pool, &mut caller.seat, id)
     }
-}
 
-/// Opens the slice that was cleared, and claims its first column.
-pub(crate) fn open_and_claim(
-    desk: &mut Desk,
-    pool: &Pool,
-    seat: &mut PassSeat,
-    job: ClearJob,
-) -> Claim
-    requires columns { pool.now.limits.columns ≡ 64 }
-    requires desk { desk.old.pool ≡ pool.now }
-    requires seat { HasCleared pool.now job seat.old }
-    ensures desk { desk.new.pool ≡ pool.now }
-    ensures seat { IsToWrite pool.now result seat.new }
-{
-    desk.opened_take(pool, seat, job)
-}
+    pub fn place(&mut self, caller: &mut Caller<N>) -> Result<u64, Spent> {
+        self.desk.read_place(&self.pool, &mut caller.seat)
+    }
 
-/// Opens the slice that was cleared for a recycle.
-pub(crate) fn open(desk: &mut Desk, pool: &Pool, seat: &mut PassSeat, job: ClearJob) -> u32
-    requires desk { desk.old.pool ≡ pool.now }
-    requires seat { HasCleared pool.now job seat.old }
-    ensures desk { desk.new.pool ≡ pool.now }
-    ensures seat { IsResting pool.now seat.new }
-{
-    desk.opened(pool, seat, job)
+    /// The commits so far.
+    pub fn journal(&mut self, caller: &mut Caller<N>) -> Result<Commits, JournalFault> {
+        self.desk
+            .read_journal(self.alloc, &self.pool, &mut caller.seat, 0)
+    }
+
+    /// The commits, once the desk is closed.
+    pub fn into_commits(self) -> Commits {
+        let Setting { desk, .. } = self;
+        let (_home, commits) = desk.into_parts();
+        commits
+    }
+
+    /// Claims a column for a document with this number. A slice that is to be cleared for it is cleared and opened first.
+    pub fn claim(
+        &mut self,
+        caller: Caller<N>,
+        id: u64,
+    ) -> Result<Claiming<N>, (Caller<N>, AddFault)> {
+        let Ok(draft) = self.draft(id) else {
+            return Err((caller, AddFault::Memory));
+        };
+        let Ok(room) = Vec::with_capacity(self.alloc, 1) else {
+            return Err((caller, AddFault::Memory));
+        };
+        let Caller { mut seat, of } = caller;
+        let cleared = false;
+        match self.desk.take(&self.pool, &mut seat, &draft.doc, room) {
+            Taken::Claim(claim) => Ok(Claiming {
+                seat,
+                claim,
+                draft,
+                cleared,
+            }),
+            Taken::Clear(job) => Ok(self.open_and_claim(Clearing { seat, job, of }, draft)),
+            Taken::Refused(fault) => Err((Caller { seat, of }, fault)),
+        }
+    }
+
+    // Clears a slice for an add, opens it, and claims its first column.
+    fn open_and_claim(&mut self, clearing: Clearing<N>, draft: Draft<N>) -> Claiming<N> {
+        let Clearing {
+            mut seat,
+            job,
+            of: _,
+        } = clearing;
+        clear_slice(&self.pool, &mut seat, &self.layout, &job);
+        let claim = self.desk.opened_take(&self.pool, &mut seat, job);
+        let cleared = true;
+        Claiming {
+            seat,
+            claim,
+            draft,
+            cleared,
+        }
+    }
+
+    /// Writes the document into its column, and commits it.
+    pub fn commit(&mut self, claiming: Claiming<N>) -> (Caller<N>, Result<u64, CommitFault>) {
+        let Claiming {
+            mut seat,
+            claim,
+            draft,
+            cleared: _,
+        } = claiming;
+        let Draft { doc, mut bits, of } = draft;
+        bits.place(&self.layout, claim.slice, claim.column);
+        write_column(&self.pool, &mut seat, &claim, &bits);
+        let answer = self.desk.commit(&self.pool, &mut seat, claim, doc, &bits);
+        (Caller { seat, of }, answer)
+    }
+
+    /// Begins a find of no words.
+    pub fn begin(&mut self, caller: Caller<N>) -> Result<Finding<N>, Spent> {
+        let Caller { mut seat, of } = caller;
+        let token = self.desk.open_find(&self.pool, &mut seat, "")?;
+        Ok(Finding { seat, token, of })
+    }
+
+    /// Ends a find without its candidates.
+    pub fn drop_find(&mut self, finding: Finding<N>) -> Caller<N> {
+        let Finding {
+            mut seat,
+            token,
+            of,
+        } = finding;
+        self.desk.drop_find(&self.pool, &mut seat, token);
+        Caller { seat, of }
+    }
+
+    /// Begins to clear a slice for a recycle.
+    pub fn start(&mut self, caller: Caller<N>) -> Result<Clearing<N>, (Caller<N>, ClearRefusal)> {
+        let Caller { mut seat, of } = caller;
+        match self.desk.start_clear(&self.pool, &mut seat) {
+            Ok(job) => Ok(Clearing { seat, job, of }),
+            Err(refusal) => Err((Caller { seat, of }, refusal)),
+        }
+    }
+
+    /// Clears each word of the slice, and opens it for a recycle: its number.
+    pub fn open(&mut self, clearing: Clearing<N>) -> (Caller<N>, u32) {
+        let Clearing { mut seat, job, of } = clearing;
+        clear_slice(&self.pool, &mut seat, &self.layout, &job);
+        let slice = self.desk.opened(&self.pool, &mut seat, job);
+        (Caller { seat, of }, slice)
+    }
 }

@@ -1,36 +1,36 @@
 //! Finds and their ends.
-ghost use Rattle.std.specs.Prelude.{◌≡◌, ◌≤◌, [], Contains, IfOk, MatchResult};
-ghost use Rattle.commit_desk.specs.Passes.{IsFinding, IsResting};
-ghost use Rattle.commit_desk_tests.specs.Tested.{IsLaidBy, IsOfQuery, columns_up_to};
+ghost use Rattle.std.specs.Prelude.{◌≡◌, IfOk};
+ghost use Rattle.commit_desk_tests.specs.Tested.{columns_up_to};
 
-use crate::adding::add_both;
-use crate::calls::{begin, delete, end};
-use crate::making::two_passes;
-use crate::steps::add;
-use commit_desk::{DeleteFault, Desk, Spent};
+use crate::caller::{Caller, Finding};
+use crate::setting::{Case, Setting, Two, run};
+use commit_desk::DeleteFault;
 use document_store::Found;
-use funnel_model::{Candidates, Memory, Token, WordSet};
-use row_layout::Layout;
-use slice_rule::{PassSeat, Pool};
+use funnel_model::{Candidates, Memory, WordSet};
+use slice_rule::PoolName;
 use std::alloc::Global;
-use std::test::Fail;
+use std::test::*;
 
 /// A find that began is ended, however many events the desk has by then. After that no call is taken.
 #[test]
 fn a_spent_desk_ends_its_find(rt: HostRuntime) -> Result<(), Fail> {
-    let alloc = rt.alloc();
-    let (_layout, pool, mut desk, mut seat, _other) = two_passes(alloc, 1)?;
-    let Ok(token) = begin(&mut desk, &pool, &mut seat, "") else {
-        return Err(Fail::new("a find"));
-    };
-    let opened_at = token.opened_at;
-    end(&mut desk, &pool, &mut seat, token);
-    assert_eq!(rt; opened_at, 1);
-    assert_eq!(rt;
-        delete(&mut desk, &pool, &mut seat, 5),
-        Err(DeleteFault::Spent(2))
-    );
+    let (seen, _) = run::<Last, _>(&rt, rt.alloc(), 1)?;
+    assert_eq!(rt; seen, (1, Err(DeleteFault::Spent(2))));
     Ok(())
+}
+
+struct Last;
+
+impl Case for Last {
+    type Seen = (u64, Result<u64, DeleteFault>);
+
+    fn run<N: PoolName>(setting: &mut Setting<N>, passes: Two<N>) -> Result<Self::Seen, Fail> {
+        let (first, _) = passes;
+        let finding = setting.begin(first)?;
+        let opened_at = finding.token.opened_at;
+        let mut first = setting.drop_find(finding);
+        Ok((opened_at, setting.delete(&mut first, 5)))
+    }
 }
 
 /// The columns of the slice, each once.
@@ -44,124 +44,51 @@ fn all_columns(alloc: Global) -> Result<Candidates, Memory>
     Ok(columns)
 }
 
-/// The set of no words.
-fn no_words(alloc: Global) -> Result<WordSet, Memory>
-    ensures { IfOk result (λ set. set ≡ []) }
-{
-    WordSet::from_sorted(alloc, &[])
-}
-
-/// Begins a find of no words.
-fn begin_all(
-    alloc: Global,
-    desk: &mut Desk,
-    pool: &Pool,
-    seat: &mut PassSeat,
-) -> Result<Token, Spent>
-    requires desk { desk.old.pool ≡ pool.now }
-    requires seat { IsResting pool.now seat.old }
-    ensures desk { desk.new.pool ≡ pool.now }
-    ensures seat { MatchResult result (λ token. IsFinding pool.now token seat.new) (λ _. IsResting pool.now seat.new) }
-    ensures query { IfOk result (λ token. IsOfQuery [] token seat.new) }
-{
-    begin(desk, pool, seat, "")
-}
-
-/// Ends a find of no words, which may read the slice. All of its columns are candidates, since there is no bit to read.
-fn end_all(
-    desk: &mut Desk,
-    pool: &Pool,
-    seat: &mut PassSeat,
-    layout: &Layout,
-    token: Token,
-    columns: &Candidates,
-    words: &WordSet,
-    out: &mut Found,
-)
-    requires laid { IsLaidBy layout.now pool.now }
-    requires desk { desk.old.pool ≡ pool.now }
-    requires seat { IsFinding pool.now token seat.old }
-    requires query { IsOfQuery [] token seat.old }
-    requires slice { Contains token.slices 0 }
-    requires columns { columns.now ≡ columns_up_to 64 }
-    requires words { words.now ≡ [] }
-    requires empty { out.old.found ≡ [] }
-    requires enough { 64 ≤ out.old.room }
-    ensures desk { desk.new.pool ≡ pool.now }
-    ensures seat { IsResting pool.now seat.new }
-{
-    desk.end_find(pool, seat, token, columns, words, out);
-}
-
-/// What a find of no words finds.
-fn find_all(
-    alloc: Global,
-    desk: &mut Desk,
-    pool: &Pool,
-    seat: &mut PassSeat,
-    layout: &Layout,
-) -> Result<Found, Memory>
-    requires laid { IsLaidBy layout.now pool.now }
-    requires desk { desk.old.pool ≡ pool.now }
-    requires seat { IsResting pool.now seat.old }
-    ensures desk { desk.new.pool ≡ pool.now }
-    ensures seat { IsResting pool.now seat.new }
-{
-    let words = no_words(alloc)?;
-    let columns = all_columns(alloc)?;
-    let mut found = Found::with_room(alloc, 64)?;
-    let Ok(token) = begin_all(alloc, desk, pool, seat) else {
-        return Err(Memory);
-    };
-    if token.slices.has(0) {
-        end_all(
-            desk, pool, seat, layout, token, &columns, &words, &mut found,
-        );
-        Ok(found)
-    } else {
-        end(desk, pool, seat, token);
-        Err(Memory)
+impl<N: PoolName> Setting<N> {
+    /// What a find of no words finds. All columns of the slice are its candidates, since there is no bit to read; none are
+    /// where it may not read the slice.
+    fn find_all(&mut self, caller: Caller<N>) -> Result<(Caller<N>, Found), Fail> {
+        let words = WordSet::from_sorted(self.alloc, &[])?;
+        let columns = all_columns(self.alloc)?;
+        let mut found = Found::with_room(self.alloc, 64)?;
+        let finding = self.begin(caller)?;
+        if !finding.token.slices.has(0) {
+            return Ok((self.drop_find(finding), found));
+        }
+        let Finding {
+            mut seat,
+            token,
+            of,
+        } = finding;
+        self.desk
+            .end_find(&self.pool, &mut seat, token, &columns, &words, &mut found);
+        Ok((Caller { seat, of }, found))
     }
-}
-
-/// Adds documents, of which one is dropped, and finds all; deletes one, and finds all again.
-fn find_twice(
-    alloc: Global,
-    desk: &mut Desk,
-    pool: &Pool,
-    layout: &Layout,
-    first: &mut PassSeat,
-    second: &mut PassSeat,
-) -> Result<(Found, Result<u64, DeleteFault>, Found), Memory>
-    requires laid { IsLaidBy layout.now pool.now }
-    requires desk { desk.old.pool ≡ pool.now }
-    requires first { IsResting pool.now first.old }
-    requires second { IsResting pool.now second.old }
-{
-    let _ = add_both(alloc, desk, pool, layout, first, second)?;
-    let _ = add(alloc, desk, pool, second, layout, 9)?;
-    let _ = add(alloc, desk, pool, second, layout, 7)?;
-    let before = find_all(alloc, desk, pool, first, layout)?;
-    let deleted = delete(desk, pool, second, 9);
-    let after = find_all(alloc, desk, pool, first, layout)?;
-    Ok((before, deleted, after))
 }
 
 /// A find of no words finds each live document, in the order of the adds, and none that was dropped or deleted.
 #[test]
 fn a_find_of_no_words_finds_each_live_document(rt: HostRuntime) -> Result<(), Fail> {
-    let alloc = rt.alloc();
-    let (layout, pool, mut desk, mut first, mut second) = two_passes(alloc, 1 << 62)?;
-    let (before, deleted, after) = find_twice(
-        alloc,
-        &mut desk,
-        &pool,
-        &layout,
-        &mut first,
-        &mut second,
-    )?;
+    let ((before, deleted, after), _) = run::<Live, _>(&rt, rt.alloc(), 1 << 62)?;
     assert_eq!(rt; before.as_slice(), [(1, 4), (2, 9), (3, 7)].as_slice());
     assert_eq!(rt; deleted, Ok(4));
     assert_eq!(rt; after.as_slice(), [(1, 4), (3, 7)].as_slice());
     Ok(())
+}
+
+struct Live;
+
+impl Case for Live {
+    type Seen = (Found, Result<u64, DeleteFault>, Found);
+
+    fn run<N: PoolName>(setting: &mut Setting<N>, passes: Two<N>) -> Result<Self::Seen, Fail> {
+        let (first, second) = passes;
+        let (first, second, _) = setting.add_both(first, second)?;
+        let (second, _) = setting.add(second, 9);
+        let (mut second, _) = setting.add(second, 7);
+        let (first, before) = setting.find_all(first)?;
+        let deleted = setting.delete(&mut second, 9);
+        let (_, after) = setting.find_all(first)?;
+        Ok((before, deleted, after))
+    }
 }

@@ -4,16 +4,16 @@
 #[cfg(test)]
 mod adding;
 #[cfg(test)]
+mod caller;
+#[cfg(test)]
 mod calls;
 #[cfg(test)]
 mod clearing;
 #[cfg(test)]
-mod documents;
+mod draft;
 #[cfg(test)]
 mod filling;
 #[cfg(test)]
 mod finding;
 #[cfg(test)]
-mod making;
-#[cfg(test)]
-mod steps;
+mod setting;

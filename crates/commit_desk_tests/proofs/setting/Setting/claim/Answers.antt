@@ -1,0 +1,19 @@
+use Rattle.commit_desk.proofs.CallEnds.{is_to_do}
+use Rattle.commit_desk.specs.declared.answers.Taken.TheVariants as taken
+use Rattle.commit_desk_tests.proofs.setting.Setting.claim.Goals as goal
+
+pub invariant_of-result : goal.invariant_of-result
+invariant_of-result g c =
+    let seat = c.caller.invariant in
+    let doc = c.draft-2.inside.doc in
+    let took = c.in-Claim.ensures in
+    is_to_do g.N.PoolName.pool c.self.inside.desk c.take.new.self c.caller.inside.seat c.take.new.seat seat.seated.same took.none_outstanding seat.idle c.self.invariant.desk_of_name c.self.inside.desk.events_limit doc.id doc.text
+    (taken.Claim c.in-Claim.claim) took.answer took.nothing_yet took.events
+
+pub invariant_of-result-in-Refused : goal.invariant_of-result-in-Refused
+invariant_of-result-in-Refused g c =
+    let seat = c.caller.invariant in
+    let doc = c.draft-2.inside.doc in
+    let took = c.in-Refused.ensures in
+    is_to_do g.N.PoolName.pool c.self.inside.desk c.take.new.self c.caller.inside.seat c.take.new.seat seat.seated.same took.none_outstanding seat.idle c.self.invariant.desk_of_name c.self.inside.desk.events_limit doc.id doc.text
+    (taken.Refused c.in-Refused.fault) took.answer took.nothing_yet took.events

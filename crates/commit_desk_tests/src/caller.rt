@@ -1,0 +1,74 @@
+//! A pass between its calls, and in the middle of each.
+use crate::draft::Draft;
+use funnel_model::{Claim, ClearJob, Token};
+use slice_rule::{PassSeat, PoolName};
+use std::marker::{Model, PhantomData};
+
+/// A pass that rests.
+#[derive(Drop)]
+pub(crate) struct Caller<N: PoolName> {
+    pub seat: PassSeat,
+    pub of: PhantomData<N>,
+}
+
+impl<N: PoolName> Model for Caller<N> {
+    ghost use Rattle.commit_desk.specs.Passes.{IsResting};
+
+    ghost Value = { Unit {0} };
+
+    ghost view = { λ _. tt };
+
+    ghost invariant = { λ c. IsResting N.pool c.seat };
+}
+
+/// A pass that has claimed a column for a document, and whether the slice was cleared for it.
+pub(crate) struct Claiming<N: PoolName> {
+    pub seat: PassSeat,
+    pub claim: Claim,
+    pub draft: Draft<N>,
+    pub cleared: bool,
+}
+
+impl<N: PoolName> Model for Claiming<N> {
+    ghost use Rattle.commit_desk.specs.Passes.{IsToWrite};
+
+    ghost Value = { Unit {0} };
+
+    ghost view = { λ _. tt };
+
+    ghost invariant = { λ c. IsToWrite N.pool c.claim c.seat };
+}
+
+/// A pass that is to clear a slice.
+pub(crate) struct Clearing<N: PoolName> {
+    pub seat: PassSeat,
+    pub job: ClearJob,
+    pub of: PhantomData<N>,
+}
+
+impl<N: PoolName> Model for Clearing<N> {
+    ghost use Rattle.commit_desk.specs.Passes.{IsToClear};
+
+    ghost Value = { Unit {0} };
+
+    ghost view = { λ _. tt };
+
+    ghost invariant = { λ c. IsToClear N.pool c.job c.seat };
+}
+
+/// A pass that has begun a find of no words.
+pub(crate) struct Finding<N: PoolName> {
+    pub seat: PassSeat,
+    pub token: Token,
+    pub of: PhantomData<N>,
+}
+
+impl<N: PoolName> Model for Finding<N> {
+    ghost use Rattle.commit_desk_tests.specs.Tested.{IsFindingAll};
+
+    ghost Value = { Unit {0} };
+
+    ghost view = { λ _. tt };
+
+    ghost invariant = { λ f. IsFindingAll N.pool f.token f.seat };
+}

@@ -1,0 +1,128 @@
+//! What a test begins with: a desk with its pool, and two passes.
+ghost use Rattle.std.specs.Prelude.{◌≡◌, ◌^◌, ◌≤◌, []};
+ghost use Rattle.commit_desk.specs.Passes.{IsResting};
+ghost use Rattle.commit_desk_tests.specs.Tested.{IsLaidBy};
+ghost use Rattle.funnel_model.specs.Configuration.{IsInRange};
+ghost use Rattle.funnel_model.specs.Sizes.{columns_of_slice};
+
+use crate::caller::Caller;
+use commit_desk::Desk;
+use funnel_model::{Commits, Config, Listed};
+use row_layout::Layout;
+use slice_rule::{PassSeat, Pool, PoolName};
+use std::alloc::Global;
+use std::marker::{Brand, Model, PhantomData};
+use std::process::Abort;
+use std::test::Fail;
+use treatment::sizes;
+
+/// The calls of a test by two passes, and what they give.
+pub(crate) trait Case {
+    type Seen;
+
+    fn run<N: PoolName>(setting: &mut Setting<N>, passes: Two<N>) -> Result<Self::Seen, Fail>;
+}
+
+pub(crate) type Two<N> = (Caller<N>, Caller<N>);
+
+/// A desk with its pool of one slice. Contracts see nothing of it.
+#[derive(Drop)]
+pub(crate) struct Setting<N: PoolName> {
+    pub alloc: Global,
+    pub layout: Layout,
+    pub pool: Pool,
+    pub desk: Desk,
+    pub of: PhantomData<N>,
+}
+
+impl<N: PoolName> Model for Setting<N> {
+    ghost use Rattle.commit_desk_tests.specs.Tested.{IsSetting};
+
+    ghost Value = { Unit {0} };
+
+    ghost view = { λ _. tt };
+
+    ghost invariant = { λ s. IsSetting N.pool s.layout s.pool s.desk.pool };
+}
+
+fn no_words(alloc: Global) -> Listed
+    ensures { result ≡ [] }
+{
+    Listed::new(Vec::new(alloc))
+}
+
+/// Two passes and one slice of 64 columns, the rest by default.
+fn config(alloc: Global) -> Config
+    ensures in_range { IsInRange result }
+    ensures passes { result.passes ≡ 2 }
+    ensures slices { result.slices ≡ 1 }
+    ensures columns { columns_of_slice result ≡ 64 }
+{
+    Config {
+        passes: 2,
+        slices: 1,
+        blocks: 1,
+        max_rank: 0,
+        commits: 1024,
+        one_in: 10,
+        snr: 10,
+        documents: 1000,
+        tail: 10,
+        max_rows: 65536,
+        words: no_words(alloc),
+    }
+}
+
+/// Makes the calls at a new desk with this limit of events, and closes it: what they give, and the commits.
+pub(crate) fn run<C: Case, R: Abort>(
+    rt: &R,
+    alloc: Global,
+    events_limit: u64,
+) -> Result<(C::Seen, Commits), Fail>
+    requires some { 1 ≤ events_limit }
+    requires bounded { events_limit ≤ 2 ^ 62 }
+{
+    let config = config(alloc);
+    if sizes(&config).pool_words > 33_554_432 {
+        return Err(Fail::new("the pool is too large"));
+    }
+    let layout = Layout::new(alloc, &config)?;
+    let (_, slice_words) = layout.slice_range(0);
+    if slice_words == 0 {
+        return Err(Fail::new("a slice has words"));
+    }
+    let (pool, home, mut passes) = Pool::new(alloc, &config, slice_words).expect(rt, "a pool");
+    let second = passes.pop().expect(rt, "two passes");
+    let first = passes.pop().expect(rt, "two passes");
+    let desk = Desk::new(alloc, &config, home, events_limit).expect(rt, "a desk");
+    run_named::<C, Brand>(alloc, layout, pool, desk, first, second)
+}
+
+fn run_named<C: Case, N: PoolName>(
+    alloc: Global,
+    layout: Layout,
+    pool: Pool,
+    desk: Desk,
+    first: PassSeat,
+    second: PassSeat,
+) -> Result<(C::Seen, Commits), Fail>
+    requires named { pool ≡ N.pool }
+    requires laid { IsLaidBy layout pool }
+    requires desk { desk.pool ≡ pool }
+    requires first { IsResting pool first }
+    requires second { IsResting pool second }
+{
+    let of = PhantomData::<N>;
+    let mut setting = Setting {
+        alloc,
+        layout,
+        pool,
+        desk,
+        of,
+    };
+    let first = Caller { seat: first, of };
+    let second = Caller { seat: second, of };
+    let seen = C::run(&mut setting, (first, second));
+    let commits = setting.into_commits();
+    Ok((seen?, commits))
+}
