@@ -5,8 +5,8 @@ ghost use Rattle.funnel_io.specs.MemGates.{IsUnused};
 use super::source_of;
 use funnel::{Ended, funnel_main};
 use funnel_io::{
-    Borrower, Connection, End, Gate, Got, MemConn, MemGate, MemSink, MemSource, Next, Put, Sink,
-    Source,
+    Borrower, Connection, End, Gate, Got, MemConn, MemGate, MemSink, MemSource, Next, Put,
+    ServedConn, Sink, Source,
 };
 use std::alloc::Global;
 use std::marker::Model;
@@ -60,67 +60,87 @@ fn conn_of(alloc: Global, reads: &[u64], writes: &[u64]) -> Result<MemConn, Fail
     Ok(MemConn::new(source, sink))
 }
 
-#[test]
-fn a_gate_that_fails_ends_its_worker_alone(rt: HostRuntime) -> Result<(), Fail> {
-    let alloc = rt.alloc();
-    let mut gates = Vec::new(alloc);
-    gates.push(MemGate::new(alloc, Vec::new(alloc), [1].to_vec(alloc)?)?)?;
+// A gate on which one connection waits.
+fn gate_of_one(alloc: Global) -> Result<MemGate, Fail> {
     let mut waiting = Vec::new(alloc);
     waiting.push(conn_of(alloc, &[], &[])?)?;
-    gates.push(MemGate::new(alloc, waiting, Vec::new(alloc))?)?;
-    let words = ["serve", "--port", "7000", "--workers", "2"];
-    let ended = serve(&rt, alloc, &words, gates)?;
-    assert_eq!(rt; ended.status(), 6);
-    assert_eq!(rt; format!(in alloc; "{}", ended.why)?.as_str(), "gate fault");
-    let [failed, served] = ended.gates.as_slice() else {
+    Ok(MemGate::new(alloc, waiting, Vec::new(alloc))?)
+}
+
+// Expects of a session that it ended so, and wrote this.
+fn expect_session<R: Abort>(rt: &R, session: &ServedConn, end: End, written: &[u8]) {
+    assert_eq!(rt; session.session_end, end);
+    assert_eq!(rt; session.conn.sink.bytes(), written);
+}
+
+// Two gates: the first fails at its first call, and a connection waits on the second.
+fn failed_and_whole(alloc: Global) -> Result<Vec<MemGate>, Fail> {
+    let mut gates = Vec::new(alloc);
+    gates.push(MemGate::new(alloc, Vec::new(alloc), [1].to_vec(alloc)?)?)?;
+    gates.push(gate_of_one(alloc)?)?;
+    Ok(gates)
+}
+
+fn expect_one_served<R: Abort>(rt: &R, gates: &[MemGate]) -> Result<(), Fail> {
+    let [failed, whole] = gates else {
         return Err(Fail::new("two gates"));
     };
     assert!(rt; failed.served().is_empty());
-    let [served] = served.served() else {
+    let [session] = whole.served() else {
         return Err(Fail::new("one connection"));
     };
-    assert_eq!(rt; served.session_end, End::Done);
-    assert_eq!(rt; served.conn.sink.bytes(), REPLIES);
+    expect_session(rt, session, End::Done, REPLIES);
     Ok(())
 }
 
 #[test]
-fn a_connection_that_fails_ends_its_session_alone(rt: HostRuntime) -> Result<(), Fail> {
+fn a_gate_that_fails_ends_its_worker_alone(rt: HostRuntime) -> Result<(), Fail> {
     let alloc = rt.alloc();
+    let words = ["serve", "--port", "7000", "--workers", "2"];
+    let ended = serve(&rt, alloc, &words, failed_and_whole(alloc)?)?;
+    assert_eq!(rt; ended.status(), 6);
+    assert_eq!(rt; format!(in alloc; "{}", ended.why)?.as_str(), "gate fault");
+    expect_one_served(&rt, ended.gates.as_slice())
+}
+
+// A gate on which three connections wait: a read of the first fails, and a write of the third.
+fn gate_of_three(alloc: Global) -> Result<Vec<MemGate>, Fail> {
     let mut waiting = Vec::new(alloc);
     waiting.push(conn_of(alloc, &[1], &[])?)?;
     waiting.push(conn_of(alloc, &[], &[])?)?;
     waiting.push(conn_of(alloc, &[], &[2])?)?;
     let mut gates = Vec::new(alloc);
     gates.push(MemGate::new(alloc, waiting, Vec::new(alloc))?)?;
-    let words = ["serve", "--port", "7000", "--workers", "1"];
-    let ended = serve(&rt, alloc, &words, gates)?;
-    assert_eq!(rt; ended.status(), 0);
-    let [gate] = ended.gates.as_slice() else {
+    Ok(gates)
+}
+
+fn expect_three_sessions<R: Abort>(rt: &R, gates: &[MemGate]) -> Result<(), Fail> {
+    let [gate] = gates else {
         return Err(Fail::new("one gate"));
     };
     let [first, second, third] = gate.served() else {
         return Err(Fail::new("three connections"));
     };
-    assert_eq!(rt; first.session_end, End::ReadFault);
-    assert!(rt; first.conn.sink.bytes().is_empty());
-    assert_eq!(rt; second.session_end, End::Done);
-    assert_eq!(rt; second.conn.sink.bytes(), REPLIES);
-    assert_eq!(rt; third.session_end, End::WriteFault);
-    assert_eq!(rt; third.conn.sink.bytes(), "refused present 1\n".as_bytes());
+    expect_session(rt, first, End::ReadFault, b"");
+    expect_session(rt, second, End::Done, REPLIES);
+    expect_session(rt, third, End::WriteFault, b"refused present 1\n");
     Ok(())
+}
+
+#[test]
+fn a_connection_that_fails_ends_its_session_alone(rt: HostRuntime) -> Result<(), Fail> {
+    let alloc = rt.alloc();
+    let words = ["serve", "--port", "7000", "--workers", "1"];
+    let ended = serve(&rt, alloc, &words, gate_of_three(alloc)?)?;
+    assert_eq!(rt; ended.status(), 0);
+    expect_three_sessions(&rt, ended.gates.as_slice())
 }
 
 #[test]
 fn no_more_connections_are_served_than_asked_for(rt: HostRuntime) -> Result<(), Fail> {
     let alloc = rt.alloc();
-    let mut waiting = Vec::new(alloc);
-    waiting.push(conn_of(alloc, &[], &[])?)?;
-    waiting.push(conn_of(alloc, &[], &[])?)?;
-    let mut gates = Vec::new(alloc);
-    gates.push(MemGate::new(alloc, waiting, Vec::new(alloc))?)?;
     let words = ["serve", "--port=1", "--workers=1", "--connections=1"];
-    let ended = serve(&rt, alloc, &words, gates)?;
+    let ended = serve(&rt, alloc, &words, gate_of_three(alloc)?)?;
     assert_eq!(rt; ended.status(), 0);
     let [gate] = ended.gates.as_slice() else {
         return Err(Fail::new("one gate"));
