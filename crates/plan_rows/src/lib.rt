@@ -4,6 +4,3 @@
 mod planning;
 
 pub use planning::plan;
-
-#[cfg(test)]
-mod tests;

@@ -20,6 +20,3 @@ pub use laws::{documents_have_bits_of_parts, each_row_has_its_bit};
 pub use layout::Layout;
 pub use plan::Plan;
 pub use row::Row;
-
-#[cfg(test)]
-mod tests;

@@ -13,6 +13,3 @@ pub use classes::{LAST_CLASS, class, class_of, row_count};
 pub use pool_sizes::Sizes;
 pub use ranks::rank_of;
 pub use sizing::sizes;
-
-#[cfg(test)]
-mod tests;

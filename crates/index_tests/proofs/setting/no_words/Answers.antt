@@ -1,7 +1,7 @@
 use Rattle.std.proofs.Common.{sym, subst, map}
 use Rattle.std.specs.List.Sorted.{IsStrictlySortedBy}
 use Rattle.funnel_model.specs.Listed.{IsInByteOrder, listed_pair}
-use Rattle.row_layout.proofs.tests.crowded_layout.Goals as goal
+use Rattle.index_tests.proofs.setting.no_words.Goals as goal
 
 pub new-requires-2 : goal.new-requires-2
 unfolding IsStrictlySortedBy

@@ -1,5 +1,5 @@
 use Rattle.std.specs.List.Sorted.{IsStrictlySortedBy}
-use Rattle.plan_rows.proofs.tests.no_words.Goals as goal
+use Rattle.index_tests.proofs.plans.no_words.Goals as goal
 
 pub from_sorted-requires : goal.from_sorted-requires
 unfolding IsStrictlySortedBy

@@ -1,14 +1,7 @@
 use Rattle.std.proofs.Common.{◌≡◌, ℕ, List, [], ◌∷◌, refl}
-use Rattle.std.specs.List.Sorted.{IsStrictlySortedBy}
-use Rattle.std.specs.Cmp.Lexicographic.{slice_cmp}
-use Rattle.std.specs.Ordering.{nat_cmp}
-use Rattle.std.specs.declared.cmp.Ordering.TheVariants.{Less}
 use Rattle.funnel_model.specs.Words.{IsRising}
-use Rattle.plan_rows.proofs.tests.query.Goals as goal
-
-three_rise : (a b d : List ℕ) → slice_cmp nat_cmp a b ≡ Less → slice_cmp nat_cmp a d ≡ Less → slice_cmp nat_cmp b d ≡ Less → IsRising (a ∷ b ∷ d ∷ [])
-unfolding IsStrictlySortedBy
-three_rise a b d p q r = ((p, (q, tt)), ((r, tt), (tt, tt)))
+use Rattle.index_tests.proofs.Rising.{three_rise}
+use Rattle.index_tests.proofs.plans.query.Goals as goal
 
 -- axolotl, dog and the
 words_rise : (a b d : List ℕ) → a ≡ 97 ∷ 120 ∷ 111 ∷ 108 ∷ 111 ∷ 116 ∷ 108 ∷ [] → b ≡ 100 ∷ 111 ∷ 103 ∷ [] → d ≡ 116 ∷ 104 ∷ 101 ∷ [] → IsRising (a ∷ b ∷ d ∷ [])

@@ -1,57 +1,14 @@
 //! The tables of classes, ranks and sizes.
+ghost use Rattle.std.specs.Prelude.{◌≤◌};
 
-ghost use Rattle.std.specs.Prelude.{◌≡◌, ◌<◌, ◌≤◌, length, All, IfOk};
-ghost use Rattle.funnel_model.specs.Configuration.{IsBetween, IsInRange};
-
-use super::*;
-use funnel_model::{Config, Listed};
+use crate::setting::{config, no_words, three_words};
 use std::alloc::{AllocError, Global};
 use std::test::Fail;
-
-/// The default configuration but for these numbers and words.
-fn config(max_rank: u8, documents: u64, tail: u64, words: Listed) -> Config
-    requires rank { max_rank ≤ 6 }
-    requires documents { IsBetween 1 20000 documents }
-    requires tail { tail ≤ 80 }
-    requires few { length words ≤ 65536 }
-    requires counts { All (λ entry. IsBetween 1 documents entry.1) words }
-    ensures { IsInRange result }
-{
-    Config {
-        passes: 2,
-        slices: 2,
-        blocks: 1,
-        max_rank,
-        commits: 1024,
-        one_in: 10,
-        snr: 10,
-        documents,
-        tail,
-        max_rows: 65536,
-        words,
-    }
-}
-
-fn no_words(alloc: Global) -> Listed
-    ensures { length result ≡ 0 }
-{
-    Listed::new(Vec::new(alloc))
-}
-
-/// A rare word, a common one and a very common one.
-fn three_words(alloc: Global) -> Result<Listed, AllocError>
-    ensures few { IfOk result (λ words. length words ≤ 65536) }
-    ensures counts { IfOk result (λ words. All (λ entry. IsBetween 1 1000 entry.1) words) }
-{
-    let axolotl = String::from_str(alloc, "axolotl")?;
-    let cat = String::from_str(alloc, "cat")?;
-    let the = String::from_str(alloc, "the")?;
-    Ok(Listed::new(vec![in alloc; (axolotl, 1), (cat, 100), (the, 1000)]?))
-}
+use treatment::{Sizes, class, class_of, rank_of, row_count, sizes};
 
 #[test]
 fn a_word_has_the_class_of_its_count(rt: HostRuntime) -> Result<(), Fail> {
-    let config = config(6, 1000, 0, three_words(rt.alloc())?);
+    let config = config(6, 10, 10, 1000, 0, three_words(rt.alloc())?);
     assert_eq!(rt; class_of(&config, b"the"), 0);
     assert_eq!(rt; class_of(&config, b"cat"), 3);
     assert_eq!(rt; class_of(&config, b"axolotl"), 9);
@@ -100,7 +57,7 @@ fn ranks_go_down_to_zero(rt: HostRuntime) -> Result<(), Fail> {
 
 #[test]
 fn listed_words_size_the_pool(rt: HostRuntime) -> Result<(), Fail> {
-    let config = config(6, 1000, 0, three_words(rt.alloc())?);
+    let config = config(6, 10, 10, 1000, 0, three_words(rt.alloc())?);
     let expected = Sizes {
         private: 1,
         rows: [4, 1, 1, 1, 1, 1, 1],
@@ -114,7 +71,7 @@ fn listed_words_size_the_pool(rt: HostRuntime) -> Result<(), Fail> {
 
 #[test]
 fn the_tail_sizes_the_pool(rt: HostRuntime) -> Result<(), Fail> {
-    let config = config(0, 1000, 10, no_words(rt.alloc()));
+    let config = config(0, 10, 10, 1000, 10, no_words(rt.alloc()));
     let expected = Sizes {
         private: 0,
         rows: [600, 0, 0, 0, 0, 0, 0],
@@ -128,7 +85,7 @@ fn the_tail_sizes_the_pool(rt: HostRuntime) -> Result<(), Fail> {
 
 #[test]
 fn a_long_tail_fills_the_higher_ranks(rt: HostRuntime) -> Result<(), Fail> {
-    let mut config = config(6, 20_000, 80, no_words(rt.alloc()));
+    let mut config = config(6, 10, 10, 20_000, 80, no_words(rt.alloc()));
     config.slices = 8;
     let expected = Sizes {
         private: 0,

@@ -1,0 +1,82 @@
+"""Proves and builds the program, crates that don't stand on each other side by side: build.py. Says on standard error where it is."""
+
+import os
+import subprocess
+import sys
+import tempfile
+from concurrent.futures import FIRST_COMPLETED, ThreadPoolExecutor, wait
+
+ROOT = os.path.dirname(os.path.dirname(os.path.realpath(__file__)))
+PROGRAM = "funnel_program"
+CHECK_BYTES = 3 << 30  # the most memory that a check of one of these crates was seen to take
+
+
+def libraries():
+    """Each crate of the repository, with the crates of the repository that it stands on."""
+    with open(f"{ROOT}/crates.txt", encoding="utf-8") as file:
+        lines = [line.partition(":") for line in file if line.strip()]
+    named = {name.strip(): below.split() for name, _, below in lines}
+    return {name: [it for it in below if it in named] for name, below in named.items()}
+
+
+def needed(crate, below):
+    """The crate, after all that it stands on."""
+    found = []
+    for it in below[crate]:
+        found += [crate for crate in needed(it, below) if crate not in found]
+    return [*found, crate]
+
+
+def lanes():
+    """How many checks may run at a time."""
+    with open("/proc/meminfo", encoding="ascii") as file:
+        free = next(int(line.split()[1]) << 10 for line in file if line.startswith("MemAvailable"))
+    return max(1, min(len(os.sched_getaffinity(0)), free // CHECK_BYTES))
+
+
+def build(crate, jobs):
+    """Proves a crate, and gives the status of that and what was said."""
+    words = ["run", "--jobs", str(jobs), "--", "run"] if crate == PROGRAM else ["lib", "--jobs", str(jobs)]
+    with tempfile.TemporaryFile("w+", errors="replace") as log:
+        status = subprocess.call(["rt", *words], cwd=f"{ROOT}/crates/{crate}", stdin=subprocess.DEVNULL, stdout=log, stderr=log)
+        log.seek(0)
+        return status, log.read()
+
+
+def say(text):
+    print(f"funnel: {text}", file=sys.stderr, flush=True)
+
+
+def build_all(below, left, most):
+    """Builds these crates, each once those that it stands on are there. Returns whether all were built."""
+    count, running, built = len(left), {}, set()
+    with ThreadPoolExecutor(most) as pool:
+        while left or running:
+            ready = [it for it in left if built.issuperset(below[it])]
+            for at, crate in enumerate(ready):
+                idle = most - sum(jobs for _, jobs in running.values())
+                if idle == 0:
+                    break
+                # a crate gets the processors that no other one can use now
+                jobs = max(1, idle // (len(ready) - at))
+                left.remove(crate)
+                say(f"proving {crate} ({count - len(left)} of {count})")
+                running[pool.submit(build, crate, jobs)] = crate, jobs
+            for ended in wait(running, return_when=FIRST_COMPLETED).done:
+                crate, _ = running.pop(ended)
+                status, log = ended.result()
+                if status:
+                    say(f"the build of {crate} failed:\n" + "\n".join(log.splitlines()[-20:]))
+                    return False
+                built.add(crate)
+    return True
+
+
+def main():
+    below = libraries()
+    say("proving and building the program; the first time takes a quarter of an hour on four processors")
+    return 0 if build_all(below, needed(PROGRAM, below), lanes()) else 1
+
+
+if __name__ == "__main__":
+    sys.exit(main())

@@ -1,0 +1,82 @@
+//! Configurations, listed words and layouts of the tests.
+ghost use Rattle.std.specs.Prelude.{◌≡◌, ◌≤◌, length, All, IfOk, []};
+ghost use Rattle.funnel_model.specs.Configuration.{IsBetween, IsInRange};
+ghost use Rattle.funnel_model.specs.Sizes.{columns_of_slice};
+
+use funnel_model::{Config, Listed, Memory};
+use row_layout::Layout;
+use std::alloc::{AllocError, Global};
+use treatment::sizes;
+
+/// The default configuration but for these numbers and words.
+pub(crate) fn config(
+    max_rank: u8,
+    one_in: u64,
+    snr: u64,
+    documents: u64,
+    tail: u64,
+    words: Listed,
+) -> Config
+    requires rank { max_rank ≤ 6 }
+    requires one_in { IsBetween 2 20 one_in }
+    requires snr { IsBetween 1 1000 snr }
+    requires documents { IsBetween 1 20000 documents }
+    requires tail { tail ≤ 80 }
+    requires few { length words ≤ 65536 }
+    requires counts { All (λ entry. IsBetween 1 documents entry.1) words }
+    ensures in_range { IsInRange result }
+    ensures slices { result.slices ≡ 2 }
+    ensures blocks { result.blocks ≡ 1 }
+    ensures max_rank { result.max_rank ≡ max_rank }
+{
+    Config {
+        passes: 2,
+        slices: 2,
+        blocks: 1,
+        max_rank,
+        commits: 1024,
+        one_in,
+        snr,
+        documents,
+        tail,
+        max_rows: 65536,
+        words,
+    }
+}
+
+pub(crate) fn no_words(alloc: Global) -> Listed
+    ensures { result ≡ [] }
+{
+    Listed::new(Vec::new(alloc))
+}
+
+/// A rare word, a common one and a very common one.
+pub(crate) fn three_words(alloc: Global) -> Result<Listed, AllocError>
+    ensures few { IfOk result (λ words. length words ≤ 65536) }
+    ensures counts { IfOk result (λ words. All (λ entry. IsBetween 1 1000 entry.1) words) }
+{
+    let axolotl = String::from_str(alloc, "axolotl")?;
+    let cat = String::from_str(alloc, "cat")?;
+    let the = String::from_str(alloc, "the")?;
+    Ok(Listed::new(vec![in alloc; (axolotl, 1), (cat, 100), (the, 1000)]?))
+}
+
+/// The layout of a configuration, if its rows are not too many.
+pub(crate) fn layout_of(alloc: Global, config: &Config) -> Result<Layout, Memory>
+    requires { IsInRange config.now }
+    ensures slices { IfOk result (λ layout. layout.slices ≡ config.now.slices) }
+    ensures columns { IfOk result (λ layout. columns_of_slice layout ≡ columns_of_slice config.now) }
+{
+    if sizes(config).pool_words > 33_554_432 {
+        return Err(Memory);
+    }
+    Layout::new(alloc, config)
+}
+
+/// A layout with the three words and ranks up to 6.
+pub(crate) fn ranked_layout(alloc: Global) -> Result<Layout, Memory>
+    ensures slices { IfOk result (λ layout. layout.slices ≡ 2) }
+    ensures columns { IfOk result (λ layout. columns_of_slice layout ≡ 4096) }
+{
+    layout_of(alloc, &config(6, 10, 10, 1000, 0, three_words(alloc)?))
+}
