@@ -10,6 +10,7 @@ import resource
 import subprocess
 import sys
 import threading
+import time
 
 ROOT = os.path.dirname(os.path.dirname(os.path.realpath(__file__)))
 TICKS = os.sysconf("SC_CLK_TCK")
@@ -58,22 +59,26 @@ def crates():
         return [line.partition(":")[0].strip() for line in file if line.strip()]
 
 
-def time_table(seconds, refused):
+def time_table(seconds, refused, elapsed):
     """What each crate took, and what all took."""
     taken = collections.Counter()
     for (_, crate, kind), spent in seconds.items():
         taken[crate, kind] += spent
     counts = collections.Counter(crate for crate, _ in refused)
-    told = lambda spent: str(round(spent)) if spent else ""
+    told = lambda number: str(round(number)) if number else ""
     rows = ["| crate | proof | tests | edits | all of them |", "|---|---|---|---|---|"]
     for crate in crates():
         cells = [told(taken[crate, "proof"]), told(taken[crate, "tests"]), told(counts[crate]), told(taken[crate, "edits"])]
         rows.append(f"| `{crate}` | " + " | ".join(cells) + " |")
-    sums = [sum(taken[crate, kind] for crate in crates()) for kind in KINDS]
-    rows.append(f"| all | {sums[0]:.0f} | {sums[1]:.0f} | {sum(counts.values())} | {sums[2]:.0f} |")
+    sums = {kind: sum(taken[crate, kind] for crate in crates()) / 60 for kind in KINDS}
     spent = resource.getrusage(resource.RUSAGE_CHILDREN)
     minutes = (spent.ru_utime + spent.ru_stime) / 60
-    return "\n".join([*rows, "", f"The whole gate took {minutes:.0f} minutes of a processor."])
+    head = (
+        f"From nothing it took {elapsed / 60:.0f} minutes on a machine of {os.cpu_count()} processors, and {minutes:.0f} minutes of a processor: "
+        f"{sums['proof']:.0f} for the proofs, {sums['tests']:.0f} for those of tests, and {sums['edits']:.0f} for the {sum(counts.values())} edits, "
+        "which begin with the proof of their crate once more. In seconds of a processor:"
+    )
+    return "\n".join([head, "", *rows])
 
 
 def refusals(log):
@@ -97,7 +102,7 @@ def with_refusals(text, refused):
         crate = heading[1] if heading else crate
         row = re.match(r"\| `(\w+)` \| (.*?) \|(.*)$", line)
         if row and crate in crates():
-            line = f"| `{row[1]}` | {row[2]} | {refused.get((crate, row[1]), '')} |"
+            line = f"| `{row[1]}` | {row[2]} | {refused.get((crate, row[1]), row[3].strip(' |'))} |"
         lines.append(line)
     return "\n".join(lines) + "\n"
 
@@ -114,10 +119,11 @@ def main(words):
         with open(words[0], encoding="utf-8") as file:
             log, status, seconds = file.read(), 0, {}
     else:
+        began = time.monotonic()
         log, status, seconds = run_gate()
     refused = refusals(log)
     if seconds:
-        table = time_table(seconds, refused)
+        table = time_table(seconds, refused, time.monotonic() - began)
         marked = r"(<!-- table -->\n).*?(<!-- end of table -->)"
         rewrite("docs/gate.md", lambda text: re.sub(marked, lambda at: f"{at[1]}{table}\n{at[2]}", text, flags=re.DOTALL))
     rewrite("docs/wrong-bodies.md", lambda text: with_refusals(text, refused))
