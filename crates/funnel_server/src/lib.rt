@@ -34,6 +34,3 @@ pub use laws::{
 pub use loads::run_load;
 pub use worker::Worker;
 pub use workers::run_workers;
-
-#[cfg(test)]
-mod tests;

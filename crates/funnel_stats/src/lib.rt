@@ -19,6 +19,3 @@ pub use kept::Kept;
 pub use key::{Key, Limits};
 pub use laws::entries_are_in_byte_order;
 pub use reading::read_config;
-
-#[cfg(test)]
-mod tests;

@@ -13,6 +13,3 @@ pub use parse::parse_line;
 pub use reply::reply_text;
 pub use request::Request;
 pub use service::Service;
-
-#[cfg(test)]
-mod tests;

@@ -15,6 +15,3 @@ pub use limits::{CHECKED_ONE_IN, DELETED_ONE_IN, MOST_DOCS, MOST_WORDS};
 pub use load::{Load, make};
 pub use queries::query;
 pub use report::summary;
-
-#[cfg(test)]
-mod tests;

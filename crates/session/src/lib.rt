@@ -12,6 +12,3 @@ pub use laws::{
     finds_without_memory_are_over, sessions_end_by_their_bytes, spent_fronts_take_no_call,
 };
 pub use serving::{MOST_BYTES, serve_session};
-
-#[cfg(test)]
-mod tests;

@@ -5,8 +5,5 @@
 mod cut;
 mod fault;
 mod folding;
-#[cfg(test)]
-mod tests;
-
 pub use cut::words;
 pub use fault::WordFault;

@@ -2,9 +2,9 @@
 
 ghost use Rattle.std.specs.Prelude.{◌<◌};
 
-use crate::{ConfigFault, read_config};
 use funnel_io::MemSource;
 use funnel_model::Config;
+use funnel_stats::{ConfigFault, read_config};
 use std::alloc::{AllocError, Global};
 use std::process::Abort;
 use std::test::Fail;

@@ -6,10 +6,10 @@ ghost use Rattle.funnel_server.specs.Workers.{HasMetNoFault};
 
 mod loads;
 
-use crate::{Worker, run_workers};
 use engine::{Blank, Client, Engine, Pass, PoolName};
 use funnel_io::{MemConn, MemGate, MemSink, MemSource};
 use funnel_model::Config;
+use funnel_server::{Worker, run_workers};
 use funnel_stats::read_config;
 use std::alloc::Global;
 use std::marker::Brand;

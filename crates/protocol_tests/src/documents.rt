@@ -1,4 +1,5 @@
-use super::*;
+//! The documents, queries and summary of a load.
+use load_gen::{MOST_DOCS, make, query, summary};
 use std::test::Fail;
 
 /// The summary of the load of two documents of one drawn word each, from the seed 0.

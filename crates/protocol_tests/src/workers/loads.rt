@@ -2,9 +2,9 @@
 ghost use Rattle.std.specs.Prelude.{◌≡◌};
 
 use super::source_of;
-use crate::run_load;
 use engine::{Blank, Engine, PoolName};
 use funnel_model::Config;
+use funnel_server::run_load;
 use funnel_stats::read_config;
 use load_gen::{Load, make};
 use std::alloc::Global;

@@ -1,6 +1,7 @@
-use crate::{Request, parse_line, reply_text};
+//! Lines and what they ask for, and the texts of replies.
 use funnel_io::MAX_LINE_LEN;
 use funnel_model::{Commit, Commits, Ids, Reply};
+use line_proto::{Request, parse_line, reply_text};
 use std::test::Fail;
 
 const fn add(id: u64, text: &'static str) -> Option<Request<'static>> {

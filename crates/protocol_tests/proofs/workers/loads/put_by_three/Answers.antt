@@ -3,7 +3,7 @@ use Rattle.std.specs.List.{All, range_with_len}
 use Rattle.commit_desk.specs.Passes.{IsResting}
 use Rattle.slice_rule.specs.Pools.{PoolId}
 use Rattle.engine.proofs.NewPasses.{new_rest}
-use Rattle.funnel_server.proofs.tests.loads.put_by_three.Goals as goal
+use Rattle.protocol_tests.proofs.workers.loads.put_by_three.Goals as goal
 
 pub run_load-passes-requires-clause-rest : goal.run_load-passes-requires-clause-rest
 run_load-passes-requires-clause-rest g c =

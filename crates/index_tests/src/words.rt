@@ -1,5 +1,6 @@
-use crate::words;
+//! Texts and their words.
 use std::test::Fail;
+use word_cut::words;
 
 // Each text with its words, in byte order.
 const TEXTS: [(&str, &[&str]); 15] = [

@@ -1,9 +1,10 @@
+//! Sessions over services of the tests.
 ghost use Rattle.std.specs.Prelude.{◌≡◌, IfOk};
 
-use crate::{MOST_BYTES, serve_session};
 use funnel_io::{End, Got, MemConn, MemSink, MemSource, Source};
 use funnel_model::{Call, Event, Reply};
 use line_proto::{Request, Service};
+use session::{MOST_BYTES, serve_session};
 use std::alloc::{AllocError, Global};
 use std::marker::Model;
 use std::process::Abort;

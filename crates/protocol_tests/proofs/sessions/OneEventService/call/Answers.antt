@@ -12,7 +12,7 @@ use Rattle.funnel_model.specs.declared.reply.Reply.TheVariants as reply
 use Rattle.funnel_model.specs.Legal.{IsRefused}
 use Rattle.funnel_model.specs.Steps.{IsReplyToRefused, Step}
 use Rattle.line_proto.specs.Services.{AnswersCall, Caller}
-use Rattle.session.proofs.tests.OneEventService.call.Goals as goal
+use Rattle.protocol_tests.proofs.sessions.OneEventService.call.Goals as goal
 
 abbrev caller : Caller
 caller = record {

@@ -1,5 +1,6 @@
-use super::*;
+//! The guards of slices.
 use std::test::Fail;
+use token_manager::Tokens;
 
 #[test]
 fn the_lowest_pass_that_began_before_guards(rt: HostRuntime) -> Result<(), Fail> {

@@ -1,4 +1,4 @@
-use Rattle.funnel_server.proofs.tests.loads.three_workers_have_the_results_of_one.Given as goal
+use Rattle.protocol_tests.proofs.workers.loads.three_workers_have_the_results_of_one.Given as goal
 
 -- the pool of the engine that is opened
 abbrev pub ghosts-put_by_three : goal.ghosts-put_by_three
