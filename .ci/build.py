@@ -1,6 +1,7 @@
 """Proves and builds the program, crates that don't stand on each other side by side: build.py. Says on standard error where it is."""
 
 import os
+import shutil
 import subprocess
 import sys
 import tempfile
@@ -73,6 +74,9 @@ def build_all(below, left, most):
 
 
 def main():
+    if not shutil.which("rt"):
+        say("there is no command rt on the path: it comes with the Rattle kit")
+        return 1
     below = libraries()
     say("proving and building the program; the first time takes a quarter of an hour on four processors")
     return 0 if build_all(below, needed(PROGRAM, below), lanes()) else 1
