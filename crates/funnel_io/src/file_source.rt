@@ -1,4 +1,4 @@
-ghost use Rattle.std.specs.Prelude.{◌≡◌};
+ghost use Rattle.std.specs.Prelude.{◌≡◌, ◌≢◌};
 
 use crate::opened_file::OpenedFile;
 use crate::reader_source::ReaderSource;
@@ -13,7 +13,10 @@ pub type FileSource<F> = ReaderSource<OpenedFile<F>>;
 impl<F> ReaderSource<OpenedFile<F>> {
     /// The file at the path. It takes no memory.
     pub fn open<R: Files<File = F>>(rt: &R, path: &str) -> FileSource<F>
-        ensures { result.faults ≡ 0 }
+        ensures faults { result.faults ≡ 0 }
+
+        // A file that isn't there is none whose reads fail.
+        ensures refused { result.inner ≢ OpenedFile.Refused ErrorKind.NotFound }
     {
         let file = match fs::open(rt, path) {
             Ok(file) => OpenedFile::Open(file),

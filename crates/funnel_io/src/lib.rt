@@ -50,6 +50,3 @@ pub use source::{Got, Source};
 pub use tcp_gate::{TcpConn, TcpGate};
 pub use writer_sink::{StdoutSink, WriterSink};
 pub use writing::{WriteFailed, write_all};
-
-#[cfg(test)]
-mod tests;

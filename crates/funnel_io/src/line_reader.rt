@@ -213,6 +213,3 @@ fn make_room(held: &mut LineBuffer, long: bool) -> bool
     held.move_to_front();
     long
 }
-
-#[cfg(test)]
-mod tests;

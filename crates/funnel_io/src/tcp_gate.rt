@@ -130,6 +130,3 @@ fn connection(stream: TcpStream) -> io::Result<TcpConn>
     let source = ReaderSource::new(stream.try_clone()?);
     Ok(Duplex::new(source, WriterSink::new(stream)))
 }
-
-#[cfg(test)]
-mod tests;

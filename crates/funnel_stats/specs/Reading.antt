@@ -1,6 +1,7 @@
 -- What reading a configuration from a source gives.
-use Rattle.std.specs.Prelude.{◌≡◌, ◌+◌, ◌≤◌, ℕ, Bool, true, false, List, length, Option, Result, Ok, Err, MatchResult, ⊤}
+use Rattle.std.specs.Prelude.{◌≡◌, ◌+◌, ◌≤◌, ℕ, Bool, true, false, List, [], ◌∷◌, length, Option, Result, Ok, Err, MatchResult, ⊤}
 use Rattle.std.specs.Io.KnownBytes.{IsAtEnd}
+use Rattle.funnel_io.specs.Calls.{Read, Leads, GaveBytes, found_end, last_failed}
 use Rattle.funnel_io.specs.Streams.{Incoming, Takes}
 use Rattle.funnel_model.specs.declared.config.Config.{Config}
 use Rattle.funnel_stats.specs.Configurations.{configuration, longest}
@@ -28,3 +29,15 @@ pub record IsConfigRead (answer : Result Config ConfigFault) (before after : Inc
   pub few : length bytes ≤ longest + 1
   pub answers : MatchResult answer
       (λ config. (configuration bytes ≡ Ok config) × IsAtEnd after.left) (λ fault. IsFaultOf fault bytes after.left)
+
+-- each of the reads, of which the last comes first, comes after one that gave bytes
+abbrev pub AreGoingOn : List Read → Type 0
+AreGoingOn [] = ⊤
+AreGoingOn (read ∷ earlier) = AreGoingOn earlier × GaveBytes earlier
+
+-- these are all reads of the source, none after one that gave no bytes; the last found the end or failed, as the answer tells
+pub record EndsReading {S X : Type 0} (read_gives : S → Read → S → Type 0) (answer : Result X ConfigFault) (before after : S) : Type 0 where
+  pub reads : List Read
+  pub lead : Leads read_gives before reads after
+  pub going_on : AreGoingOn reads
+  pub ended : MatchResult answer (λ _. found_end reads ≡ true) (λ fault. last_failed reads ≡ is_failed_read fault)

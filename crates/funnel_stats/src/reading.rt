@@ -1,7 +1,7 @@
 ghost use Rattle.std.specs.Prelude.{◌≡◌, IfOk, MatchResult};
 ghost use Rattle.funnel_io.specs.Counts.{counted};
 ghost use Rattle.funnel_model.specs.Configuration.{IsValid};
-ghost use Rattle.funnel_stats.specs.Reading.{IsConfigRead, is_failed_read};
+ghost use Rattle.funnel_stats.specs.Reading.{EndsReading, IsConfigRead, is_failed_read};
 ghost use Rattle.funnel_stats.specs.Steps.{IsTaken};
 
 use crate::fault::ConfigFault;
@@ -26,6 +26,9 @@ pub fn read_config<S: Source>(alloc: Global, source: &mut S) -> Result<Config, C
         (λ _. (S.incoming source.new).faults ≡ (S.incoming source.old).faults)
         (λ fault. (S.incoming source.new).faults ≡ counted (is_failed_read fault) (S.incoming source.old).faults) }
     ensures valid { IfOk result IsValid }
+
+    // It reads on only after a read that gave bytes.
+    ensures reads { EndsReading S.read_gives result source.old source.new }
 {
     let bytes = read_all(alloc, source)?;
     parse(alloc, &bytes)
@@ -39,6 +42,7 @@ fn read_all<S: Source>(alloc: Global, source: &mut S) -> Result<Vec<u8>, ConfigF
     ensures faults { MatchResult result
         (λ _. (S.incoming source.new).faults ≡ (S.incoming source.old).faults)
         (λ fault. (S.incoming source.new).faults ≡ counted (is_failed_read fault) (S.incoming source.old).faults) }
+    ensures reads { EndsReading S.read_gives result source.old source.new }
 {
     let mut bytes = Vec::new(alloc);
     let mut room = [0; PIECE];

@@ -1,5 +1,5 @@
 use Rattle.funnel_io.specs.Streams.{Takes}
-use Rattle.funnel_io.proofs.tests.read_to_end.Given as goal
+use Rattle.funnel_io_tests.proofs.memory.read_to_end.Given as goal
 
 -- what was taken so far
 abbrev pub invariant-loop : goal.invariant-loop
