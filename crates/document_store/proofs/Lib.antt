@@ -3,7 +3,7 @@ pub mod FoundLemmas
 pub mod SlotLemmas
 pub mod WordSets
 pub mod EntryLemmas
-pub mod ChainLemmas
-pub mod TableLemmas
+pub mod TreeLemmas
 pub mod ColumnLemmas
 pub mod AddedLemmas
+pub mod RemovalLemmas

@@ -1,5 +1,5 @@
-pub mod Chains
 pub mod Documents
 pub mod Entries
 pub mod Finding
 pub mod Slots
+pub mod Trees

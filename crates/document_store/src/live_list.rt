@@ -1,43 +1,45 @@
-ghost use Rattle.std.specs.Prelude.{◌≡◌, ◌≢◌, ℕ, ◌*◌, ◌^◌, ◌<◌, ◌==◌, if◌then◌else◌, IfOk, IsNone};
+ghost use Rattle.std.specs.Prelude.{◌≡◌, ◌≢◌, ℕ, ◌+◌, ◌*◌, ◌^◌, ◌<◌, ◌==◌, if◌then◌else◌, length, IfOk, IsNone, IfSome};
 ghost use Rattle.std.specs.declared.option.Option.TheVariants.{Some, None};
-ghost use Rattle.document_store.specs.Chains.{IsChainFrom, bucket_of, found_from, mixed_number};
-ghost use Rattle.document_store.specs.Entries.{column_of};
+ghost use Rattle.document_store.specs.Entries.{IsShallow, column_of};
+ghost use Rattle.document_store.specs.Trees.{HasNoneUnder, IsInPlace, IsLinkOf, IsLowestUnder, IsPlaceOf, bucket_of, link_at, link_under, mixed_number};
 
 use funnel_model::Memory;
 use std::alloc::Global;
 use std::marker::Model;
 
-/// The end of a chain, and where nothing is before an entry. No entry has this number.
-const END: u32 = u32::MAX;
+/// Where no entry is behind a link. No entry has this number.
+const NONE: u32 = u32::MAX;
 
-/// The entry of a column: a number, whether it is live in the column, and the number of the next entry of its chain.
+/// The entry of a column: a number, and whether it is live in the column.
 #[derive(Clone, Copy, Debug)]
 pub struct Entry {
     pub id: u64,
-    pub next: u32,
     pub live: bool,
 }
 
-/// The slice and the column of each live number: a table of chains. Each column has an entry, and the live entries
-/// whose numbers have the same bucket are a chain. Only `new` takes memory.
+/// The slice and the column of each live number: a hash table, each of whose buckets is a search tree by the bits of the
+/// numbers, so that a call looks at few entries whichever numbers are live. Each column has an entry. Behind the link of a
+/// bucket is the entry at its top, and under each entry are two links: the numbers behind them go on with the bit 0 and
+/// with the bit 1. Only `new` takes memory.
 #[derive(Debug, Drop)]
 pub struct LiveList {
     slices: u32,
     columns: u32,
-    heads: Vec<u32>,
+    buckets: usize,
+    links: Vec<u32>,
     entries: Vec<Entry>,
 }
 
 impl Model for LiveList {
     ghost use Rattle.std.specs.Prelude.{map};
-    ghost use Rattle.document_store.specs.Chains.{AreChains, id_of};
+    ghost use Rattle.document_store.specs.Trees.{AreTrees, id_of};
     ghost use Rattle.document_store.specs.Entries.{Entries};
 
     ghost Value = { Entries };
 
-    ghost view = { λ l. record { slices = l.slices; columns = l.columns; entries = map id_of l.entries.items } };
+    ghost view = { λ l. record { slices = l.slices; columns = l.columns; entries = map id_of l.entries.items; links = l.links.items } };
 
-    ghost invariant = { λ l. AreChains l.slices l.columns l.heads.items l.entries.items };
+    ghost invariant = { λ l. AreTrees l.slices l.columns l.buckets l.links.items l.entries.items };
 }
 
 impl LiveList {
@@ -49,10 +51,12 @@ impl LiveList {
         ensures empty { IfOk result (λ l. (id : ℕ) → column_of l id ≡ None) }
     {
         let count = (slices * columns) as usize;
+        let buckets = count.next_power_of_two();
         Ok(LiveList {
             slices,
             columns,
-            heads: vec![in alloc; END; count.next_power_of_two()]?,
+            buckets,
+            links: vec![in alloc; NONE; buckets + 2 * count]?,
             entries: vec![in alloc; NO_ENTRY; count]?,
         })
     }
@@ -64,28 +68,26 @@ impl LiveList {
         requires free { (other : ℕ) → column_of self.old other ≢ Some (slice, column) }
         requires absent { column_of self.old id ≡ None }
         ensures columns { (other : ℕ) → column_of self.new other ≡ (if other == id then Some (slice, column) else column_of self.old other) }
+        ensures few { IsShallow self.old }
         ensures slices { self.new.slices ≡ self.old.slices }
         ensures slice_columns { self.new.columns ≡ self.old.columns }
     {
         let at = slice * self.columns + column;
-        let bucket = bucket_of(id, self.heads.len());
-        let next = self.heads[bucket];
-        self.entries[at as usize] = Entry {
-            id,
-            next,
-            live: true,
-        };
-        self.heads[bucket] = at;
+        let link = search(self.buckets, &self.links, &self.entries, id);
+        self.entries[at as usize] = Entry { id, live: true };
+        self.links[link] = at;
     }
 
     /// The slice and the column of a number.
     pub fn get(&self, id: u64) -> Option<(u32, u32)>
-        ensures { result ≡ column_of self.now id }
+        ensures column { result ≡ column_of self.now id }
+        ensures few { IsShallow self.now }
     {
-        let bucket = bucket_of(id, self.heads.len());
-        let Some((_, at)) = search(&self.entries, self.heads[bucket], id) else {
+        let link = search(self.buckets, &self.links, &self.entries, id);
+        let at = self.links[link];
+        if at == NONE {
             return None;
-        };
+        }
         Some((at / self.columns, at % self.columns))
     }
 
@@ -93,48 +95,114 @@ impl LiveList {
     pub fn remove(&mut self, id: u64) -> Option<(u32, u32)>
         ensures was { result ≡ column_of self.old id }
         ensures columns { (other : ℕ) → column_of self.new other ≡ (if other == id then None else column_of self.old other) }
+        ensures few { IsShallow self.old }
         ensures slices { self.new.slices ≡ self.old.slices }
         ensures slice_columns { self.new.columns ≡ self.old.columns }
         ensures same { IsNone result → self.new ≡ self.old }
     {
-        let bucket = bucket_of(id, self.heads.len());
-        let Some((before, at)) = search(&self.entries, self.heads[bucket], id) else {
+        let link = search(self.buckets, &self.links, &self.entries, id);
+        let at = self.links[link];
+        if at == NONE {
             return None;
-        };
-        let entry = &mut self.entries[at as usize];
-        entry.live = false;
-        let next = entry.next;
-        if before == END {
-            self.heads[bucket] = next;
-        } else {
-            self.entries[before as usize].next = next;
+        }
+        let lowest = lowest_under(self.buckets, &self.links, &self.entries, link);
+        let leaf = self.links[lowest];
+        self.entries[at as usize].live = false;
+        self.links[lowest] = NONE;
+        if lowest != link {
+            put_in_place(self.buckets, &mut self.links, link, leaf);
         }
         Some((at / self.columns, at % self.columns))
     }
 }
 
 /// The entry of a column without a live number.
-const NO_ENTRY: Entry = Entry {
-    id: 0,
-    next: END,
-    live: false,
-};
+const NO_ENTRY: Entry = Entry { id: 0, live: false };
 
-/// The entry of the number on the chain from `first`, and the one before it there.
-fn search(entries: &[Entry], first: u32, id: u64) -> Option<(u32, u32)>
-    requires { IsChainFrom entries.now first }
-    ensures { result ≡ found_from entries.now id first }
+/// The link behind which the number is, or would be.
+fn search(buckets: usize, links: &[u32], entries: &[Entry], id: u64) -> usize
+    requires some { 0 < buckets }
+    requires size { length links.now ≡ buckets + 2 * length entries.now }
+    ensures place { IsPlaceOf buckets links.now entries.now id result }
+    ensures within { result < length links.now }
 {
-    let mut before = END;
-    let mut at = first;
-    while let Some(entry) = entries.get(at as usize) {
+    let mut link = bucket_of(id, buckets);
+    for depth in 0..64_u32 {
+        let at = links[link];
+        let Some(entry) = entries.get(at as usize) else {
+            return link;
+        };
         if entry.id == id {
-            return Some((before, at));
+            return link;
         }
-        before = at;
-        at = entry.next;
+        link = link_under(buckets, at, (id >> depth) as usize % 2);
     }
-    None
+    link
+}
+
+/// The link, from one with an entry on down, behind which is an entry without any under it.
+fn lowest_under(buckets: usize, links: &[u32], entries: &[Entry], first: usize) -> usize
+    requires some { 0 < buckets }
+    requires size { length links.now ≡ buckets + 2 * length entries.now }
+    requires inside { first < length links.now }
+    requires entry { link_at links.now first < length entries.now }
+    ensures { IsLowestUnder buckets links.now entries.now first result }
+{
+    let mut link = first;
+    for _steps in 0..64_u32 {
+        let Some(below) = link_below(buckets, links, entries, links[link]) else {
+            return link;
+        };
+        link = below;
+    }
+    link
+}
+
+/// A link under the entry behind which there is an entry.
+fn link_below(buckets: usize, links: &[u32], entries: &[Entry], at: u32) -> Option<usize>
+    requires size { length links.now ≡ buckets + 2 * length entries.now }
+    requires within { at < length entries.now }
+    ensures some { IfSome result (λ l. (link_at links.now l < length entries.now) × IsLinkOf buckets at l) }
+    ensures none { IsNone result → HasNoneUnder buckets links.now entries.now at }
+{
+    let low = link_under(buckets, at, 0);
+    let high = link_under(buckets, at, 1);
+    if (links[low] as usize) < entries.len() {
+        Some(low)
+    } else if (links[high] as usize) < entries.len() {
+        Some(high)
+    } else {
+        None
+    }
+}
+
+/// Puts an entry that no link leads to in the place of the one behind the link.
+fn put_in_place(buckets: usize, links: &mut [u32], link: usize, new: u32)
+    requires inside { link < length links.old }
+    requires old { link_under buckets (link_at links.old link) 1 < length links.old }
+    requires new { link_under buckets new 1 < length links.old }
+    requires other { link_at links.old link ≢ new }
+    requires not_under_old { (link ≢ link_under buckets (link_at links.old link) 0) × (link ≢ link_under buckets (link_at links.old link) 1) }
+    requires not_under_new { (link ≢ link_under buckets new 0) × (link ≢ link_under buckets new 1) }
+    ensures place { IsInPlace buckets (link_at links.old) (link_at links.new) link (link_at links.old link) new }
+    ensures size { length links.new ≡ length links.old }
+{
+    let old = links[link];
+    let from = link_under(buckets, old, 0);
+    let to = link_under(buckets, new, 0);
+    links[to] = links[from];
+    links[to + 1] = links[from + 1];
+    links[from] = NONE;
+    links[from + 1] = NONE;
+    links[link] = new;
+}
+
+/// The link under an entry by which the numbers go on that have this bit.
+fn link_under(buckets: usize, at: u32, bit: usize) -> usize
+    requires { buckets + 2 * at + bit < 2 ^ 64 }
+    ensures { result ≡ link_under buckets at bit }
+{
+    buckets + 2 * at as usize + bit
 }
 
 /// The bucket of a number among so many, which are a power of two.

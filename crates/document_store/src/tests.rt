@@ -209,3 +209,14 @@ fn live_numbers_have_their_columns(rt: HostRuntime) -> Result<(), Fail> {
     assert_eq!(rt; live.get(6), Some((1, 1)));
     Ok(())
 }
+
+#[test]
+fn thousands_of_columns_find_memory(rt: HostRuntime) -> Result<(), Fail> {
+    let live = LiveList::new(rt.alloc(), 3, 2_000)?;
+    assert_eq!(rt; live.get(7), None);
+    let records = Records::new(rt.alloc(), 3, 2_000)?;
+    assert_eq!(rt; records.state(2, 1_999), Column::Free);
+    let found = Found::with_room(rt.alloc(), 6_000)?;
+    assert_eq!(rt; found.len(), 0);
+    Ok(())
+}

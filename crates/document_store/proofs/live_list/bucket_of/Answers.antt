@@ -1,5 +1,5 @@
 use Rattle.std.proofs.Common.{◌-◌, ap, bit_and}
-use Rattle.document_store.specs.Chains.{bucket_of}
+use Rattle.document_store.specs.Trees.{bucket_of}
 use Rattle.document_store.proofs.live_list.bucket_of.Goals as goal
 
 pub returns-clause-bucket : goal.returns-clause-bucket

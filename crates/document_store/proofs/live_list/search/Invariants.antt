@@ -1,13 +1,12 @@
-use Rattle.std.proofs.Common.{◌≡◌, length}
-use Rattle.document_store.specs.Chains.{IsChainFrom, chain, found_from, found_on}
+use Rattle.std.proofs.Common.{◌≡◌, ℕ, ◌<◌, length}
+use Rattle.document_store.specs.Trees.{link_at, number_at, way}
 use Rattle.document_store.proofs.live_list.search.Given as goal
 
--- the rest of the chain has what the chain has
-abbrev pub invariant-loop-entry : goal.invariant-loop-entry
-invariant-loop-entry l = record {
-  linked : IsChainFrom l.entries l.at;
-  found : found_on l.entries l.id l.before (chain l.entries l.at) ≡ found_from l.entries l.id l.first;
+-- the link is that of the number's way at this depth, and the entries before it have other numbers
+abbrev pub invariant-loop-depth : goal.invariant-loop-depth
+invariant-loop-depth l = record {
+  inside : l.link < length l.links;
+  on_way : way (link_at l.links) l.buckets l.id l.depth ≡ l.link;
+  others : (d : ℕ) → d < l.depth → number_at l.entries (link_at l.links (way (link_at l.links) l.buckets l.id d)) ≡ l.id → ⊥;
+  entries_before : (d : ℕ) → d < l.depth → link_at l.links (way (link_at l.links) l.buckets l.id d) < length l.entries;
 }
-
-abbrev pub decreases-loop-entry : goal.decreases-loop-entry
-decreases-loop-entry l = length (chain l.entries l.at)
