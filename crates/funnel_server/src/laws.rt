@@ -5,6 +5,7 @@ ghost use Rattle.line_proto.specs.Services.{Caller};
 ghost use Rattle.funnel_io.specs.declared.end.End.TheVariants as end_of;
 ghost use Rattle.funnel_model.specs.declared.event.Event.{Event};
 ghost use Rattle.funnel_model.specs.declared.reply.Reply.{Reply};
+ghost use Rattle.funnel_model.specs.History.{IsFrontOf};
 ghost use Rattle.load_gen.specs.Jobs.{queries_of};
 ghost use Rattle.funnel_server.specs.Gates.{Sides};
 ghost use Rattle.funnel_server.specs.Laws.{AsksShare, SessionEndsWell, GoesOnByCalls, HasCause, HasFewBytes, VisitHasNoFault};
@@ -42,10 +43,10 @@ pub fn sessions_without_a_fault_end_well()
 {}
 
 /// A worker that puts its share of a load asks the calls of all three parts one after another, as a lone caller does: what it
-/// sees while it meets the others belongs to the call that comes next.
+/// sees while it meets the others belongs to the call that comes next, or to none after the last.
 pub fn workers_of_a_load_ask_their_share()
-    ensures { (caller : Caller) (before after : List Event) (texts : List (List ℕ)) (workers : ℕ) (course : Course) (to_queries : List Reply) →
+    ensures { (caller : Caller) (before queried after : List Event) (texts : List (List ℕ)) (workers : ℕ) (course : Course) (to_queries : List Reply) →
         ComesToQueries caller before texts workers course →
-        AreAsked caller course.fronts.met_deleted after (queries_of workers caller.pass) to_queries →
+        AreAsked caller course.met_deleted queried (queries_of workers caller.pass) to_queries → IsFrontOf caller.pass queried after →
         AsksShare caller before after texts workers (course.to_adds ++ course.to_deletes ++ to_queries) }
 {}

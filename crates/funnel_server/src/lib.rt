@@ -13,8 +13,7 @@
 //! worker may wait for another one.
 //!
 //! [`run_load`] puts a load to an engine by several workers of another kind: each has a share of the load's documents and
-//! queries in place of a gate, and a thread and a pass of its own too. They work in three parts, and meet after each of the
-//! first two.
+//! queries in place of a gate, and a thread and a pass of its own too. They work in three parts, and meet after each.
 #![tactic(auto)]
 
 mod laws;
