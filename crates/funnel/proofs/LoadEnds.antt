@@ -26,7 +26,7 @@ use Rattle.funnel.specs.declared.ended.Why.TheVariants as why_of
 use Rattle.funnel.specs.LoadRuns.{EndsLoad, IsPartOfLoad, IsWholeLoad, Tells}
 use Rattle.funnel.specs.Misfits.{commits_of_load, misfit_of_load}
 use Rattle.funnel.specs.Runs.{limits_by}
-use Rattle.funnel.proofs.Loaded.{are_answered, calls_are, is_loaded, replies_to, results_told}
+use Rattle.funnel.proofs.Loaded.{are_answered, calls_are, fronts, is_loaded, met, replies_to, results_told}
 use Rattle.funnel.proofs.LoadPasses.{AreUsedBy, nothing_before, of_workers, seen_by}
 
 -- what holds of a result that is a value, or an error
@@ -114,6 +114,10 @@ module _ (pool : PoolId) (config : Config) (load : LoadCommand) (before after : 
       replies = replies_to (limits_by config) load.docs load.words load.seed load.workers (front_at after) results closed.history ended.some room legal_here
           of_workers_alone seen put;
       loaded = is_loaded (limits_by config) load.docs load.words load.seed load.workers (front_at after) results closed.history ended.some room legal_here
+          of_workers_alone seen put;
+      fronts = fronts (limits_by config) load.docs load.words load.seed load.workers (front_at after) results closed.history ended.some room legal_here
+          of_workers_alone seen put;
+      met = met (limits_by config) load.docs load.words load.seed load.workers (front_at after) results closed.history ended.some room legal_here
           of_workers_alone seen put;
       calls = calls_are (limits_by config) load.docs load.words load.seed load.workers (front_at after) results closed.history ended.some room legal_here
           of_workers_alone seen put;

@@ -14,14 +14,13 @@ use Rattle.funnel_model.specs.History.{IsFrontOf, own}
 use Rattle.funnel_model.specs.Legal.{IsIdle, IsLegal, Limits}
 use Rattle.funnel_model.specs.Steps.{IsMade, IsSpent, LacksMemory, Linear}
 use Rattle.funnel_server.proofs.AskedShares.{asks_share}
-use Rattle.funnel_server.proofs.JoinedCalls.{front_trans}
 use Rattle.funnel_server.specs.Laws.{AsksShare}
 use Rattle.funnel_server.specs.Loads.{ComesToQueries, IsPut, worker_of}
 use Rattle.load_gen.specs.Documents.{documents}
 use Rattle.load_gen.specs.Jobs.{adds_of, calls_of_share, deletes_of, jobs, queries_of, share}
 use Rattle.load_gen.specs.Summary.{results_of}
 use Rattle.load_laws.proofs.EventCounts.{ends}
-use Rattle.load_laws.proofs.FrontLemmas.{calls_in_front, idle_from_front}
+use Rattle.load_laws.proofs.FrontLemmas.{calls_in_front, front_trans, idle_from_front}
 use Rattle.load_laws.proofs.Meetings.{parts_of_met}
 use Rattle.load_laws.proofs.WorkerEvents.{load_is_unspent, own_of_load}
 use Rattle.load_laws.proofs.WorkersAnswered.{results_are_told, worker_is_answered}
@@ -78,15 +77,25 @@ module _ (limits : Limits) (docs words seed workers : ℕ) (after : ℕ → List
   abbrev texts : List (List ℕ)
   texts = documents docs words seed
 
-  abbrev fronts : ℕ → Fronts
-  fronts worker = (put.courses worker).fronts
+  abbrev pub fronts : ℕ → Fronts
+  fronts worker =
+      let course = put.courses worker in
+      record {
+        added = course.added;
+        met_added = course.met_added;
+        deleted = course.deleted;
+        met_deleted = course.met_deleted;
+        queried = put.queried worker;
+        met_queried = after worker;
+      }
 
   abbrev pub replies_to : ℕ → List Reply
   replies_to worker = (put.courses worker).to_adds ++ (put.courses worker).to_deletes ++ put.to_queries worker
 
   asks : (worker : ℕ) → worker < workers → AsksShare (worker_of limits worker) [] (after worker) texts workers (replies_to worker)
   asks worker below =
-      asks_share (worker_of limits worker) [] (after worker) texts workers (put.courses worker) (put.to_queries worker) (put.come.each worker below) (put.asked worker below)
+      asks_share (worker_of limits worker) [] (put.queried worker) (after worker) texts workers (put.courses worker) (put.to_queries worker) (put.come.each worker below)
+      (put.asked worker below) (put.meets_queries worker below)
 
   has_asked : (worker : ℕ) → worker < workers → HasAsked limits history worker (jobs docs words seed workers worker) (replies_to worker)
   has_asked worker below =
@@ -108,13 +117,17 @@ module _ (limits : Limits) (docs words seed workers : ℕ) (after : ℕ → List
     comes : ComesToQueries (worker_of limits worker) [] texts workers (put.courses worker)
     comes = put.come.each worker below
 
-    before_after : IsPrefix (after worker) history
-    before_after = front_grows worker (after worker) history (seen worker below)
+    before_queried : IsPrefix (fronts worker).queried history
+    before_queried =
+        prefix_trans (fronts worker).queried (after worker) history
+        (front_grows worker (fronts worker).queried (after worker) (put.meets_queries worker below)) (front_grows worker (after worker) history (seen worker below))
+
+    querying : IsPrefix (fronts worker).met_deleted (fronts worker).queried
+    querying =
+        linear-grows limits worker (fronts worker).met_deleted (fronts worker).queried (queries_of workers worker) (put.to_queries worker) (put.asked worker below).run
 
     before_met_deleted : IsPrefix (fronts worker).met_deleted history
-    before_met_deleted =
-        prefix_trans (fronts worker).met_deleted (after worker) history
-        (linear-grows limits worker (fronts worker).met_deleted (after worker) (queries_of workers worker) (put.to_queries worker) (put.asked worker below).run) before_after
+    before_met_deleted = prefix_trans (fronts worker).met_deleted (fronts worker).queried history querying before_queried
 
     before_deleted : IsPrefix (fronts worker).deleted history
     before_deleted =
@@ -142,11 +155,10 @@ module _ (limits : Limits) (docs words seed workers : ℕ) (after : ℕ → List
         ∙ ap (λ cs. cs ++ deletes_of texts workers worker)
         (calls_in_front worker (fronts worker).added (fronts worker).met_added comes.meets_adds ∙ by_added)
 
-    by_end : own worker history ≡ calls_of_share texts workers worker
-    by_end =
-        calls_in_front worker (after worker) history (seen worker below)
-        ∙ own_calls limits worker (fronts worker).met_deleted (after worker) history (queries_of workers worker) (put.to_queries worker) (put.asked worker below).run
-        before_after few (put.asked worker below).memory
+    by_queried : own worker (fronts worker).queried ≡ calls_of_share texts workers worker
+    by_queried =
+        own_calls limits worker (fronts worker).met_deleted (fronts worker).queried history (queries_of workers worker) (put.to_queries worker)
+        (put.asked worker below).run before_queried few (put.asked worker below).memory
         ∙ ap (λ cs. cs ++ queries_of workers worker)
         (calls_in_front worker (fronts worker).deleted (fronts worker).met_deleted comes.meets_deletes ∙ by_deleted)
 
@@ -158,6 +170,11 @@ module _ (limits : Limits) (docs words seed workers : ℕ) (after : ℕ → List
         (ends limits worker (fronts worker).met_added (fronts worker).deleted (deletes_of texts workers worker) (put.courses worker).to_deletes
         (idle_from_front worker (fronts worker).added (fronts worker).met_added comes.meets_adds idle_added) comes.deletes.run).idle
 
+    idle_queried : IsIdle worker (fronts worker).queried
+    idle_queried =
+        (ends limits worker (fronts worker).met_deleted (fronts worker).queried (queries_of workers worker) (put.to_queries worker)
+        (idle_from_front worker (fronts worker).deleted (fronts worker).met_deleted comes.meets_deletes idle_deleted) (put.asked worker below).run).idle
+
     keeps : KeepsToParts texts workers worker history (fronts worker)
     keeps = record {
       adds = by_added;
@@ -167,12 +184,15 @@ module _ (limits : Limits) (docs words seed workers : ℕ) (after : ℕ → List
       deletes = by_deleted;
       idle_after_deletes = idle_deleted;
       meets_deletes = comes.meets_deletes;
-      seen = before_met_deleted;
-      calls = by_end;
+      goes_on_again = querying;
+      queries = by_queried;
+      idle_after_queries = idle_queried;
+      meets_queries = put.meets_queries worker below;
+      ends = seen worker below;
     }
 
-  met : HaveMet texts workers history fronts
-  met = record { keeps = keeps; met_adds = put.come.met_adds; met_deletes = put.come.met_deletes }
+  pub met : HaveMet texts workers history fronts
+  met = record { keeps = keeps; met_adds = put.come.met_adds; met_deletes = put.come.met_deletes; met_queries = put.met_queries }
 
   pub is_loaded : IsLoaded limits docs words seed workers history replies_to
   is_loaded = record {

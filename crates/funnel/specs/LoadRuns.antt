@@ -13,7 +13,7 @@ use Rattle.funnel_server.specs.Loads.{IsCutShort}
 use Rattle.load_gen.specs.Documents.{documents}
 use Rattle.load_gen.specs.Jobs.{jobs}
 use Rattle.load_gen.specs.Summary.{summary}
-use Rattle.load_laws.specs.Workers.{IsAnsweredAsTold, IsLoaded}
+use Rattle.load_laws.specs.Workers.{Fronts, HaveMet, IsAnsweredAsTold, IsLoaded}
 use Rattle.row_layout.specs.Sound.{IsSound}
 use Rattle.funnel.specs.declared.command.LoadCommand.{LoadCommand}
 use Rattle.funnel.specs.declared.ended.Why.{Why}
@@ -27,12 +27,15 @@ Tells text before after why_of.WriteFault = WritesPart text before after × (aft
 Tells text before after why_of.Memory = after ≡ before
 Tells text before after _ = ⊥
 
--- the workers put the whole load: each made the calls of its share, each once, and is answered as the load is to be. No add and no
--- delete is refused, no document is missed, and the queries have the results of the summary. Each document has exactly its own bits
+-- the workers put the whole load: each made the calls of its share, each once, and is answered as the load is to be; and after each part
+-- of the load each met what every other had seen. No add and no delete is refused, no document is missed, and the queries have the
+-- results of the summary. Each document has exactly its own bits
 pub record IsWholeLoad (config : Config) (load : LoadCommand) (closed : ClosedState) : Type 0 where
   pub sound : IsSound config closed.history
   pub replies : ℕ → List Reply
   pub loaded : IsLoaded (limits_by config) load.docs load.words load.seed load.workers closed.history replies
+  pub fronts : ℕ → Fronts
+  pub met : HaveMet (documents load.docs load.words load.seed) load.workers closed.history fronts
   pub calls : (worker : ℕ) → worker < load.workers → own worker closed.history ≡ jobs load.docs load.words load.seed load.workers worker
   pub answers : (worker : ℕ) → worker < load.workers →
       IsAnsweredAsTold (documents load.docs load.words load.seed) load.workers worker (replies worker)

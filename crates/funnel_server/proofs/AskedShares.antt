@@ -11,7 +11,8 @@ use Rattle.funnel_model.specs.Legal.{Limits}
 use Rattle.funnel_model.specs.Steps.{Linear}
 use Rattle.line_proto.specs.Services.{Caller}
 use Rattle.load_gen.specs.Jobs.{adds_of, deletes_of, queries_of}
-use Rattle.funnel_server.proofs.JoinedCalls.{front_trans, linear-append, step_from_front}
+use Rattle.funnel_server.proofs.JoinedCalls.{linear-append, step_from_front}
+use Rattle.load_laws.proofs.FrontLemmas.{front_trans}
 use Rattle.funnel_server.specs.Laws.{AsksShare}
 use Rattle.funnel_server.specs.Loads.{AreAsked, ComesToQueries, Course}
 
@@ -34,28 +35,27 @@ run_from_front limits pass front before after [] (given ∷ replies) seen run = 
 run_from_front limits pass front before after (asked ∷ calls) [] seen run = absurd run
 
 -- the three parts of a share one after another
-pub asks_share : (caller : Caller) (before after : List Event) (texts : List (List ℕ)) (workers : ℕ) (course : Course) (to_queries : List Reply) →
-    ComesToQueries caller before texts workers course → AreAsked caller course.fronts.met_deleted after (queries_of workers caller.pass) to_queries →
-    AsksShare caller before after texts workers (course.to_adds ++ course.to_deletes ++ to_queries)
-asks_share caller before after texts workers course to_queries comes asked =
+pub asks_share : (caller : Caller) (before queried after : List Event) (texts : List (List ℕ)) (workers : ℕ) (course : Course) (to_queries : List Reply) →
+    ComesToQueries caller before texts workers course → AreAsked caller course.met_deleted queried (queries_of workers caller.pass) to_queries →
+    IsFrontOf caller.pass queried after → AsksShare caller before after texts workers (course.to_adds ++ course.to_deletes ++ to_queries)
+asks_share caller before queried after texts workers course to_queries comes asked meets =
     let limits = caller.limits in
     let pass = caller.pass in
     let adds = adds_of texts workers pass in
     let deletes = deletes_of texts workers pass in
     let queries = queries_of workers pass in
-    let fronts = course.fronts in
-    let second = run_from_front limits pass fronts.added fronts.met_added fronts.deleted deletes course.to_deletes comes.meets_adds comes.deletes.run in
-    let third = run_from_front limits pass second.front fronts.met_deleted after queries to_queries
-    (front_trans pass second.front fronts.deleted fronts.met_deleted second.seen comes.meets_deletes) asked.run in
+    let second = run_from_front limits pass course.added course.met_added course.deleted deletes course.to_deletes comes.meets_adds comes.deletes.run in
+    let third = run_from_front limits pass second.front course.met_deleted queried queries to_queries
+    (front_trans pass second.front course.deleted course.met_deleted second.seen comes.meets_deletes) asked.run in
     record {
       front = third.front;
       asked = record {
         run =
             linear-append limits pass before second.front third.front (adds ++ deletes) queries (course.to_adds ++ course.to_deletes) to_queries
-            (linear-append limits pass before fronts.added second.front adds deletes course.to_adds course.to_deletes comes.adds.run second.run) third.run;
+            (linear-append limits pass before course.added second.front adds deletes course.to_adds course.to_deletes comes.adds.run second.run) third.run;
         memory =
             All-append (λ r. r ≢ reply.Memory) (course.to_adds ++ course.to_deletes) to_queries
             (All-append (λ r. r ≢ reply.Memory) course.to_adds course.to_deletes comes.adds.memory comes.deletes.memory) asked.memory;
       };
-      seen = third.seen;
+      seen = front_trans pass third.front queried after third.seen meets;
     }

@@ -1,15 +1,18 @@
 -- A worker's turns, one after another.
-use Rattle.std.proofs.Common.{◌≡◌, ◌<◌, List, [], ◌∷◌, ◌++◌, refl, sym, ap, subst, inl, inr, arith}
+use Rattle.std.proofs.Common.{◌≡◌, ◌<◌, ◌⊎◌, true, false, List, [], ◌∷◌, ◌++◌, refl, sym, ap, ◌∙◌, subst, inl, inr, arith}
 use Rattle.std.specs.Prelude.{reverse}
 use Rattle.std.proofs.lemmas.List.{reverse-append}
 use Rattle.funnel_io.specs.Calls.{Leads, Read, Write}
 use Rattle.funnel_io.specs.Streams.{Incoming, Outgoing}
 use Rattle.funnel_io.specs.declared.end.End.{End}
+use Rattle.funnel_io.specs.declared.end.End.TheVariants as end_of
 use Rattle.funnel_io.specs.declared.gate.Next.{Next}
+use Rattle.funnel_io.specs.declared.gate.Next.TheVariants as next
 use Rattle.funnel_server.proofs.Visits.{serves_none, serves_one, stops_at_limit, stops_without}
-use Rattle.funnel_server.specs.GateTurns.{TakesTurn, WorksInTurns}
+use Rattle.funnel_server.specs.Gates.{sides_of}
+use Rattle.funnel_server.specs.GateTurns.{AsksNoMore, GetsNoMore, TakesTurn, WorksInTurns, none_by}
 use Rattle.funnel_server.specs.Turns.{AsksInVain, ServesInTurn, WorksOnInTurns}
-use Rattle.funnel_server.specs.Workers.{HasMetNoFault, Visit, WorkerWithGate}
+use Rattle.funnel_server.specs.Workers.{HasMetNoFault, Visit, WorkerWithGate, sides_after, sides_before}
 
 module _ {G C : Type 0} (next_gives : G → Next C → G → Type 0) (done_gives : G → C → End → G → Type 0)
     (read_gives : C → Read → C → Type 0) (write_gives : C → Write → C → Type 0) (incoming : C → Incoming) (outgoing : C → Outgoing) where
@@ -49,3 +52,24 @@ module _ {G C : Type 0} (next_gives : G → Next C → G → Type 0) (done_gives
     works = stops_at_limit start.state now.state on.so_far none;
     in_turns = record { served = now.gate; turns = on.turns; stops = inl (record { none_left = none; no_fault = on.so_far.no_fault; same = refl }) };
   }
+
+  -- a turn that touched nothing leaves the sides as they came
+  pub sides_stay : (before after : G) (visit : Visit) → Turn before visit after → visit.end ≡ end_of.Memory → sides_after visit ≡ sides_before visit
+  sides_stay before after visit turn none = turn.went ∙ ap (sides_of incoming outgoing) (turn.untouched none) ∙ sym turn.came
+
+  -- what its gate answered a worker that asked for no connection in vain
+  module _ (before after : WorkerWithGate G) (works : WorksInTurns next_gives done_gives read_gives write_gives incoming outgoing before after) where
+    abbrev served : G
+    served = works.in_turns.served
+
+    pub asked_again : 0 < after.state.left → next_gives served (none_by after.state.fault) after.gate
+    asked_again more = by_stop works.in_turns.stops where
+      by_stop : AsksNoMore served after ⊎ GetsNoMore next_gives served after → next_gives served (none_by after.state.fault) after.gate
+      by_stop (inl no_more) = absurd (omega (arith, no_more.none_left, more))
+      by_stop (inr none) = none.asked
+
+    pub asked_in_vain : after.state.fault ≡ true → next_gives served next.Fault after.gate
+    asked_in_vain fault = by_stop works.in_turns.stops where
+      by_stop : AsksNoMore served after ⊎ GetsNoMore next_gives served after → next_gives served next.Fault after.gate
+      by_stop (inl no_more) = let both : true ≡ false = sym fault ∙ no_more.no_fault in cc
+      by_stop (inr none) = subst (λ b. next_gives served (none_by b) after.gate) fault none.asked

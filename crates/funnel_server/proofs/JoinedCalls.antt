@@ -1,31 +1,17 @@
 -- How calls join that a pass makes one after another, where it sees events of other passes in between.
-use Rattle.std.proofs.Common.{◌≡◌, ◌⊎◌, ℕ, false, List, [], ◌∷◌, ◌++◌, sym, ap, ◌∙◌, subst, inl, inr, append_assoc}
-use Rattle.std.proofs.lemmas.Bool.{or_from}
-use Rattle.std.proofs.lemmas.List.Folds.{list_any-append}
-use Rattle.std.specs.List.{list_any}
-use Rattle.std.specs.Prelude.{◌==◌, IfSome}
+use Rattle.std.proofs.Common.{◌≡◌, ◌⊎◌, ℕ, false, List, [], ◌∷◌, ◌++◌, sym, ap, ◌∙◌, subst, inl, inr}
+use Rattle.std.specs.Prelude.{IfSome}
 use Rattle.funnel_model.proofs.Clears.{last_by-front}
 use Rattle.funnel_model.proofs.StepLemmas.{prefix_trans}
 use Rattle.funnel_model.specs.declared.call.Call.{Call}
 use Rattle.funnel_model.specs.declared.call.Call.TheVariants as call
 use Rattle.funnel_model.specs.declared.event.Event.{Event}
 use Rattle.funnel_model.specs.declared.reply.Reply.{Reply}
-use Rattle.funnel_model.specs.Events.{leaves_open, pass_of}
+use Rattle.funnel_model.specs.Events.{leaves_open}
 use Rattle.funnel_model.specs.History.{IsFrontOf, own}
 use Rattle.funnel_model.specs.Legal.{Limits}
 use Rattle.funnel_model.specs.Steps.{FindsNoMemory, IsMade, IsSpent, LacksMemory, Linear, Step}
 use Rattle.load_laws.proofs.FrontLemmas.{calls_in_front}
-
--- a front of a front is one
-pub front_trans : (pass : ℕ) (front middle history : List Event) → IsFrontOf pass front middle → IsFrontOf pass middle history →
-    IsFrontOf pass front history
-front_trans pass front middle history first second = record {
-  later = first.later ++ second.later;
-  whole = second.whole ∙ ap (λ (h : List Event). h ++ second.later) first.whole ∙ append_assoc front first.later second.later;
-  silent =
-      list_any-append (λ e. pass_of e == pass) first.later second.later
-      ∙ or_from (list_any (λ e. pass_of e == pass) first.later) (list_any (λ e. pass_of e == pass) second.later) first.silent second.silent;
-}
 
 -- a want of memory after a history is one after each with the same calls
 memory_from : (pass : ℕ) (front before after : List Event) (asked : Call) → own pass before ≡ own pass front →

@@ -4,15 +4,17 @@ use Rattle.std.proofs.lemmas.List.{drop_at, get_or-map, get_or_append_left, leng
 use Rattle.std.proofs.lemmas.List.FromFn.{get_or-range_with_len, length-range_with_len}
 use Rattle.std.specs.List.{All, range_with_len}
 use Rattle.std.specs.Prelude.{MatchResult, drop}
+use mathlib.Core.List.{IsPrefix}
 use Rattle.commit_desk.specs.Passes.{IsResting}
 use Rattle.funnel_model.specs.declared.event.Event.{Event}
 use Rattle.funnel_model.specs.declared.memory.Memory.{Memory}
+use Rattle.funnel_model.specs.History.{IsFrontOf}
 use Rattle.funnel_model.specs.Legal.{Limits}
 use Rattle.line_proto.specs.Services.{Caller}
 use Rattle.load_gen.specs.Jobs.{adds_of, queries_of}
 use Rattle.slice_rule.specs.Pools.{PoolId}
 use Rattle.slice_rule.specs.Seats.{PassState}
-use Rattle.funnel_server.specs.Loads.{AllComeToQueries, AreAsked, ComesToQueries, Course, IsCutShort, IsPut, front_at, worker_of}
+use Rattle.funnel_server.specs.Loads.{AllComeToQueries, ComesToQueries, Course, IsCutShort, IsPut, front_at, worker_of}
 use Rattle.funnel_server.specs.Parts.{AreWorkers, LoaderState, passes_of}
 use Rattle.funnel_server.proofs.LoadWorkers.{early_along}
 
@@ -106,10 +108,11 @@ module _ (limits : Limits) (texts : List (List ℕ)) (workers : ℕ) (before aft
   put_along results put = record {
     courses = put.courses;
     come = come_along put.courses put.come;
+    queried = put.queried;
     to_queries = put.to_queries;
-    asked = λ k small.
-        subst (λ (h : List Event). AreAsked (worker_of limits k) (put.courses k).fronts.met_deleted h (queries_of workers k) (put.to_queries k)) (ends k small)
-        (put.asked k small);
+    asked = put.asked;
+    meets_queries = λ k small. subst (IsFrontOf k (put.queried k)) (ends k small) (put.meets_queries k small);
+    met_queries = λ k other small below. subst (IsPrefix (put.queried other)) (ends k small) (put.met_queries k other small below);
     count = put.count;
     results_are = put.results_are;
   }
@@ -120,7 +123,7 @@ module _ (limits : Limits) (texts : List (List ℕ)) (workers : ℕ) (before aft
   cut_along (inr (inr early)) = inr (inr (record {
     courses = early.courses;
     come = come_along early.courses early.come;
-    ends = early_along limits workers (queries_of workers) (λ k. (early.courses k).fronts.met_deleted) after (λ k. (early.courses k).fronts.met_deleted) last
+    ends = early_along limits workers (queries_of workers) (λ k. (early.courses k).met_deleted) after (λ k. (early.courses k).met_deleted) last
         (λ k small. refl) ends early.ends;
   }))
 

@@ -9,7 +9,7 @@ use Rattle.funnel_model.specs.declared.event.Event.{Event}
 use Rattle.funnel_model.specs.History.{IsFrontOf}
 use Rattle.line_proto.specs.Services.{Caller}
 use Rattle.funnel_server.specs.Parts.{LoadersHaveMet, LastHasMet, LoaderState, Meets, MetLast, OnlySees}
-use Rattle.funnel_server.proofs.JoinedCalls.{front_trans}
+use Rattle.load_laws.proofs.FrontLemmas.{front_trans}
 
 -- what a worker saw it has seen from then on
 grows : (before after : LoaderState) → OnlySees before after → IsPrefix before.pass.front after.pass.front

@@ -3,8 +3,10 @@ use Rattle.std.proofs.Common.{◌≡◌, ℕ, ◌<◌, ◌≤◌, true, false, L
 use Rattle.std.proofs.lemmas.List.{get_or_default}
 use Rattle.std.specs.List.{list_any}
 use Rattle.std.specs.Prelude.{◌%◌}
+use mathlib.Core.List.{IsPrefix}
 use Rattle.funnel_model.specs.declared.event.Event.{Event}
 use Rattle.funnel_model.specs.declared.reply.Reply.{Reply}
+use Rattle.funnel_model.specs.History.{IsFrontOf}
 use Rattle.funnel_model.specs.Legal.{Limits}
 use Rattle.line_proto.specs.Services.{Caller}
 use Rattle.load_gen.specs.Jobs.{adds_of, deletes_of, queries_of, share}
@@ -70,7 +72,10 @@ module _ (limits : Limits) (texts : List (List ℕ)) (workers : ℕ) (start adde
     -- how each worker fared until its queries
     abbrev course_of : ℕ → Course
     course_of k = record {
-      fronts = record { added = seen_by added d k; met_added = seen_by met_added d k; deleted = seen_by deleted d k; met_deleted = seen_by met_deleted d k };
+      added = seen_by added d k;
+      met_added = seen_by met_added d k;
+      deleted = seen_by deleted d k;
+      met_deleted = seen_by met_deleted d k;
       to_adds = (chosen AddsHave workers [] added_by).0 k;
       to_deletes = (chosen DeletesHave workers [] deleted_by).0 k;
     }
@@ -106,42 +111,43 @@ module _ (limits : Limits) (texts : List (List ℕ)) (workers : ℕ) (start adde
             (ends_early limits workers (queries_of workers) met_deleted after are_last long (λ k e small. (finds k e small).part) stopped);
       }
 
-  -- where none did
-  module _ (after : List LoaderState) (finds : AllEnd (EndsLastPart workers) met_deleted after) where
-    are_done : AreWorkers limits workers after
-    are_done = workers_at_end after finds.count finds.each
+  -- where none did, and they met once more
+  module _ (queried after : List LoaderState) (finds : AllEnd (EndsLastPart workers) met_deleted queried) (meet_queries : LoadersHaveMet queried after) where
+    are_queried : AreWorkers limits workers queried
+    are_queried = workers_at_end queried finds.count finds.each
+
+    pub workers_met : AreWorkers limits workers after
+    workers_met = still_workers limits workers queried after are_queried meet_queries.count (λ k d small. (meet_queries.sees k d small).same_caller)
 
     module _ (d : LoaderState) where
-      found_by : (k : ℕ) → k < workers → HasResults (worker_of limits k) (seen_by met_deleted d k) (seen_by after d k) workers k (slice_index_or after k d).results
+      found_by : (k : ℕ) → k < workers → HasResults (worker_of limits k) (seen_by met_deleted d k) (seen_by queried d k) workers k (slice_index_or queried k d).results
       found_by k small =
-          subst (λ (c : Caller). HasResults c (seen_by met_deleted d k) (seen_by after d k) workers k (slice_index_or after k d).results) (are_last.callers k d small)
-          ((finds.each k d (omega (arith, small, are_last.count))).found (none_stopped after k d finds.none (omega (arith, small, are_done.count))))
+          subst (λ (c : Caller). HasResults c (seen_by met_deleted d k) (seen_by queried d k) workers k (slice_index_or queried k d).results) (are_last.callers k d small)
+          ((finds.each k d (omega (arith, small, are_last.count))).found (none_stopped queried k d finds.none (omega (arith, small, are_queried.count))))
 
       -- a worker's queries have these replies, which tell the results that it has
       record QueriesHave (k : ℕ) (replies : List Reply) : Type 0 where
-        asked : AreAsked (worker_of limits k) (seen_by met_deleted d k) (front_at (passes_of after) k) (queries_of workers k) replies
-        results_are : map (λ item. item.1) (share (slice_index_or after k d).results workers k) ≡ map result_in replies
+        asked : AreAsked (worker_of limits k) (seen_by met_deleted d k) (seen_by queried d k) (queries_of workers k) replies
+        results_are : map (λ item. item.1) (share (slice_index_or queried k d).results workers k) ≡ map result_in replies
 
       queries_by : (k : ℕ) → k < workers → (replies : List Reply) × QueriesHave k replies
       queries_by k small =
-          let found = found_by k small in (
-            found.replies,
-            record {
-              asked = subst (λ (h : List Event). AreAsked (worker_of limits k) (seen_by met_deleted d k) h (queries_of workers k) found.replies)
-                  (sym (front_of after k d (omega (arith, small, are_done.count)))) found.asked;
-              results_are = found.results_are;
-            },
-          )
+          let found = found_by k small in (found.replies, record { asked = found.asked; results_are = found.results_are })
+
+      -- which it still has when it has met the others
+      same_results : (k : ℕ) → k < workers → (slice_index_or after k d).results ≡ (slice_index_or queried k d).results
+      same_results k small = (meet_queries.sees k d (omega (arith, small, are_queried.count))).results
 
       -- the results of a worker's queries stand at the places of its share
-      same_share : (results : List (ℕ × ℕ)) → AreResults results after → (k : ℕ) → k < workers → length (slice_index_or after k d).results ≡ length queries →
-          share results workers k ≡ share (slice_index_or after k d).results workers k
-      same_share results told k small eight =
+      same_share : (results : List (ℕ × ℕ)) → AreResults results after → (k : ℕ) → k < workers → share results workers k ≡ share (slice_index_or queried k d).results workers k
+      same_share results told k small =
+          let eight : length (slice_index_or after k d).results ≡ length queries = ap length (same_results k small) ∙ (found_by k small).count in
           share_same workers k results (slice_index_or after k d).results (told.count ∙ sym eight) (λ place e inside is.
           get_or_default results place e (0, 0) inside
           ∙ told.each place d (omega (arith, inside, told.count))
-          ∙ ap (λ n. slice_index_or (slice_index_or after n d).results place (0, 0)) (ap (λ n. place % n) are_done.count ∙ is)
+          ∙ ap (λ n. slice_index_or (slice_index_or after n d).results place (0, 0)) (ap (λ n. place % n) workers_met.count ∙ is)
           ∙ get_or_default (slice_index_or after k d).results place (0, 0) e (omega (arith, inside, told.count ∙ sym eight)))
+          ∙ ap (λ rs. share rs workers k) (same_results k small)
 
       put_by : (results : List (ℕ × ℕ)) → AreResults results after → IsPut limits texts workers (front_at (passes_of start)) (front_at (passes_of after)) results
       put_by results told =
@@ -149,10 +155,16 @@ module _ (limits : Limits) (texts : List (List ℕ)) (workers : ℕ) (start adde
           record {
             courses = course_of d;
             come = all_come d;
+            queried = seen_by queried d;
             to_queries = replies.0;
             asked = λ k small. (replies.1 k small).asked;
+            meets_queries = λ k small. subst (IsFrontOf k (seen_by queried d k)) (sym (front_of after k d (omega (arith, small, workers_met.count))))
+                (meets_alone (worker_of limits k) (slice_index_or queried k d) (slice_index_or after k d) (are_queried.callers k d small)
+                (meet_queries.sees k d (omega (arith, small, are_queried.count))));
+            met_queries = λ k other small below. subst (IsPrefix (seen_by queried d other)) (sym (front_of after k d (omega (arith, small, workers_met.count))))
+                (meet_queries.met k other d (omega (arith, small, are_queried.count)) (omega (arith, below, are_queried.count)));
             count = told.count;
-            results_are = λ k small. ap (map (λ item. item.1)) (same_share results told k small (found_by k small).count) ∙ (replies.1 k small).results_are;
+            results_are = λ k small. ap (map (λ item. item.1)) (same_share results told k small) ∙ (replies.1 k small).results_are;
           }
 
     pub put : (results : List (ℕ × ℕ)) → 1 ≤ workers → AreResults results after → IsPut limits texts workers (front_at (passes_of start)) (front_at (passes_of after)) results

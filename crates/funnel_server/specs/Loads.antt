@@ -14,7 +14,6 @@ use Rattle.line_proto.specs.Services.{Caller}
 use Rattle.load_gen.specs.Jobs.{adds_of, deletes_of, queries_of, share}
 use Rattle.load_gen.specs.Queries.{queries}
 use Rattle.load_laws.specs.Replies.{result_in}
-use Rattle.load_laws.specs.Workers.{Fronts}
 use Rattle.slice_rule.specs.Seats.{PassState}
 
 -- the calls lead the caller's pass from front to front, and have these replies, none of which is a want of memory
@@ -26,32 +25,40 @@ pub record AreAsked (caller : Caller) (before after : List Event) (calls : List 
 abbrev pub worker_of : Limits → ℕ → Caller
 worker_of limits worker = record { limits = limits; pass = worker }
 
--- how a worker of a load fared until it was to run its queries: what its pass had seen, and the replies to its adds and its deletes
+-- how a worker of a load fared until it was to run its queries: what its pass had seen after its adds, and once it had then met the others,
+-- and the same of its deletes; and the replies to both
 pub record Course : Type 0 where
-  pub fronts : Fronts
+  pub added : List Event
+  pub met_added : List Event
+  pub deleted : List Event
+  pub met_deleted : List Event
   pub to_adds : List Reply
   pub to_deletes : List Reply
 
 -- the worker asked for its adds and then for its deletes, and found memory for each; while it met the others, its pass did nothing
 pub record ComesToQueries (caller : Caller) (before : List Event) (texts : List (List ℕ)) (workers : ℕ) (course : Course) : Type 0 where
-  pub adds : AreAsked caller before course.fronts.added (adds_of texts workers caller.pass) course.to_adds
-  pub meets_adds : IsFrontOf caller.pass course.fronts.added course.fronts.met_added
-  pub deletes : AreAsked caller course.fronts.met_added course.fronts.deleted (deletes_of texts workers caller.pass) course.to_deletes
-  pub meets_deletes : IsFrontOf caller.pass course.fronts.deleted course.fronts.met_deleted
+  pub adds : AreAsked caller before course.added (adds_of texts workers caller.pass) course.to_adds
+  pub meets_adds : IsFrontOf caller.pass course.added course.met_added
+  pub deletes : AreAsked caller course.met_added course.deleted (deletes_of texts workers caller.pass) course.to_deletes
+  pub meets_deletes : IsFrontOf caller.pass course.deleted course.met_deleted
 
 -- so did each worker; and it had seen all adds of every other one before it deleted, and all deletes before it was to run its queries
 pub record AllComeToQueries (limits : Limits) (texts : List (List ℕ)) (workers : ℕ) (before : ℕ → List Event) (courses : ℕ → Course) : Type 0 where
   pub each : (worker : ℕ) → worker < workers → ComesToQueries (worker_of limits worker) (before worker) texts workers (courses worker)
-  pub met_adds : (worker other : ℕ) → worker < workers → other < workers → IsPrefix (courses other).fronts.added (courses worker).fronts.met_added
-  pub met_deletes : (worker other : ℕ) → worker < workers → other < workers → IsPrefix (courses other).fronts.deleted (courses worker).fronts.met_deleted
+  pub met_adds : (worker other : ℕ) → worker < workers → other < workers → IsPrefix (courses other).added (courses worker).met_added
+  pub met_deletes : (worker other : ℕ) → worker < workers → other < workers → IsPrefix (courses other).deleted (courses worker).met_deleted
 
--- the whole load was put, and these are the results of its eight queries: those that the replies to each worker's queries tell
+-- the whole load was put, and these are the results of its eight queries: those that the replies to each worker's queries tell; and after
+-- its queries each worker saw what every other one had seen after its own, and did nothing else
 pub record IsPut (limits : Limits) (texts : List (List ℕ)) (workers : ℕ) (before after : ℕ → List Event) (results : List (ℕ × ℕ)) : Type 0 where
   pub courses : ℕ → Course
   pub come : AllComeToQueries limits texts workers before courses
+  pub queried : ℕ → List Event
   pub to_queries : ℕ → List Reply
   pub asked : (worker : ℕ) → worker < workers →
-      AreAsked (worker_of limits worker) (courses worker).fronts.met_deleted (after worker) (queries_of workers worker) (to_queries worker)
+      AreAsked (worker_of limits worker) (courses worker).met_deleted (queried worker) (queries_of workers worker) (to_queries worker)
+  pub meets_queries : (worker : ℕ) → worker < workers → IsFrontOf worker (queried worker) (after worker)
+  pub met_queries : (worker other : ℕ) → worker < workers → other < workers → IsPrefix (queried other) (after worker)
   pub count : length results ≡ length queries
   pub results_are : (worker : ℕ) → worker < workers → map (λ item. item.1) (share results workers worker) ≡ map result_in (to_queries worker)
 
@@ -82,7 +89,7 @@ pub record EndsPartEarly (limits : Limits) (workers : ℕ) (calls : ℕ → List
 pub record EndsEarlyInQueries (limits : Limits) (texts : List (List ℕ)) (workers : ℕ) (before after : ℕ → List Event) : Type 0 where
   pub courses : ℕ → Course
   pub come : AllComeToQueries limits texts workers before courses
-  pub ends : EndsPartEarly limits workers (queries_of workers) (λ worker. (courses worker).fronts.met_deleted) after
+  pub ends : EndsPartEarly limits workers (queries_of workers) (λ worker. (courses worker).met_deleted) after
 
 -- the load was cut short: it was not begun, or it ended early in its first part or its last one. A delete takes no memory, so where
 -- deletes are begun all are asked

@@ -1,15 +1,18 @@
 //! Laws of workers, over their definitions alone. Each is the contract of a function that does nothing.
-ghost use Rattle.std.specs.Prelude.{◌≡◌, ◌<◌, ◌++◌, ℕ, false, List, [], Some, IfSome, map, take};
+ghost use Rattle.std.specs.Prelude.{◌≡◌, ◌<◌, ◌++◌, ℕ, true, false, List, [], Some, IfSome, map, take};
 ghost use Rattle.std.specs.List.{All};
 ghost use Rattle.line_proto.specs.Services.{Caller};
-ghost use Rattle.funnel_io.specs.declared.end.End.TheVariants as end_of;
 ghost use Rattle.funnel_model.specs.declared.event.Event.{Event};
 ghost use Rattle.funnel_model.specs.declared.reply.Reply.{Reply};
+ghost use Rattle.funnel_model.specs.History.{IsFrontOf};
 ghost use Rattle.load_gen.specs.Jobs.{queries_of};
 ghost use Rattle.funnel_server.specs.Gates.{Sides};
+ghost use Rattle.funnel_server.specs.GateTurns.{TakesTurn, WorksInTurns, none_by};
 ghost use Rattle.funnel_server.specs.Laws.{AsksShare, SessionEndsWell, GoesOnByCalls, HasCause, HasFewBytes, VisitHasNoFault};
 ghost use Rattle.funnel_server.specs.Loads.{AreAsked, ComesToQueries, Course};
-ghost use Rattle.funnel_server.specs.Workers.{GivesNoMore, HasServedVisits, IsVisit, Visit, WorkerState, Works, served_by, sides_before};
+ghost use Rattle.funnel_server.specs.Workers.{GivesNoMore, HasServedVisits, IsVisit, Visit, WorkerState, WorkerWithGate, Works, served_by, sides_after, sides_before};
+
+use funnel_io::{End, Gate, Next};
 
 /// The calls of a worker's pass are those that it had made before and then those of its sessions, in order; and the front of
 /// the pass goes on from where it was, over all that its sessions saw.
@@ -38,14 +41,32 @@ pub fn sessions_without_a_fault_end_well()
     ensures ends { (before after : WorkerState) (works : Works before after) (waiting : List Sides) →
         before.gate.waiting ≡ Some waiting → All HasFewBytes waiting → All VisitHasNoFault works.visits → All SessionEndsWell works.visits }
     ensures done { (before after : WorkerState) (works : Works before after) →
-        after.memory ≡ false → All SessionEndsWell works.visits → All (λ visit. visit.end ≡ end_of.Done) works.visits }
+        after.memory ≡ false → All SessionEndsWell works.visits → All (λ visit. visit.end ≡ End.Done) works.visits }
+{}
+
+/// A turn whose session found no memory leaves its connection as it came.
+pub fn turns_without_memory_leave_the_connection<G: Gate>()
+    ensures { (before after : G) (visit : Visit) →
+        TakesTurn G.next_gives G.done_gives G.Conn.read_gives G.Conn.write_gives G.Conn.incoming G.Conn.outgoing before visit after →
+        visit.end ≡ End.Memory → sides_after visit ≡ sides_before visit }
+{}
+
+/// A worker that stopped though it may serve more asked its gate once more, and got no connection. One whose gate failed had that
+/// answer of it.
+pub fn workers_ask_until_they_get_none<G: Gate>()
+    ensures more { (before after : WorkerWithGate G)
+        (works : WorksInTurns G.next_gives G.done_gives G.Conn.read_gives G.Conn.write_gives G.Conn.incoming G.Conn.outgoing before after) →
+        0 < after.state.left → G.next_gives works.in_turns.served (none_by after.state.fault) after.gate }
+    ensures failed { (before after : WorkerWithGate G)
+        (works : WorksInTurns G.next_gives G.done_gives G.Conn.read_gives G.Conn.write_gives G.Conn.incoming G.Conn.outgoing before after) →
+        after.state.fault ≡ true → G.next_gives works.in_turns.served Next.Fault after.gate }
 {}
 
 /// A worker that puts its share of a load asks the calls of all three parts one after another, as a lone caller does: what it
-/// sees while it meets the others belongs to the call that comes next.
+/// sees while it meets the others belongs to the call that comes next, or to none after the last.
 pub fn workers_of_a_load_ask_their_share()
-    ensures { (caller : Caller) (before after : List Event) (texts : List (List ℕ)) (workers : ℕ) (course : Course) (to_queries : List Reply) →
+    ensures { (caller : Caller) (before queried after : List Event) (texts : List (List ℕ)) (workers : ℕ) (course : Course) (to_queries : List Reply) →
         ComesToQueries caller before texts workers course →
-        AreAsked caller course.fronts.met_deleted after (queries_of workers caller.pass) to_queries →
+        AreAsked caller course.met_deleted queried (queries_of workers caller.pass) to_queries → IsFrontOf caller.pass queried after →
         AsksShare caller before after texts workers (course.to_adds ++ course.to_deletes ++ to_queries) }
 {}

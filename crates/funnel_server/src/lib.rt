@@ -13,8 +13,7 @@
 //! worker may wait for another one.
 //!
 //! [`run_load`] puts a load to an engine by several workers of another kind: each has a share of the load's documents and
-//! queries in place of a gate, and a thread and a pass of its own too. They work in three parts, and meet after each of the
-//! first two.
+//! queries in place of a gate, and a thread and a pass of its own too. They work in three parts, and meet after each.
 #![tactic(auto)]
 
 mod laws;
@@ -28,7 +27,8 @@ mod workers;
 
 pub use laws::{
     a_workers_calls_are_those_of_its_sessions, kept_ends_have_their_cause,
-    sessions_without_a_fault_end_well, workers_of_a_load_ask_their_share,
+    sessions_without_a_fault_end_well, turns_without_memory_leave_the_connection,
+    workers_ask_until_they_get_none, workers_of_a_load_ask_their_share,
     workers_without_a_fault_serve_all,
 };
 pub use loads::run_load;

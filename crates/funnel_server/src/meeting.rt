@@ -1,4 +1,4 @@
-//! The meeting of the workers of a load between two parts.
+//! The meeting of the workers of a load after a part.
 ghost use Rattle.std.specs.Prelude.{◌≡◌, ◌-◌, ◌<◌, ◌≤◌, ℕ, length};
 ghost use Rattle.funnel_server.specs.Parts.{LoadersHaveMet, LastHasMet, MetLast};
 

@@ -13,7 +13,7 @@ use std::sync::Wait;
 use std::thread::Threads;
 use std::{array, thread};
 
-/// Runs the parts one after another, with a meeting after each of the first two. Gives the results of the queries.
+/// Runs the parts one after another, with a meeting after each. Gives the results of the queries.
 pub(crate) fn run_parts<N: PoolName + Send + Sync, R: Threads + Wait + Sync>(
     rt: &R,
     engine: &Engine<N>,
@@ -34,6 +34,7 @@ pub(crate) fn run_parts<N: PoolName + Send + Sync, R: Threads + Wait + Sync>(
     delete_all(rt, load, workers, loaders);
     meet_all(engine, loaders);
     find_all(rt, workers, loaders)?;
+    meet_all(engine, loaders);
     Ok(results_of(loaders))
 }
 

@@ -1,6 +1,6 @@
 -- A pass in a history and in the fronts of it after which the pass made no event.
 use Rattle.std.proofs.Common.{◌≡◌, ℕ, ◌==◌, false, cond, List, [], ◌∷◌, ◌++◌, None, refl, sym, ap, ◌∙◌, subst, append_assoc}
-use Rattle.std.proofs.lemmas.Bool.{or_parts}
+use Rattle.std.proofs.lemmas.Bool.{or_from, or_parts}
 use Rattle.std.proofs.lemmas.List.{append-nil, append_cancel_left}
 use Rattle.std.proofs.lemmas.List.Folds.{list_any-append}
 use Rattle.std.specs.List.{cons_option, list_any}
@@ -30,6 +30,17 @@ calls_in_front pass front history seen =
 pub idle_from_front : (pass : ℕ) (front history : List Event) → IsFrontOf pass front history → IsIdle pass front → IsIdle pass history
 idle_from_front pass front history seen idle =
     subst (λ o. IfSome o (λ e. leaves_open e ≡ false)) (sym (last_by-front pass front history seen)) idle
+
+-- a front of a front is one
+pub front_trans : (pass : ℕ) (front middle history : List Event) → IsFrontOf pass front middle → IsFrontOf pass middle history →
+    IsFrontOf pass front history
+front_trans pass front middle history first second = record {
+  later = first.later ++ second.later;
+  whole = second.whole ∙ ap (λ (h : List Event). h ++ second.later) first.whole ∙ append_assoc front first.later second.later;
+  silent =
+      list_any-append (λ e. pass_of e == pass) first.later second.later
+      ∙ or_from (list_any (λ e. pass_of e == pass) first.later) (list_any (λ e. pass_of e == pass) second.later) first.silent second.silent;
+}
 
 -- a front of a history is one of all that lies between
 pub front_between : (pass : ℕ) (front middle history : List Event) → IsFrontOf pass front history → IsPrefix front middle → IsPrefix middle history →

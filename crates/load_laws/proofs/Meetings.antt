@@ -1,17 +1,21 @@
--- Workers that meet after their adds, and after their deletes, keep to the parts of a load.
-use Rattle.std.proofs.Common.{◌≡◌, ℕ, zero, suc, ◌<◌, ◌≤◌, ⊎_elim, List, ◌++◌, length, sym, ap, ◌∙◌, subst, arith}
-use Rattle.std.proofs.lemmas.Bool.{cases_lt}
-use Rattle.std.proofs.lemmas.List.{append_cancel_left}
+-- Workers that meet after each part keep to the parts of a load, and have seen all of it at last.
+use Rattle.std.proofs.Common.{rules, ◌≡◌, ℕ, zero, suc, ◌<◌, ◌≤◌, ◌==◌, ⊎_elim, false, List, [], ◌∷◌, ◌++◌, length, refl, sym, ap, ◌∙◌, subst, arith, append_assoc}
+use Rattle.std.proofs.lemmas.Bool.{cases_lt, or_parts}
+use Rattle.std.proofs.lemmas.List.{append-nil, append_cancel_left}
+use Rattle.std.proofs.lemmas.List.Elements.{All-contains, Contains-append_right}
+use Rattle.std.proofs.lemmas.List.Folds.{list_any-append}
+use Rattle.std.specs.List.{All, Contains, list_any}
 use mathlib.Core.List.{IsPrefix}
 use Rattle.funnel_model.proofs.StepLemmas.{own-append, prefix_refl, prefix_trans}
 use Rattle.funnel_model.specs.declared.call.Call.{Call}
 use Rattle.funnel_model.specs.declared.event.Event.{Event}
+use Rattle.funnel_model.specs.Events.{pass_of}
 use Rattle.funnel_model.specs.History.{IsFrontOf, own}
 use Rattle.funnel_model.specs.Legal.{IsIdle}
 use Rattle.load_gen.specs.Jobs.{adds_of, deletes_of, queries_of}
 use Rattle.load_laws.specs.Workers.{Fronts, HasParts, HaveMet}
 use Rattle.load_laws.proofs.Answering.{shorter_begins}
-use Rattle.load_laws.proofs.FrontLemmas.{calls_in_front, front_between, idle_from_front}
+use Rattle.load_laws.proofs.FrontLemmas.{calls_in_front, front_between, front_trans, idle_from_front}
 
 -- of two fronts of a history the shorter one begins the other
 begins : (front longer history : List Event) → IsPrefix front history → IsPrefix longer history → length front ≤ length longer → IsPrefix front longer
@@ -69,9 +73,17 @@ made_after pass front later whole calls more is was becomes =
 
 -- workers that met what every other had seen after each part
 module _ (texts : List (List ℕ)) (workers : ℕ) (history : List Event) (fronts : ℕ → Fronts) (met : HaveMet texts workers history fronts) where
+  -- a worker made no event after its queries
+  ended : (worker : ℕ) → worker < workers → IsFrontOf worker (fronts worker).queried history
+  ended worker below =
+      let keeps = met.keeps worker below in
+      front_trans worker (fronts worker).queried (fronts worker).met_queried history keeps.meets_queries keeps.ends
+
   deleted_seen : (worker : ℕ) → worker < workers → IsPrefix (fronts worker).deleted history
   deleted_seen worker below =
-      prefix_trans (fronts worker).deleted (fronts worker).met_deleted history (met.met_deletes worker worker below below) (met.keeps worker below).seen
+      prefix_trans (fronts worker).deleted (fronts worker).queried history
+      (prefix_trans (fronts worker).deleted (fronts worker).met_deleted (fronts worker).queried (met.met_deletes worker worker below below)
+      (met.keeps worker below).goes_on_again) ((ended worker below).later, sym (ended worker below).whole)
 
   added_before : (worker : ℕ) → worker < workers → IsPrefix (fronts worker).added (fronts worker).deleted
   added_before worker below =
@@ -128,8 +140,33 @@ module _ (texts : List (List ℕ)) (workers : ℕ) (history : List Event) (front
       idle_after_deletes = λ worker below. subst (IsIdle worker) (sym between.1)
           (idle_from_front worker (fronts worker).deleted all_deleted (deletes_seen worker below) (met.keeps worker below).idle_after_deletes);
       queries = λ worker below. made_after worker all_deleted rest.0 history (adds_of texts workers worker ++ deletes_of texts workers worker)
-          (queries_of workers worker) rest.1 (deletes_there worker below) (met.keeps worker below).calls;
+          (queries_of workers worker) rest.1 (deletes_there worker below)
+          (calls_in_front worker (fronts worker).queried history (ended worker below) ∙ (met.keeps worker below).queries);
     }
+
+  -- no event comes after what a worker has seen that met the others at last
+  seen_all : (worker : ℕ) → worker < workers → All (λ e. pass_of e < workers) history → (later : List Event) →
+      history ≡ (fronts worker).met_queried ++ later → (fronts worker).met_queried ≡ history
+  seen_all worker below no_other [] whole = sym (whole ∙ append-nil (fronts worker).met_queried)
+  seen_all worker below no_other (e ∷ rest) whole =
+      let there : Contains history e = subst (λ (h : List Event). Contains h e) (sym whole)
+      (Contains-append_right (fronts worker).met_queried (e ∷ rest) e (0, omega arith, refl)) in
+      let is_worker : pass_of e < workers = All-contains (λ (x : Event). pass_of x < workers) history e no_other there in
+      let before = met.met_queries worker (pass_of e) below is_worker in
+      let last = ended (pass_of e) is_worker in
+      let later : last.later ≡ before.0 ++ e ∷ rest =
+      append_cancel_left (fronts (pass_of e)).queried last.later (before.0 ++ e ∷ rest)
+      (sym last.whole ∙ whole ∙ ap (λ (h : List Event). h ++ e ∷ rest) (sym before.1)
+      ∙ append_assoc (fronts (pass_of e)).queried before.0 (e ∷ rest)) in
+      let none = sym (list_any-append (λ x. pass_of x == pass_of e) before.0 (e ∷ rest)) ∙ ap (list_any (λ x. pass_of x == pass_of e)) (sym later) ∙ last.silent in
+      let here = (or_parts (list_any (λ x. pass_of x == pass_of e) before.0) (list_any (λ x. pass_of x == pass_of e) (e ∷ rest)) none).1 in
+      let itself : (pass_of e == pass_of e) ≡ false = (or_parts (pass_of e == pass_of e) (list_any (λ x. pass_of x == pass_of e) rest) here).0 in
+      absurd (search (rules, itself))
+
+pub met_all : (texts : List (List ℕ)) (workers : ℕ) (history : List Event) (fronts : ℕ → Fronts) → HaveMet texts workers history fronts →
+    All (λ e. pass_of e < workers) history → (worker : ℕ) → worker < workers → (fronts worker).met_queried ≡ history
+met_all texts workers history fronts met no_other worker below =
+    let ends = (met.keeps worker below).ends in seen_all texts workers history fronts met worker below no_other ends.later ends.whole
 
 pub parts_of_met : (texts : List (List ℕ)) (workers : ℕ) (history : List Event) (fronts : ℕ → Fronts) → 0 < workers →
     HaveMet texts workers history fronts → HasParts texts workers history

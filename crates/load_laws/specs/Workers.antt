@@ -39,14 +39,17 @@ pub record HasParts (texts : List (List ℕ)) (workers : ℕ) (history : List Ev
   pub idle_after_deletes : AreIdle workers (adding ++ deleting)
   pub queries : IsPart workers (queries_of workers) querying
 
--- what a worker had seen when it had added its documents, and once it had then met the others; and the same of its deletes
+-- what a worker had seen when it had added its documents, and once it had then met the others; and the same of its deletes and of
+-- its queries
 pub record Fronts : Type 0 where
   pub added : List Event
   pub met_added : List Event
   pub deleted : List Event
   pub met_deleted : List Event
+  pub queried : List Event
+  pub met_queried : List Event
 
--- by these fronts the worker had ended its adds, and its deletes, and did nothing while it met the others; its queries came last
+-- by these fronts the worker had ended its adds, its deletes and its queries, and did nothing while it met the others and after that
 pub record KeepsToParts (texts : List (List ℕ)) (workers worker : ℕ) (history : List Event) (fronts : Fronts) : Type 0 where
   pub adds : own worker fronts.added ≡ adds_of texts workers worker
   pub idle_after_adds : IsIdle worker fronts.added
@@ -55,14 +58,18 @@ pub record KeepsToParts (texts : List (List ℕ)) (workers worker : ℕ) (histor
   pub deletes : own worker fronts.deleted ≡ adds_of texts workers worker ++ deletes_of texts workers worker
   pub idle_after_deletes : IsIdle worker fronts.deleted
   pub meets_deletes : IsFrontOf worker fronts.deleted fronts.met_deleted
-  pub seen : IsPrefix fronts.met_deleted history
-  pub calls : own worker history ≡ calls_of_share texts workers worker
+  pub goes_on_again : IsPrefix fronts.met_deleted fronts.queried
+  pub queries : own worker fronts.queried ≡ calls_of_share texts workers worker
+  pub idle_after_queries : IsIdle worker fronts.queried
+  pub meets_queries : IsFrontOf worker fronts.queried fronts.met_queried
+  pub ends : IsFrontOf worker fronts.met_queried history
 
--- after its adds each worker met what every other had seen at the end of its adds; and so after the deletes
+-- after its adds each worker met what every other had seen at the end of its adds; and so after the deletes and after the queries
 pub record HaveMet (texts : List (List ℕ)) (workers : ℕ) (history : List Event) (fronts : ℕ → Fronts) : Type 0 where
   pub keeps : (worker : ℕ) → worker < workers → KeepsToParts texts workers worker history (fronts worker)
   pub met_adds : (worker other : ℕ) → worker < workers → other < workers → IsPrefix (fronts other).added (fronts worker).met_added
   pub met_deletes : (worker other : ℕ) → worker < workers → other < workers → IsPrefix (fronts other).deleted (fronts worker).met_deleted
+  pub met_queries : (worker other : ℕ) → worker < workers → other < workers → IsPrefix (fronts other).queried (fronts worker).met_queried
 
 -- the worker's pass was asked these calls, one after another, and found memory for each; it has seen all its events. A call is asked,
 -- and not made, where the history is spent

@@ -24,5 +24,5 @@ pub use whole_load::{
 pub use workers::{
     a_load_of_two_workers_is_made, loads_of_workers_are_short, shares_tell_the_results,
     workers_are_answered_as_told, workers_leave_what_is_not_deleted,
-    workers_that_meet_keep_to_the_parts,
+    workers_that_meet_at_last_have_seen_all, workers_that_meet_keep_to_the_parts,
 };

@@ -21,6 +21,13 @@ pub fn workers_that_meet_keep_to_the_parts()
         HaveMet texts workers history fronts → HasParts texts workers history }
 {}
 
+/// Once they have met after their queries too, each worker has seen the whole history, where no other pass has an event in it.
+pub fn workers_that_meet_at_last_have_seen_all()
+    ensures { (texts : List (List ℕ)) (workers : ℕ) (history : List Event) (fronts : ℕ → Fronts) →
+        HaveMet texts workers history fronts → All (λ e. pass_of e < workers) history → (worker : ℕ) → worker < workers →
+        (fronts worker).met_queried ≡ history }
+{}
+
 /// All workers together make at most two calls a document, one for each that is deleted and one for each of the eight queries.
 /// Whatever calls workers ask, and whether or not they wait for each other, they make at most four events a call; so a load makes
 /// far too few to spend the history.

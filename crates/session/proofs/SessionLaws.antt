@@ -119,6 +119,14 @@ by_count caller limit old new end_of.WriteFault served none memory = absurd (non
 by_count caller limit old new (end_of.ByteLimit told) served none memory = (λ is. cc, λ less. absurd (omega (arith, served.within.1, less)))
 by_count caller limit old new end_of.Memory served none memory = absurd (memory refl)
 
+pub at_limit : (caller : Caller) (limit : ℕ) (old new : Stand) (end : End) (served : Serves caller limit old new end) → 1 ≤ limit → limit ≤ length served.taken
+    → (end ≡ end_of.ByteLimit limit) ⊎ (end ≡ end_of.WriteFault)
+at_limit caller limit old new end_of.Done served some many = absurd (omega (arith, served.within, many))
+at_limit caller limit old new end_of.ReadFault served some many = absurd (omega (arith, served.within, many))
+at_limit caller limit old new (end_of.ByteLimit told) served some many = inl (ap end_of.ByteLimit served.within.0)
+at_limit caller limit old new end_of.WriteFault served some many = inr refl
+at_limit caller limit old new end_of.Memory served some many = absurd (omega (arith, some, many, ap length served.session.0))
+
 -- a call that found no memory, as its step says
 find_calls : (caller : Caller) (before after : List Event) (query : List ℕ)
     → IsMade caller.limits caller.pass before after (call.Find query) reply.Memory ⊎ LacksMemory caller.pass before after (call.Find query) reply.Memory

@@ -1,9 +1,15 @@
 -- A session's calls on its connection, line by line.
-use Rattle.std.proofs.Common.{◌≡◌, ℕ, true, false, ◌||◌, List, [], ◌∷◌, ◌++◌, length, refl, sym, ap, ◌∙◌, subst, inl, inr, arith, length-append}
+use Rattle.std.proofs.Common.{◌≡◌, ℕ, true, false, ◌||◌, List, [], ◌∷◌, ◌++◌, length, take, drop, refl, sym, ap, ap₂, ◌∙◌, subst, inl, inr, arith, append_assoc, length-append, take-append-drop}
 use Rattle.std.proofs.Math.Bool.{or-false}
+use mathlib.Core.List.{IsPrefix}
+use Rattle.funnel_io.specs.Answers.{bytes_put}
+use Rattle.funnel_io.specs.declared.sink.Put.{Put}
+use Rattle.funnel_io.specs.declared.sink.Put.TheVariants as put
+use Rattle.funnel_io.specs.declared.source.Got.{Got}
+use Rattle.funnel_io.specs.declared.source.Got.TheVariants as got
 use Rattle.funnel_io.proofs.CallLaws.{bytes_read-append, gave_bytes, gave_bytes-append, last_failed-append}
 use Rattle.funnel_io.proofs.LineLaws.{still_given}
-use Rattle.funnel_io.specs.Calls.{Read, Write, AreOfRest, WritesAs, bytes_read, found_end, is_end}
+use Rattle.funnel_io.specs.Calls.{Read, Write, AreOfRest, WritesAs, bytes_read, bytes_written, found_end, is_end}
 use Rattle.funnel_io.specs.LineReading.{ReaderState, AreNeeded, HasGiven, unused}
 use Rattle.funnel_io.specs.Lines.{lines}
 use Rattle.funnel_io.specs.Streams.{Incoming}
@@ -12,9 +18,11 @@ use Rattle.funnel_io.specs.declared.end.End.TheVariants as end_of
 use Rattle.funnel_model.specs.declared.event.Event.{Event}
 use Rattle.funnel_model.specs.declared.reply.Reply.{Reply}
 use Rattle.funnel_model.specs.declared.reply.Reply.TheVariants as reply_of
-use Rattle.line_proto.specs.Texts.{text_of}
+use Rattle.line_proto.specs.Texts.{text_of, texts}
+use Rattle.session.proofs.Progress.{texts-push}
+use Rattle.session.specs.Laws.{FindsEnd, bytes_of, replies_of}
 use Rattle.session.specs.Steps.{EndsNext, HasGone, IsRendered, ReadsOn}
-use Rattle.session.specs.Turns.{Turn, AreBelow, AreReadInTurn, AreLast, Follows, GoesInTurns, IsWritten, StopsReading, reads_of}
+use Rattle.session.specs.Turns.{Turn, AreBelow, AreReadInTurn, AreLast, AreTurns, Follows, GoesInTurns, IsWritten, StopsReading, reads_of}
 
 -- a text that was rendered is a reply's
 reply_to : (reply : Reply) (room : ℕ) (text : List ℕ) → IsRendered reply room text → (other : Reply) × (text ≡ text_of other)
@@ -172,3 +180,47 @@ module _ {S : Type 0} (read_gives : S → Read → S → Type 0) (write_gives : 
         below = below_on r.reads r.needed;
         at_end = λ done. cc;
       }
+
+-- ---- what turns write and read
+
+-- writes that are handed what is left of the bytes took the first of these
+first_went : (bytes : List ℕ) (writes : List Write) → AreOfRest bytes writes → IsPrefix (bytes_written writes) bytes
+first_went bytes [] of_rest = (bytes, refl)
+first_went bytes (write ∷ earlier) of_rest =
+    by_answer write.answer where
+      by_answer : (answer : Put) → IsPrefix (bytes_written earlier ++ bytes_put answer write.piece) bytes
+      by_answer (put.Bytes n) = (
+        drop n write.piece,
+        append_assoc (bytes_written earlier) (take n write.piece) (drop n write.piece)
+            ∙ ap (λ xs. bytes_written earlier ++ xs) (take-append-drop n write.piece) ∙ sym of_rest.1.rest,
+      )
+      by_answer put.Failed = (write.piece, append_assoc (bytes_written earlier) [] write.piece ∙ sym of_rest.1.rest)
+
+-- turns of which the last one's reply was written whole, too
+all_went : (turns : List Turn) → AreTurns turns → IsWritten turns → bytes_of turns ≡ texts (replies_of turns)
+all_went [] are written = refl
+all_went (turn ∷ earlier) are written =
+    ap₂ (λ xs ys. xs ++ ys) (all_went earlier are.0 are.1.written) written ∙ sym (texts-push (replies_of earlier) turn.reply)
+
+pub turns_write : (turns : List Turn) → AreTurns turns → IsPrefix (bytes_of turns) (texts (replies_of turns))
+turns_write [] are = ([], refl)
+turns_write (turn ∷ earlier) are =
+    let last = first_went (text_of turn.reply) turn.writes are.1.one_text in (
+      last.0,
+      append_assoc (bytes_of earlier) (bytes_written turn.writes) last.0
+          ∙ ap₂ (λ xs ys. xs ++ ys) (all_went earlier are.0 are.1.written) last.1
+          ∙ sym (texts-push (replies_of earlier) turn.reply),
+    )
+
+-- reads of which the last one found the end
+finds_end : (reads : List Read) → found_end reads ≡ true → FindsEnd reads
+finds_end [] found = cc
+finds_end (read ∷ earlier) found = record { last = read; earlier = earlier; reads_are = refl; at_end = by_answer read.answer found } where
+  by_answer : (answer : Got) → is_end answer ≡ true → answer ≡ got.End
+  by_answer (got.Bytes n) found = cc
+  by_answer got.End found = refl
+  by_answer got.Failed found = cc
+
+pub done_finds_end : {S : Type 0} (read_gives : S → Read → S → Type 0) (write_gives : S → Write → S → Type 0) (limit : ℕ) (done : Type 0) (before after : S)
+    (stops : StopsReading read_gives write_gives limit done before after) → done → FindsEnd (stops.goes.last ++ reads_of stops.goes.turns)
+done_finds_end read_gives write_gives limit done before after stops is = finds_end (stops.goes.last ++ reads_of stops.goes.turns) (stops.at_end is)

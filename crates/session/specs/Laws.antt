@@ -1,9 +1,11 @@
 -- What the laws of sessions say.
 use Rattle.std.specs.Prelude.{◌≡◌, ◌≢◌, ◌↔◌, ◌<◌, ◌⊎◌, ⊤, ℕ, List, [], ◌∷◌, ◌++◌, length, All, Option, Some, None}
 use Rattle.std.specs.List.{filter_map}
+use Rattle.funnel_io.specs.Calls.{Read, bytes_written}
 use Rattle.funnel_io.specs.Counts.{Rose}
 use Rattle.funnel_io.specs.declared.end.End.{End}
 use Rattle.funnel_io.specs.declared.end.End.TheVariants as end_of
+use Rattle.funnel_io.specs.declared.source.Got.TheVariants as got
 use Rattle.funnel_model.specs.declared.call.Call.{Call}
 use Rattle.funnel_model.specs.declared.call.Call.TheVariants as call
 use Rattle.funnel_model.specs.declared.event.Event.{Event}
@@ -14,6 +16,7 @@ use Rattle.funnel_model.specs.Tokens.{HasToken}
 use Rattle.line_proto.specs.Services.{Caller}
 use Rattle.line_proto.specs.Forms.{Item, Asks, Malformed, TooLong}
 use Rattle.session.specs.Ends.{Serves, Stand}
+use Rattle.session.specs.Turns.{Turn}
 
 -- the call that an item asks for
 abbrev pub asked_by : Item → Option Call
@@ -63,3 +66,20 @@ EndsByCount caller limit old new end served = NoFault old new → end ≢ end_of
 pub record FindIsOver (pass : ℕ) (before after : List Event) (query : List ℕ) : Type 0 where
   pub no_token : (number : ℕ) → HasToken after pass number → ⊥
   pub calls : AddsNone pass before after ⊎ AddsCall pass before after (call.Find query)
+
+-- the replies of the turns, of which the last comes first
+abbrev pub replies_of : List Turn → List Reply
+replies_of [] = []
+replies_of (turn ∷ earlier) = replies_of earlier ++ turn.reply ∷ []
+
+-- and the bytes that their writes took
+abbrev pub bytes_of : List Turn → List ℕ
+bytes_of [] = []
+bytes_of (turn ∷ earlier) = bytes_of earlier ++ bytes_written turn.writes
+
+-- there is a last read, and it found the end
+pub record FindsEnd (reads : List Read) : Type 0 where
+  pub last : Read
+  pub earlier : List Read
+  pub reads_are : reads ≡ last ∷ earlier
+  pub at_end : last.answer ≡ got.End

@@ -1,6 +1,7 @@
 //! Laws of sessions, over their definitions alone. Each is the contract of a function that does nothing.
-ghost use Rattle.std.specs.Prelude.{◌≡◌, ◌≢◌, ◌≤◌, ℕ, List, [], length};
+ghost use Rattle.std.specs.Prelude.{◌≡◌, ◌≢◌, ◌≤◌, ◌⊎◌, ◌++◌, ℕ, List, [], length};
 ghost use Rattle.std.specs.Io.KnownBytes.{IsAtEnd};
+ghost use mathlib.Core.List.{IsPrefix};
 ghost use Rattle.funnel_io.specs.Lines.{rest_of};
 ghost use Rattle.funnel_io.specs.declared.end.End.{End};
 ghost use Rattle.funnel_model.specs.declared.call.Call.TheVariants as call;
@@ -12,8 +13,11 @@ ghost use Rattle.line_proto.specs.Forms.{Item};
 ghost use Rattle.line_proto.specs.Services.{AnswersCall, Caller};
 ghost use Rattle.line_proto.specs.Texts.{texts};
 ghost use Rattle.session.specs.Ends.{Serves, Stand};
-ghost use Rattle.session.specs.Laws.{calls_of, replies_to_calls, TakesNone, IsProperFront, EndsByCount, FindIsOver};
+ghost use Rattle.session.specs.Laws.{bytes_of, calls_of, replies_of, replies_to_calls, TakesNone, IsProperFront, EndsByCount, FindIsOver, FindsEnd};
 ghost use Rattle.session.specs.Sessions.{Answers, CutsLast};
+ghost use Rattle.session.specs.Turns.{AreTurns, StopsReading, Turn, reads_of};
+
+use funnel_io::Connection;
 
 /// The calls of a session lead from front to front, one step for each, and their replies are those that were given.
 pub fn a_session_is_one_run_of_calls()
@@ -44,6 +48,24 @@ pub fn a_last_line_leaves_nothing()
 pub fn sessions_end_by_their_bytes()
     ensures { (caller : Caller) (limit : ℕ) (old new : Stand) (end : End) (served : Serves caller limit old new end) →
         EndsByCount caller limit old new end served }
+{}
+
+/// A session that took as many bytes as it may ends at this limit, or by a failed write: no read comes any more, so none fails
+/// and none finds the end.
+pub fn sessions_end_at_their_limit()
+    ensures { (caller : Caller) (limit : ℕ) (old new : Stand) (end : End) (served : Serves caller limit old new end) →
+        1 ≤ limit → limit ≤ length served.taken → (end ≡ End.ByteLimit limit) ⊎ (end ≡ End.WriteFault) }
+{}
+
+/// The last read of a session that is done found the end of the input.
+pub fn sessions_that_are_done_found_the_end<C: Connection>()
+    ensures { (limit : ℕ) (end : End) (before after : C) (stops : StopsReading C.read_gives C.write_gives limit (end ≡ End.Done) before after) →
+        end ≡ End.Done → FindsEnd (stops.goes.last ++ reads_of stops.goes.turns) }
+{}
+
+/// The turns of a session write the texts of their replies and nothing else; of the last one's text perhaps not all.
+pub fn turns_write_their_replies()
+    ensures { (turns : List Turn) → AreTurns turns → IsPrefix (bytes_of turns) (texts (replies_of turns)) }
 {}
 
 /// A find that found no memory is over: its pass has no token, and made no other call.
