@@ -1,9 +1,10 @@
 //! The words after the program's name: which command they are, with its numbers. `clap` reads them, and the command
 //! line that it reads is written out in `specs/Commands.antt`.
-ghost use Rattle.std.specs.Prelude.{◌≡◌, ◌↔◌, ℕ, List, [], map, option_and_then, IfOk, IfSome, IsErrOf, IsSome, Some, None, false, true};
+ghost use Rattle.std.specs.Prelude.{◌≡◌, ◌↔◌, ℕ, List, [], ◌∷◌, map, option_and_then, IfOk, IfSome, IsErrOf, IsSome, Some, None, false, true};
 ghost use Rattle.clap.specs.Words.{app_of, found_of, kind_of, rows_of, rule_of, subcommand_rows_of, takes};
 ghost use Rattle.clap.specs.declared.builder.command.Command.TheViews.{out-Command as fields_of};
-ghost use Rattle.funnel.specs.Commands.{HasLoadNumbers, HasNumbers, HasNumbersInRange, HasServeNumbers, IsLoadInRange, IsServeInRange, call_words, command_of, fault_by, funnel_app, load_form, load_of, number_option, serve_form, serve_of, subcommand_as};
+ghost use Rattle.funnel.specs.Commands.{HasLoadNumbers, HasNumbers, HasNumbersInRange, HasServeNumbers, IsLoadInRange, IsServeInRange, call_words, command_of, fault_by};
+ghost use Rattle.funnel.specs.Commands.{connections_option, docs_option, funnel_app, load_form, load_of, load_workers_option, number_option, port_option, run_form, seed_option, serve_form, serve_of, subcommand_as, words_option, workers_option};
 ghost use Rattle.funnel.specs.declared.command.CommandFault.TheVariants.{Memory};
 
 use clap::builder::ValueParser;
@@ -120,48 +121,97 @@ fn call_words<'a>(alloc: Global, words: &[&'a str]) -> Result<Vec<&'a str>, Allo
 fn funnel_app<'a>(alloc: Global) -> Result<clap::Command<'a>, AllocError>
     ensures { IfOk result (λ app. app_of app ≡ funnel_app) }
 {
-    let run = clap::Command::new(alloc, "run");
-    let serve = serve_app(alloc)?;
     let load = load_app(alloc)?;
+    without_load(alloc)?.subcommand(load)
+}
+
+// `funnel` with its first two subcommands.
+fn without_load<'a>(alloc: Global) -> Result<clap::Command<'a>, AllocError>
+    ensures app { IfOk result (λ app. app_of app ≡ record funnel_app { subs = run_form ∷ serve_form ∷ [] }) }
+    ensures local { IfOk result (λ app. (fields_of app).has_globals ≡ false) }
+{
+    let serve = serve_app(alloc)?;
+    let run = clap::Command::new(alloc, "run");
     clap::Command::new(alloc, "funnel")
         .subcommand_required(true)
         .subcommand(run)?
-        .subcommand(serve)?
-        .subcommand(load)
+        .subcommand(serve)
 }
 
 fn serve_app<'a>(alloc: Global) -> Result<clap::Command<'a>, AllocError>
     ensures app { IfOk result (λ app. (app_of app ≡ record { top = serve_form; subs = [] })) }
     ensures local { IfOk result (λ app. (fields_of app).has_globals ≡ false) }
 {
-    let ports = value_parser!(u32).range(1..=i64::from(MOST_PORT));
-    let port = number_option(alloc, "port", ports);
-    let numbers = value_parser!(u32).range(1..=i64::from(MOST_PASSES));
-    let workers = number_option(alloc, "workers", numbers);
-    let counts = value_parser!(u64).range(1..=MOST_CONNECTIONS as i64);
-    let connections = number_option(alloc, "connections", counts);
     clap::Command::new(alloc, "serve")
-        .arg(port.required(true))?
-        .arg(workers.required(true))?
-        .arg(connections.default_value("1000000"))
+        .arg(port_option(alloc))?
+        .arg(workers_option(alloc))?
+        .arg(connections_option(alloc))
+}
+
+fn port_option<'a>(alloc: Global) -> Arg<'a>
+    ensures rule { rule_of result ≡ port_option }
+    ensures local { result.global ≡ false }
+{
+    let numbers = value_parser!(u32).range(1..=i64::from(MOST_PORT));
+    number_option(alloc, "port", numbers).required(true)
+}
+
+fn workers_option<'a>(alloc: Global) -> Arg<'a>
+    ensures rule { rule_of result ≡ workers_option }
+    ensures local { result.global ≡ false }
+{
+    let numbers = value_parser!(u32).range(1..=i64::from(MOST_PASSES));
+    number_option(alloc, "workers", numbers).required(true)
+}
+
+fn connections_option<'a>(alloc: Global) -> Arg<'a>
+    ensures rule { rule_of result ≡ connections_option }
+    ensures local { result.global ≡ false }
+{
+    let numbers = value_parser!(u64).range(1..=MOST_CONNECTIONS as i64);
+    number_option(alloc, "connections", numbers).default_value("1000000")
 }
 
 fn load_app<'a>(alloc: Global) -> Result<clap::Command<'a>, AllocError>
     ensures app { IfOk result (λ app. (app_of app ≡ record { top = load_form; subs = [] })) }
     ensures local { IfOk result (λ app. (fields_of app).has_globals ≡ false) }
 {
-    let numbers = value_parser!(u32).range(1..=i64::from(MOST_DOCS));
-    let docs = number_option(alloc, "docs", numbers);
-    let passes = value_parser!(u32).range(1..=i64::from(MOST_PASSES));
-    let workers = number_option(alloc, "workers", passes);
-    let counts = value_parser!(u32).range(0..=i64::from(MOST_WORDS));
-    let words = number_option(alloc, "words", counts);
-    let seed = number_option(alloc, "seed", value_parser!(u64));
     clap::Command::new(alloc, "load")
-        .arg(docs.required(true))?
-        .arg(workers.default_value("1"))?
-        .arg(words.default_value("80"))?
-        .arg(seed.default_value("0"))
+        .arg(docs_option(alloc))?
+        .arg(load_workers_option(alloc))?
+        .arg(words_option(alloc))?
+        .arg(seed_option(alloc))
+}
+
+fn docs_option<'a>(alloc: Global) -> Arg<'a>
+    ensures rule { rule_of result ≡ docs_option }
+    ensures local { result.global ≡ false }
+{
+    let numbers = value_parser!(u32).range(1..=i64::from(MOST_DOCS));
+    number_option(alloc, "docs", numbers).required(true)
+}
+
+fn load_workers_option<'a>(alloc: Global) -> Arg<'a>
+    ensures rule { rule_of result ≡ load_workers_option }
+    ensures local { result.global ≡ false }
+{
+    let numbers = value_parser!(u32).range(1..=i64::from(MOST_PASSES));
+    number_option(alloc, "workers", numbers).default_value("1")
+}
+
+fn words_option<'a>(alloc: Global) -> Arg<'a>
+    ensures rule { rule_of result ≡ words_option }
+    ensures local { result.global ≡ false }
+{
+    let numbers = value_parser!(u32).range(0..=i64::from(MOST_WORDS));
+    number_option(alloc, "words", numbers).default_value("80")
+}
+
+fn seed_option<'a>(alloc: Global) -> Arg<'a>
+    ensures rule { rule_of result ≡ seed_option }
+    ensures local { result.global ≡ false }
+{
+    number_option(alloc, "seed", value_parser!(u64)).default_value("0")
 }
 
 // `--name` with one value, which is one of these numbers.
