@@ -6,7 +6,7 @@ use Rattle.funnel_model.specs.declared.claim.Token.{Token}
 use Rattle.funnel_model.specs.declared.config.Config.{Config}
 use Rattle.funnel_model.specs.declared.event.Event.{Event}
 use Rattle.funnel_model.specs.declared.event.Event.TheVariants as event
-use Rattle.funnel_model.specs.History.{IsFrontOf, answer, place}
+use Rattle.funnel_model.specs.History.{IsFrontOf, place}
 use Rattle.funnel_model.specs.Legal.{IsLegal, Limits}
 use Rattle.funnel_model.specs.Slices.{IsInUse}
 use Rattle.funnel_model.specs.Tokens.{HasToken}
@@ -14,10 +14,11 @@ use Rattle.funnel_model.specs.Words.{AreWordsOf}
 use Rattle.funnel_model.proofs.Retirement.{same_split}
 use Rattle.row_layout.specs.Sound.{IsSound}
 use Rattle.slice_rule.specs.Seats.{HoldsToken, PassState}
+use Rattle.commit_desk.specs.Answers.{found_of}
 use Rattle.commit_desk.specs.Records.{AreRecorded}
 use Rattle.commit_desk.specs.Scans.{AreScanned}
 use Rattle.commit_desk.proofs.FindTurns.{begun_later}
-use Rattle.commit_desk.proofs.Found.{found_is_answer, is_candidate}
+use Rattle.commit_desk.proofs.Found.{found_is_met, is_candidate}
 
 -- the events before a find are those before its event
 begun_once : (history : List Event) (pass number : ℕ) (one other : HasToken history pass number) → one.earlier ≡ other.earlier
@@ -39,13 +40,13 @@ scanned_in_table limits history table config seat token set candidates recorded 
       column_in_range = omega (arith, of.column);
     }
 
--- what is found of the candidates of a scan is the answer of the history before the find
+-- what is found of the candidates of a scan are the documents that were live before the find and have every word
 pub found_by_scan : (config : Config) (limits : Limits) (history : List Event) (table : Table) (seat : PassState) (token : Token) (set : List (List ℕ)) (candidates found : List (ℕ × ℕ)) →
     IsLegal limits history → IsSound config history → AreRecorded limits history table → seat.pool.limits ≡ limits → IsFrontOf seat.number seat.front history → HoldsToken seat token →
     AreScanned config seat token set candidates →
     ((added id : ℕ) → Contains found (added, id) ↔ IsFound table candidates set token.place (added, id)) → IsSorted pair_cmp found →
     IsPermutation (filter_map (found_at table set token.place) candidates) found →
-    (begun : HasToken seat.front seat.number token.opened_at) → AreWordsOf set begun.query → map (λ (f : ℕ × ℕ). f.1) found ≡ answer begun.earlier begun.query
+    (begun : HasToken seat.front seat.number token.opened_at) → AreWordsOf set begun.query → found ≡ found_of begun.earlier begun.query
 found_by_scan config limits history table seat token set candidates found legal sound recorded same goes holds scanned exactly sorted permuted begun of_query =
     let now = begun_later seat.number token.opened_at seat.front history begun goes in
     let earlier : holds.begun.earlier ≡ begun.earlier = begun_once seat.front seat.number token.opened_at holds.begun begun in
@@ -53,7 +54,7 @@ found_by_scan config limits history table seat token set candidates found legal 
     let held_are : (slice : ℕ) → Contains token.slices slice ↔ ((slice < limits.slices) × IsInUse limits.columns slice begun.earlier) =
     subst (λ (h : List Event). (slice : ℕ) → Contains token.slices slice ↔ ((slice < limits.slices) × IsInUse limits.columns slice h)) earlier
     (subst (λ (l : Limits). (slice : ℕ) → Contains token.slices slice ↔ ((slice < l.slices) × IsInUse l.columns slice holds.begun.earlier)) same holds.slices) in
-    found_is_answer config limits history table legal sound recorded seat.number token.opened_at now candidates set found of_query
+    found_is_met config limits history table legal sound recorded seat.number token.opened_at now candidates set found of_query
     (scanned_in_table limits history table config seat token set candidates recorded same holds scanned) scanned.each_once
     (is_candidate config limits history table legal sound recorded seat.number token.opened_at now seat token set candidates begun.later goes.later same held_are scanned of_query begun.whole refl)
     (subst (λ n. (added id : ℕ) → Contains found (added, id) ↔ IsFound table candidates set n (added, id)) at_place exactly) sorted

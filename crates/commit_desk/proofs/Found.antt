@@ -1,4 +1,4 @@
--- What a find finds of its candidates is the answer of the history before it, although other passes made events since.
+-- What a find finds of its candidates are the documents of its answer in the history before it, although other passes made events since.
 use Rattle.std.proofs.Common.{◌≡◌, ◌↔◌, ⊎_elim, ℕ, ◌+◌, ◌<◌, ◌≤◌, Bool, true, false, cond, ◌&&◌, List, [], ◌∷◌, ◌++◌, length, get_or, map, filter, filter_map, Option, Some, None, refl, sym, ap, ◌∙◌, subst, arith, append_assoc, Contains, IsSorted, IsPermutation}
 use Rattle.std.proofs.lemmas.Bool.{and_parts, eqb-true, false_from_ne_true, or_from, or_parts}
 use Rattle.std.proofs.lemmas.Cmp.{nat_eq_equiv, ranked}
@@ -43,10 +43,18 @@ use Rattle.row_layout.proofs.BitLemmas.{bits-of_part, bits-of_query}
 use Rattle.row_layout.specs.DocumentBits.{IsDocumentBit}
 use Rattle.row_layout.specs.Sound.{HasItsBits, IsSound}
 use Rattle.slice_rule.specs.Seats.{PassState}
+use Rattle.commit_desk.specs.Answers.{found_of}
 use Rattle.commit_desk.specs.Records.{AreRecorded, document_added_at, state_in, state_of}
 use Rattle.commit_desk.specs.Scans.{AreScanned}
 use Rattle.commit_desk.proofs.LaterStates.{lives_on, not_cleared_since, place_since, was_live, was_live_until}
 use Rattle.commit_desk.proofs.Sorting.{distinct_once, first_or_rest, pair_below, pairs_in_order, pairs_rise, rising-map, rising_from_pairs, same_members}
+
+-- the numbers of what a find finds are its answer
+pub numbers_are_answer : (history : List Event) (query : List ℕ) → map (λ (f : ℕ × ℕ). f.1) (found_of history query) ≡ answer history query
+numbers_are_answer history query = numbers (filter (λ d. meets d.text query) (live history)) where
+  numbers : (ds : List Document) → map (λ (f : ℕ × ℕ). f.1) (map (λ (d : Document). (d.place, d.id)) ds) ≡ map (λ (d : Document). d.id) ds
+  numbers [] = refl
+  numbers (d ∷ ds) = ap (λ ids. d.id ∷ ids) (numbers ds)
 
 -- the live documents rise by their places
 live_rises : (history : List Event) → IsStrictlySortedBy (λ (d e : Document). nat_cmp d.place e.place) (live history)
@@ -237,7 +245,7 @@ module _ (config : Config) (limits : Limits) (history : List Event) (table : Tab
 
   -- the places and the numbers of the documents that were live and meet the query
   met : List (ℕ × ℕ)
-  met = map (λ (d : Document). (d.place, d.id)) (filter (λ d. meets d.text token.query) (live token.earlier))
+  met = found_of token.earlier token.query
 
   -- they rise
   met_rises : IsStrictlySortedBy pair_cmp met
@@ -247,14 +255,6 @@ module _ (config : Config) (limits : Limits) (history : List Event) (table : Tab
       (λ d e less. pair_below (d.place, d.id) (e.place, e.id) (ranked d.place e.place Less (sym less)))
       (filter (λ d. meets d.text token.query) (live token.earlier))
       (IsStrictlySortedBy-filter (λ (d e : Document). nat_cmp d.place e.place) (λ d. meets d.text token.query) (live token.earlier) (live_rises token.earlier))
-
-  -- their numbers are the answer
-  met_is_answer : map (λ (f : ℕ × ℕ). f.1) met ≡ answer token.earlier token.query
-  unfolding met
-  met_is_answer = numbers (filter (λ d. meets d.text token.query) (live token.earlier)) where
-    numbers : (ds : List Document) → map (λ (f : ℕ × ℕ). f.1) (map (λ (d : Document). (d.place, d.id)) ds) ≡ map (λ (d : Document). d.id) ds
-    numbers [] = refl
-    numbers (d ∷ ds) = ap (λ ids. d.id ∷ ids) (numbers ds)
 
   -- a document found is one of them
   found_met : (candidates : List (ℕ × ℕ)) (set : List (List ℕ)) → ((slice column : ℕ) → Contains candidates (slice, column) → IsColumn table slice column) → AreWordsOf set token.query →
@@ -315,19 +315,18 @@ module _ (config : Config) (limits : Limits) (history : List Event) (table : Tab
       (bits-of_query config d.text token.query meets_it slice column bit
       (bits-of_part config set (words token.query) (λ word has. (of_query word).0 has) slice column bit of_set)))
 
-  -- what is found of the candidates is the answer
-  pub found_is_answer : (candidates : List (ℕ × ℕ)) (set : List (List ℕ)) (found : List (ℕ × ℕ)) → AreWordsOf set token.query →
+  -- what is found of the candidates are these
+  pub found_is_met : (candidates : List (ℕ × ℕ)) (set : List (List ℕ)) (found : List (ℕ × ℕ)) → AreWordsOf set token.query →
       ((slice column : ℕ) → Contains candidates (slice, column) → IsColumn table slice column) → AllPairs (λ (candidate other : ℕ × ℕ). candidate ≡ other → ⊥) candidates →
       ((slice column : ℕ) (d : Document) → slice < limits.slices → column < limits.columns → IsLiveOn token.earlier slice column d → meets d.text token.query ≡ true →
       Contains candidates (slice, column)) →
       ((added id : ℕ) → Contains found (added, id) ↔ IsFound table candidates set (place token.earlier) (added, id)) → IsSorted pair_cmp found →
       IsPermutation (filter_map (found_at table set (place token.earlier)) candidates) found →
-      map (λ (f : ℕ × ℕ). f.1) found ≡ answer token.earlier token.query
-  found_is_answer candidates set found of_query in_range each_once every exactly sorted permuted =
+      found ≡ found_of token.earlier token.query
+  unfolding met
+  found_is_met candidates set found of_query in_range each_once every exactly sorted permuted =
       let distinct = IsDistinct-IsPermutation (λ (x y : ℕ × ℕ). x.1 == y.1) (λ x y. nat_eq_equiv.symm x.1 y.1) (filter_map (found_at table set (place token.earlier)) candidates) found permuted
       (distinct_once (λ (x y : ℕ × ℕ). x.1 == y.1) (found_at table set (place token.earlier)) candidates each_once (found_apart candidates set in_range)) in
-      ap (map (λ (f : ℕ × ℕ). f.1))
-      (same_members pair_cmp pairs_in_order found met (pairs_rise found sorted distinct) met_rises
+      same_members pair_cmp pairs_in_order found met (pairs_rise found sorted distinct) met_rises
       (λ f has. found_met candidates set in_range of_query f ((exactly f.0 f.1).0 has))
-      (λ f has. (exactly f.0 f.1).1 (met_found candidates set of_query every f has)))
-      ∙ met_is_answer
+      (λ f has. (exactly f.0 f.1).1 (met_found candidates set of_query every f has))

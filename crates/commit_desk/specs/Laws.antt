@@ -1,12 +1,20 @@
 -- What holds of what a desk keeps, whatever the history.
-use Rattle.std.specs.Prelude.{◌≡◌, ℕ, ◌*◌, ◌≤◌, List, [], length, replicate, None}
+use Rattle.std.specs.Prelude.{◌≡◌, ℕ, ◌*◌, ◌≤◌, List, [], ◌++◌, length, replicate, Err, None}
 use Rattle.document_store.specs.Entries.{column_of}
 use Rattle.document_store.specs.Slots.{free_slot}
 use Rattle.funnel_model.specs.declared.config.Config.{Config}
 use Rattle.funnel_model.specs.declared.event.Event.{Event}
-use Rattle.funnel_model.specs.History.{commits}
+use Rattle.funnel_model.specs.declared.bit_list.Bit.{Bit}
+use Rattle.funnel_model.specs.declared.claim.Claim.{Claim}
+use Rattle.funnel_model.specs.History.{commits, live}
 use Rattle.funnel_model.specs.Legal.{Limits}
 use Rattle.slice_stages.specs.Stages.{empty_stage}
+use Rattle.commit_desk.specs.Answers.{events_of_clear, events_of_commit, events_of_delete, events_of_take}
+use Rattle.commit_desk.specs.declared.answers.AddFault.{AddFault}
+use Rattle.commit_desk.specs.declared.answers.ClearRefusal.{ClearRefusal}
+use Rattle.commit_desk.specs.declared.answers.CommitFault.{CommitFault}
+use Rattle.commit_desk.specs.declared.answers.DeleteFault.{DeleteFault}
+use Rattle.commit_desk.specs.declared.answers.Taken.TheVariants as taken
 use Rattle.commit_desk.specs.Kept.{Books, AreBooksOf}
 
 -- nothing is kept yet: every column is free, no number is live, no find runs and no column of a slice is claimed
@@ -36,3 +44,16 @@ abbrev pub DesksHaveTheirCommits : Type 0
 DesksHaveTheirCommits =
     (config : Config) (limits : Limits) (most : ℕ) (history other : List Event) (books : Books) → AreBooksOf config limits most history books → AreBooksOf config limits most other books
     → (commits history ≡ commits other) × (length history ≡ length other)
+
+-- the events leave the live documents as they are
+abbrev pub KeepsDocuments : List Event → List Event → Type 0
+KeepsDocuments history events = live (history ++ events) ≡ live history
+
+-- after a refused call the live documents are as before its event: an add that is refused at its take or dropped at its commit, a delete
+-- and a recycle
+pub record RefusedCallsKeepDocuments : Type 0 where
+  pub take : (history : List Event) (pass id : ℕ) (text : List ℕ) (fault : AddFault) → KeepsDocuments history (events_of_take pass id text (taken.Refused fault))
+  pub commit : (history : List Event) (pass id : ℕ) (text : List ℕ) (claim : Claim) (bits : List Bit) (fault : CommitFault) →
+      KeepsDocuments history (events_of_commit pass id text claim bits (Err fault))
+  pub delete : (history : List Event) (pass id : ℕ) (fault : DeleteFault) → KeepsDocuments history (events_of_delete pass id (Err fault))
+  pub clear : (history : List Event) (pass : ℕ) (fault : ClearRefusal) → KeepsDocuments history (events_of_clear pass (Err fault))

@@ -1,11 +1,10 @@
-ghost use Rattle.std.specs.Prelude.{◌≡◌, ℕ, List, ◌≤◌, [], ◌∷◌, length, map, IfOk, Ok, Err};
+ghost use Rattle.std.specs.Prelude.{◌≡◌, ◌≤◌, [], ◌∷◌, length, IfOk, Ok, Err};
 ghost use Rattle.funnel_model.specs.declared.event.Event.TheVariants as event;
-ghost use Rattle.funnel_model.specs.History.{answer};
 ghost use Rattle.funnel_model.specs.Legal.{IsIdle};
 ghost use Rattle.funnel_model.specs.Tokens.{HasToken};
 ghost use Rattle.funnel_model.specs.Words.{AreWordsOf};
 ghost use Rattle.slice_rule.specs.Seats.{HasNoneOutstanding, HoldsToken};
-ghost use Rattle.commit_desk.specs.Answers.{AnswersFind, TakesCalls, events_of_find};
+ghost use Rattle.commit_desk.specs.Answers.{AnswersFind, TakesCalls, events_of_find, found_of};
 ghost use Rattle.commit_desk.specs.Desks.{IsCaughtUp, IsSeatOf, Makes};
 ghost use Rattle.commit_desk.specs.Scans.{AreScanned};
 
@@ -59,7 +58,7 @@ impl Desk {
         requires scanned { AreScanned self.old.pool.config seat.old token words.now candidates.now }
         requires empty { out.old.found ≡ [] }
         requires enough { length candidates.now ≤ out.old.room }
-        ensures found { (begun : HasToken seat.old.front seat.old.number token.opened_at) → map (λ (f : ℕ × ℕ). f.1) out.new.found ≡ answer begun.earlier begun.query }
+        ensures found { (begun : HasToken seat.old.front seat.old.number token.opened_at) → out.new.found ≡ found_of begun.earlier begun.query }
         ensures few { length out.new.found ≤ length candidates.now }
         ensures events { Makes (event.End seat.old.number ∷ []) self.old self.new seat.old seat.new }
         ensures none_outstanding { HasNoneOutstanding seat.new }

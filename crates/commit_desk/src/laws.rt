@@ -1,5 +1,5 @@
 //! What holds of what a desk keeps, whatever the history. Each is the contract of a function that does nothing.
-ghost use Rattle.commit_desk.specs.Laws.{DesksHaveTheirCommits, NewDesksAreKept};
+ghost use Rattle.commit_desk.specs.Laws.{DesksHaveTheirCommits, NewDesksAreKept, RefusedCallsKeepDocuments};
 
 /// A desk that keeps nothing yet stands for the history without events, so what is kept of a history can be met.
 pub fn new_desks_are_kept()
@@ -10,4 +10,9 @@ pub fn new_desks_are_kept()
 /// desk, these are equal. Which of them it is, its home knows.
 pub fn desks_have_their_commits()
     ensures { DesksHaveTheirCommits }
+{}
+
+/// A call that is refused changes no live document, whatever the fault.
+pub fn refused_calls_keep_documents()
+    ensures { RefusedCallsKeepDocuments }
 {}

@@ -10,7 +10,7 @@ returns-in_err-slice c =
     let i = c.self.inside in
     let kept = c.self.invariant.kept in
     c.from_residual.ensures
-    ∙ sym (no_place_without i.home.pool.limits i.home.history i.records kept.legal kept.recorded i.live kept.listed c.args.id (sym c.get.ensures ∙ c.in_err-slice.was))
+    ∙ sym (no_place_without i.home.pool.limits i.home.history i.records kept.legal kept.recorded i.live kept.listed c.args.id (sym c.get.ensures.column ∙ c.in_err-slice.was))
     ∙ ap (λ (d : DeskState). live_place c.args.id d.history) c.self.view_is
 
 entry_at : (c : goal.In_ok-slice) → EntryPlace c.self.inside.home.pool.limits c.self.inside.home.history c.self.inside.records c.self.invariant.kept.legal c.self.invariant.kept.recorded c.self.inside.live c.self.invariant.kept.listed
@@ -18,7 +18,7 @@ entry_at : (c : goal.In_ok-slice) → EntryPlace c.self.inside.home.pool.limits 
 entry_at c =
     let i = c.self.inside in
     let kept = c.self.invariant.kept in
-    entry_place i.home.pool.limits i.home.history i.records kept.legal kept.recorded i.live kept.listed c.args.id c.in_ok-slice.slice c.in_ok-slice.column (sym c.get.ensures ∙ c.in_ok-slice.was)
+    entry_place i.home.pool.limits i.home.history i.records kept.legal kept.recorded i.live kept.listed c.args.id c.in_ok-slice.slice c.in_ok-slice.column (sym c.get.ensures.column ∙ c.in_ok-slice.was)
 
 pub state-requires : goal.state-requires
 state-requires c = (entry_at c).in_table

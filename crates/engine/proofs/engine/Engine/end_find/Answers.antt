@@ -1,9 +1,10 @@
-use Rattle.std.proofs.Common.{List, refl, sym, ap, ◌∙◌, subst}
+use Rattle.std.proofs.Common.{ℕ, List, map, refl, sym, ap, ◌∙◌, subst}
 use Rattle.funnel_model.specs.declared.event.Event.{Event}
 use Rattle.funnel_model.specs.declared.event.Event.TheVariants as event
 use Rattle.funnel_model.specs.History.{answer}
 use Rattle.funnel_model.specs.Words.{AreWordsOf}
 use Rattle.commit_desk.proofs.CallEnds.{rests_one}
+use Rattle.commit_desk.proofs.Found.{numbers_are_answer}
 use Rattle.engine.proofs.OpenFinds.{begun_last}
 use Rattle.engine.proofs.engine.Engine.end_find.Goals as goal
 
@@ -17,7 +18,7 @@ pub returns-clause-found : goal.returns-clause-found
 returns-clause-found g c earlier query at =
     let begun = c.requires.finding.holds.begun in
     let same = begun_last c.args.pass.now c.args.token.opened_at earlier query at begun in
-    c.end_find.ensures.found begun ∙ ap (λ (h : List Event). answer h begun.query) (sym same.0) ∙ ap (answer earlier) (sym same.1)
+    ap (map (λ (f : ℕ × ℕ). f.1)) (c.end_find.ensures.found begun) ∙ numbers_are_answer begun.earlier begun.query ∙ ap (λ (h : List Event). answer h begun.query) (sym same.0) ∙ ap (answer earlier) (sym same.1)
 
 pub returns-clause-rests : goal.returns-clause-rests
 returns-clause-rests g c =
