@@ -43,12 +43,12 @@ module _ (name : PoolId) (layout : Config) (pool desk : PoolId) (is : IsSetting 
 
   pub written : (claim : Claim) (set : List (List ℕ)) (rows : List Row) (bits : List Bit) → IsToWrite name claim seat →
       ((f : Fact) → Contains next.own f ↔ (Contains seat.own f ⊎ IsBitOf (last_number seat.number seat.front) bits f)) → HasRowsOf name.config set rows →
-      (HasRowsOf layout set rows → AreDocumentBits layout set claim.slice claim.column bits) → All (λ b. IsInSlice (words_of_slice layout) claim.slice b.word) bits → HasWritten desk claim set bits next
-  written claim set rows bits start has of_set document inside = subst (λ (p : PoolId). HasWritten p claim set bits next) (sym is.desk_of_name) (record {
+      (HasRowsOf layout set rows → AreDocumentBits layout set claim.slice claim.column bits) → All (λ b. IsInSlice (words_of_slice layout) claim.slice b.word) bits → HasWritten name claim set bits next
+  written claim set rows bits start has of_set document inside = record {
     seated = seated_still name seat next same start.seated;
     holds = subst (λ (p : PassState). HoldsClaim p claim) (sym same) start.holds;
     document = subst (λ (c : Config). AreDocumentBits c set claim.slice claim.column bits) is.laid.config (document (subst (λ (c : Config). HasRowsOf c set rows) (sym is.laid.config) of_set));
     inside = subst (λ n. All (λ b. IsInSlice n claim.slice b.word) bits) (sym (ap (λ (l : Limits). l.slice_words) is.laid.limits)) inside;
     bits_set = λ b. subst (λ n. Contains bits b ↔ Contains next.own (fact.BitSet n b)) (sym (ap (λ (p : PassState). last_number p.number p.front) same))
         (has_set (last_number seat.number seat.front) bits seat.own next.own start.nothing has b);
-  })
+  }

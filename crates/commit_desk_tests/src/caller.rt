@@ -1,6 +1,8 @@
 //! A pass between its calls, and in the middle of each.
 use crate::draft::Draft;
+use document_store::Doc;
 use funnel_model::{Claim, ClearJob, Token};
+use row_layout::Bits;
 use slice_rule::{PassSeat, PoolName};
 use std::marker::{Model, PhantomData};
 
@@ -37,6 +39,25 @@ impl<N: PoolName> Model for Claiming<N> {
     ghost view = { λ _. tt };
 
     ghost invariant = { λ c. IsToWrite N.pool c.claim c.seat };
+}
+
+/// A pass that wrote a document into the column that it had claimed.
+pub(crate) struct Written<N: PoolName> {
+    pub seat: PassSeat,
+    pub claim: Claim,
+    pub doc: Doc,
+    pub bits: Bits,
+    pub of: PhantomData<N>,
+}
+
+impl<N: PoolName> Model for Written<N> {
+    ghost use Rattle.commit_desk.specs.Passes.{HasWritten};
+
+    ghost Value = { Unit {0} };
+
+    ghost view = { λ _. tt };
+
+    ghost invariant = { λ w. HasWritten N.pool w.claim w.doc.words w.bits.bits w.seat };
 }
 
 /// A pass that is to clear a slice.

@@ -1,5 +1,5 @@
 //! The calls of the desk, each by a pass that may make it.
-use crate::caller::{Caller, Claiming, Clearing, Finding};
+use crate::caller::{Caller, Claiming, Clearing, Finding, Written};
 use crate::draft::Draft;
 use crate::setting::Setting;
 use column_writer::write_column;
@@ -74,8 +74,8 @@ impl<N: PoolName> Setting<N> {
         }
     }
 
-    /// Writes the document into its column, and commits it.
-    pub fn commit(&mut self, claiming: Claiming<N>) -> (Caller<N>, Result<u64, CommitFault>) {
+    /// Writes the document into its column.
+    pub fn write(&self, claiming: Claiming<N>) -> Written<N> {
         let Claiming {
             mut seat,
             claim,
@@ -85,6 +85,24 @@ impl<N: PoolName> Setting<N> {
         let Draft { doc, mut bits, of } = draft;
         bits.place(&self.layout, claim.slice, claim.column);
         write_column(&self.pool, &mut seat, &claim, &bits);
+        Written {
+            seat,
+            claim,
+            doc,
+            bits,
+            of,
+        }
+    }
+
+    /// Commits the document, or drops it.
+    pub fn commit(&mut self, written: Written<N>) -> (Caller<N>, Result<u64, CommitFault>) {
+        let Written {
+            mut seat,
+            claim,
+            doc,
+            bits,
+            of,
+        } = written;
         let answer = self.desk.commit(&self.pool, &mut seat, claim, doc, &bits);
         (Caller { seat, of }, answer)
     }

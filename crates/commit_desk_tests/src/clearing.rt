@@ -6,33 +6,40 @@ use funnel_model::Block;
 use slice_rule::PoolName;
 use std::test::*;
 
-/// A slice with a dropped column is filled, and is cleared for the next add once its other documents are deleted.
+/// A slice with a dropped column is filled, and is cleared for the next add once its other documents are deleted. The dropped
+/// column itself keeps nothing out.
 #[test]
 fn a_dropped_column_counts_when_a_slice_retires(rt: HostRuntime) -> Result<(), Fail> {
-    let ((both, turned, added), _) = run::<Dropped, _>(&rt, rt.alloc(), 1 << 62)?;
+    let ((both, blocks, turned, added), _) = run::<Dropped, _>(&rt, rt.alloc(), 1 << 62)?;
+    let (first, third) = (Block::Live { column: 0 }, Block::Live { column: 2 });
     assert_eq!(rt;
         both,
         ([(0, 0), (0, 1)], Ok(1), Err(CommitFault::Present(1)))
     );
-    assert_eq!(rt; turned, (true, None, Ok(64), true));
+    assert_eq!(rt; blocks, (Some(first), Some(third)));
+    assert_eq!(rt; turned, (true, Ok(64), true));
     assert_eq!(rt; added, Some((0, 127, true)));
     Ok(())
 }
 
+/// What keeps a document out, before the document of column 0 is deleted and after that.
+type Blocks = (Option<Block>, Option<Block>);
+
 struct Dropped;
 
 impl Case for Dropped {
-    type Seen = (Both, (bool, Added, Result<u64, DeleteFault>, bool), Added);
+    type Seen = (Both, Blocks, (bool, Result<u64, DeleteFault>, bool), Added);
 
     fn run<N: PoolName>(setting: &mut Setting<N>, passes: Two<N>) -> Result<Self::Seen, Fail> {
         let (first, second) = passes;
         let (first, second, both) = setting.add_both(first, second)?;
-        let (second, filled) = setting.fill(second, 2, 1);
-        let (mut second, refused) = setting.add(second, 7);
-        let deleted = setting.delete(&mut second, 4);
-        let emptied = setting.empty(&mut second, 2);
+        let (mut first, filled) = setting.fill(first, (2, 101), 1);
+        let (second, full) = setting.block(second);
+        let deleted = setting.delete(&mut first, 4);
+        let (_, still) = setting.block(second);
+        let emptied = setting.empty(&mut first, (2, 101), 64);
         let (_, added) = setting.add(first, 7);
-        Ok((both, (filled, refused, deleted, emptied), added))
+        Ok((both, (full, still), (filled, deleted, emptied), added))
     }
 }
 
@@ -57,8 +64,8 @@ impl Case for Alone {
 
     fn run<N: PoolName>(setting: &mut Setting<N>, passes: Two<N>) -> Result<Self::Seen, Fail> {
         let (first, second) = passes;
-        let (mut second, filled) = setting.fill(second, 0, 0);
-        let emptied = setting.empty(&mut second, 0);
+        let (mut second, filled) = setting.fill(second, (0, 1), 0);
+        let emptied = setting.empty(&mut second, (0, 1), 64);
         let Ok(clearing) = setting.start(first) else {
             return Err(Fail::new("a slice to clear"));
         };
@@ -96,10 +103,10 @@ impl Case for Guarded {
 
     fn run<N: PoolName>(setting: &mut Setting<N>, passes: Two<N>) -> Result<Self::Seen, Fail> {
         let (first, second) = passes;
-        let (mut second, filled) = setting.fill(second, 0, 0);
+        let (mut second, filled) = setting.fill(second, (0, 1), 0);
         let finding = setting.begin(first)?;
         let opened_at = finding.token.opened_at;
-        let emptied = setting.empty(&mut second, 0);
+        let emptied = setting.empty(&mut second, (0, 1), 64);
         let (second, block) = setting.block(second);
         let (second, refused) = setting.recycle(second);
         let _ = setting.drop_find(finding);

@@ -7,33 +7,47 @@ use slice_rule::PoolName;
 use std::test::*;
 
 impl<N: PoolName> Setting<N> {
-    /// Adds documents to the columns from this one on, up to the last of the slice, and says whether each got its column
-    /// and the next of the places after `before`. Their numbers are those of the columns, and 100 more.
-    pub fn fill(&mut self, mut caller: Caller<N>, from: u32, before: u64) -> (Caller<N>, bool) {
+    /// Adds documents to the columns from this one on, up to the last of the slice. Their numbers rise from the second of the
+    /// pair. Whether each got its column and the next of the places after `before`.
+    pub fn fill(
+        &mut self,
+        mut caller: Caller<N>,
+        from: (u32, u64),
+        before: u64,
+    ) -> (Caller<N>, bool) {
         let mut right = true;
+        let (first, mut id) = from;
         let mut place = before;
-        for column in from..64 {
+        for column in first..64 {
             place = place.wrapping_add(1);
-            let (next, added) = self.add(caller, 100 + column as u64);
+            let (next, added) = self.add(caller, id);
             caller = next;
             right = right && added == Some((column, place, false));
+            id = id.wrapping_add(1);
         }
         (caller, right)
     }
 
-    /// Deletes these documents, and says whether each was live.
-    pub fn empty(&mut self, caller: &mut Caller<N>, from: u32) -> bool {
+    /// Deletes these documents. Whether each got the next of the places after `before`.
+    pub fn empty(&mut self, caller: &mut Caller<N>, from: (u32, u64), before: u64) -> bool {
         let mut right = true;
-        for column in from..64 {
-            right = self.delete(caller, 100 + column as u64).is_ok() && right;
+        let (first, mut id) = from;
+        let mut place = before;
+        for _column in first..64 {
+            place = place.wrapping_add(1);
+            right = self.delete(caller, id) == Ok(place) && right;
+            id = id.wrapping_add(1);
         }
         right
     }
 
     /// What keeps a document out of the one slice, where its add is refused for want of room.
     pub fn block(&mut self, caller: Caller<N>) -> (Caller<N>, Option<Block>) {
-        match self.claim(caller, 7) {
-            Ok(claiming) => (self.commit(claiming).0, None),
+        match self.claim(caller, 500) {
+            Ok(claiming) => {
+                let written = self.write(claiming);
+                (self.commit(written).0, None)
+            }
             Err((caller, fault)) => (caller, only_block(&fault)),
         }
     }
@@ -81,14 +95,15 @@ impl Case for Pending {
 
     fn run<N: PoolName>(setting: &mut Setting<N>, passes: Two<N>) -> Result<Self::Seen, Fail> {
         let (first, second) = passes;
-        let Ok(claiming) = setting.claim(first, 4) else {
+        let Ok(claiming) = setting.claim(first, 1) else {
             return Err(Fail::new("a column"));
         };
-        let (second, filled) = setting.fill(second, 1, 0);
+        let (second, filled) = setting.fill(second, (1, 2), 0);
         let (mut second, full) = setting.block(second);
-        let emptied = setting.empty(&mut second, 1);
+        let emptied = setting.empty(&mut second, (1, 2), 63);
         let (_, still) = setting.block(second);
-        let (_, placed) = setting.commit(claiming);
+        let written = setting.write(claiming);
+        let (_, placed) = setting.commit(written);
         Ok(((filled, full, emptied, still), placed))
     }
 }

@@ -4,32 +4,36 @@ ghost use Rattle.commit_desk_tests.specs.Tested.{columns_up_to};
 
 use crate::caller::{Caller, Finding};
 use crate::setting::{Case, Setting, Two, run};
-use commit_desk::DeleteFault;
+use commit_desk::{DeleteFault, Spent};
 use document_store::Found;
 use funnel_model::{Candidates, Memory, WordSet};
 use slice_rule::PoolName;
 use std::alloc::Global;
 use std::test::*;
 
-/// A find that began is ended, however many events the desk has by then. After that no call is taken.
+/// A find that began is ended, however many events the desk has by then. After that no call is taken, and one that is refused
+/// makes no event.
 #[test]
 fn a_spent_desk_ends_its_find(rt: HostRuntime) -> Result<(), Fail> {
-    let (seen, _) = run::<Last, _>(&rt, rt.alloc(), 1)?;
-    assert_eq!(rt; seen, (1, Err(DeleteFault::Spent(2))));
+    let ((opened_at, found, refused), _) = run::<Last, _>(&rt, rt.alloc(), 1)?;
+    assert_eq!(rt; (opened_at, found.len()), (1, 0));
+    assert_eq!(rt;
+        refused,
+        (Err(DeleteFault::Spent(2)), Err(Spent { events: 2 }))
+    );
     Ok(())
 }
 
 struct Last;
 
 impl Case for Last {
-    type Seen = (u64, Result<u64, DeleteFault>);
+    type Seen = (u64, Found, (Result<u64, DeleteFault>, Result<u64, Spent>));
 
     fn run<N: PoolName>(setting: &mut Setting<N>, passes: Two<N>) -> Result<Self::Seen, Fail> {
         let (first, _) = passes;
-        let finding = setting.begin(first)?;
-        let opened_at = finding.token.opened_at;
-        let mut first = setting.drop_find(finding);
-        Ok((opened_at, setting.delete(&mut first, 5)))
+        let (mut first, opened_at, found) = setting.find_all(first)?;
+        let refused = (setting.delete(&mut first, 5), setting.place(&mut first));
+        Ok((opened_at, found, refused))
     }
 }
 
@@ -45,24 +49,26 @@ fn all_columns(alloc: Global) -> Result<Candidates, Memory>
 }
 
 impl<N: PoolName> Setting<N> {
-    /// What a find of no words finds. All columns of the slice are its candidates, since there is no bit to read; none are
-    /// where it may not read the slice.
-    fn find_all(&mut self, caller: Caller<N>) -> Result<(Caller<N>, Found), Fail> {
+    /// The number of the event that begins a find of no words, and what it finds. All columns of the slice are its candidates,
+    /// since there is no bit to read.
+    pub fn find_all(&mut self, caller: Caller<N>) -> Result<(Caller<N>, u64, Found), Fail> {
         let words = WordSet::from_sorted(self.alloc, &[])?;
         let columns = all_columns(self.alloc)?;
         let mut found = Found::with_room(self.alloc, 64)?;
         let finding = self.begin(caller)?;
         if !finding.token.slices.has(0) {
-            return Ok((self.drop_find(finding), found));
+            let _ = self.drop_find(finding);
+            return Err(Fail::new("a slice that it may read"));
         }
         let Finding {
             mut seat,
             token,
             of,
         } = finding;
+        let opened_at = token.opened_at;
         self.desk
             .end_find(&self.pool, &mut seat, token, &columns, &words, &mut found);
-        Ok((Caller { seat, of }, found))
+        Ok((Caller { seat, of }, opened_at, found))
     }
 }
 
@@ -86,9 +92,9 @@ impl Case for Live {
         let (first, second, _) = setting.add_both(first, second)?;
         let (second, _) = setting.add(second, 9);
         let (mut second, _) = setting.add(second, 7);
-        let (first, before) = setting.find_all(first)?;
+        let (first, _, before) = setting.find_all(first)?;
         let deleted = setting.delete(&mut second, 9);
-        let (_, after) = setting.find_all(first)?;
+        let (_, _, after) = setting.find_all(first)?;
         Ok((before, deleted, after))
     }
 }

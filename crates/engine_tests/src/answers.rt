@@ -1,16 +1,11 @@
-//! Answers of two passes on one thread: refusals, a document that is dropped, the journal, and a note that is met.
-ghost use Rattle.std.specs.Prelude.{◌≡◌};
-ghost use Rattle.commit_desk.specs.Passes.{IsResting};
-
-use crate::caller::{Caller, is_range};
-use crate::setting::{Case, Opened, caller, config, last, test};
-use engine::{AddFault, Clearer, DeleteFault, Direct, Engine, Pass, PoolName, Work};
-use funnel_model::{Candidates, Claim, ClearJob, Commit, Memory};
+//! Answers of two passes on one thread: refusals, a note that is met, a document that is dropped, and what a find scans.
+use crate::caller::{Caller, Refused, is_range};
+use crate::setting::{Callers, Case, config, few_rows, run};
+use engine::{Clearer, DeleteFault, Direct, JournalFault, PoolName, Recycled, Work};
+use funnel_model::{Block, Candidates, Claim, ClearJob, Commit, Commits, Memory};
 use row_layout::{Bits, Layout, Plan};
 use row_read::Shared;
 use slice_rule::{PassSeat, Pool};
-use std::alloc::Global;
-use std::process::Abort;
 use std::sync::Wait;
 use std::test::*;
 
@@ -18,31 +13,57 @@ use std::test::*;
 #[test]
 fn each_refusal_is_told(rt: HostRuntime) -> Result<(), Fail> {
     let alloc = rt.alloc();
-    test::<Refusals, _>(&rt, alloc, &config(alloc, 2, 1, 1, 3))
+    let (adds, deletes, journal) = run::<Refusals, _>(&rt, alloc, &config(alloc, 2, 1, 1, 3))?;
+    let wanted = [Commit { add: false, id: 1 }, Commit { add: true, id: 2 }];
+    assert_eq!(rt;
+        adds,
+        (
+            Ok(1),
+            Err(Refused::Present(1)),
+            Ok(3),
+            Err(Refused::JournalFull(3))
+        )
+    );
+    assert_eq!(rt;
+        deletes,
+        (
+            Err(DeleteFault::Absent),
+            Ok(2),
+            Err(DeleteFault::JournalFull(3))
+        )
+    );
+    assert_eq!(rt; journal?.as_slice(), wanted.as_slice());
+    Ok(())
 }
+
+type Added = Result<u64, Refused>;
+
+type Deleted = Result<u64, DeleteFault>;
 
 struct Refusals;
 
 impl Case for Refusals {
-    fn run<N: PoolName, R: Wait + Abort>(
-        rt: &R,
-        alloc: Global,
-        opened: Opened<N>,
-    ) -> Result<(), Fail> {
-        let Opened { engine, mut passes } = opened;
-        let mut second = last(rt, alloc, &engine, &mut passes)?;
-        let mut first = last(rt, alloc, &engine, &mut passes)?;
-        assert_eq!(rt; first.add(1, "x").ok(), Some(1));
-        assert!(rt; matches!(second.add(1, "y"), Err(AddFault::Present(1))));
-        assert_eq!(rt; first.delete(2), Err(DeleteFault::Absent));
-        assert_eq!(rt; second.delete(1), Ok(2));
-        assert_eq!(rt; first.add(2, "x").ok(), Some(3));
-        assert!(rt; matches!(first.add(3, "x"), Err(AddFault::JournalFull(3))));
-        assert_eq!(rt; second.delete(2), Err(DeleteFault::JournalFull(3)));
-        let commits = second.journal(1)?;
-        let wanted = [Commit { add: false, id: 1 }, Commit { add: true, id: 2 }];
-        assert_eq!(rt; commits.as_slice(), wanted.as_slice());
-        Ok(())
+    type Seen = (
+        (Added, Added, Added, Added),
+        (Deleted, Deleted, Deleted),
+        Result<Commits, JournalFault>,
+    );
+
+    fn run<N: PoolName, R: Wait>(callers: Callers<'_, N, R>) -> Self::Seen {
+        let Callers {
+            mut first,
+            mut second,
+            ..
+        } = callers;
+        let added = first.add(1, "x");
+        let present = second.add(1, "y");
+        let absent = first.delete(2);
+        let deleted = second.delete(1);
+        let last = first.add(2, "x");
+        let full = first.add(3, "x");
+        let kept = second.delete(2);
+        let adds = (added, present, last, full);
+        (adds, (absent, deleted, kept), second.journal(1))
     }
 }
 
@@ -50,43 +71,44 @@ impl Case for Refusals {
 #[test]
 fn a_note_is_met(rt: HostRuntime) -> Result<(), Fail> {
     let alloc = rt.alloc();
-    test::<Notes, _>(&rt, alloc, &config(alloc, 2, 1, 1, 1024))
+    let seen = run::<Notes, _>(&rt, alloc, &config(alloc, 2, 1, 1, 1024))?;
+    assert_eq!(rt; seen, (Ok(1), true));
+    Ok(())
 }
 
 struct Notes;
 
 impl Case for Notes {
-    fn run<N: PoolName, R: Wait + Abort>(
-        rt: &R,
-        alloc: Global,
-        opened: Opened<N>,
-    ) -> Result<(), Fail> {
-        let Opened { engine, mut passes } = opened;
-        let mut second = last(rt, alloc, &engine, &mut passes)?;
-        let mut first = last(rt, alloc, &engine, &mut passes)?;
-        assert_eq!(rt; first.add(7, "x").ok(), Some(1));
+    type Seen = (Added, bool);
+
+    fn run<N: PoolName, R: Wait>(callers: Callers<'_, N, R>) -> Self::Seen {
+        let Callers {
+            mut first,
+            mut second,
+            ..
+        } = callers;
+        let added = first.add(7, "x");
         second.see_as_much(&mut first);
-        assert!(rt; is_range(&second.find("x")?, (7, 8)));
-        Ok(())
+        (added, second.finds("x", (7, 8)))
     }
 }
 
-/// Lets another pass add document 7 before a column is written.
+/// Lets another pass add document 4 before a column is written.
 #[derive(Drop)]
-struct Overtaken<'c, 'e, N: PoolName, R: Wait> {
-    other: &'c mut Caller<'e, N, R>,
-    place: Option<u64>,
+struct Overtaken<'e, N: PoolName, R: Wait> {
+    other: Caller<'e, N, R>,
+    added: Option<Added>,
 }
 
-impl<'c, 'e, N: PoolName, R: Wait> Clearer for Overtaken<'c, 'e, N, R> {
+impl<'e, N: PoolName, R: Wait> Clearer for Overtaken<'e, N, R> {
     fn clear(&mut self, pool: &Pool, seat: &mut PassSeat, layout: &Layout, job: &ClearJob) {
         Direct.clear(pool, seat, layout, job)
     }
 }
 
-impl<'c, 'e, N: PoolName, R: Wait> Work for Overtaken<'c, 'e, N, R> {
+impl<'e, N: PoolName, R: Wait> Work for Overtaken<'e, N, R> {
     fn write(&mut self, pool: &Pool, seat: &mut PassSeat, claim: &Claim, bits: &Bits) {
-        self.place = self.other.add(7, "y").ok();
+        self.added = Some(self.other.add(4, "y"));
         Direct.write(pool, seat, claim, bits)
     }
 
@@ -102,59 +124,114 @@ impl<'c, 'e, N: PoolName, R: Wait> Work for Overtaken<'c, 'e, N, R> {
     }
 }
 
-/// Two passes add one number. The one that claims its column first commits last, and its document is dropped.
+/// Two passes add one number. The one that claims its column first commits last, and its document is dropped. Its column
+/// keeps nothing out of the slice, which is used again once all others are deleted.
 #[test]
 fn the_later_commit_of_a_number_is_dropped(rt: HostRuntime) -> Result<(), Fail> {
     let alloc = rt.alloc();
-    test::<Drops, _>(&rt, alloc, &config(alloc, 2, 1, 1, 1024))
+    let (adds, found, (filled, full), emptied, recycled) = run::<Drops, _>(
+        &rt,
+        alloc,
+        &config(alloc, 2, 1, 1, 1024),
+    )?;
+    let block = Some(Block::Live { column: 1 });
+    assert_eq!(rt; adds, (Err(Refused::Present(1)), Some(Ok(1))));
+    assert_eq!(rt; found, (true, true));
+    assert_eq!(rt; (filled, full), (true, Err(Refused::Full(block))));
+    assert_eq!(rt; emptied, (Ok(64), true));
+    assert_eq!(rt; recycled, Recycled::Done(0));
+    Ok(())
 }
 
 struct Drops;
 
 impl Case for Drops {
-    fn run<N: PoolName, R: Wait + Abort>(
-        rt: &R,
-        alloc: Global,
-        opened: Opened<N>,
-    ) -> Result<(), Fail> {
-        let Opened { engine, mut passes } = opened;
-        let second = passes.pop().ok_or("a second pass")?;
-        let mut pass = passes.pop().ok_or("a first pass")?;
-        let (late, early) = add_overtaken(rt, alloc, &engine, &mut pass, second);
-        assert_eq!(rt; early, Some(1));
-        assert!(rt; matches!(late, Err(AddFault::Present(1))));
-        let mut first = caller(rt, alloc, &engine, pass);
-        assert!(rt; is_range(&first.find("y")?, (7, 8)));
-        assert!(rt; first.find("x")?.as_slice().is_empty());
-        assert!(rt; first.add_all((101, 163), 1));
-        assert!(rt; matches!(first.add(8, "x"), Err(AddFault::Full(_))));
+    type Seen = (
+        (Added, Option<Added>),
+        (bool, bool),
+        (bool, Added),
+        (Deleted, bool),
+        Recycled,
+    );
+
+    fn run<N: PoolName, R: Wait>(callers: Callers<'_, N, R>) -> Self::Seen {
+        let Callers {
+            first,
+            mut second,
+            ..
+        } = callers;
+        let (mut first, adds) = add_overtaken(&mut second, first);
+        let found = (first.finds("y", (4, 5)), first.finds("x", (0, 0)));
+        let filled = (first.add_all((101, 163), 1), first.add(8, "x"));
+        let emptied = (first.delete(4), first.delete_all((101, 163), 64));
+        (adds, found, filled, emptied, first.recycle())
+    }
+}
+
+/// Adds document 4, which the other pass adds before the column of this one is written. What both were answered.
+fn add_overtaken<'e, N: PoolName, R: Wait>(
+    caller: &mut Caller<'_, N, R>,
+    other: Caller<'e, N, R>,
+) -> (Caller<'e, N, R>, (Added, Option<Added>)) {
+    let mut work = Overtaken { other, added: None };
+    let late = caller.add_by(4, "x", &mut work);
+    let Overtaken { other, added } = work;
+    (other, (late, added))
+}
+
+/// Sees whether the candidates of a find are the columns 0 and 1 of slice 0.
+#[derive(Drop)]
+struct Watched {
+    both: bool,
+}
+
+impl Clearer for Watched {
+    fn clear(&mut self, pool: &Pool, seat: &mut PassSeat, layout: &Layout, job: &ClearJob) {
+        Direct.clear(pool, seat, layout, job)
+    }
+}
+
+impl Work for Watched {
+    fn write(&mut self, pool: &Pool, seat: &mut PassSeat, claim: &Claim, bits: &Bits) {
+        Direct.write(pool, seat, claim, bits)
+    }
+
+    fn scan(
+        &mut self,
+        rows: &mut Shared<'_>,
+        layout: &Layout,
+        plan: &Plan,
+        slice: u32,
+        out: &mut Candidates,
+    ) -> Result<(), Memory> {
+        Direct.scan(rows, layout, plan, slice, out)?;
+        self.both = out.as_slice() == [(0, 0), (0, 1)].as_slice();
         Ok(())
     }
 }
 
-/// Adds document 7, which the second pass adds before the column of the first one is written. What both were answered.
-fn add_overtaken<N: PoolName, R: Wait>(
-    rt: &R,
-    alloc: Global,
-    engine: &Engine<N>,
-    first: &mut Pass,
-    second: Pass,
-) -> (Result<u64, AddFault>, Option<u64>)
-    requires named { engine.now ≡ N.pool }
-    requires first { IsResting N.pool first.old }
-    requires second { IsResting N.pool second }
-    ensures first { IsResting N.pool first.new }
-{
-    let mut other = Caller {
-        engine,
-        pass: second,
-        rt,
-        alloc,
-    };
-    let mut work = Overtaken {
-        other: &mut other,
-        place: None,
-    };
-    let late = engine.add_by(rt, alloc, first, 7, "x", &mut work);
-    (late, work.place)
+/// All words have the same rows, so each document is a candidate of each find. What is found is right all the same.
+#[test]
+fn a_candidate_without_the_word_is_not_found(rt: HostRuntime) -> Result<(), Fail> {
+    let alloc = rt.alloc();
+    let seen = run::<FewRows, _>(&rt, alloc, &few_rows(alloc))?;
+    assert_eq!(rt; seen, ((Ok(1), Ok(2)), true, true));
+    Ok(())
+}
+
+struct FewRows;
+
+impl Case for FewRows {
+    type Seen = ((Added, Added), bool, bool);
+
+    fn run<N: PoolName, R: Wait>(callers: Callers<'_, N, R>) -> Self::Seen {
+        let Callers { mut first, .. } = callers;
+        let adds = (first.add(1, "cat"), first.add(2, "dog"));
+        let mut work = Watched { both: false };
+        let found = match first.find_by("cat", &mut work) {
+            Ok(ids) => is_range(&ids, (1, 2)),
+            Err(_) => false,
+        };
+        (adds, found, work.both)
+    }
 }

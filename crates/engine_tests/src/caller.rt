@@ -2,14 +2,23 @@
 ghost use Rattle.std.specs.Prelude.{◌≡◌};
 
 use engine::{
-    AddFault, DeleteFault, Direct, Engine, FindFault, JournalFault, OpenFind, Pass, PoolName,
-    Recycled, Spent, Work,
+    AddFault, DeleteFault, Engine, FindFault, JournalFault, OpenFind, Pass, PoolName, Recycled,
+    Spent, Work,
 };
-use funnel_model::{Commits, Ids, Memory};
+use funnel_model::{Block, Blocked, Commits, Ids, Memory};
 use std::alloc::Global;
 use std::marker::Model;
 use std::sync::Wait;
-use std::test::Fail;
+
+/// Why an add was refused. Of a full engine it tells what keeps documents out, where that is one slice alone.
+#[derive(Clone, Copy, Debug, PartialEq, Eq)]
+pub(crate) enum Refused {
+    Present(u64),
+    JournalFull(u64),
+    Full(Option<Block>),
+    Spent(u64),
+    Memory,
+}
 
 /// A pass of an engine, which rests between its calls. Contracts see its number.
 #[derive(Drop)]
@@ -36,18 +45,21 @@ impl<'e, N: PoolName, R: Wait> Caller<'e, N, R> {
         self.pass.number()
     }
 
-    pub fn add(&mut self, id: u64, text: &str) -> Result<u64, AddFault>
+    pub fn add(&mut self, id: u64, text: &str) -> Result<u64, Refused>
         ensures { self.new ≡ self.old }
     {
-        self.engine
-            .add(self.rt, self.alloc, &mut self.pass, id, text)
+        let (rt, alloc) = (self.rt, self.alloc);
+        told(self.engine.add(rt, alloc, &mut self.pass, id, text))
     }
 
-    pub fn add_by<W: Work>(&mut self, id: u64, text: &str, work: &mut W) -> Result<u64, AddFault>
+    pub fn add_by<W: Work>(&mut self, id: u64, text: &str, work: &mut W) -> Result<u64, Refused>
         ensures { self.new ≡ self.old }
     {
-        self.engine
-            .add_by(self.rt, self.alloc, &mut self.pass, id, text, work)
+        let (rt, alloc) = (self.rt, self.alloc);
+        told(
+            self.engine
+                .add_by(rt, alloc, &mut self.pass, id, text, work),
+        )
     }
 
     pub fn delete(&mut self, id: u64) -> Result<u64, DeleteFault>
@@ -67,6 +79,16 @@ impl<'e, N: PoolName, R: Wait> Caller<'e, N, R> {
     {
         self.engine
             .find_by(self.rt, self.alloc, &mut self.pass, query, work)
+    }
+
+    /// Whether a find has the numbers from the first up to the second, in order.
+    pub fn finds(&mut self, query: &str, range: (u64, u64)) -> bool
+        ensures { self.new ≡ self.old }
+    {
+        match self.find(query) {
+            Ok(ids) => is_range(&ids, range),
+            Err(_) => false,
+        }
     }
 
     pub fn place(&mut self) -> Result<u64, Spent>
@@ -103,8 +125,8 @@ impl<'e, N: PoolName, R: Wait> Caller<'e, N, R> {
         self.engine.meet(&mut self.pass, note)
     }
 
-    /// Begins a find.
-    pub fn begin(self, query: &str) -> Result<Finding<'e, N, R>, Fail> {
+    /// Begins a find, where it can.
+    pub fn begin(self, query: &str) -> Option<Finding<'e, N, R>> {
         let Caller {
             engine,
             pass,
@@ -112,21 +134,27 @@ impl<'e, N: PoolName, R: Wait> Caller<'e, N, R> {
             alloc,
         } = self;
         match engine.begin_find(rt, alloc, pass, query) {
-            Ok(find) => Ok(Finding {
+            Ok(find) => Some(Finding {
                 engine,
                 find,
                 rt,
                 alloc,
             }),
-            Err(_) => Err(Fail::new("a find begins")),
+            Err(_) => None,
         }
     }
 
-    /// Adds documents with these numbers and one word, which are answered by the places after `before`.
+    /// Adds documents with these numbers and one word. Whether they were answered by the places after `before`.
     pub fn add_all(&mut self, ids: (u64, u64), before: u64) -> bool
         ensures { self.new ≡ self.old }
     {
-        self.add_all_by(ids, before, &mut Direct)
+        let mut as_wanted = true;
+        let mut place = before;
+        for id in ids.0..ids.1 {
+            place = place.wrapping_add(1);
+            as_wanted = as_wanted && self.add(id, "x") == Ok(place);
+        }
+        as_wanted
     }
 
     /// So by `work`.
@@ -137,13 +165,12 @@ impl<'e, N: PoolName, R: Wait> Caller<'e, N, R> {
         let mut place = before;
         for id in ids.0..ids.1 {
             place = place.wrapping_add(1);
-            let answer = self.add_by(id, "x", work);
-            as_wanted = as_wanted && answer.ok() == Some(place);
+            as_wanted = as_wanted && self.add_by(id, "x", work) == Ok(place);
         }
         as_wanted
     }
 
-    /// Deletes documents with these numbers, which are answered by the places after `before`.
+    /// Deletes documents with these numbers. Whether they were answered by the places after `before`.
     pub fn delete_all(&mut self, ids: (u64, u64), before: u64) -> bool
         ensures { self.new ≡ self.old }
     {
@@ -176,27 +203,52 @@ impl<'e, N: PoolName, R: Wait> Model for Finding<'e, N, R> {
 }
 
 impl<'e, N: PoolName, R: Wait> Finding<'e, N, R> {
-    pub fn finish(self) -> (Caller<'e, N, R>, Result<Ids, Memory>) {
+    /// Ends the find. Whether it has the numbers from the first up to the second, in order.
+    pub fn has(self, range: (u64, u64)) -> bool {
         let Finding {
             engine,
             find,
             rt,
             alloc,
         } = self;
-        let (pass, ids) = engine.finish_find(rt, alloc, find);
-        (
-            Caller {
-                engine,
-                pass,
-                rt,
-                alloc,
-            },
-            ids,
-        )
+        let (_, ids) = engine.finish_find(rt, alloc, find);
+        match ids {
+            Ok(ids) => is_range(&ids, range),
+            Err(Memory) => false,
+        }
+    }
+}
+
+/// So of a find that could begin.
+pub(crate) fn has<N: PoolName, R: Wait>(
+    find: Option<Finding<'_, N, R>>,
+    range: (u64, u64),
+) -> bool {
+    match find {
+        Some(find) => find.has(range),
+        None => false,
     }
 }
 
 /// Whether these are the numbers from the first up to the second, in order.
 pub(crate) fn is_range(ids: &Ids, range: (u64, u64)) -> bool {
     ids.as_slice().iter().copied().eq(range.0..range.1)
+}
+
+fn told(answer: Result<u64, AddFault>) -> Result<u64, Refused> {
+    match answer {
+        Ok(place) => Ok(place),
+        Err(AddFault::Present(place)) => Err(Refused::Present(place)),
+        Err(AddFault::JournalFull(count)) => Err(Refused::JournalFull(count)),
+        Err(AddFault::Full(blocks)) => Err(Refused::Full(only(&blocks))),
+        Err(AddFault::Spent(events)) => Err(Refused::Spent(events)),
+        Err(AddFault::Memory) => Err(Refused::Memory),
+    }
+}
+
+fn only(blocks: &Blocked) -> Option<Block> {
+    match blocks.as_slice() {
+        [block] => Some(*block),
+        _ => None,
+    }
 }

@@ -3,9 +3,9 @@
 ghost use Rattle.std.specs.Prelude.{◌≡◌};
 
 use crate::beside::{Task, work_beside};
-use crate::caller::Caller;
+use crate::caller::{Caller, Refused};
 use crate::setting::config;
-use engine::{AddFault, DeleteFault, PoolName, Recycled};
+use engine::{DeleteFault, PoolName, Recycled};
 use funnel_model::{Commit, Ids};
 use std::alloc::Global;
 use std::sync::{Mutex, Wait};
@@ -112,8 +112,8 @@ fn add_one<N: PoolName, R: Wait>(
     let is_live = live.as_slice().contains(&id);
     match (is_live, caller.add(id, "x")) {
         (false, Ok(_)) => live.push(id).or(Err(Wrong::Memory)),
-        (true, Err(AddFault::Present(_))) => Ok(()),
-        (false, Err(AddFault::Full(_))) => recycle_one(caller),
+        (true, Err(Refused::Present(_))) => Ok(()),
+        (false, Err(Refused::Full(_))) => recycle_one(caller),
         _ => Err(Wrong::Add),
     }
 }

@@ -141,7 +141,7 @@ fn work_through<N: PoolName, R: Wait>(
         && caller.recycle_by(&mut work) == Recycled::Done(0)
         && caller.add_all((1, 65), 128)
         && caller.delete_all((1, 65), 192)
-        && caller.add_by(500, "y", &mut work).ok() == Some(257);
+        && caller.add_by(500, "y", &mut work) == Ok(257);
     (as_wanted, work.counts)
 }
 

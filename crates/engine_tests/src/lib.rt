@@ -18,6 +18,10 @@ mod free_lock;
 #[cfg(test)]
 mod guards;
 #[cfg(test)]
+mod large;
+#[cfg(test)]
 mod setting;
 #[cfg(test)]
 mod threads;
+#[cfg(test)]
+mod together;

@@ -8,18 +8,23 @@ use engine::{Blank, Engine, Pass, PoolName};
 use funnel_model::{Config, Listed};
 use std::alloc::Global;
 use std::marker::{Brand, Model};
-use std::process::Abort;
 use std::sync::Wait;
-use std::test::*;
+use std::test::Fail;
 use treatment::sizes;
 
-/// What is tested on one thread.
+/// The calls of a test on one thread, and what they give.
 pub(crate) trait Case {
-    fn run<N: PoolName, R: Wait + Abort>(
-        rt: &R,
-        alloc: Global,
-        opened: Opened<N>,
-    ) -> Result<(), Fail>;
+    type Seen;
+
+    fn run<N: PoolName, R: Wait>(callers: Callers<'_, N, R>) -> Self::Seen;
+}
+
+/// The passes of an engine that has two or three.
+#[derive(Drop)]
+pub(crate) struct Callers<'e, N: PoolName, R: Wait> {
+    pub first: Caller<'e, N, R>,
+    pub second: Caller<'e, N, R>,
+    pub third: Option<Caller<'e, N, R>>,
 }
 
 /// An engine, and all its passes by their numbers.
@@ -72,6 +77,17 @@ pub(crate) fn config(alloc: Global, passes: u32, slices: u32, blocks: u32, commi
     }
 }
 
+/// Two passes and two slices, and one row of each rank up to 6.
+pub(crate) fn few_rows(alloc: Global) -> Config
+    ensures in_range { IsInRange result }
+    ensures no_words { result.words ≡ [] }
+{
+    let mut config = config(alloc, 2, 2, 1, 1024);
+    config.max_rank = 6;
+    config.max_rows = 1;
+    config
+}
+
 /// The words of an engine with this configuration.
 pub(crate) fn blank(alloc: Global, config: &Config) -> Result<Blank, Fail>
     requires in_range { IsInRange config.now }
@@ -99,12 +115,8 @@ pub(crate) fn open<N: PoolName>(
     Ok(Opened { engine, passes })
 }
 
-/// Tests an engine with this configuration.
-pub(crate) fn test<C: Case, R: Wait + Abort>(
-    rt: &R,
-    alloc: Global,
-    config: &Config,
-) -> Result<(), Fail>
+/// Makes the calls at a new engine with this configuration, and gives what they give.
+pub(crate) fn run<C: Case, R: Wait>(rt: &R, alloc: Global, config: &Config) -> Result<C::Seen, Fail>
     requires in_range { IsInRange config.now }
     requires no_words { config.now.words ≡ [] }
 {
@@ -112,39 +124,59 @@ pub(crate) fn test<C: Case, R: Wait + Abort>(
     open_and_run::<C, Brand, _>(rt, alloc, config, blank)
 }
 
-fn open_and_run<C: Case, N: PoolName, R: Wait + Abort>(
+fn open_and_run<C: Case, N: PoolName, R: Wait>(
     rt: &R,
     alloc: Global,
     config: &Config,
     blank: Blank,
-) -> Result<(), Fail>
+) -> Result<C::Seen, Fail>
     requires made_with { blank.config ≡ config.now }
     requires named { blank ≡ N.pool }
 {
     let opened = open::<N>(alloc, config, blank)?;
-    C::run(rt, alloc, opened)
+    let Opened { engine, mut passes } = opened;
+    run_with::<C, _, _>(rt, alloc, &engine, &mut passes)
 }
 
-/// A pass with its calls.
-pub(crate) fn caller<'e, N: PoolName, R: Wait>(
+fn run_with<C: Case, N: PoolName, R: Wait>(
+    rt: &R,
+    alloc: Global,
+    engine: &Engine<N>,
+    passes: &mut Vec<Pass>,
+) -> Result<C::Seen, Fail>
+    requires named { engine.now ≡ N.pool }
+    requires rest { All (IsResting N.pool) passes.old.items }
+{
+    let callers = with_calls(rt, alloc, engine, passes)?;
+    Ok(C::run(callers))
+}
+
+/// The passes, with their calls.
+pub(crate) fn with_calls<'e, N: PoolName, R: Wait>(
     rt: &'e R,
     alloc: Global,
     engine: &'e Engine<N>,
-    pass: Pass,
-) -> Caller<'e, N, R>
+    passes: &mut Vec<Pass>,
+) -> Result<Callers<'e, N, R>, Fail>
     requires named { engine.now ≡ N.pool }
-    requires rests { IsResting N.pool pass }
+    requires rest { All (IsResting N.pool) passes.old.items }
 {
-    Caller {
-        engine,
-        pass,
-        rt,
-        alloc,
-    }
+    let third = if passes.len() > 2 {
+        Some(last(rt, alloc, engine, passes)?)
+    } else {
+        None
+    };
+    let second = last(rt, alloc, engine, passes)?;
+    let first = last(rt, alloc, engine, passes)?;
+    Ok(Callers {
+        first,
+        second,
+        third,
+    })
 }
 
-/// So the last of the passes.
-pub(crate) fn last<'e, N: PoolName, R: Wait>(
+/// The last of the passes.
+fn last<'e, N: PoolName, R: Wait>(
     rt: &'e R,
     alloc: Global,
     engine: &'e Engine<N>,
@@ -155,5 +187,10 @@ pub(crate) fn last<'e, N: PoolName, R: Wait>(
     ensures rest { All (IsResting N.pool) passes.new.items }
 {
     let pass = passes.pop().ok_or("a pass")?;
-    Ok(caller(rt, alloc, engine, pass))
+    Ok(Caller {
+        engine,
+        pass,
+        rt,
+        alloc,
+    })
 }

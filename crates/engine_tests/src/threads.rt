@@ -1,14 +1,15 @@
-//! Threads that use one engine beside each other.
+//! Threads that add, delete and find beside each other.
 ghost use Rattle.std.specs.Prelude.{◌≡◌};
 
 use crate::beside::{Task, work_beside};
-use crate::caller::Caller;
+use crate::caller::{Caller, Refused};
 use crate::setting::config;
-use engine::{AddFault, PoolName};
+use engine::PoolName;
 use funnel_model::{Commit, Memory};
 use std::sync::Wait;
 use std::sync::atomic::{AtomicU64, Ordering};
 use std::test::*;
+use std::thread;
 
 /// Each pass adds 500 documents of its own, and looks for each.
 #[derive(Drop)]
@@ -40,10 +41,7 @@ fn add_and_find<N: PoolName, R: Wait>(
     let text = format!(in caller.alloc; "x u{id}")?;
     let word = format!(in caller.alloc; "u{id}")?;
     let added = caller.add(id, text.as_str()).is_ok();
-    match caller.find(word.as_str()) {
-        Ok(ids) => Ok(added && ids.as_slice() == [id].as_slice()),
-        Err(_) => Ok(false),
-    }
+    Ok(added && caller.finds(word.as_str(), (id, id.saturating_add(1))))
 }
 
 /// Whether the commits of a pass are adds of its numbers, in rising order.
@@ -76,19 +74,24 @@ fn two_threads_add_and_find(rt: HostRuntime) -> Result<(), Fail> {
     Ok(())
 }
 
-/// The first pass adds and deletes the numbers 1 to 64 in 200 rounds, and the second one finds beside it.
+/// The first pass adds and deletes the numbers 1 to 64 in 200 rounds, and the second one finds beside it until the first is
+/// through.
 #[derive(Drop)]
 struct Reuse {
     /// How many threads were answered as they have to be.
     right: AtomicU64,
+    /// Not 0 once the first pass is through.
+    over: AtomicU64,
 }
 
 impl Task for Reuse {
     fn work<N: PoolName, R: Wait>(&self, caller: &mut Caller<'_, N, R>) {
         let as_wanted = if caller.number() == 0 {
-            add_and_delete_often(caller)
+            let rounds = add_and_delete_often(caller);
+            self.over.store(1, Ordering::SeqCst);
+            rounds
         } else {
-            find_often(caller)
+            find_until(caller, &self.over)
         };
         if as_wanted {
             self.right.fetch_add(1, Ordering::SeqCst);
@@ -101,47 +104,60 @@ fn add_and_delete_often<N: PoolName, R: Wait>(caller: &mut Caller<'_, N, R>) -> 
 {
     let mut as_wanted = true;
     for _round in 0..200 {
-        let round = add_and_delete(caller);
-        as_wanted = as_wanted && round;
+        as_wanted = as_wanted && add_and_delete(caller);
     }
     as_wanted
 }
 
-/// One round. An add may find the engine full, and then nothing is there to delete.
+/// One round. Only its first add may find the engine full, until a find that guards the slice has ended.
 fn add_and_delete<N: PoolName, R: Wait>(caller: &mut Caller<'_, N, R>) -> bool
     ensures { caller.new ≡ caller.old }
 {
-    let mut as_wanted = true;
-    for id in 1..65 {
-        let answer = caller.add(id, "x");
-        as_wanted = as_wanted && is_added_or_full(answer);
+    let mut as_wanted = add_at_last(caller, 1);
+    for id in 2..65 {
+        as_wanted = as_wanted && caller.add(id, "x").is_ok();
     }
     for id in 1..65 {
-        let _ = caller.delete(id);
+        as_wanted = as_wanted && caller.delete(id).is_ok();
     }
     as_wanted
 }
 
-fn is_added_or_full(answer: Result<u64, AddFault>) -> bool {
-    match answer {
-        Ok(_) | Err(AddFault::Full(_)) => true,
-        Err(_) => false,
+/// Adds a document as soon as the engine isn't full, after so many turns at most.
+fn add_at_last<N: PoolName, R: Wait>(caller: &mut Caller<'_, N, R>, id: u64) -> bool
+    ensures { caller.new ≡ caller.old }
+{
+    for _turn in 0..1_000_000 {
+        match caller.add(id, "x") {
+            Ok(_) => return true,
+            Err(Refused::Full(_)) => thread::yield_now(),
+            Err(_) => return false,
+        }
     }
+    false
 }
 
-/// 2,000 finds: each has some of the numbers 1 to 64, in the order in which they were added.
-fn find_often<N: PoolName, R: Wait>(caller: &mut Caller<'_, N, R>) -> bool
+/// Finds until the other pass is through. Each find has some of the numbers 1 to 64, in the order in which they were added.
+fn find_until<N: PoolName, R: Wait>(caller: &mut Caller<'_, N, R>, over: &AtomicU64) -> bool
     ensures { caller.new ≡ caller.old }
 {
     let mut as_wanted = true;
-    for _find in 0..2000 {
-        let rising = match caller.find("x") {
-            Ok(ids) => is_rising_to(ids.as_slice(), 64),
-            Err(_) => false,
-        };
-        as_wanted = as_wanted && rising;
+    for _find in caller.rt.forever() {
+        as_wanted = as_wanted && finds_some(caller);
+        if over.load(Ordering::SeqCst) != 0 {
+            break;
+        }
     }
     as_wanted
+}
+
+fn finds_some<N: PoolName, R: Wait>(caller: &mut Caller<'_, N, R>) -> bool
+    ensures { caller.new ≡ caller.old }
+{
+    match caller.find("x") {
+        Ok(ids) => is_rising_to(ids.as_slice(), 64),
+        Err(_) => false,
+    }
 }
 
 /// Whether these are numbers from 1 to the last one, in rising order.
@@ -156,14 +172,32 @@ fn is_rising_to(ids: &[u64], last: u64) -> bool {
     before <= last
 }
 
+/// Whether these are rounds of adds of the numbers 1 to 64 and of their deletes.
+fn are_rounds(commits: &[Commit]) -> bool {
+    let mut add = true;
+    let mut id = 1;
+    for commit in commits {
+        if commit.add != add || commit.id != id {
+            return false;
+        }
+        add = add != (id == 64);
+        id = id % 64 + 1;
+    }
+    true
+}
+
 #[test]
 fn a_slice_is_used_again_beside_finds(rt: HostRuntime) -> Result<(), Fail> {
     let alloc = rt.alloc();
     let config = config(alloc, 2, 1, 1, 65_536);
     let reuse = Reuse {
         right: AtomicU64::new(0),
+        over: AtomicU64::new(0),
     };
-    work_beside(&rt, alloc, &config, &reuse)?;
+    let closed = work_beside(&rt, alloc, &config, &reuse)?;
+    let commits = closed.commits.as_slice();
     assert_eq!(rt; reuse.right.load(Ordering::SeqCst), 2);
+    assert_eq!(rt; commits.len(), 25_600);
+    assert!(rt; are_rounds(commits));
     Ok(())
 }

@@ -1,4 +1,4 @@
-use Rattle.engine_tests.proofs.setting.test.Given as goal
+use Rattle.engine_tests.proofs.setting.run.Given as goal
 
 -- the pool of the engine that is opened
 abbrev pub ghosts-open_and_run : goal.ghosts-open_and_run
