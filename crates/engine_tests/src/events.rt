@@ -6,34 +6,34 @@ ghost use Rattle.funnel_model.specs.declared.call.Call.TheVariants as call;
 ghost use Rattle.funnel_model.specs.declared.event.Event.TheVariants as event;
 
 use crate::caller::is_range;
-use crate::setting::{Case, Opened, config, test};
+use crate::setting::{Callers, Case, config, run};
 use engine::{AddFault, Engine, FindFault, Pass, PoolName, Recycled};
 use funnel_model::Ids;
 use std::alloc::Global;
-use std::process::Abort;
 use std::sync::Wait;
 use std::test::*;
 
 #[test]
 fn calls_make_their_events(rt: HostRuntime) -> Result<(), Fail> {
     let alloc = rt.alloc();
-    test::<Events, _>(&rt, alloc, &config(alloc, 1, 1, 1, 1024))
+    let (added, found, recycled) = run::<Events, _>(&rt, alloc, &config(alloc, 2, 1, 1, 1024))?;
+    assert_eq!(rt; added.ok(), Some(1));
+    assert!(rt; is_range(&found?, (1, 2)));
+    assert!(rt; matches!(recycled, Recycled::NoneRetired));
+    Ok(())
 }
 
 struct Events;
 
 impl Case for Events {
-    fn run<N: PoolName, R: Wait + Abort>(
-        rt: &R,
-        alloc: Global,
-        opened: Opened<N>,
-    ) -> Result<(), Fail> {
-        let Opened { engine, mut passes } = opened;
-        let mut pass = passes.pop().ok_or("a pass")?;
-        assert_eq!(rt; add(rt, alloc, &engine, &mut pass, 1, "x").ok(), Some(1));
-        assert!(rt; is_range(&find(rt, alloc, &engine, &mut pass, "x")?, (1, 2)));
-        assert!(rt; matches!(recycle(rt, &engine, &mut pass), Recycled::NoneRetired));
-        Ok(())
+    type Seen = (Result<u64, AddFault>, Result<Ids, FindFault>, Recycled);
+
+    fn run<N: PoolName, R: Wait>(callers: Callers<'_, N, R>) -> Self::Seen {
+        let Callers { mut first, .. } = callers;
+        let added = add(first.rt, first.alloc, first.engine, &mut first.pass, 1, "x");
+        let found = find(first.rt, first.alloc, first.engine, &mut first.pass, "x");
+        let recycled = recycle(first.rt, first.engine, &mut first.pass);
+        (added, found, recycled)
     }
 }
 
