@@ -1,4 +1,5 @@
 //! The program, from its words to its end.
+mod loads;
 mod misfits;
 mod serving;
 mod words;
@@ -6,6 +7,7 @@ mod words;
 use funnel::{Why, funnel_main};
 use funnel_io::{MemGate, MemSink, MemSource};
 use std::alloc::{AllocError, Global};
+use std::fmt::Debug;
 use std::process::Abort;
 use std::sync::Wait;
 use std::test::Fail;
@@ -33,6 +35,15 @@ fn program<R: Threads + Wait + Sync>(
     Ok(funnel_main(rt, alloc, words, &mut config, input, output, gates).why)
 }
 
+// Expects two values to be equal. An assertion is proved here and not in each test.
+fn expect<R: Abort, T: PartialEq + Debug + Drop>(rt: &R, given: T, wanted: T) {
+    assert_eq!(rt; given, wanted);
+}
+
+fn expect_written<R: Abort>(rt: &R, output: &MemSink, bytes: &[u8]) {
+    expect(rt, output.bytes(), bytes);
+}
+
 // Runs the lines with a configuration, and expects the replies.
 fn expect_replies<R: Threads + Wait + Abort + Sync>(
     rt: &R,
@@ -44,91 +55,99 @@ fn expect_replies<R: Threads + Wait + Abort + Sync>(
     let mut input = source_of(alloc, &[lines], &[])?;
     let mut output = MemSink::new(alloc, 300_000, Vec::new(alloc))?;
     let why = program(rt, alloc, &["run"], config, &mut input, &mut output)?;
-    assert_eq!(rt; why.status(), 0);
-    assert_eq!(rt; output.bytes(), replies);
+    expect(rt, why.status(), 0);
+    expect_written(rt, &output, replies);
     Ok(())
 }
 
+// Configurations, lines, and the replies.
+static ANSWERED: [(&str, &[u8], &str); 18] = [
+    ("", b"", ""),
+    ("", b"add 7 The cat sat\nfind CAT\n", "added 1\nfound 1 7\n"),
+    (
+        "{}",
+        b"add 1 Stra\xc3\x9fe\nfind STRASSE\n",
+        "added 1\nfound 1 1\n",
+    ),
+    (
+        "",
+        b"add 7 The cat sat\nfind cat cat the\n",
+        "added 1\nfound 1 7\n",
+    ),
+    (
+        "",
+        b"add 9 x\nadd 3 y\nfind\n",
+        "added 1\nadded 2\nfound 2 9 3\n",
+    ),
+    (
+        "",
+        b"add 9 x\nadd 3 x\nfind x\n",
+        "added 1\nadded 2\nfound 2 9 3\n",
+    ),
+    (
+        "",
+        b"add 9 x\nadd 3 x\ndel 9\nadd 9 x\nfind x\n",
+        "added 1\nadded 2\ndeleted 3\nadded 4\nfound 2 3 9\n",
+    ),
+    (
+        "",
+        b"add 7 a\nadd 7 b\nfind b\nplace\n",
+        "added 1\nrefused present 1\nfound 0\nplace 1\n",
+    ),
+    ("", b"del 5\nplace\n", "refused absent\nplace 0\n"),
+    (
+        "",
+        b"add 18446744073709551615 a\nadd 18446744073709551616 a\nadd 007 b\nfind b\n",
+        "added 1\nrefused line\nadded 2\nfound 1 7\n",
+    ),
+    (
+        "",
+        b"addx 1 a\n\nfind \xff\nplace\r\nfind",
+        "refused line\nrefused line\nrefused line\nplace 0\nfound 0\n",
+    ),
+    (
+        "",
+        b"place \ndel\ndel 1 \njournal\njournal \nrecycle \n",
+        "refused line\nrefused line\nrefused line\nrefused line\nrefused line\nrefused line\n",
+    ),
+    (
+        r#"{"max_rank":6,"max_rows":1}"#,
+        b"add 1 cat\nadd 2 dog\nfind cat\n",
+        "added 1\nadded 2\nfound 1 1\n",
+    ),
+    (
+        r#"{"commits":1}"#,
+        b"add 1 a\nadd 2 b\ndel 1\ndel 2\nadd 1 a\n",
+        "added 1\nrefused journal full\nrefused journal full\nrefused absent\nrefused present 1\n",
+    ),
+    (
+        "",
+        b"add 9 x\ndel 9\nadd 3 x\njournal 1\njournal 3\njournal 99\n",
+        "added 1\ndeleted 2\nadded 3\ncommits 2 -9 +3\ncommits 0\ncommits 0\n",
+    ),
+    ("", b"recycle\n", "nothing retired\n"),
+    (
+        r#"{"documents":10,"words":{"cat":10,"dog":1}}"#,
+        b"add 1 cat dog\nadd 2 cat\nfind dog cat\nfind cat\n",
+        "added 1\nadded 2\nfound 1 1\nfound 2 1 2\n",
+    ),
+    (
+        r#"{"passes":64,"slices":1024,"commits":3}"#,
+        b"add 1 a\nfind a\n",
+        "added 1\nfound 1 1\n",
+    ),
+];
+
 #[test]
 fn lines_are_answered(rt: HostRuntime) -> Result<(), Fail> {
-    let rows: [(&str, &[u8], &str); 18] = [
-        ("", b"", ""),
-        ("", b"add 7 The cat sat\nfind CAT\n", "added 1\nfound 1 7\n"),
-        (
-            "{}",
-            "add 1 Straße\nfind STRASSE\n".as_bytes(),
-            "added 1\nfound 1 1\n",
-        ),
-        (
-            "",
-            b"add 7 The cat sat\nfind cat cat the\n",
-            "added 1\nfound 1 7\n",
-        ),
-        (
-            "",
-            b"add 9 x\nadd 3 y\nfind\n",
-            "added 1\nadded 2\nfound 2 9 3\n",
-        ),
-        (
-            "",
-            b"add 9 x\nadd 3 x\nfind x\n",
-            "added 1\nadded 2\nfound 2 9 3\n",
-        ),
-        (
-            "",
-            b"add 9 x\nadd 3 x\ndel 9\nadd 9 x\nfind x\n",
-            "added 1\nadded 2\ndeleted 3\nadded 4\nfound 2 3 9\n",
-        ),
-        (
-            "",
-            b"add 7 a\nadd 7 b\nfind b\nplace\n",
-            "added 1\nrefused present 1\nfound 0\nplace 1\n",
-        ),
-        ("", b"del 5\nplace\n", "refused absent\nplace 0\n"),
-        (
-            "",
-            b"add 18446744073709551615 a\nadd 18446744073709551616 a\nadd 007 b\nfind b\n",
-            "added 1\nrefused line\nadded 2\nfound 1 7\n",
-        ),
-        (
-            "",
-            b"addx 1 a\n\nfind \xff\nplace\r\nfind",
-            "refused line\nrefused line\nrefused line\nplace 0\nfound 0\n",
-        ),
-        (
-            "",
-            b"place \ndel\ndel 1 \njournal\njournal \nrecycle \n",
-            "refused line\nrefused line\nrefused line\nrefused line\nrefused line\nrefused line\n",
-        ),
-        (
-            r#"{"max_rank":6,"max_rows":1}"#,
-            b"add 1 cat\nadd 2 dog\nfind cat\n",
-            "added 1\nadded 2\nfound 1 1\n",
-        ),
-        (
-            r#"{"commits":1}"#,
-            b"add 1 a\nadd 2 b\ndel 1\ndel 2\nadd 1 a\n",
-            "added 1\nrefused journal full\nrefused journal full\nrefused absent\nrefused present 1\n",
-        ),
-        (
-            "",
-            b"add 9 x\ndel 9\nadd 3 x\njournal 1\njournal 3\njournal 99\n",
-            "added 1\ndeleted 2\nadded 3\ncommits 2 -9 +3\ncommits 0\ncommits 0\n",
-        ),
-        ("", b"recycle\n", "nothing retired\n"),
-        (
-            r#"{"documents":10,"words":{"cat":10,"dog":1}}"#,
-            b"add 1 cat dog\nadd 2 cat\nfind dog cat\nfind cat\n",
-            "added 1\nadded 2\nfound 1 1\nfound 2 1 2\n",
-        ),
-        (
-            r#"{"passes":64,"slices":1024,"commits":3}"#,
-            b"add 1 a\nfind a\n",
-            "added 1\nfound 1 1\n",
-        ),
-    ];
-    for (config, input, output) in rows {
-        expect_replies(&rt, rt.alloc(), config.as_bytes(), input, output.as_bytes())?;
+    for (config, lines, replies) in &ANSWERED {
+        expect_replies(
+            &rt,
+            rt.alloc(),
+            config.as_bytes(),
+            lines,
+            replies.as_bytes(),
+        )?;
     }
     Ok(())
 }
@@ -277,8 +296,8 @@ fn expect_fault<R: Threads + Wait + Abort + Sync>(
     let mut input = source_of(alloc, pieces, reads)?;
     let mut output = MemSink::new(alloc, 100, writes.to_vec(alloc)?)?;
     let why = program(rt, alloc, &["run"], b"", &mut input, &mut output)?;
-    assert_eq!(rt; why.status(), status);
-    assert_eq!(rt; output.bytes(), written.as_bytes());
+    expect(rt, why.status(), status);
+    expect_written(rt, &output, written.as_bytes());
     Ok(())
 }
 
@@ -308,74 +327,122 @@ fn a_read_that_fails_within_a_line_ends_the_run(rt: HostRuntime) -> Result<(), F
     let mut input = source_of(alloc, &pieces, &[3])?;
     let mut output = MemSink::new(alloc, 100, Vec::new(alloc))?;
     let why = program(&rt, alloc, &["run"], b"", &mut input, &mut output)?;
-    assert_eq!(rt; why.status(), 3);
-    assert_eq!(rt; output.bytes(), "added 1\nfound 1 1\n".as_bytes());
+    expect(&rt, why.status(), 3);
+    expect(&rt, output.bytes(), "added 1\nfound 1 1\n".as_bytes());
     Ok(())
 }
 
+// How many there are after the first so many, and each of them.
+fn listed(
+    alloc: Global,
+    head: &str,
+    sign: &str,
+    after: u64,
+    last: u64,
+) -> Result<String, AllocError> {
+    let count = last.saturating_sub(after);
+    let mut list = format!(in alloc; "{head} {count}")?;
+    for id in after..last {
+        let number = id.saturating_add(1);
+        list.push_str(format!(in alloc; " {sign}{number}")?.as_str())?;
+    }
+    Ok(list)
+}
+
+impl Script {
+    // Adds of the documents after the first so many, each of the word `x`, and then a find of all and two journals.
+    fn add_and_list(&mut self, alloc: Global, after: u64, last: u64) -> Result<(), AllocError> {
+        for id in after..last {
+            let number = id.saturating_add(1);
+            let line = format!(in alloc; "add {number} x")?;
+            self.line(line.as_str(), format!(in alloc; "added {number}")?.as_str())?;
+        }
+        self.line("find x", listed(alloc, "found", "", 0, last)?.as_str())?;
+        self.line(
+            "journal 0",
+            listed(alloc, "commits", "+", 0, last)?.as_str(),
+        )?;
+        self.line(
+            "journal 7",
+            listed(alloc, "commits", "+", 7, last)?.as_str(),
+        )
+    }
+}
+
 #[test]
-fn many_numbers_are_found(rt: HostRuntime) -> Result<(), Fail> {
+fn many_numbers_are_found_and_told(rt: HostRuntime) -> Result<(), Fail> {
     let alloc = rt.alloc();
     let mut script = Script::new(alloc);
-    let mut found = String::from_str(alloc, "found 2000")?;
-    for id in 1..=2000 {
-        script.line(
-            format!(in alloc; "add {id} x")?.as_str(),
-            format!(in alloc; "added {id}")?.as_str(),
-        )?;
-        found.push_str(format!(in alloc; " {id}")?.as_str())?;
-    }
-    script.line("find x", found.as_str())?;
-    script.check(&rt, alloc, br#"{"slices":32,"commits":2000}"#)
+    script.add_and_list(alloc, 0, 1_100)?;
+    script.add_and_list(alloc, 1_100, 4_200)?;
+    script.check(&rt, alloc, br#"{"slices":66,"commits":4200}"#)
+}
+
+// Words, a configuration, and what is said of them on standard error.
+static REFUSED: [(&[&str], &str, &str); 12] = [
+    (&["walk"], "", "usage"),
+    (&["run", "run"], "{", "usage"),
+    (&["run"], r#"{"speed":1}"#, "config 4"),
+    (&["run"], r#"{"passes":0}"#, "config 5"),
+    (&["run"], r#"{"words":{"Cat":1}}"#, "config 6"),
+    (
+        &["run"],
+        r#"{"documents":10,"words":{"cat":11}}"#,
+        "config 7",
+    ),
+    (
+        &["run"],
+        r#"{"slices":1024,"blocks":64,"max_rank":1}"#,
+        "config 8",
+    ),
+    (
+        &["load", "--docs", "129"],
+        r#"{"slices":1024,"blocks":64}"#,
+        "config 9",
+    ),
+    (&["run"], "[1]", "config 3"),
+    (&["run"], r#"{"slices":1.0}"#, "config 5"),
+    (&["load", "--docs", "129"], "", "does not fit"),
+    (
+        &["load", "--docs", "128"],
+        r#"{"commits":139}"#,
+        "does not fit",
+    ),
+];
+
+// Ends with this message, and writes nothing.
+fn expect_refused<R: Threads + Wait + Abort + Sync>(
+    rt: &R,
+    alloc: Global,
+    words: &[&str],
+    config: &[u8],
+    message: &str,
+) -> Result<(), Fail> {
+    let mut input = source_of(alloc, &[b"place\n"], &[])?;
+    let mut output = MemSink::new(alloc, 100, Vec::new(alloc))?;
+    let why = program(rt, alloc, words, config, &mut input, &mut output)?;
+    expect_message(rt, alloc, &why, message)?;
+    expect_written(rt, &output, b"");
+    Ok(())
+}
+
+fn expect_message<R: Abort>(rt: &R, alloc: Global, why: &Why, message: &str) -> Result<(), Fail> {
+    expect(rt, format!(in alloc; "{why}")?.as_str(), message);
+    Ok(())
 }
 
 #[test]
 fn what_is_no_command_or_no_configuration_runs_nothing(rt: HostRuntime) -> Result<(), Fail> {
-    let rows: [(&[&str], &str, &str); 12] = [
-        (&["walk"], "", "usage"),
-        (&["run", "run"], "{", "usage"),
-        (&["run"], r#"{"speed":1}"#, "config 4"),
-        (&["run"], r#"{"passes":0}"#, "config 5"),
-        (&["run"], r#"{"words":{"Cat":1}}"#, "config 6"),
-        (
-            &["run"],
-            r#"{"documents":10,"words":{"cat":11}}"#,
-            "config 7",
-        ),
-        (
-            &["run"],
-            r#"{"slices":1024,"blocks":64,"max_rank":1}"#,
-            "config 8",
-        ),
-        (
-            &["load", "--docs", "129"],
-            r#"{"slices":1024,"blocks":64}"#,
-            "config 9",
-        ),
-        (&["run"], "[1]", "config 3"),
-        (&["run"], r#"{"slices":1.0}"#, "config 5"),
-        (&["load", "--docs", "129"], "", "does not fit"),
-        (
-            &["load", "--docs", "128"],
-            r#"{"commits":139}"#,
-            "does not fit",
-        ),
-    ];
-    for (words, config, message) in rows {
-        let mut input = source_of(rt.alloc(), &[b"place\n"], &[])?;
-        let mut output = MemSink::new(rt.alloc(), 100, Vec::new(rt.alloc()))?;
-        let why = program(
-            &rt,
-            rt.alloc(),
-            words,
-            config.as_bytes(),
-            &mut input,
-            &mut output,
-        )?;
-        assert_eq!(rt; format!(in rt.alloc(); "{why}")?.as_str(), message);
-        assert!(rt; output.bytes().is_empty());
+    for (words, config, message) in &REFUSED {
+        expect_refused(&rt, rt.alloc(), words, config.as_bytes(), message)?;
     }
     Ok(())
+}
+
+// An input of 2^40 bytes would have to be read for it.
+#[test]
+fn the_byte_limit_is_told(rt: HostRuntime) -> Result<(), Fail> {
+    expect_message(&rt, rt.alloc(), &Why::ByteLimit(1 << 40), "byte limit")
 }
 
 #[test]
@@ -394,80 +461,7 @@ fn a_configuration_that_cannot_be_read_is_a_read_fault(rt: HostRuntime) -> Resul
         &mut output,
         gates,
     );
-    assert_eq!(rt; ended.status(), 3);
-    assert!(rt; output.bytes().is_empty());
-    Ok(())
-}
-
-const SMALL_SUMMARY: &str =
-    "documents 2\ndeleted 0\nlive 2\nmisses 0\nquery w0: 0 0\nquery w0 w1: 0 0\nquery w1: 1 1\n\
-     query w1 w2: 0 0\nquery w2: 0 0\nquery w2 w3: 0 0\nquery w3: 0 0\nquery w3 w4: 0 0\n";
-
-// Of 300 documents of 5 words, from the seed 7.
-const SUMMARY: &str =
-    "documents 300\ndeleted 30\nlive 270\nmisses 0\nquery w0: 105 16326\nquery w0 w1: 34 4866\nquery w1: 99 14492\n\
-     query w1 w2: 13 2016\nquery w2: 44 6332\nquery w2 w3: 11 1673\nquery w3: 52 8465\nquery w3 w4: 5 797\n";
-
-// They fit in 5 slices, and have 3 passes.
-const ROOM: &str = r#"{"passes":3,"slices":5}"#;
-
-#[test]
-fn a_load_is_summed_up(rt: HostRuntime) -> Result<(), Fail> {
-    let rows: [(&[&str], &str, &str); 6] = [
-        (&["load", "--docs", "2", "--words", "1"], "", SMALL_SUMMARY),
-        // more workers than documents
-        (
-            &["load", "--docs", "2", "--words", "1", "--workers", "3"],
-            r#"{"passes":3}"#,
-            SMALL_SUMMARY,
-        ),
-        (
-            &["load", "--docs", "300", "--words", "5", "--seed", "7"],
-            ROOM,
-            SUMMARY,
-        ),
-        (
-            &["load", "--docs=300", "--workers=2", "--words=5", "--seed=7"],
-            ROOM,
-            SUMMARY,
-        ),
-        (
-            &["load", "--docs=300", "--workers=3", "--words=5", "--seed=7"],
-            ROOM,
-            SUMMARY,
-        ),
-        (
-            &["load", "--docs", "128", "--words", "0"],
-            r#"{"commits":140}"#,
-            "documents 128\ndeleted 12\nlive 116\nmisses 0\nquery w0: 0 0\nquery w0 w1: 0 0\nquery w1: 0 0\n\
-             query w1 w2: 0 0\nquery w2: 0 0\nquery w2 w3: 0 0\nquery w3: 0 0\nquery w3 w4: 0 0\n",
-        ),
-    ];
-    for (words, config, summary) in rows {
-        let mut input = source_of(rt.alloc(), &[b"place\n"], &[])?;
-        let mut output = MemSink::new(rt.alloc(), 1_000, Vec::new(rt.alloc()))?;
-        let why = program(
-            &rt,
-            rt.alloc(),
-            words,
-            config.as_bytes(),
-            &mut input,
-            &mut output,
-        )?;
-        assert_eq!(rt; why.status(), 0);
-        assert_eq!(rt; output.bytes(), summary.as_bytes());
-    }
-    Ok(())
-}
-
-#[test]
-fn a_summary_that_cannot_be_written_is_a_write_fault(rt: HostRuntime) -> Result<(), Fail> {
-    let alloc = rt.alloc();
-    let mut input = source_of(alloc, &[], &[])?;
-    let mut output = MemSink::new(alloc, 1_000, [1].to_vec(alloc)?)?;
-    let words = ["load", "--docs", "1"];
-    let why = program(&rt, alloc, words.as_slice(), b"", &mut input, &mut output)?;
-    assert_eq!(rt; why.status(), 4);
-    assert!(rt; output.bytes().is_empty());
+    expect(&rt, ended.status(), 3);
+    expect_written(&rt, &output, b"");
     Ok(())
 }

@@ -2,7 +2,7 @@
 ghost use Rattle.std.specs.Prelude.{IfOk};
 ghost use Rattle.funnel_io.specs.MemGates.{IsUnused};
 
-use super::source_of;
+use super::{expect, source_of};
 use funnel::{Ended, funnel_main};
 use funnel_io::{
     Borrower, Connection, End, Gate, Got, MemConn, MemGate, MemSink, MemSource, Next, Put,
@@ -69,8 +69,8 @@ fn gate_of_one(alloc: Global) -> Result<MemGate, Fail> {
 
 // Expects of a session that it ended so, and wrote this.
 fn expect_session<R: Abort>(rt: &R, session: &ServedConn, end: End, written: &[u8]) {
-    assert_eq!(rt; session.session_end, end);
-    assert_eq!(rt; session.conn.sink.bytes(), written);
+    expect(rt, session.session_end, end);
+    expect(rt, session.conn.sink.bytes(), written);
 }
 
 // Two gates: the first fails at its first call, and a connection waits on the second.
@@ -98,8 +98,12 @@ fn a_gate_that_fails_ends_its_worker_alone(rt: HostRuntime) -> Result<(), Fail> 
     let alloc = rt.alloc();
     let words = ["serve", "--port", "7000", "--workers", "2"];
     let ended = serve(&rt, alloc, &words, failed_and_whole(alloc)?)?;
-    assert_eq!(rt; ended.status(), 6);
-    assert_eq!(rt; format!(in alloc; "{}", ended.why)?.as_str(), "gate fault");
+    expect(&rt, ended.status(), 6);
+    expect(
+        &rt,
+        format!(in alloc; "{}", ended.why)?.as_str(),
+        "gate fault",
+    );
     expect_one_served(&rt, ended.gates.as_slice())
 }
 
@@ -132,7 +136,7 @@ fn a_connection_that_fails_ends_its_session_alone(rt: HostRuntime) -> Result<(),
     let alloc = rt.alloc();
     let words = ["serve", "--port", "7000", "--workers", "1"];
     let ended = serve(&rt, alloc, &words, gate_of_three(alloc)?)?;
-    assert_eq!(rt; ended.status(), 0);
+    expect(&rt, ended.status(), 0);
     expect_three_sessions(&rt, ended.gates.as_slice())
 }
 
@@ -141,12 +145,52 @@ fn no_more_connections_are_served_than_asked_for(rt: HostRuntime) -> Result<(), 
     let alloc = rt.alloc();
     let words = ["serve", "--port=1", "--workers=1", "--connections=1"];
     let ended = serve(&rt, alloc, &words, gate_of_three(alloc)?)?;
-    assert_eq!(rt; ended.status(), 0);
+    expect(&rt, ended.status(), 0);
     let [gate] = ended.gates.as_slice() else {
         return Err(Fail::new("one gate"));
     };
-    assert_eq!(rt; gate.served().len(), 1);
+    expect(&rt, gate.served().len(), 1);
     Ok(())
+}
+
+// A gate on which so many connections wait.
+fn gate_of_many(alloc: Global, count: u64) -> Result<Vec<MemGate>, Fail> {
+    let mut waiting = Vec::new(alloc);
+    for _ in 0..count {
+        waiting.push(conn_of(alloc, &[], &[])?)?;
+    }
+    let mut gates = Vec::new(alloc);
+    gates.push(MemGate::new(alloc, waiting, Vec::new(alloc))?)?;
+    Ok(gates)
+}
+
+// Serves so many connections by one worker.
+fn expect_many<R: Threads + Wait + Abort + Sync>(
+    rt: &R,
+    alloc: Global,
+    count: u64,
+) -> Result<(), Fail> {
+    let words = ["serve", "--port", "7000", "--workers", "1"];
+    let ended = serve(rt, alloc, &words, gate_of_many(alloc, count)?)?;
+    expect(rt, ended.status(), 0);
+    expect_many_served(rt, ended.gates.as_slice(), count)
+}
+
+fn expect_many_served<R: Abort>(rt: &R, gates: &[MemGate], count: u64) -> Result<(), Fail> {
+    let [gate] = gates else {
+        return Err(Fail::new("one gate"));
+    };
+    expect(rt, gate.served().len() as u64, count);
+    let Some(last) = gate.served().last() else {
+        return Err(Fail::new("a connection"));
+    };
+    expect_session(rt, last, End::Done, b"refused present 1\nfound 1 7\n");
+    Ok(())
+}
+
+#[test]
+fn many_connections_are_served(rt: HostRuntime) -> Result<(), Fail> {
+    expect_many(&rt, rt.alloc(), 4_200)
 }
 
 // A connection of which one read waits until another connection has got a reply. It tells contracts nothing of its bytes.
@@ -297,8 +341,8 @@ fn expect_served<R: Abort>(rt: &R, gate: &MeetingGate, replies: &[u8]) -> Result
     let Some((conn, end)) = &gate.served else {
         return Err(Fail::new("a served connection"));
     };
-    assert_eq!(rt; *end, End::Done);
-    assert_eq!(rt; conn.sink.bytes(), replies);
+    expect(rt, *end, End::Done);
+    expect(rt, conn.sink.bytes(), replies);
     Ok(())
 }
 
@@ -315,7 +359,7 @@ fn meet<R: Threads + Wait + Abort + Sync>(
     gates.push(meeting_gate(alloc, &pieces, 2, second, first)?)?;
     let words = ["serve", "--port", "7000", "--workers", "2"];
     let ended = serve(rt, alloc, &words, gates)?;
-    assert_eq!(rt; ended.status(), 0);
+    expect(rt, ended.status(), 0);
     let [one, two] = ended.gates.as_slice() else {
         return Err(Fail::new("two gates"));
     };
