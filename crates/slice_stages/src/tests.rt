@@ -76,3 +76,11 @@ fn slices_are_filled_retired_cleared_and_opened(rt: HostRuntime) -> Result<(), F
     assert_eq!(rt; stages.in_use().has(0), true);
     Ok(())
 }
+
+#[test]
+fn hundreds_of_slices_find_memory(rt: HostRuntime) -> Result<(), Fail> {
+    let stages = Stages::new(rt.alloc(), 1_000, 4_096)?;
+    assert_eq!(rt; stages.with_room(), Some(0));
+    assert_eq!(rt; stages.in_use().has(999), true);
+    Ok(())
+}
