@@ -8,6 +8,8 @@ mod beside;
 #[cfg(test)]
 mod caller;
 #[cfg(test)]
+mod events;
+#[cfg(test)]
 mod example;
 #[cfg(test)]
 mod four_passes;

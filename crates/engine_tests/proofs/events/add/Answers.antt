@@ -1,0 +1,15 @@
+use Rattle.std.proofs.Common.{sym, subst}
+use Rattle.engine.specs.Adds.{AddTurns}
+use Rattle.engine_tests.proofs.Turns.{ends_with_add}
+use Rattle.engine_tests.proofs.events.add.Goals as goal
+
+pub returns-clause-full : goal.returns-clause-full
+returns-clause-full g c blocks is =
+    let turn = subst (AddTurns _ _ _ _ _ _ _) is c.add.ensures.turns in
+    record { earlier = turn.earlier; others = turn.seen; whole = turn.made }
+
+pub returns-clause-memory : goal.returns-clause-memory
+returns-clause-memory g c is = sym (subst (AddTurns _ _ _ _ _ _ _) is c.add.ensures.turns)
+
+pub returns-clause-added : goal.returns-clause-added
+returns-clause-added g c = ends_with_add _ _ _ _ _ _ _ c.add.result c.add.ensures.turns

@@ -1,0 +1,88 @@
+//! The events that calls make, as the contract of each call tells them.
+ghost use Rattle.std.specs.Prelude.{◌≡◌, ℕ, Err, true, [], ◌∷◌, IfOk};
+ghost use Rattle.commit_desk.specs.Passes.{IsResting};
+ghost use Rattle.engine_tests.specs.Events.{EndsWithAdd, FindsBetween, Makes, MakesTwo};
+ghost use Rattle.funnel_model.specs.declared.call.Call.TheVariants as call;
+ghost use Rattle.funnel_model.specs.declared.event.Event.TheVariants as event;
+
+use crate::caller::is_range;
+use crate::setting::{Case, Opened, config, test};
+use engine::{AddFault, Engine, FindFault, Pass, PoolName, Recycled};
+use funnel_model::Ids;
+use std::alloc::Global;
+use std::process::Abort;
+use std::sync::Wait;
+use std::test::*;
+
+#[test]
+fn calls_make_their_events(rt: HostRuntime) -> Result<(), Fail> {
+    let alloc = rt.alloc();
+    test::<Events, _>(&rt, alloc, &config(alloc, 1, 1, 1, 1024))
+}
+
+struct Events;
+
+impl Case for Events {
+    fn run<N: PoolName, R: Wait + Abort>(
+        rt: &R,
+        alloc: Global,
+        opened: Opened<N>,
+    ) -> Result<(), Fail> {
+        let Opened { engine, mut passes } = opened;
+        let mut pass = passes.pop().ok_or("a pass")?;
+        assert_eq!(rt; add(rt, alloc, &engine, &mut pass, 1, "x").ok(), Some(1));
+        assert!(rt; is_range(&find(rt, alloc, &engine, &mut pass, "x")?, (1, 2)));
+        assert!(rt; matches!(recycle(rt, &engine, &mut pass), Recycled::NoneRetired));
+        Ok(())
+    }
+}
+
+/// An add that found no room makes its refusal alone, and one that found no memory makes nothing. The last event of one that
+/// was answered by its place has the document, with exactly its bits.
+fn add<N: PoolName, R: Wait>(
+    rt: &R,
+    alloc: Global,
+    engine: &Engine<N>,
+    pass: &mut Pass,
+    id: u64,
+    text: &str,
+) -> Result<u64, AddFault>
+    requires named { engine.now ≡ N.pool }
+    requires rests { IsResting N.pool pass.old }
+    ensures rests { IsResting N.pool pass.new }
+    ensures full { (blocks : _) → result ≡ Err (AddFault.Full blocks) →
+        Makes pass.old.number pass.old.front pass.new.front (event.No pass.old.number (call.Add id text.now) ∷ []) }
+    ensures memory { result ≡ Err AddFault.Memory → pass.new.front ≡ pass.old.front }
+    ensures added { IfOk result (λ _. EndsWithAdd engine.now.config pass.old.number id text.now pass.new.front) }
+{
+    engine.add(rt, alloc, pass, id, text)
+}
+
+/// A find makes two events, and between them there are only those of other passes.
+fn find<N: PoolName, R: Wait>(
+    rt: &R,
+    alloc: Global,
+    engine: &Engine<N>,
+    pass: &mut Pass,
+    query: &str,
+) -> Result<Ids, FindFault>
+    requires named { engine.now ≡ N.pool }
+    requires rests { IsResting N.pool pass.old }
+    ensures rests { IsResting N.pool pass.new }
+    ensures found { IfOk result (FindsBetween pass.old.number pass.old.front pass.new.front query.now) }
+{
+    engine.find(rt, alloc, pass, query)
+}
+
+/// So does a recycle that clears a slice; where none is retired it makes its refusal.
+fn recycle<N: PoolName, R: Wait>(rt: &R, engine: &Engine<N>, pass: &mut Pass) -> Recycled
+    requires named { engine.now ≡ N.pool }
+    requires rests { IsResting N.pool pass.old }
+    ensures rests { IsResting N.pool pass.new }
+    ensures done { (slice : ℕ) → result ≡ Recycled.Done slice →
+        MakesTwo pass.old.number pass.old.front pass.new.front (event.Clear pass.old.number slice) (event.Opened pass.old.number slice true) }
+    ensures none { result ≡ Recycled.NoneRetired →
+        Makes pass.old.number pass.old.front pass.new.front (event.No pass.old.number call.Recycle ∷ []) }
+{
+    engine.recycle(rt, pass)
+}
