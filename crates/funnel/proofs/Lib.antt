@@ -3,6 +3,7 @@ pub mod DueReplies
 pub mod Endings
 pub mod Faultless
 pub mod FoundValues
+pub mod GateFaults
 pub mod GoodEnds
 pub mod LoadEnds
 pub mod LoadPasses

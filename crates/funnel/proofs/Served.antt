@@ -1,5 +1,5 @@
 -- The workers of a serve, from their gates and passes to these again.
-use Rattle.std.proofs.Common.{◌≡◌, ℕ, suc, ◌+◌, ◌-◌, ◌<◌, ◌≤◌, ◌⊎◌, false, List, [], ◌∷◌, ◌++◌, length, map, sym, refl, ap, ◌∙◌, subst, inl, inr, rules, arith, append_assoc, append-nil, length-append, slice_index_or}
+use Rattle.std.proofs.Common.{◌≡◌, ℕ, suc, ◌+◌, ◌-◌, ◌<◌, ◌≤◌, ◌⊎◌, false, List, [], ◌∷◌, ◌++◌, length, map, Some, sym, refl, ap, ◌∙◌, subst, inl, inr, rules, arith, append_assoc, append-nil, length-append, slice_index_or}
 use Rattle.std.proofs.lemmas.List.{length-map, map-append}
 use Rattle.std.proofs.lemmas.Bool.{cases_lt}
 use Rattle.std.proofs.lemmas.List.Elements.{All-append, All-cons, All-contains, All-head, All-nil, All-push, All-tail, Contains-append_left, Contains-append_right}
@@ -29,10 +29,10 @@ use Rattle.slice_rule.specs.Seats.{PassState, new_pass_state}
 use Rattle.funnel.proofs.Passes.{new_pass_rests, number_of, of_first_passes, others_are_there}
 use Rattle.funnel.specs.declared.ended.Why.{Why}
 use Rattle.funnel.specs.Runs.{limits_by}
-use Rattle.funnel.specs.Served.{AllWork, HaveAllServed, new_worker, new_workers, why_of_workers}
+use Rattle.funnel.specs.Served.{AllWork, new_worker, new_workers, why_of_workers}
 use Rattle.funnel.specs.Serving.{new_passes}
 use Rattle.funnel.specs.Turns.{GatesGoInTurns}
-use Rattle.funnel.specs.Workers.{AreEquipped, ComeBack, GaveBack, HaveWorked, gates_of, stand_of, stand_of_worker, states_of}
+use Rattle.funnel.specs.Workers.{AreEquipped, ComeBack, EndsServeInTurns, GaveBack, HaveWorked, HaveWorkedInTurns, gates_of, stand_of, stand_of_worker, states_of}
 
 -- ---- the gates and passes go to workers
 
@@ -165,56 +165,53 @@ all_with_gate {G} (worker ∷ workers) ready =
 -- of workers with their gates
 module _ {G C : Type 0} (next_gives : G → Next C → G → Type 0) (done_gives : G → C → End → G → Type 0)
     (read_gives : C → Read → C → Type 0) (write_gives : C → Write → C → Type 0) (incoming : C → Incoming) (outgoing : C → Outgoing) where
-  pub all_work : (befores afters : List (WorkerWithGate G)) → length afters ≡ length befores →
-      ((k : ℕ) (d : WorkerWithGate G) → k < length befores →
-      WorksInTurns next_gives done_gives read_gives write_gives incoming outgoing (slice_index_or befores k d) (slice_index_or afters k d)) →
-      AllWork (states_of befores) (states_of afters)
-  all_work [] [] same work = tt
-  all_work (before ∷ befores) [] same work = absurd (omega (arith, same))
-  all_work [] (after ∷ afters) same work = absurd (omega (arith, same))
-  all_work (before ∷ befores) (after ∷ afters) same work =
-      ((work 0 before (omega arith)).works, all_work befores afters (omega (arith, same)) (λ k d small. work (suc k) d (omega (arith, small))))
+  -- they did their work, turn by turn
+  record WorkInTurns (befores afters : List WorkerState) (gates laters : List G) : Type 0 where
+    pub work : AllWork befores afters
+    pub turns : GatesGoInTurns next_gives done_gives read_gives write_gives incoming outgoing befores afters work gates laters
 
-  -- so each gate was called turn by turn
-  gates_in_turns : (state : G → GateState) (limits : Limits) (connections pass : ℕ) (befores afters : List (WorkerWithGate G)) → length afters ≡ length befores →
+  work_in_turns : (befores afters : List (WorkerWithGate G)) → length afters ≡ length befores →
       ((k : ℕ) (d : WorkerWithGate G) → k < length befores →
       WorksInTurns next_gives done_gives read_gives write_gives incoming outgoing (slice_index_or befores k d) (slice_index_or afters k d)) →
-      states_of befores ≡ new_workers limits connections pass (map state (gates_of befores)) →
-      map (λ (worker : WorkerState). worker.gate) (states_of afters) ≡ map state (gates_of afters) →
-      GatesGoInTurns next_gives done_gives read_gives write_gives incoming outgoing state connections (gates_of befores) (gates_of afters)
-  gates_in_turns state limits connections pass [] [] same work made told = tt
-  gates_in_turns state limits connections pass (before ∷ befores) [] same work made told = absurd (omega (arith, same))
-  gates_in_turns state limits connections pass [] (after ∷ afters) same work made told = absurd (omega (arith, same))
-  gates_in_turns state limits connections pass (before ∷ befores) (after ∷ afters) same work made told =
-      let is : before.state ≡ new_worker limits connections pass (state before.gate) = ap (λ (ws : List WorkerState). slice_index_or ws 0 before.state) made in (
-        record {
-          first = before.state;
-          last = after.state;
-          work = work 0 before (omega arith);
-          count = ap (λ (w : WorkerState). w.left) is;
-          told_first = ap (λ (w : WorkerState). w.gate) is;
-          told_last = ap (λ (gs : List GateState). slice_index_or gs 0 after.state.gate) told;
-        },
-        gates_in_turns state limits connections (pass + 1) befores afters (omega (arith, same)) (λ k d small. work (suc k) d (omega (arith, small)))
-            (ap (λ (ws : List WorkerState). remove ws 0) made) (ap (λ (gs : List GateState). remove gs 0) told),
-      )
+      WorkInTurns (states_of befores) (states_of afters) (gates_of befores) (gates_of afters)
+  work_in_turns [] [] same work = record { work = tt; turns = tt }
+  work_in_turns (before ∷ befores) [] same work = absurd (omega (arith, same))
+  work_in_turns [] (after ∷ afters) same work = absurd (omega (arith, same))
+  work_in_turns (before ∷ befores) (after ∷ afters) same work =
+      let first = work 0 before (omega arith) in
+      let others = work_in_turns befores afters (omega (arith, same)) (λ k d small. work (suc k) d (omega (arith, small))) in
+      record { work = (first.works, others.work); turns = (first.in_turns, others.turns) }
 
-  -- those that went to the workers and came back
-  pub all_in_turns : (state : G → GateState) (limits : Limits) (connections : ℕ) (gates none back : List G) (befores afters : List (WorkerWithGate G)) →
-      length afters ≡ length befores →
+  -- the gates had workers, and all came back
+  pub have_worked : (state : G → GateState) (named pool : PoolId) (connections : ℕ) (gates none back : List G) (why : Why) (left passes : List PassState)
+      (befores afters : List (WorkerWithGate G)) → pool ≡ named →
+      states_of befores ≡ new_workers pool.limits connections 0 (map state gates) → gates_of befores ≡ gates → none ≡ [] →
+      left ≡ new_passes pool (length gates) (pool.config.passes - length gates) → length afters ≡ length befores →
       ((k : ℕ) (d : WorkerWithGate G) → k < length befores →
       WorksInTurns next_gives done_gives read_gives write_gives incoming outgoing (slice_index_or befores k d) (slice_index_or afters k d)) →
-      states_of befores ≡ new_workers limits connections 0 (map state gates) → gates_of befores ≡ gates → none ≡ [] →
       map state back ≡ map state none ++ map (λ (worker : WorkerState). worker.gate) (states_of afters) → back ≡ none ++ gates_of afters →
-      GatesGoInTurns next_gives done_gives read_gives write_gives incoming outgoing state connections gates back
-  all_in_turns state limits connections gates none back befores afters same work made theirs empty told back_are =
+      why ≡ why_of_workers (states_of afters) → ComeBack named (states_of afters) left passes →
+      HaveWorkedInTurns next_gives done_gives read_gives write_gives incoming outgoing state pool connections gates back why passes
+  have_worked state named pool connections gates none back why left passes befores afters named_is made theirs empty left_are same work told back_are cause come =
       let came : back ≡ gates_of afters = back_are ∙ ap (λ (gs : List G). gs ++ gates_of afters) empty in
-      let tells : map (λ (worker : WorkerState). worker.gate) (states_of afters) ≡ map state (gates_of afters) =
-      sym (told ∙ ap (λ (gs : List G). map state gs ++ map (λ (worker : WorkerState). worker.gate) (states_of afters)) empty) ∙ ap (map state) came in
-      subst (λ (gs : List G). GatesGoInTurns next_gives done_gives read_gives write_gives incoming outgoing state connections gs back) theirs
-      (subst (λ (gs : List G). GatesGoInTurns next_gives done_gives read_gives write_gives incoming outgoing state connections (gates_of befores) gs) (sym came)
-      (gates_in_turns state limits connections 0 befores afters same work
-      (made ∙ ap (λ (gs : List G). new_workers limits connections 0 (map state gs)) (sym theirs)) tells))
+      let all : WorkInTurns (new_workers pool.limits connections 0 (map state gates)) (states_of afters) gates back =
+      subst (λ (ws : List WorkerState). WorkInTurns ws (states_of afters) gates back) made
+      (subst (λ (gs : List G). WorkInTurns (states_of befores) (states_of afters) gs back) theirs
+      (subst (λ (gs : List G). WorkInTurns (states_of befores) (states_of afters) (gates_of befores) gs) (sym came)
+      (work_in_turns befores afters same work))) in
+      record {
+        worked = record {
+          workers = states_of afters;
+          work = all.work;
+          gates = told ∙ ap (λ (gs : List G). map state gs ++ map (λ (worker : WorkerState). worker.gate) (states_of afters)) empty;
+          cause = cause;
+          back =
+              subst (λ n. ComeBack pool (states_of afters) (new_passes pool n (pool.config.passes - n)) passes) (sym (length-map gates state))
+              (subst (λ ps. ComeBack pool (states_of afters) ps passes) left_are
+              (subst (λ (p : PoolId). ComeBack p (states_of afters) left passes) (sym named_is) come));
+        };
+        in_turns = all.turns;
+      }
 
 pub as_many : {G : Type 0} (befores afters : List (WorkerWithGate G)) → length afters ≡ length befores → length (states_of afters) ≡ length (states_of befores)
 as_many {G} befores afters same =
@@ -288,23 +285,6 @@ back-end pool workers left before after others passes all none =
       all.gates ∙ ap (λ (ws : List WorkerState). before ++ map (λ (worker : WorkerState). worker.gate) ws) done,
       subst (λ (ws : List WorkerState). ComeBack pool ws others passes) done all.back,
     )
-
--- the gates had workers, and all came back
-pub have_worked : {G : Type 0} (state : G → GateState) (named pool : PoolId) (connections : ℕ) (gates none back : List G) (why : Why) (left passes : List PassState)
-    (fresh workers : List WorkerState) → pool ≡ named →
-    fresh ≡ new_workers pool.limits connections 0 (map state gates) → none ≡ [] → left ≡ new_passes pool (length gates) (pool.config.passes - length gates) →
-    AllWork fresh workers →
-    map state back ≡ map state none ++ map (λ (worker : WorkerState). worker.gate) workers → why ≡ why_of_workers workers → ComeBack named workers left passes →
-    HaveWorked pool connections (map state gates) (map state back) why passes
-have_worked {G} state named pool connections gates none back why left passes fresh workers named_is made empty left_are work back_are cause come = record {
-  workers = workers;
-  work = subst (λ (ws : List WorkerState). AllWork ws workers) made work;
-  gates = back_are ∙ ap (λ (gs : List G). map state gs ++ map (λ (worker : WorkerState). worker.gate) workers) empty;
-  cause = cause;
-  back =
-      subst (λ n. ComeBack pool workers (new_passes pool n (pool.config.passes - n)) passes) (sym (length-map gates state))
-      (subst (λ ps. ComeBack pool workers ps passes) left_are (subst (λ (p : PoolId). ComeBack p workers left passes) (sym named_is) come));
-}
 
 -- so many gates come back as there were
 all_work-length : (befores afters : List WorkerState) → AllWork befores afters → length afters ≡ length befores
@@ -392,17 +372,31 @@ module _ (pool : PoolId) (connections : ℕ) (before after : List GateState) (wh
     workers_end = fronts worked.back.used worked.workers worked.back.theirs used_end
 
 -- so the gates were served
-pub has_served : (pool : PoolId) (config : Config) (connections : ℕ) (before after : List GateState) (why : Why) (passes : List PassState) (closed : ClosedState) →
-    pool.limits ≡ limits_by config → pool.config ≡ config → pool.limits.passes ≡ pool.config.passes → length before ≤ pool.config.passes →
-    HaveWorked pool connections before after why passes → IsLegal pool.limits closed.history → IsSound pool.config closed.history → All (EndsIn closed.history) passes →
-    HaveAllServed config connections before after why closed
-has_served pool config connections before after why passes closed limits_are config_is counted enough worked legal sound ends = record {
-  legal = subst (λ (l : Limits). IsLegal l closed.history) limits_are legal;
-  sound = subst (λ (k : Config). IsSound k closed.history) config_is sound;
-  passes = of_workers pool connections before after why passes worked enough counted closed.history legal ends;
-  workers = worked.workers;
-  work = subst (λ (l : Limits). AllWork (new_workers l connections 0 before) worked.workers) limits_are worked.work;
-  fronts = workers_end pool connections before after why passes worked enough counted closed.history legal ends;
-  gates = worked.gates;
-  cause = worked.cause;
-}
+module _ {G C : Type 0} (next_gives : G → Next C → G → Type 0) (done_gives : G → C → End → G → Type 0)
+    (read_gives : C → Read → C → Type 0) (write_gives : C → Write → C → Type 0) (incoming : C → Incoming) (outgoing : C → Outgoing) where
+  pub has_served : (state : G → GateState) (pool : PoolId) (config : Config) (connections : ℕ) (gates laters : List G) (why : Why) (passes : List PassState)
+      (closed : ClosedState) → pool.limits ≡ limits_by config → pool.config ≡ config → pool.limits.passes ≡ pool.config.passes →
+      length (map state gates) ≤ pool.config.passes →
+      HaveWorkedInTurns next_gives done_gives read_gives write_gives incoming outgoing state pool connections gates laters why passes →
+      IsLegal pool.limits closed.history → IsSound pool.config closed.history → All (EndsIn closed.history) passes →
+      EndsServeInTurns next_gives done_gives read_gives write_gives incoming outgoing state config connections gates laters why (Some closed)
+  has_served state pool config connections gates laters why passes closed limits_are config_is counted enough did legal sound ends =
+      let before = map state gates in
+      let after = map state laters in
+      let worked = did.worked in
+      let all : WorkInTurns next_gives done_gives read_gives write_gives incoming outgoing (new_workers (limits_by config) connections 0 before) worked.workers gates laters =
+      subst (λ (l : Limits). WorkInTurns next_gives done_gives read_gives write_gives incoming outgoing (new_workers l connections 0 before) worked.workers gates laters)
+      limits_are (record { work = worked.work; turns = did.in_turns }) in
+      record {
+        ends = record {
+          legal = subst (λ (l : Limits). IsLegal l closed.history) limits_are legal;
+          sound = subst (λ (k : Config). IsSound k closed.history) config_is sound;
+          passes = of_workers pool connections before after why passes worked enough counted closed.history legal ends;
+          workers = worked.workers;
+          work = all.work;
+          fronts = workers_end pool connections before after why passes worked enough counted closed.history legal ends;
+          gates = worked.gates;
+          cause = worked.cause;
+        };
+        in_turns = all.turns;
+      }

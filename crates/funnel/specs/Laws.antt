@@ -1,5 +1,5 @@
 -- What the laws of programs say.
-use Rattle.std.specs.Prelude.{◌≡◌, ◌≢◌, ◌<◌, ◌≤◌, ◌⊎◌, ⊤, ℕ, true, false, List, [], ◌∷◌, ◌++◌, length, take, drop, All, Option, Some, None, Ok}
+use Rattle.std.specs.Prelude.{◌≡◌, ◌≢◌, ◌<◌, ◌≤◌, ◌⊎◌, ⊤, ℕ, true, false, List, [], ◌∷◌, ◌++◌, length, take, drop, All, Option, Some, None, Ok, Contains}
 use Rattle.std.specs.List.{AllZip, flat_map}
 use Rattle.std.specs.Option.{IsSomeAnd, option_map}
 use Rattle.engine.specs.Engines.{ClosedState}
@@ -8,6 +8,8 @@ use Rattle.funnel_io.specs.Served.{Served}
 use Rattle.funnel_io.specs.Streams.{Incoming, Outgoing, Writes}
 use Rattle.funnel_io.specs.declared.end.End.{End}
 use Rattle.funnel_io.specs.declared.end.End.TheVariants as end_of
+use Rattle.funnel_io.specs.declared.gate.Next.{Next}
+use Rattle.funnel_io.specs.declared.gate.Next.TheVariants as next
 use Rattle.funnel_model.specs.declared.call.Call.{Call}
 use Rattle.funnel_model.specs.declared.call.Call.TheVariants as call
 use Rattle.funnel_model.specs.declared.config.Config.{Config}
@@ -170,6 +172,13 @@ CompletesServe config connections before after why_of.Done (Some closed) = Serve
 CompletesServe config connections before after why_of.Memory (Some closed) = ServesAllGates config connections before after why_of.Memory closed
 CompletesServe config connections before after why_of.Memory None = after ≡ before
 CompletesServe config connections before after _ closed = ⊥
+
+-- a gate answered that it failed, and is one of these since
+pub record OneFailed {G C : Type 0} (next_gives : G → Next C → G → Type 0) (laters : List G) : Type 0 where
+  pub served : G
+  pub failed : G
+  pub answer : next_gives served next.Fault failed
+  pub there : Contains laters failed
 
 -- the program did all, or memory ran out, or as many bytes were read as may be
 abbrev pub EndsWell : Why → Type 0

@@ -88,9 +88,12 @@ pub record EndsAfterLoad (words : List (List ℕ)) (before after : Streams) (why
   pub gates : after.gates ≡ before.gates
   pub ends : EndsLoad config load before.output after.output why closed
 
--- a program ends at its words, or at its configuration, or at numbers that don't fit, or after its run, its serve or its load
-abbrev pub Ends : List (List ℕ) → Streams → Streams → Why → Option ClosedState → Type 0
-Ends words before after why closed =
+-- a program ends at its words, or at its configuration, or at numbers that don't fit, or after its run, its serve or its load; what is
+-- said of a serve is given
+abbrev pub EndsBy : Type 0 → List (List ℕ) → Streams → Streams → Why → Option ClosedState → Type 0
+EndsBy Serve words before after why closed =
     EndsAtWords words before after why closed ⊎ EndsAtConfig words before after why closed ⊎ EndsAtMisfit words before after why closed
-    ⊎ EndsAfterRun words before after why closed ⊎ EndsAfterServe words before after why closed
-    ⊎ EndsAfterLoad words before after why closed
+    ⊎ EndsAfterRun words before after why closed ⊎ Serve ⊎ EndsAfterLoad words before after why closed
+
+abbrev pub Ends : List (List ℕ) → Streams → Streams → Why → Option ClosedState → Type 0
+Ends words before after why closed = EndsBy (EndsAfterServe words before after why closed) words before after why closed

@@ -1,15 +1,20 @@
 -- The calls of a run on its input and its output, and those of a serve on its gates and their connections.
-use Rattle.std.specs.Prelude.{◌≡◌, ℕ, List}
-use Rattle.std.specs.List.{AllZip}
+use Rattle.std.specs.Prelude.{◌≡◌, ⊤, ℕ, List, [], ◌∷◌, Option, Some, None}
+use Rattle.engine.specs.Engines.{ClosedState}
 use Rattle.funnel_io.specs.Calls.{Read, Write}
 use Rattle.funnel_io.specs.Streams.{Incoming, Outgoing}
 use Rattle.funnel_io.specs.declared.end.End.{End}
 use Rattle.funnel_io.specs.declared.gate.Next.{Next}
 use Rattle.funnel_server.specs.Gates.{GateState}
-use Rattle.funnel_server.specs.GateTurns.{WorksInTurns}
+use Rattle.funnel_model.specs.declared.config.Config.{Config}
+use Rattle.funnel_server.specs.GateTurns.{CallsInTurns}
 use Rattle.funnel_server.specs.Workers.{WorkerState}
 use Rattle.session.specs.Turns.{StopsReading}
 use Rattle.session.specs.declared.serving.TheConstants.{MOST_BYTES}
+use Rattle.funnel.specs.declared.ended.Why.{Why}
+use Rattle.funnel.specs.Programs.{EndsAfterServe, EndsBy, Streams}
+use Rattle.funnel.specs.Runs.{limits_by}
+use Rattle.funnel.specs.Served.{AllWork, EndsServe, new_workers}
 
 -- The input and the output of a run are two streams, and the states of both together are that of a connection: a read of the input leaves the
 -- output as it was
@@ -25,19 +30,37 @@ abbrev pub RunsInTurns : {S K : Type 0} → (S → Read → S → Type 0) → (K
 RunsInTurns read_gives write_gives done before after =
     StopsReading (reads_input read_gives) (writes_output write_gives) MOST_BYTES done before after
 
--- the calls on a gate and its connections are those of a worker that served so many connections, turn by turn
-pub record GateGoesInTurns {G C : Type 0} (next_gives : G → Next C → G → Type 0) (done_gives : G → C → End → G → Type 0)
-    (read_gives : C → Read → C → Type 0) (write_gives : C → Write → C → Type 0) (incoming : C → Incoming) (outgoing : C → Outgoing)
-    (state : G → GateState) (connections : ℕ) (before after : G) : Type 0 where
-  pub first : WorkerState
-  pub last : WorkerState
-  pub work : WorksInTurns next_gives done_gives read_gives write_gives incoming outgoing (record { gate = before; state = first }) (record { gate = after; state = last })
-  pub count : first.left ≡ connections
-  pub told_first : first.gate ≡ state before
-  pub told_last : last.gate ≡ state after
-
--- so it is with each gate of a serve
+-- the calls on each gate of a serve and on its connections are those of its worker's sessions, turn by turn; the gates are given as they
+-- went to the workers and as they came back
 abbrev pub GatesGoInTurns : {G C : Type 0} → (G → Next C → G → Type 0) → (G → C → End → G → Type 0) → (C → Read → C → Type 0) → (C → Write → C → Type 0)
-    → (C → Incoming) → (C → Outgoing) → (G → GateState) → ℕ → List G → List G → Type 0
-GatesGoInTurns next_gives done_gives read_gives write_gives incoming outgoing state connections before after =
-    AllZip (GateGoesInTurns next_gives done_gives read_gives write_gives incoming outgoing state connections) before after
+    → (C → Incoming) → (C → Outgoing) → (befores afters : List WorkerState) → AllWork befores afters → List G → List G → Type 0
+GatesGoInTurns next_gives done_gives read_gives write_gives incoming outgoing [] [] work [] [] = ⊤
+GatesGoInTurns next_gives done_gives read_gives write_gives incoming outgoing (before ∷ befores) (after ∷ afters) work (gate ∷ gates) (later ∷ laters) =
+    CallsInTurns next_gives done_gives read_gives write_gives incoming outgoing gate work.0.visits (record { gate = later; state = after })
+    × GatesGoInTurns next_gives done_gives read_gives write_gives incoming outgoing befores afters work.1 gates laters
+GatesGoInTurns next_gives done_gives read_gives write_gives incoming outgoing befores afters work gates laters = ⊥
+
+-- so it is with a serve that had an engine
+abbrev pub ServeGoesInTurns : {G C : Type 0} → (G → Next C → G → Type 0) → (G → C → End → G → Type 0) → (C → Read → C → Type 0) → (C → Write → C → Type 0)
+    → (C → Incoming) → (C → Outgoing)
+    → (config : Config) (connections : ℕ) (before after : List GateState) (why : Why) (closed : Option ClosedState)
+    → EndsServe config connections before after why closed → List G → List G → Type 0
+ServeGoesInTurns next_gives done_gives read_gives write_gives incoming outgoing config connections before after why (Some closed) served gates laters =
+    GatesGoInTurns next_gives done_gives read_gives write_gives incoming outgoing (new_workers (limits_by config) connections 0 before) served.workers served.work
+    gates laters
+ServeGoesInTurns next_gives done_gives read_gives write_gives incoming outgoing config connections before after why None served gates laters = ⊤
+
+-- a serve ended so, and the calls on its gates are those of the sessions that its end tells of
+pub record EndsAfterServeInTurns {G C : Type 0} (next_gives : G → Next C → G → Type 0) (done_gives : G → C → End → G → Type 0)
+    (read_gives : C → Read → C → Type 0) (write_gives : C → Write → C → Type 0) (incoming : C → Incoming) (outgoing : C → Outgoing)
+    (words : List (List ℕ)) (before after : Streams) (why : Why) (closed : Option ClosedState) (gates laters : List G) : Type 0 where
+  pub ends : EndsAfterServe words before after why closed
+  pub in_turns : ServeGoesInTurns next_gives done_gives read_gives write_gives incoming outgoing ends.config ends.serve.connections
+      before.gates after.gates why closed ends.served gates laters
+
+-- so a program ends, of whose calls on gates this is told too
+abbrev pub EndsInTurns : {G C : Type 0} → (G → Next C → G → Type 0) → (G → C → End → G → Type 0) → (C → Read → C → Type 0) → (C → Write → C → Type 0)
+    → (C → Incoming) → (C → Outgoing)
+    → List (List ℕ) → Streams → Streams → Why → Option ClosedState → List G → List G → Type 0
+EndsInTurns next_gives done_gives read_gives write_gives incoming outgoing words before after why closed gates laters =
+    EndsBy (EndsAfterServeInTurns next_gives done_gives read_gives write_gives incoming outgoing words before after why closed gates laters) words before after why closed

@@ -9,10 +9,14 @@ ghost use Rattle.funnel.specs.declared.command.Command.TheVariants as command;
 ghost use Rattle.funnel.specs.declared.command.LoadCommand.{LoadCommand};
 ghost use Rattle.funnel.specs.declared.command.ServeCommand.{ServeCommand};
 ghost use Rattle.funnel.specs.declared.ended.Why.{Why};
-ghost use Rattle.funnel.specs.Laws.{AllCallsAreOfSessions, CompletesLoad, CompletesRun, CompletesServe, EndsWell, IsAccepted, IsServedUnlessFailed, NoStreamFailed, RepliesAreDue, TellsFew};
+ghost use Rattle.funnel.specs.Laws.{AllCallsAreOfSessions, CompletesLoad, CompletesRun, CompletesServe, EndsWell};
+ghost use Rattle.funnel.specs.Laws.{IsAccepted, IsServedUnlessFailed, NoStreamFailed, OneFailed, RepliesAreDue, TellsFew};
 ghost use Rattle.funnel.specs.Programs.{Ends, Streams};
 ghost use Rattle.funnel.specs.Runs.{Ran, first_caller, limits_by};
 ghost use Rattle.funnel.specs.Served.{HaveAllServed, new_workers};
+ghost use Rattle.funnel.specs.Turns.{EndsInTurns};
+
+use funnel_io::Gate;
 
 /// Let the words be a command, the configuration valid, the command fit it, and no read, no write and no call of a gate fail.
 /// Then a run whose input has fewer bytes than it may take answers all its lines, a serve gives each connection of its gates a session,
@@ -54,6 +58,21 @@ pub fn the_calls_of_a_serve_are_those_of_its_sessions()
 pub fn gates_without_a_fault_are_served()
     ensures { (config : Config) (connections : ℕ) (before after : List GateState) (why : Why) (closed : ClosedState) →
         HaveAllServed config connections before after why closed → AllZip (IsServedUnlessFailed connections why) before after }
+{}
+
+/// What `funnel_main` tells of an end is told with the calls of a serve on its gates; the laws here need no more than the end.
+pub fn ends_are_told_with_their_turns<G: Gate>()
+    ensures { (words : List (List ℕ)) (before after : Streams) (why : Why) (closed : Option ClosedState) (gates laters : List G) →
+        EndsInTurns G.next_gives G.done_gives G.Conn.read_gives G.Conn.write_gives G.Conn.incoming G.Conn.outgoing
+        words before after why closed gates laters → Ends words before after why closed }
+{}
+
+/// A program ends with a gate fault only where a gate answered that it failed.
+pub fn gate_faults_are_answers_of_gates<G: Gate>()
+    ensures { (words : List (List ℕ)) (before after : Streams) (why : Why) (closed : Option ClosedState) (gates laters : List G) →
+        EndsInTurns G.next_gives G.done_gives G.Conn.read_gives G.Conn.write_gives G.Conn.incoming G.Conn.outgoing
+        words before after why closed gates laters →
+        why ≡ Why.GateFault → OneFailed G.next_gives laters }
 {}
 
 /// Where no gate is closed, as gates over TCP never are, each worker of a serve that is done served the stated number of connections.

@@ -2,11 +2,9 @@ ghost use Rattle.std.specs.Prelude.{◌≡◌, Some, true, false, length, map, I
 ghost use Rattle.engine.specs.Engines.{IsClosed};
 ghost use Rattle.funnel_server.specs.Gates.{gate_state};
 ghost use Rattle.funnel.specs.Commands.{command_of, is_serve};
-ghost use Rattle.funnel.specs.Programs.{Ends};
-ghost use Rattle.funnel.specs.Turns.{GatesGoInTurns, RunsInTurns};
+ghost use Rattle.funnel.specs.Turns.{EndsInTurns, RunsInTurns};
 ghost use Rattle.funnel.specs.declared.command.Command.TheVariants as command;
 ghost use Rattle.funnel.specs.declared.command.LoadCommand.{LoadCommand};
-ghost use Rattle.funnel.specs.declared.command.ServeCommand.{ServeCommand};
 
 use crate::command::{Command, CommandFault, read_command};
 use crate::ended::{Ended, Why};
@@ -40,7 +38,8 @@ pub fn funnel_main<R: Threads + Wait + Sync, C: Source, S: Source, K: Sink, G: G
 ) -> Ended<G>
 where
     G::Conn: Send,
-    ensures ends { Ends (map (λ word. word.now) words.now)
+    ensures ends { EndsInTurns G.next_gives G.done_gives G.Conn.read_gives G.Conn.write_gives G.Conn.incoming G.Conn.outgoing
+        (map (λ word. word.now) words.now)
         record {
           config = C.incoming config.old;
           input = S.incoming input.old;
@@ -53,12 +52,9 @@ where
           output = K.outgoing output.new;
           gates = map (gate_state G.is_closed G.gate_faults G.waiting G.Conn.incoming G.Conn.outgoing G.served) result.gates.items;
         }
-        result.why result.closed }
+        result.why result.closed gates.items result.gates.items }
     ensures in_turns { command_of (map (λ word. word.now) words.now) ≡ Some command.Run →
         RunsInTurns S.read_gives K.write_gives (result.why ≡ Why.Done) (input.old, output.old) (input.new, output.new) }
-    ensures gates_in_turns { (serve : ServeCommand) → command_of (map (λ word. word.now) words.now) ≡ Some (command.Serve serve) →
-        IfSome result.closed (λ _. GatesGoInTurns G.next_gives G.done_gives G.Conn.read_gives G.Conn.write_gives G.Conn.incoming G.Conn.outgoing
-        (gate_state G.is_closed G.gate_faults G.waiting G.Conn.incoming G.Conn.outgoing G.served) serve.connections gates.items result.gates.items) }
     ensures closed { IfSome result.closed IsClosed }
     ensures load_reads_nothing { (load : LoadCommand) → command_of (map (λ word. word.now) words.now) ≡ Some (command.Load load) → input.new ≡ input.old }
     ensures serve_uses_gates { is_serve (command_of (map (λ word. word.now) words.now)) ≡ true → (input.new ≡ input.old) × (output.new ≡ output.old) }

@@ -5,10 +5,9 @@ ghost use Rattle.engine.specs.Engines.{IsClosed};
 ghost use Rattle.funnel_model.specs.Configuration.{IsValid};
 ghost use Rattle.funnel_server.specs.Gates.{gate_state};
 ghost use Rattle.funnel.specs.Runs.{limits_by};
-ghost use Rattle.funnel.specs.Served.{EndsServe, new_workers};
+ghost use Rattle.funnel.specs.Served.{new_workers};
 ghost use Rattle.funnel.specs.Serving.{new_passes};
-ghost use Rattle.funnel.specs.Turns.{GatesGoInTurns};
-ghost use Rattle.funnel.specs.Workers.{ComeBack, HaveWorked, gates_of, states_of};
+ghost use Rattle.funnel.specs.Workers.{ComeBack, EndsServeInTurns, HaveWorkedInTurns, gates_of, states_of};
 
 use crate::ended::{Ended, Why};
 use engine::{Blank, Client, Engine, Pass, PoolName};
@@ -33,12 +32,9 @@ where
     requires limits { blank.limits ≡ limits_by config.now }
     requires named { blank ≡ N.pool }
     requires enough { length gates.items ≤ config.now.passes }
-    ensures ends { EndsServe config.now connections
-        (map (gate_state G.is_closed G.gate_faults G.waiting G.Conn.incoming G.Conn.outgoing G.served) gates.items)
-        (map (gate_state G.is_closed G.gate_faults G.waiting G.Conn.incoming G.Conn.outgoing G.served) result.gates.items)
-        result.why result.closed }
-    ensures in_turns { IfSome result.closed (λ _. GatesGoInTurns G.next_gives G.done_gives G.Conn.read_gives G.Conn.write_gives G.Conn.incoming G.Conn.outgoing
-        (gate_state G.is_closed G.gate_faults G.waiting G.Conn.incoming G.Conn.outgoing G.served) connections gates.items result.gates.items) }
+    ensures ends { EndsServeInTurns G.next_gives G.done_gives G.Conn.read_gives G.Conn.write_gives G.Conn.incoming G.Conn.outgoing
+        (gate_state G.is_closed G.gate_faults G.waiting G.Conn.incoming G.Conn.outgoing G.served)
+        config.now connections gates.items result.gates.items result.why result.closed }
     ensures closed { IfSome result.closed IsClosed }
     ensures untouched { IfNone result.closed (result.gates ≡ gates) }
     ensures count { length result.gates.items ≡ length gates.items }
@@ -72,12 +68,9 @@ where
     requires enough { length gates.items ≤ engine.now.config.passes }
     requires empty { room.items ≡ [] }
     requires room { length gates.items ≤ vec_capacity room }
-    ensures worked { HaveWorked engine.now connections
-        (map (gate_state G.is_closed G.gate_faults G.waiting G.Conn.incoming G.Conn.outgoing G.served) gates.items)
-        (map (gate_state G.is_closed G.gate_faults G.waiting G.Conn.incoming G.Conn.outgoing G.served) result.1.items)
-        result.0 result.2.items }
-    ensures in_turns { GatesGoInTurns G.next_gives G.done_gives G.Conn.read_gives G.Conn.write_gives G.Conn.incoming G.Conn.outgoing
-        (gate_state G.is_closed G.gate_faults G.waiting G.Conn.incoming G.Conn.outgoing G.served) connections gates.items result.1.items }
+    ensures { HaveWorkedInTurns G.next_gives G.done_gives G.Conn.read_gives G.Conn.write_gives G.Conn.incoming G.Conn.outgoing
+        (gate_state G.is_closed G.gate_faults G.waiting G.Conn.incoming G.Conn.outgoing G.served)
+        engine.now connections gates.items result.1.items result.0 result.2.items }
 {
     let mut gates = gates;
     let mut passes = passes;

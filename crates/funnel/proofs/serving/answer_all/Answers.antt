@@ -8,7 +8,7 @@ use Rattle.funnel.specs.declared.ended.Why.TheVariants as why_of
 use Rattle.funnel.specs.Served.{why_of_workers}
 use Rattle.funnel.specs.Workers.{states_of}
 use Rattle.std.proofs.lemmas.List.{length-map}
-use Rattle.funnel.proofs.Served.{all_in_turns, all_ready, all_with_gate, all_work, any_of_states, as_many, have_worked, workers_count}
+use Rattle.funnel.proofs.Served.{all_ready, all_with_gate, any_of_states, as_many, have_worked, workers_count}
 use Rattle.funnel.proofs.serving.answer_all.Goals as goal
 
 pub run_workers-workers-requires-clause-ready : goal.run_workers-workers-requires-clause-ready
@@ -38,15 +38,9 @@ returns g c =
     let cause : c.why_of_workers-why.result ≡ why_of_workers (states_of workers) =
     why ∙ ap₂ (λ fault memory. cond fault why_of.GateFault (cond memory why_of.Memory why_of.Done))
     (any_of_states (λ (w : WorkerState). w.fault) workers) (any_of_states (λ (w : WorkerState). w.memory) workers) in
-    record {
-      worked = have_worked (gate_state g.G.Gate.is_closed g.G.Gate.gate_faults g.G.Gate.waiting g.G.Conn.Source.incoming g.G.Conn.Sink.outgoing g.G.Gate.served) _ c.args.engine.now c.args.connections
-          c.args.gates.items c.equip.new.gates.items c.take_back.new.gates.items c.why_of_workers-why.result c.equip.new.passes.items c.take_back.new.passes.items
-          (states_of c.equip.new.workers.items) (states_of c.run_workers-workers.result.items) c.requires.named c.equip.ensures.workers c.equip.ensures.gates c.equip.ensures.passes
-          (all_work g.G.Gate.next_gives g.G.Gate.done_gives g.G.Conn.Source.read_gives g.G.Conn.Sink.write_gives g.G.Conn.Source.incoming g.G.Conn.Sink.outgoing
-          c.equip.new.workers.items c.run_workers-workers.result.items c.run_workers-workers.ensures.all c.run_workers-workers.ensures.work) c.take_back.ensures.told cause c.take_back.ensures.passes;
-      in_turns = all_in_turns g.G.Gate.next_gives g.G.Gate.done_gives g.G.Conn.Source.read_gives g.G.Conn.Sink.write_gives g.G.Conn.Source.incoming g.G.Conn.Sink.outgoing
-          (gate_state g.G.Gate.is_closed g.G.Gate.gate_faults g.G.Gate.waiting g.G.Conn.Source.incoming g.G.Conn.Sink.outgoing g.G.Gate.served) c.args.engine.now.limits c.args.connections
-          c.args.gates.items c.equip.new.gates.items c.take_back.new.gates.items c.equip.new.workers.items c.run_workers-workers.result.items
-          c.run_workers-workers.ensures.all c.run_workers-workers.ensures.work c.equip.ensures.workers c.equip.ensures.theirs c.equip.ensures.gates
-          c.take_back.ensures.told c.take_back.ensures.gates;
-    }
+    have_worked g.G.Gate.next_gives g.G.Gate.done_gives g.G.Conn.Source.read_gives g.G.Conn.Sink.write_gives g.G.Conn.Source.incoming g.G.Conn.Sink.outgoing
+    (gate_state g.G.Gate.is_closed g.G.Gate.gate_faults g.G.Gate.waiting g.G.Conn.Source.incoming g.G.Conn.Sink.outgoing g.G.Gate.served) _ c.args.engine.now c.args.connections
+    c.args.gates.items c.equip.new.gates.items c.take_back.new.gates.items c.why_of_workers-why.result c.equip.new.passes.items c.take_back.new.passes.items
+    c.equip.new.workers.items c.run_workers-workers.result.items c.requires.named c.equip.ensures.workers c.equip.ensures.theirs c.equip.ensures.gates
+    c.equip.ensures.passes c.run_workers-workers.ensures.all c.run_workers-workers.ensures.work c.take_back.ensures.told c.take_back.ensures.gates cause
+    c.take_back.ensures.passes

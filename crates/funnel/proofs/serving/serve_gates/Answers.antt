@@ -26,14 +26,16 @@ close-requires-clause-every g c =
 pub returns-clause-ends : goal.returns-clause-ends
 returns-clause-ends g c =
     let pool = c.in-Ok-open.engine in
-    let states = map (gate_state g.G.Gate.is_closed g.G.Gate.gate_faults g.G.Gate.waiting g.G.Conn.Source.incoming g.G.Conn.Sink.outgoing g.G.Gate.served) in
     let limits_are : pool.limits ≡ limits_by c.args.config.now = search rules in
     let config_is : pool.config ≡ c.args.config.now = search rules in
     let counted : pool.limits.passes ≡ pool.config.passes = search rules in
     let enough : length c.args.gates.items ≤ pool.config.passes = search rules in
-    has_served pool c.args.config.now c.args.connections (states c.args.gates.items) (states c.answer_all-why.result.1.items) c.answer_all-why.result.0
-    c.answer_all-why.result.2.items c.close.result limits_are config_is counted (omega (arith, enough, length-map c.args.gates.items (gate_state g.G.Gate.is_closed g.G.Gate.gate_faults g.G.Gate.waiting g.G.Conn.Source.incoming g.G.Conn.Sink.outgoing g.G.Gate.served)))
-    c.answer_all-why.ensures.worked c.close.ensures.legal c.close.ensures.sound c.close.ensures.passes
+    has_served g.G.Gate.next_gives g.G.Gate.done_gives g.G.Conn.Source.read_gives g.G.Conn.Sink.write_gives g.G.Conn.Source.incoming g.G.Conn.Sink.outgoing
+    (gate_state g.G.Gate.is_closed g.G.Gate.gate_faults g.G.Gate.waiting g.G.Conn.Source.incoming g.G.Conn.Sink.outgoing g.G.Gate.served)
+    pool c.args.config.now c.args.connections c.args.gates.items c.answer_all-why.result.1.items c.answer_all-why.result.0 c.answer_all-why.result.2.items
+    c.close.result limits_are config_is counted
+    (omega (arith, enough, length-map c.args.gates.items (gate_state g.G.Gate.is_closed g.G.Gate.gate_faults g.G.Gate.waiting g.G.Conn.Source.incoming g.G.Conn.Sink.outgoing g.G.Gate.served)))
+    c.answer_all-why.ensures c.close.ensures.legal c.close.ensures.sound c.close.ensures.passes
 
 pub returns-clause-count : goal.returns-clause-count
 returns-clause-count g c =

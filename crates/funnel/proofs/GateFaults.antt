@@ -1,0 +1,114 @@
+-- A gate fault is told only where a gate answered so.
+use Rattle.std.proofs.Common.{◌≡◌, ◌⊎◌, ◌||◌, ℕ, Bool, true, false, cond, List, [], ◌∷◌, Option, Some, None, refl, sym, ◌∙◌, subst, inl, inr, arith, suc}
+use Rattle.std.specs.List.{list_any}
+use Rattle.engine.specs.Engines.{ClosedState}
+use Rattle.funnel_io.specs.Calls.{Read, Write}
+use Rattle.funnel_io.specs.Streams.{Incoming, Outgoing}
+use Rattle.funnel_io.specs.declared.end.End.{End}
+use Rattle.funnel_io.specs.declared.end.End.TheVariants as end_of
+use Rattle.funnel_io.specs.declared.gate.Next.{Next}
+use Rattle.funnel_model.specs.declared.config.Config.{Config}
+use Rattle.funnel_server.proofs.GateTurns.{asked_in_vain}
+use Rattle.funnel_server.specs.Gates.{GateState}
+use Rattle.funnel_server.specs.GateTurns.{WorksInTurns}
+use Rattle.funnel_server.specs.Workers.{WorkerState}
+use Rattle.funnel_stats.specs.declared.fault.ConfigFault.{ConfigFault}
+use Rattle.funnel_stats.specs.declared.fault.ConfigFault.TheVariants as config
+use Rattle.funnel.specs.declared.command.LoadCommand.{LoadCommand}
+use Rattle.funnel.specs.declared.ended.Why.{Why}
+use Rattle.funnel.specs.declared.ended.Why.TheVariants as why_of
+use Rattle.funnel.specs.Commands.{command_of}
+use Rattle.funnel.specs.Ends.{why_of_config, why_of_end}
+use Rattle.funnel.specs.Laws.{OneFailed}
+use Rattle.funnel.specs.LoadRuns.{EndsLoad}
+use Rattle.funnel.specs.Programs.{Streams}
+use Rattle.funnel.specs.Runs.{RanOrNot, limits_by}
+use Rattle.funnel.specs.Served.{AllWork, EndsServe, new_workers}
+use Rattle.funnel.specs.Turns.{EndsInTurns, GatesGoInTurns, ServeGoesInTurns}
+
+-- other ends are told otherwise
+not_config : (fault : ConfigFault) → why_of_config fault ≡ why_of.GateFault → ⊥
+not_config config.ReadFault is = cc
+not_config config.Memory is = cc
+not_config fault is = cc
+
+not_session : (end : End) → why_of_end end ≡ why_of.GateFault → ⊥
+not_session end_of.Done is = cc
+not_session end_of.ReadFault is = cc
+not_session end_of.WriteFault is = cc
+not_session (end_of.ByteLimit told) is = cc
+not_session end_of.Memory is = cc
+
+not_run : (config : Config) (incoming later_incoming : Incoming) (outgoing later_outgoing : Outgoing) (why : Why) (closed : Option ClosedState) →
+    RanOrNot config incoming later_incoming outgoing later_outgoing why closed → why ≡ why_of.GateFault → ⊥
+not_run config incoming later_incoming outgoing later_outgoing why None memory is = cc
+not_run config incoming later_incoming outgoing later_outgoing why (Some left) ran is = not_session ran.end (sym ran.answered ∙ is)
+
+not_load : (config : Config) (load : LoadCommand) (before after : Outgoing) (closed : Option ClosedState) →
+    EndsLoad config load before after why_of.GateFault closed → ⊥
+not_load config load before after None ends = ends
+not_load config load before after (Some left) ends = ends.1
+
+some_fault : (fault memory : Bool) → cond fault why_of.GateFault (cond memory why_of.Memory why_of.Done) ≡ why_of.GateFault → fault ≡ true
+some_fault true memory is = refl
+some_fault false true is = cc
+some_fault false false is = cc
+
+module _ {G C : Type 0} (next_gives : G → Next C → G → Type 0) (done_gives : G → C → End → G → Type 0)
+    (read_gives : C → Read → C → Type 0) (write_gives : C → Write → C → Type 0) (incoming : C → Incoming) (outgoing : C → Outgoing) where
+  -- of workers that worked turn by turn, one whose gate failed was told so
+  one_failed : (befores afters : List WorkerState) (work : AllWork befores afters) (gates laters : List G) →
+      GatesGoInTurns next_gives done_gives read_gives write_gives incoming outgoing befores afters work gates laters →
+      list_any (λ (w : WorkerState). w.fault) afters ≡ true → OneFailed next_gives laters
+  one_failed [] [] work gates laters turns some = cc
+  one_failed [] (after ∷ afters) work gates laters turns some = absurd work
+  one_failed (before ∷ befores) [] work gates laters turns some = absurd work
+  one_failed (before ∷ befores) (after ∷ afters) work [] laters turns some = absurd turns
+  one_failed (before ∷ befores) (after ∷ afters) work (gate ∷ gates) [] turns some = absurd turns
+  one_failed (before ∷ befores) (after ∷ afters) work (gate ∷ gates) (later ∷ laters) turns some =
+      by_case after.fault refl (one_failed befores afters work.1 gates laters turns.1) where
+        works : WorksInTurns next_gives done_gives read_gives write_gives incoming outgoing (record { gate = gate; state = before }) (record { gate = later; state = after })
+        works = record { works = work.0; in_turns = turns.0 }
+
+        by_case : (fault : Bool) → after.fault ≡ fault → (list_any (λ (w : WorkerState). w.fault) afters ≡ true → OneFailed next_gives laters) →
+            OneFailed next_gives (later ∷ laters)
+        by_case true is others = record {
+          served = works.in_turns.served;
+          failed = later;
+          answer = asked_in_vain next_gives done_gives read_gives write_gives incoming outgoing (record { gate = gate; state = before }) (record { gate = later; state = after }) works is;
+          there = (0, omega arith, refl);
+        }
+        by_case false is others =
+            let more = others (subst (λ b. (b || list_any (λ (w : WorkerState). w.fault) afters) ≡ true) is some) in
+            record {
+              served = more.served;
+              failed = more.failed;
+              answer = more.answer;
+              there = (suc more.there.0, omega (arith, more.there.1), more.there.2);
+            }
+
+  of_serve : (config : Config) (connections : ℕ) (before after : List GateState) (why : Why) (closed : Option ClosedState)
+      (served : EndsServe config connections before after why closed) (gates laters : List G) →
+      ServeGoesInTurns next_gives done_gives read_gives write_gives incoming outgoing config connections before after why closed served gates laters →
+      why ≡ why_of.GateFault → OneFailed next_gives laters
+  of_serve config connections before after why None served gates laters turns is = let other : why_of.Memory ≡ why_of.GateFault = sym served.0 ∙ is in cc
+  of_serve config connections before after why (Some closed) served gates laters turns is =
+      one_failed (new_workers (limits_by config) connections 0 before) served.workers served.work gates laters turns
+      (some_fault (list_any (λ (w : WorkerState). w.fault) served.workers) (list_any (λ (w : WorkerState). w.memory) served.workers) (sym served.cause ∙ is))
+
+  module _ (words : List (List ℕ)) (before after : Streams) (why : Why) (closed : Option ClosedState) (gates laters : List G) where
+    pub told_by_gate : EndsInTurns next_gives done_gives read_gives write_gives incoming outgoing words before after why closed gates laters →
+        why ≡ why_of.GateFault → OneFailed next_gives laters
+    told_by_gate (inl ends) is = by_cause ends.cause where
+      by_cause : ((why ≡ why_of.Usage) × (command_of words ≡ None)) ⊎ (why ≡ why_of.Memory) → OneFailed next_gives laters
+      by_cause (inl usage) = let other : why_of.Usage ≡ why_of.GateFault = sym usage.0 ∙ is in cc
+      by_cause (inr memory) = let other : why_of.Memory ≡ why_of.GateFault = sym memory ∙ is in cc
+    told_by_gate (inr (inl ends)) is = absurd (not_config ends.fault (sym ends.cause ∙ is))
+    told_by_gate (inr (inr (inl ends))) is = let other : why_of.Misfit ends.misfit ≡ why_of.GateFault = sym ends.cause ∙ is in cc
+    told_by_gate (inr (inr (inr (inl ends)))) is =
+        absurd (not_run ends.config before.input after.input before.output after.output why closed ends.ran is)
+    told_by_gate (inr (inr (inr (inr (inl serve))))) is =
+        of_serve serve.ends.config serve.ends.serve.connections before.gates after.gates why closed serve.ends.served gates laters serve.in_turns is
+    told_by_gate (inr (inr (inr (inr (inr ends))))) is =
+        absurd (not_load ends.config ends.load before.output after.output closed
+        (subst (λ (w : Why). EndsLoad ends.config ends.load before.output after.output w closed) is ends.ends))
