@@ -20,8 +20,9 @@ pub enum Why {
     ReadFault,
     /// A write failed.
     WriteFault,
-    /// Memory ran out: in a run before any line was read and in a load at any time, and nothing was written; in a serve
-    /// before any connection came, or in a session of one.
+    /// Memory ran out. A run had read no line then and a load had come to any of its calls, and neither has written anything.
+    /// In a serve it ran out before any connection came, or where some sessions began: these read and wrote nothing, and all
+    /// others had theirs.
     Memory,
     /// A gate of a serve failed.
     GateFault,
