@@ -25,7 +25,7 @@ use Rattle.session.proofs.SessionLaws.{linear}
 use Rattle.session.specs.Ends.{IsWithin}
 use Rattle.session.specs.Laws.{asked_by, calls_of, replies_to_calls}
 use Rattle.session.specs.Sessions.{Answers, AnswersItem, Session}
-use Rattle.funnel.specs.Laws.{AreDue, IsDue, RepliesAreDue, TakesMemory}
+use Rattle.funnel.specs.Laws.{AnswersInput, AreDue, IsDue, RepliesAreDue, TakesMemory}
 use Rattle.funnel.specs.Runs.{Ran, first_caller, limits_by}
 use Rattle.session.specs.declared.serving.TheConstants.{MOST_BYTES}
 use Rattle.funnel.specs.declared.ended.Why.{Why}
@@ -135,3 +135,9 @@ pub replies_are_due : (config : Config) (incoming later_incoming : Incoming) (ou
     RepliesAreDue (first_caller (limits_by config)) [] closed.history ran.serves.taken ran.serves.written ran.end ran.serves.session
 replies_are_due config incoming later_incoming outgoing later_outgoing why closed ran =
     due_of_session config closed.history ran.of_first.alone ran.serves.taken ran.serves.written ran.end ran.serves.session ran.serves.within
+
+-- so it is with a whole input that is short enough
+pub input_is_due : (config : Config) (bytes : List ℕ) (before after : Outgoing) (closed : ClosedState) (answers : AnswersInput config bytes before after closed) →
+    length bytes < MOST_BYTES → AreDue (items bytes true) answers.replies
+input_is_due config bytes before after closed answers few =
+    due_of_items config closed.history answers.of_first.alone bytes true answers.replies (omega (arith, few)) answers.answers

@@ -30,13 +30,12 @@ use Rattle.funnel.specs.Commands.{command_of}
 use Rattle.funnel.specs.Ends.{why_of_config, why_of_end}
 use Rattle.line_proto.specs.Forms.{items}
 use Rattle.session.specs.Sessions.{Answers}
-use Rattle.funnel.specs.Laws.{AreDue, CompletesLoad, CompletesRun, CompletesServe, EndsWell, GateIsServed, IsAccepted, IsServedUnlessFailed, NoStreamFailed, NoneFailed, RepliesAreDue, ServesAllGates, TellsFew}
+use Rattle.funnel.specs.Laws.{CompletesLoad, CompletesRun, CompletesServe, EndsWell, GateIsServed, IsAccepted, IsServedUnlessFailed, NoStreamFailed, NoneFailed, ServesAllGates, TellsFew}
 use Rattle.funnel.specs.LoadRuns.{EndsLoad}
 use Rattle.funnel.specs.Misfits.{misfit_of}
 use Rattle.funnel.specs.Programs.{Ends, EndsAtConfig, EndsAtMisfit, EndsAtWords, EndsAfterLoad, EndsAfterRun, EndsAfterServe, Streams}
 use Rattle.funnel.specs.Runs.{Ran, RanOrNot, first_caller, limits_by}
 use Rattle.funnel.specs.Served.{AllWork, EndsServe, new_workers}
-use Rattle.funnel.proofs.DueReplies.{replies_are_due}
 use Rattle.funnel.proofs.ServedGates.{gates_without_a_fault, not_failed, raised_rose}
 
 -- bytes that were taken up to the end of a source are all that it told
@@ -213,29 +212,27 @@ module _ (value : Config) (before after : Streams) (why : Why) (closed : ClosedS
 
   module _ (bytes : List ℕ) (input : TellsFew before.input bytes) where
     ran_whole : (end : End) (serves : Served end) →
-        RepliesAreDue (first_caller (limits_by value)) [] closed.history serves.taken serves.written end serves.session →
         CompletesRun value bytes before.output after.output (why_of_end end) (Some closed)
-    ran_whole end_of.Done serves due =
+    ran_whole end_of.Done serves =
         let all = all_taken before.input after.input serves.taken bytes serves.takes serves.leaves input.told in
         let replies = serves.session.replies in
         record {
           of_first = ran.of_first;
           replies = replies;
           answers = subst (λ (bs : List ℕ). Answers (first_caller (limits_by value)) [] (items bs true) replies closed.history) all serves.session.answers;
-          due = subst (λ (bs : List ℕ). AreDue (items bs true) replies) all due;
           writes = subst (λ (bs : List ℕ). Writes bs before.output after.output) serves.session.text serves.writes;
         }
-    ran_whole end_of.ReadFault serves due = absurd (none.input (raised_rose before.input.faults after.input.faults serves.faults.reads))
-    ran_whole end_of.WriteFault serves due = absurd (none.output (raised_rose before.output.faults after.output.faults serves.faults.writes))
-    ran_whole (end_of.ByteLimit told) serves due =
+    ran_whole end_of.ReadFault serves = absurd (none.input (raised_rose before.input.faults after.input.faults serves.faults.reads))
+    ran_whole end_of.WriteFault serves = absurd (none.output (raised_rose before.output.faults after.output.faults serves.faults.writes))
+    ran_whole (end_of.ByteLimit told) serves =
         let first = first_taken before.input.left after.input.left serves.taken bytes serves.takes.left input.told in
         absurd (omega (arith, serves.within.1, input.few, ap length first.1, length-append serves.taken first.0))
-    ran_whole end_of.Memory serves due = tt
+    ran_whole end_of.Memory serves = tt
 
     ran_completes : CompletesRun value bytes before.output after.output why (Some closed)
     ran_completes =
         subst (λ (w : Why). CompletesRun value bytes before.output after.output w (Some closed)) (sym ran.answered)
-        (ran_whole ran.end ran.serves (replies_are_due value before.input after.input before.output after.output why closed ran))
+        (ran_whole ran.end ran.serves)
 
 -- a run that is accepted and whose input is short enough answers all of it, or memory ran out
 pub run_completes : (words : List (List ℕ)) (before after : Streams) (why : Why) (closed : Option ClosedState) (value : Config) (bytes : List ℕ) →

@@ -1,5 +1,5 @@
 -- The gates of a serve that did not fail.
-use Rattle.std.proofs.Common.{◌≡◌, ◌≢◌, ℕ, ◌+◌, ◌≤◌, Bool, true, false, cond, List, [], ◌∷◌, ◌++◌, map, take, drop, take-append-drop, Some, rules, arith, sym, refl, ap, ◌∙◌, subst}
+use Rattle.std.proofs.Common.{◌≡◌, ◌≢◌, ℕ, ◌+◌, ◌≤◌, Bool, true, false, cond, List, [], ◌∷◌, ◌++◌, map, take, drop, take-append-drop, Some, rules, arith, sym, refl, ap, ◌∙◌, subst, inl, inr}
 use Rattle.std.proofs.lemmas.Bool.{or_parts}
 use Rattle.std.proofs.lemmas.List.{append_cancel_left, length-map}
 use Rattle.std.proofs.lemmas.List.Elements.{All-cons, All-head, All-map, All-nil, All-tail, All-weaker}
@@ -12,12 +12,12 @@ use Rattle.funnel_model.specs.declared.config.Config.{Config}
 use Rattle.funnel_model.specs.Legal.{Limits}
 use Rattle.funnel_server.proofs.Ends.{are_all, fits_kept, kept_ends, serve_all, visit_ends_well}
 use Rattle.funnel_server.specs.Gates.{GateState, Sides}
-use Rattle.funnel_server.specs.Laws.{FitsKept}
+use Rattle.funnel_server.specs.Laws.{FitsKept, HasFewBytes}
 use Rattle.funnel_server.specs.Workers.{IsVisit, Visit, WorkerState, Works, is_memory, served_by, sides_before}
 use Rattle.line_proto.specs.Services.{Caller}
 use Rattle.funnel.specs.declared.ended.Why.{Why}
 use Rattle.funnel.specs.declared.ended.Why.TheVariants as why_of
-use Rattle.funnel.specs.Laws.{GateIsServed, IsKeptOf, IsServedUnlessFailed}
+use Rattle.funnel.specs.Laws.{GateIsServed, IsKeptOf, IsServedUnlessFailed, KeepsGoodEnd, KeepsNoFault}
 use Rattle.funnel.specs.Runs.{limits_by}
 use Rattle.funnel.specs.Served.{AllWork, HaveAllServed, new_worker, new_workers}
 
@@ -107,3 +107,25 @@ gates_without_a_fault config connections before after why closed served =
     (λ done.
     done_found_memory (list_any (λ (worker : WorkerState). worker.fault) served.workers) (list_any (λ (worker : WorkerState). worker.memory) served.workers)
     (sym served.cause ∙ done)))
+
+-- connections with few bytes, of which none failed and none found no memory
+all_done : (sides : List Sides) (gained : List Served) → AllZip IsKeptOf sides gained → All HasFewBytes sides → All KeepsNoFault gained →
+    All (λ (served : Served). served.session_end ≢ end_of.Memory) gained → All (λ (served : Served). served.session_end ≡ end_of.Done) gained
+all_done [] [] kept few none memory = All-nil (λ (served : Served). served.session_end ≡ end_of.Done)
+all_done [] (one ∷ others) kept few none memory = absurd kept
+all_done (side ∷ sides) [] kept few none memory = absurd kept
+all_done (side ∷ sides) (one ∷ others) kept few none memory =
+    let good = kept.0.good (All-head HasFewBytes side sides few) (All-head KeepsNoFault one others none) in
+    All-cons (λ (served : Served). served.session_end ≡ end_of.Done) one others
+    (done_one good (All-head (λ (served : Served). served.session_end ≢ end_of.Memory) one others memory))
+    (all_done sides others kept.1 (All-tail HasFewBytes side sides few) (All-tail KeepsNoFault one others none)
+    (All-tail (λ (served : Served). served.session_end ≢ end_of.Memory) one others memory)) where
+      done_one : KeepsGoodEnd one → one.session_end ≢ end_of.Memory → one.session_end ≡ end_of.Done
+      done_one (inl done) memory = done
+      done_one (inr lacking) memory = absurd (memory lacking)
+
+pub connections_are_done : (connections : ℕ) (before after : GateState) (served : GateIsServed connections why_of.Done before after) (waiting : List Sides) →
+    before.waiting ≡ Some waiting → All HasFewBytes (take connections waiting) → All KeepsNoFault served.gained →
+    All (λ (served : Served). served.session_end ≡ end_of.Done) served.gained
+connections_are_done connections before after served waiting is few none =
+    all_done (take connections waiting) served.gained (served.first waiting is) few none (served.memory refl)

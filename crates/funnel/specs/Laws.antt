@@ -99,7 +99,6 @@ pub record AnswersInput (config : Config) (bytes : List ℕ) (before after : Out
   pub of_first : IsOfFirst config closed
   pub replies : List Reply
   pub answers : Answers (first_caller (limits_by config)) [] (items bytes true) replies closed.history
-  pub due : AreDue (items bytes true) replies
   pub writes : Writes (texts replies) before after
 
 -- a run is done when its whole input is answered, and ends otherwise for want of memory alone

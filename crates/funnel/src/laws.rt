@@ -1,22 +1,25 @@
 //! Laws of programs, over their definitions alone. Each is the contract of a function that does nothing.
-ghost use Rattle.std.specs.Prelude.{◌≡◌, ℕ, List, [], All, Option, false};
+ghost use Rattle.std.specs.Prelude.{◌≡◌, ◌<◌, ℕ, List, [], All, Option, Some, true, false, length, take};
 ghost use Rattle.std.specs.List.{AllZip};
 ghost use Rattle.engine.specs.Engines.{ClosedState};
 ghost use Rattle.funnel_io.specs.Streams.{Incoming, Outgoing};
 ghost use Rattle.funnel_model.specs.declared.config.Config.{Config};
-ghost use Rattle.funnel_server.specs.Gates.{GateState};
+ghost use Rattle.funnel_server.specs.Gates.{GateState, Sides};
+ghost use Rattle.funnel_server.specs.Laws.{HasFewBytes};
+ghost use Rattle.line_proto.specs.Forms.{items};
+ghost use Rattle.session.specs.declared.serving.TheConstants.{MOST_BYTES};
 ghost use Rattle.funnel.specs.declared.command.Command.TheVariants as command;
 ghost use Rattle.funnel.specs.declared.command.LoadCommand.{LoadCommand};
 ghost use Rattle.funnel.specs.declared.command.ServeCommand.{ServeCommand};
 ghost use Rattle.funnel.specs.declared.ended.Why.{Why};
-ghost use Rattle.funnel.specs.Laws.{AllCallsAreOfSessions, CompletesLoad, CompletesRun, CompletesServe, EndsWell};
-ghost use Rattle.funnel.specs.Laws.{IsAccepted, IsServedUnlessFailed, NoStreamFailed, OneFailed, RepliesAreDue, TellsFew};
+ghost use Rattle.funnel.specs.Laws.{AllCallsAreOfSessions, AnswersInput, AreDue, CompletesLoad, CompletesRun, CompletesServe, EndsWell, GateIsServed};
+ghost use Rattle.funnel.specs.Laws.{IsAccepted, IsServedUnlessFailed, KeepsNoFault, NoStreamFailed, OneFailed, RepliesAreDue, TellsFew};
 ghost use Rattle.funnel.specs.Programs.{Ends, Streams};
 ghost use Rattle.funnel.specs.Runs.{Ran, first_caller, limits_by};
 ghost use Rattle.funnel.specs.Served.{HaveAllServed, new_workers};
 ghost use Rattle.funnel.specs.Turns.{EndsInTurns};
 
-use funnel_io::Gate;
+use funnel_io::{End, Gate};
 
 /// Let the words be a command, the configuration valid, the command fit it, and no read, no write and no call of a gate fail.
 /// Then a run whose input has fewer bytes than it may take answers all its lines, a serve gives each connection of its gates a session,
@@ -40,9 +43,11 @@ pub fn programs_without_a_fault_end_well()
 /// find or a journal can be refused for want of memory; every other reply is the one of its event in the history, or that of a
 /// line which is no call.
 pub fn runs_take_every_call()
-    ensures { (config : Config) (incoming later_incoming : Incoming) (outgoing later_outgoing : Outgoing) (why : Why) (closed : ClosedState)
+    ensures any { (config : Config) (incoming later_incoming : Incoming) (outgoing later_outgoing : Outgoing) (why : Why) (closed : ClosedState)
         (ran : Ran config incoming later_incoming outgoing later_outgoing why closed) →
         RepliesAreDue (first_caller (limits_by config)) [] closed.history ran.serves.taken ran.serves.written ran.end ran.serves.session }
+    ensures whole { (config : Config) (bytes : List ℕ) (before after : Outgoing) (closed : ClosedState) (answers : AnswersInput config bytes before after closed) →
+        length bytes < MOST_BYTES → AreDue (items bytes true) answers.replies }
 {}
 
 /// The calls that each pass of a serve made are those of its worker's sessions, connection after connection, and no other ones.
@@ -58,6 +63,14 @@ pub fn the_calls_of_a_serve_are_those_of_its_sessions()
 pub fn gates_without_a_fault_are_served()
     ensures { (config : Config) (connections : ℕ) (before after : List GateState) (why : Why) (closed : ClosedState) →
         HaveAllServed config connections before after why closed → AllZip (IsServedUnlessFailed connections why) before after }
+{}
+
+/// Where a serve is done, each of the connections that a gate tells of had all its lines answered, if they had few bytes and no
+/// read and no write of them failed.
+pub fn connections_without_a_fault_are_done()
+    ensures { (connections : ℕ) (before after : GateState) (served : GateIsServed connections Why.Done before after) (waiting : List Sides) →
+        before.waiting ≡ Some waiting → All HasFewBytes (take connections waiting) → All KeepsNoFault served.gained →
+        All (λ one. one.session_end ≡ End.Done) served.gained }
 {}
 
 /// What `funnel_main` tells of an end is told with the calls of a serve on its gates; the laws here need no more than the end.

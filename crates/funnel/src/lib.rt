@@ -25,7 +25,7 @@ pub use command::{
 };
 pub use ended::{Ended, Misfit, Why};
 pub use laws::{
-    ends_are_told_with_their_turns,
+    connections_without_a_fault_are_done, ends_are_told_with_their_turns,
     gate_faults_are_answers_of_gates, gates_that_stay_open_are_served_to_their_number,
     gates_without_a_fault_are_served, programs_without_a_fault_end_well, runs_take_every_call,
     the_calls_of_a_serve_are_those_of_its_sessions,
