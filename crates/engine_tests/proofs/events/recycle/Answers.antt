@@ -1,10 +1,8 @@
-use Rattle.std.proofs.Common.{subst}
-use Rattle.slice_recycler.specs.Recycles.{RecycleTurns}
 use Rattle.engine_tests.proofs.events.recycle.Goals as goal
 
 pub returns-clause-done : goal.returns-clause-done
 returns-clause-done g c slice is =
-    let turns = subst (RecycleTurns _ _ _ _) is c.recycle.ensures.turns in
+    let turns = rw is at c.recycle.ensures.turns in
     record {
       middle = turns.0;
       begins = record { earlier = turns.1.earlier; others = turns.1.seen; whole = turns.1.made };
@@ -13,5 +11,5 @@ returns-clause-done g c slice is =
 
 pub returns-clause-none : goal.returns-clause-none
 returns-clause-none g c is =
-    let turn = subst (RecycleTurns _ _ _ _) is c.recycle.ensures.turns in
+    let turn = rw is at c.recycle.ensures.turns in
     record { earlier = turn.earlier; others = turn.seen; whole = turn.made }
