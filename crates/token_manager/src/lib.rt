@@ -2,6 +2,7 @@
 //! retired meanwhile is not cleared: the token guards it. The layer above asks here for the lowest pass that guards a
 //! slice which retired at a given event.
 #![tactic(auto)]
+
 mod tokens;
 
 pub use tokens::Tokens;

@@ -5,5 +5,6 @@
 mod cut;
 mod fault;
 mod folding;
+
 pub use cut::words;
 pub use fault::WordFault;
