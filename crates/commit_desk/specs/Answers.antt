@@ -154,7 +154,7 @@ AnswersFind most limits history (Ok token) =
     × ((slice : ℕ) → Contains token.slices slice ↔ ((slice < limits.slices) × IsInUse limits.columns slice history))
 AnswersFind most limits history (Err spent) = IsSpentAt most history spent.events
 
--- the places and the numbers of the documents that have every word of the query, in the order of their adds
+-- the places and the numbers of the live documents that have every word of the query, in the order of their adds
 abbrev pub found_of : List Event → List ℕ → List (ℕ × ℕ)
 found_of history query = map (λ d. (d.place, d.id)) (filter (λ d. meets d.text query) (live history))
 

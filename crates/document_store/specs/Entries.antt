@@ -1,4 +1,4 @@
--- The column of each live number, and how many steps it takes to find it.
+-- The column of each live number, and how many entries stand on the way to it.
 use Rattle.std.specs.Prelude.{ℕ, ◌-◌, ◌*◌, ◌≤◌, ◌==◌, ◌/◌, ◌%◌, Bool, false, List, length, slice_index_or, Option, Some, None}
 use Rattle.std.specs.List.{position}
 use Rattle.std.specs.Option.{option_map}
@@ -21,13 +21,13 @@ has_id id (Some n) = n == id
 abbrev pub column_of : Entries → ℕ → Option (ℕ × ℕ)
 column_of live id = option_map (λ i. (i / live.columns, i % live.columns)) (position (has_id id) live.entries)
 
--- how many entries a call looks at for a number, one behind the other
+-- how many entries stand on the way of a number, from its bucket down to it or to where it would be
 unfoldable pub steps : Entries → ℕ → ℕ
 steps live id =
     let count = length live.entries in
     let buckets = length live.links - 2 * count in
     looked_from (link_at live.links) (λ x. has_id id (slice_index_or live.entries x None)) buckets count id count (bucket_of buckets id) 0
 
--- a call looks at few entries, whatever its number and whichever are live: one for each bit of a number, and one more
+-- few entries stand on the way of a number, whatever it is and whichever are live: one for each bit of a number, and one more
 abbrev pub IsShallow : Entries → Type 0
 IsShallow live = (id : ℕ) → steps live id ≤ 65

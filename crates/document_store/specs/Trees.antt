@@ -110,7 +110,7 @@ pub record IsLowestUnder (buckets : ℕ) (links : List ℕ) (entries : List Entr
   pub entry : link_at links link < length entries
   pub stops : (steps ≡ 64) ⊎ HasNoneUnder buckets links entries (link_at links link)
 
--- The entry x is in the place of another one, old: what was under the old one is under it, and nothing is under the old one.
+-- the new entry is in the place of the old one: what was under the old one is under it, and nothing is under the old one.
 pub record IsInPlace (buckets : ℕ) (behind after : ℕ → ℕ) (link old new : ℕ) : Type 0 where
   pub here : after link ≡ new
   pub low : after (link_under buckets new 0) ≡ behind (link_under buckets old 0)

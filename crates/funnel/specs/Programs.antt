@@ -95,5 +95,6 @@ EndsBy Serve words before after why closed =
     EndsAtWords words before after why closed ⊎ EndsAtConfig words before after why closed ⊎ EndsAtMisfit words before after why closed
     ⊎ EndsAfterRun words before after why closed ⊎ Serve ⊎ EndsAfterLoad words before after why closed
 
+-- a program ends so
 abbrev pub Ends : List (List ℕ) → Streams → Streams → Why → Option ClosedState → Type 0
 Ends words before after why closed = EndsBy (EndsAfterServe words before after why closed) words before after why closed

@@ -20,7 +20,7 @@ pub enum Why {
     ReadFault,
     /// A write failed.
     WriteFault,
-    /// Memory ran out. A run had read no line then and a load had come to any of its calls, and neither has written anything.
+    /// Memory ran out. A run had read no line then, a load had made none, some or all of its calls, and neither has written anything.
     /// In a serve it ran out before any connection came, or where some sessions began: these read and wrote nothing, and all
     /// others had theirs.
     Memory,

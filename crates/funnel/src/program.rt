@@ -59,7 +59,7 @@ where
     ensures load_reads_nothing { (load : LoadCommand) → command_of (map (λ word. word.now) words.now) ≡ Some (command.Load load) → input.new ≡ input.old }
     ensures serve_uses_gates { is_serve (command_of (map (λ word. word.now) words.now)) ≡ true → (input.new ≡ input.old) × (output.new ≡ output.old) }
 
-    // A run and a load that found no memory wrote nothing. A serve never writes on these streams; of its sessions tells `ends`.
+    // A run and a load that found no memory read and wrote nothing. A serve uses neither stream; of its sessions tells `ends`.
     ensures without_memory { is_serve (command_of (map (λ word. word.now) words.now)) ≡ false → result.why ≡ Why.Memory →
         (input.new ≡ input.old) × (output.new ≡ output.old) }
     ensures config_untouched { result.why ≡ Why.Usage → config.new ≡ config.old }

@@ -18,8 +18,8 @@ use std::thread::Threads;
 ///
 /// Worker `i` uses pass `i` alone. It makes its calls in three parts: it adds its documents, deletes those that are to be
 /// deleted, and runs its queries. In each part each worker has a thread of its own, and all have ended a part before the
-/// next one begins. After each part each pass sees what all of them have seen. Where no thread can be made a part runs on
-/// one thread, one worker after another.
+/// next one begins. After a part that all came through each pass sees what all of them have seen. Where no thread can be
+/// made a part runs on one thread, one worker after another.
 ///
 /// The answer is the result of each query, or `Memory` where there was none for the workers or one of them found none. That
 /// one then stops, the others come to the end of the part or find no memory themselves, and no further part begins; all passes

@@ -30,12 +30,13 @@ pub record IsConfigRead (answer : Result Config ConfigFault) (before after : Inc
   pub answers : MatchResult answer
       (λ config. (configuration bytes ≡ Ok config) × IsAtEnd after.left) (λ fault. IsFaultOf fault bytes after.left)
 
--- each of the reads, of which the last comes first, comes after one that gave bytes
+-- each of the reads but the first comes after one that gave bytes; the last of them stands first
 abbrev pub AreGoingOn : List Read → Type 0
 AreGoingOn [] = ⊤
 AreGoingOn (read ∷ earlier) = AreGoingOn earlier × GaveBytes earlier
 
--- these are all reads of the source, none after one that gave no bytes; the last found the end or failed, as the answer tells
+-- these are all reads of the source, none after one that gave no bytes. With a configuration the last found the end, and the last one
+-- failed exactly where the answer is a failed read
 pub record EndsReading {S X : Type 0} (read_gives : S → Read → S → Type 0) (answer : Result X ConfigFault) (before after : S) : Type 0 where
   pub reads : List Read
   pub lead : Leads read_gives before reads after

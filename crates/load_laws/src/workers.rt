@@ -14,7 +14,7 @@ ghost use Rattle.load_gen.specs.Summary.{results_of};
 ghost use Rattle.load_laws.specs.Workers.{AreLeft, Fronts, HasAsked, HasParts, HasRoomFor, HaveMet, IsAnsweredAsTold, IsLoaded, calls_of_load};
 ghost use Rattle.load_laws.specs.WorkersExample.{both_added, both_queried, replies_to, two_passes};
 
-/// A load comes in parts where each worker, once it has ended its adds, and once it has ended its deletes, meets what every other
+/// A load comes in parts where each worker, once it has ended its adds, and so its deletes and its queries, meets what every other
 /// had seen when it had ended its own.
 pub fn workers_that_meet_keep_to_the_parts()
     ensures { (texts : List (List ℕ)) (workers : ℕ) (history : List Event) (fronts : ℕ → Fronts) → 0 < workers →

@@ -63,7 +63,7 @@ pub fn sessions_that_are_done_found_the_end<C: Connection>()
         end ≡ End.Done → FindsEnd (stops.goes.last ++ reads_of stops.goes.turns) }
 {}
 
-/// The turns of a session write the texts of their replies and nothing else; of the last one's text perhaps not all.
+/// What the turns of a session write begins the texts of their replies.
 pub fn turns_write_their_replies()
     ensures { (turns : List Turn) → AreTurns turns → IsPrefix (bytes_of turns) (texts (replies_of turns)) }
 {}
