@@ -1,6 +1,6 @@
 """A plain model of the line protocol: what a line may be answered after so many commits of one history.
 
-Its words are those of ASCII letters alone, its journal is never full, and memory is never wanting."""
+Its words are those of ASCII letters alone, its journal keeps every commit, and memory is never wanting."""
 
 import re
 

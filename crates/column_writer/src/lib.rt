@@ -4,6 +4,3 @@
 mod write;
 
 pub use write::write_column;
-
-#[cfg(test)]
-mod tests;

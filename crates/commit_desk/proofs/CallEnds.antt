@@ -26,6 +26,7 @@ use Rattle.commit_desk.specs.declared.answers.CommitFault.{CommitFault}
 use Rattle.commit_desk.specs.declared.answers.DeleteFault.{DeleteFault}
 use Rattle.commit_desk.specs.declared.answers.DeleteFault.TheVariants as delete
 use Rattle.commit_desk.specs.declared.answers.JournalFault.{JournalFault}
+use Rattle.commit_desk.specs.declared.answers.JournalFault.TheVariants as journal
 use Rattle.commit_desk.specs.declared.answers.Spent.{Spent}
 use Rattle.commit_desk.specs.declared.answers.Taken.{Taken}
 use Rattle.commit_desk.specs.declared.answers.Taken.TheVariants as taken
@@ -72,13 +73,14 @@ module _ (pool : PoolId) (before after : DeskState) (seat next : PassState) (her
 
     pub rests_journal : (from : ℕ) (answer : Result (List Commit) JournalFault) → Makes (events_of_journal seat.number from answer) before after seat next → IsResting pool next
     rests_journal from (Ok commits) made = rests_one (event.Read seat.number (call.Journal from)) refl refl made
-    rests_journal from (Err fault) made = rests_none idle made
+    rests_journal from (Err (journal.Trimmed n)) made = rests_one (event.Read seat.number (call.Journal from)) refl refl made
+    rests_journal from (Err (journal.Spent events)) made = rests_none idle made
+    rests_journal from (Err journal.Memory) made = rests_none idle made
 
     pub rests_delete : (id : ℕ) (answer : Result ℕ DeleteFault) → Makes (events_of_delete seat.number id answer) before after seat next → IsResting pool next
     rests_delete id (Ok place) made = rests_one (event.Del seat.number id) refl refl made
     rests_delete id (Err (delete.Spent events)) made = rests_none idle made
     rests_delete id (Err delete.Absent) made = rests_one (event.No seat.number (call.Delete id)) refl refl made
-    rests_delete id (Err (delete.JournalFull count)) made = rests_one (event.No seat.number (call.Delete id)) refl refl made
 
     pub finds_or_rests : (query : List ℕ) (answer : Result Token Spent) → IfOk answer (λ token. HoldsToken next token) → Makes (events_of_find seat.number query answer) before after seat next →
         MatchResult answer (λ token. IsFinding pool token next) (λ _. IsResting pool next)
@@ -131,7 +133,6 @@ module _ (pool : PoolId) (before after : DeskState) (seat next : PassState) (her
       is_to_do id text (taken.Clear job) may nothing made = to_clear job.slice may.2.in_range made
       is_to_do id text (taken.Refused (add.Spent events)) may nothing made = rests_none idle made
       is_to_do id text (taken.Refused (add.Present added)) may nothing made = rests_one (event.No seat.number (call.Add id text)) refl refl made
-      is_to_do id text (taken.Refused (add.JournalFull count)) may nothing made = rests_one (event.No seat.number (call.Add id text)) refl refl made
       is_to_do id text (taken.Refused (add.Full blocks)) may nothing made = rests_one (event.No seat.number (call.Add id text)) refl refl made
       is_to_do id text (taken.Refused add.Memory) may nothing made = rests_one (event.No seat.number (call.Add id text)) refl refl made
 

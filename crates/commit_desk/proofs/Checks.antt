@@ -1,14 +1,12 @@
 -- What the checks of the calls tell of a history.
-use Rattle.std.proofs.Common.{◌≡◌, ◌≤◌, ◌⊎◌, ⊎_elim, inl, inr, Err, ap, ℕ, true, false, List, length, ◌∙◌}
-use Rattle.std.proofs.lemmas.Bool.{both_ways, false≢true}
+use Rattle.std.proofs.Common.{◌≡◌, ◌≤◌, Err, ap, ℕ, true, false, List, length, ◌∙◌}
+use Rattle.std.proofs.lemmas.Bool.{false≢true}
 use Rattle.std.proofs.Math.Nat.{lt_of_not-le}
 use Rattle.std.specs.Option.{is_some}
 use Rattle.std.specs.Prelude.{IsTrue}
 use Rattle.funnel_model.specs.declared.event.Event.{Event}
 use Rattle.funnel_model.specs.History.{is_live, live, live_place}
-use Rattle.funnel_model.specs.Legal.{HasJournalRoom, IsLegal, Limits, is_journal_full}
 use Rattle.funnel_model.proofs.LiveLemmas.{is_live-from_place}
-use Rattle.funnel_model.proofs.Progress.{room_or_full}
 use Rattle.commit_desk.specs.declared.answers.CommitFault.{CommitFault}
 use Rattle.commit_desk.specs.declared.answers.CommitFault.TheVariants as commit
 use Rattle.commit_desk.specs.Answers.{AnswersCommit, TakesCalls}
@@ -25,13 +23,6 @@ absent_by_place history id none = is_live-from_place id (live history) ∙ none
 pub live_by_place : (history : List Event) (id : ℕ) → is_some (live_place id history) ≡ true → is_live id history ≡ true
 live_by_place history id some = is_live-from_place id (live history) ∙ some
 
--- a journal that is not full has room
-pub room_by_test : (limits : Limits) (history : List Event) → IsLegal limits history → is_journal_full limits history ≡ false → HasJournalRoom limits history
-room_by_test limits history legal not_full =
-    ⊎_elim (λ room. room) (λ full. absurd (both_ways (is_journal_full limits history) not_full full)) (room_or_full limits history legal)
-
--- a document that is not added at its commit has a number that is live, or the journal is full
-pub dropped_is_refused : (limits : Limits) (history : List Event) (id : ℕ) (fault : CommitFault) → AnswersCommit limits history id (Err fault) →
-    (is_live id history ≡ true) ⊎ (is_journal_full limits history ≡ true)
-dropped_is_refused limits history id (commit.Present added) is = inl (live_by_place history id (ap is_some is.live))
-dropped_is_refused limits history id (commit.JournalFull count) is = inr is.1.full
+-- a document that is not added at its commit has a number that is live
+pub dropped_is_live : (history : List Event) (id : ℕ) (fault : CommitFault) → AnswersCommit history id (Err fault) → is_live id history ≡ true
+dropped_is_live history id (commit.Present added) is = live_by_place history id (ap is_some is.live)

@@ -1,5 +1,5 @@
 -- What the desk keeps, when a document is added, dropped and deleted.
-use Rattle.std.proofs.Common.{◌≡◌, ℕ, ◌+◌, ◌<◌, true, false, List, [], ◌∷◌, ◌++◌, cond, length, All, Option, Some, None, sym, refl, ap, ◌∙◌, subst, arith}
+use Rattle.std.proofs.Common.{◌≡◌, ℕ, ◌+◌, ◌<◌, true, false, List, [], ◌∷◌, ◌++◌, cond, length, All, Option, Some, None, sym, refl, ◌∙◌, subst, arith}
 use Rattle.std.proofs.lemmas.List.{length-append, length-set}
 use Rattle.std.proofs.lemmas.List.Elements.{All-push}
 use Rattle.std.specs.Prelude.{◌==◌}
@@ -10,16 +10,15 @@ use Rattle.document_store.specs.Slots.{IsColumn, Table, slot_at, with_slot}
 use Rattle.document_store.specs.declared.column.Column.TheVariants as became
 use Rattle.document_store.specs.declared.records.Slot.{Slot}
 use Rattle.funnel_model.specs.declared.bit_list.Bit.{Bit}
-use Rattle.funnel_model.specs.declared.commit.Commit.{Commit}
 use Rattle.funnel_model.specs.declared.config.Config.{Config}
 use Rattle.funnel_model.specs.declared.event.Event.{Event}
 use Rattle.funnel_model.specs.declared.event.Event.TheVariants as event
 use Rattle.funnel_model.specs.Events.{finds_or_ends, next_after}
-use Rattle.funnel_model.specs.History.{commits, last_by, place}
+use Rattle.funnel_model.specs.History.{last_by, place}
 use Rattle.funnel_model.specs.Legal.{IsAllowed, Limits}
 use Rattle.funnel_model.specs.Words.{AreWordsOf, words}
 use Rattle.funnel_model.proofs.Histories.{legal-push}
-use Rattle.funnel_model.proofs.LiveLemmas.{commits-append, commits-silent}
+use Rattle.funnel_model.proofs.LiveLemmas.{commits-silent}
 use Rattle.funnel_model.proofs.NextEvents.{awaited-push}
 use Rattle.row_layout.proofs.BitLemmas.{rows-of_part}
 use Rattle.row_layout.specs.DocumentBits.{AreDocumentBits}
@@ -27,9 +26,11 @@ use Rattle.row_layout.specs.Sound.{HasItsBits}
 use Rattle.slice_rule.specs.Pools.{PoolId}
 use Rattle.slice_stages.specs.Stages.{RetiredBefore, StageTable, after_end, stage_of, with_stage}
 use Rattle.slice_stages.specs.declared.stage.Stage.TheVariants as stage
+use Rattle.commit_desk.specs.Journals.{IsJournalOf, JournalState, with_commit}
 use Rattle.commit_desk.specs.Kept.{AreStages, AreTokens, Books, HasFew, IsDesk}
 use Rattle.commit_desk.specs.Records.{AreListed, AreRecorded, IsLiveIn}
 use Rattle.commit_desk.proofs.Few.{few-next, few-start}
+use Rattle.commit_desk.proofs.Journals.{journal-push, journal-silent}
 use Rattle.commit_desk.proofs.ListedKept.{listed-add, listed-delete, listed-one}
 use Rattle.commit_desk.proofs.RecordFacts.{is_column, no_entry, none_live_in_pending}
 use Rattle.commit_desk.proofs.RecordsKept.{recorded-add, recorded-delete, recorded-drop}
@@ -60,20 +61,19 @@ staged_by limits history e table next tokens stages later are count columns mark
 }
 
 -- the same desk, where its parts are told by equal names
-pub desk-as : (pool next : PoolId) (most most_commits : ℕ) (history later : List Event) (books : Books) (events : ℕ) (journal : List Commit) (room : ℕ) (table : Table) (live : Entries) (stages : StageTable) →
-    IsDesk pool most most_commits history books → next ≡ pool → later ≡ history → events ≡ books.events → journal ≡ books.journal → room ≡ books.room → table ≡ books.table → live ≡ books.live →
-    stages ≡ books.stages → IsDesk next most most_commits later (record books { events = events; journal = journal; room = room; table = table; live = live; stages = stages })
-desk-as pool next most most_commits history later books events journal room table live stages is p h e j r t l s =
-    subst (λ (x : PoolId). IsDesk x most most_commits later (record books { events = events; journal = journal; room = room; table = table; live = live; stages = stages })) (sym p)
-    (subst (λ (x : List Event). IsDesk pool most most_commits x (record books { events = events; journal = journal; room = room; table = table; live = live; stages = stages })) (sym h)
-    (subst (λ (x : ℕ). IsDesk pool most most_commits history (record books { events = x; journal = journal; room = room; table = table; live = live; stages = stages })) (sym e)
-    (subst (λ (x : List Commit). IsDesk pool most most_commits history (record books { journal = x; room = room; table = table; live = live; stages = stages })) (sym j)
-    (subst (λ (x : ℕ). IsDesk pool most most_commits history (record books { room = x; table = table; live = live; stages = stages })) (sym r)
-    (subst (λ (x : Table). IsDesk pool most most_commits history (record books { table = x; live = live; stages = stages })) (sym t)
-    (subst (λ (x : Entries). IsDesk pool most most_commits history (record books { live = x; stages = stages })) (sym l)
-    (subst (λ (x : StageTable). IsDesk pool most most_commits history (record books { stages = x })) (sym s) is)))))))
+pub desk-as : (pool next : PoolId) (most : ℕ) (history later : List Event) (books : Books) (events : ℕ) (journal : JournalState) (table : Table) (live : Entries) (stages : StageTable) →
+    IsDesk pool most history books → next ≡ pool → later ≡ history → events ≡ books.events → journal ≡ books.journal → table ≡ books.table → live ≡ books.live →
+    stages ≡ books.stages → IsDesk next most later (record books { events = events; journal = journal; table = table; live = live; stages = stages })
+desk-as pool next most history later books events journal table live stages is p h e j t l s =
+    subst (λ (x : PoolId). IsDesk x most later (record books { events = events; journal = journal; table = table; live = live; stages = stages })) (sym p)
+    (subst (λ (x : List Event). IsDesk pool most x (record books { events = events; journal = journal; table = table; live = live; stages = stages })) (sym h)
+    (subst (λ (x : ℕ). IsDesk pool most history (record books { events = x; journal = journal; table = table; live = live; stages = stages })) (sym e)
+    (subst (λ (x : JournalState). IsDesk pool most history (record books { journal = x; table = table; live = live; stages = stages })) (sym j)
+    (subst (λ (x : Table). IsDesk pool most history (record books { table = x; live = live; stages = stages })) (sym t)
+    (subst (λ (x : Entries). IsDesk pool most history (record books { live = x; stages = stages })) (sym l)
+    (subst (λ (x : StageTable). IsDesk pool most history (record books { stages = x })) (sym s) is))))))
 
-module _ (pool : PoolId) (most most_commits : ℕ) (history : List Event) (books : Books) (is : IsDesk pool most most_commits history books) where
+module _ (pool : PoolId) (most : ℕ) (history : List Event) (books : Books) (is : IsDesk pool most history books) where
   -- the column that a pass has just taken is one of the table
   pub taken_column : (pass s c : ℕ) → last_by pass history ≡ Some (event.Take pass s c) → IsColumn books.table s c
   taken_column pass s c last =
@@ -104,16 +104,15 @@ module _ (pool : PoolId) (most most_commits : ℕ) (history : List Event) (books
 
   -- what is kept with one more event, part by part
   desk-with : (e : Event) (next : Books) → IsAllowed pool.limits history e → HasItsBits pool.config e → HasFew most pool.limits.passes (history ++ e ∷ []) → next_after e ≡ None →
-      ((pass : ℕ) → finds_or_ends pass e ≡ false) → next.slices ≡ books.slices → next.columns ≡ books.columns → next.room ≡ books.room → next.tokens ≡ books.tokens → next.events ≡ length history + 1 →
-      next.journal ≡ commits (history ++ e ∷ []) → AreRecorded pool.limits (history ++ e ∷ []) next.table → AreListed next.table next.live →
-      AreStages pool.limits (history ++ e ∷ []) next.table books.tokens next.stages → IsDesk pool most most_commits (history ++ e ∷ []) next
-  desk-with e next allowed bits few awaits silent slices columns room tokens events journal recorded listed staged =
+      ((pass : ℕ) → finds_or_ends pass e ≡ false) → next.slices ≡ books.slices → next.columns ≡ books.columns → next.tokens ≡ books.tokens → next.events ≡ length history + 1 →
+      IsJournalOf pool.limits.commits (history ++ e ∷ []) next.journal → AreRecorded pool.limits (history ++ e ∷ []) next.table → AreListed next.table next.live →
+      AreStages pool.limits (history ++ e ∷ []) next.table books.tokens next.stages → IsDesk pool most (history ++ e ∷ []) next
+  desk-with e next allowed bits few awaits silent slices columns tokens events journal recorded listed staged =
       let kept = is.kept in record {
         in_range = is.in_range;
         sizes = is.sizes;
         some = is.some;
         bounded = is.bounded;
-        commits_are = is.commits_are;
         none_awaited = awaited-push history e ∙ awaits;
         kept = record {
           few = few;
@@ -123,7 +122,6 @@ module _ (pool : PoolId) (most most_commits : ℕ) (history : List Event) (books
           columns_are = columns ∙ kept.columns_are;
           events_are = events ∙ sym (length-append history (e ∷ []));
           journal_is = journal;
-          journal_fits = let h = kept.journal_fits in omega (arith, room);
           recorded = recorded;
           listed = listed;
           tokens_are = subst (AreTokens pool.limits (history ++ e ∷ [])) (sym tokens) (tokens-same pool.limits history e books.tokens silent kept.tokens_are);
@@ -135,9 +133,9 @@ module _ (pool : PoolId) (most most_commits : ℕ) (history : List Event) (books
   pub desk-add : (pass s c : ℕ) (doc : Parts) (bits : List Bit) (next : Entries) → IsAllowed pool.limits history (event.Add pass doc.id doc.text s c bits) → AreWordsOf doc.words doc.text →
       AreDocumentBits pool.config doc.words s c bits → ((other : ℕ) → entry_of next other ≡ cond (other == doc.id) (Some (s, c)) (entry_of books.live other)) →
       next.slices ≡ books.live.slices → next.columns ≡ books.live.columns →
-      IsDesk pool most most_commits (history ++ event.Add pass doc.id doc.text s c bits ∷ []) (record books {
+      IsDesk pool most (history ++ event.Add pass doc.id doc.text s c bits ∷ []) (record books {
         events = length history + 1;
-        journal = books.journal ++ (record { add = true; id = doc.id }) ∷ [];
+        journal = with_commit books.journal (record { add = true; id = doc.id });
         table = with_slot books.table s c (record { column = became.Live (place history + 1); doc = Some doc });
         live = next;
       })
@@ -148,10 +146,10 @@ module _ (pool : PoolId) (most most_commits : ℕ) (history : List Event) (books
       let here = taken_column pass s c rule.taken in
       let y : Slot = record { column = became.Live (place history + 1); doc = Some doc } in
       let table = with_slot books.table s c y in
-      desk-with e (record books { events = length history + 1; journal = books.journal ++ (record { add = true; id = doc.id }) ∷ []; table = table; live = next }) allowed
+      desk-with e (record books { events = length history + 1; journal = with_commit books.journal (record { add = true; id = doc.id }); table = table; live = next }) allowed
       (bits_of_text pool.config doc.words doc.text s c bits of_text bits_are)
-      (few-next most pool.limits.passes history e (event.Take pass s c) kept.few allowed.pass rule.taken (omega arith)) refl (λ other. refl) refl refl refl refl refl
-      (ap (λ cs. cs ++ (record { add = true; id = doc.id }) ∷ []) kept.journal_is ∙ sym (commits-append history (e ∷ [])))
+      (few-next most pool.limits.passes history e (event.Take pass s c) kept.few allowed.pass rule.taken (omega arith)) refl (λ other. refl) refl refl refl refl
+      (journal-push pool.limits.commits history e (record { add = true; id = doc.id }) books.journal kept.journal_is refl)
       (recorded-add pool.limits history books.table kept.legal kept.recorded pass s c doc bits allowed of_text here)
       (listed-add books.table books.live kept.recorded.size kept.listed s c (place history + 1) doc next here
       (none_live_in_pending pool.limits history books.table kept.legal kept.recorded pass s c rule.taken here)
@@ -161,7 +159,7 @@ module _ (pool : PoolId) (most most_commits : ℕ) (history : List Event) (books
 
   -- a document is dropped for the column that its pass took
   pub desk-drop : (pass id : ℕ) (text : List ℕ) (s c first over : ℕ) → IsAllowed pool.limits history (event.Drop pass id text s c) → stage_of books.stages s ≡ stage.InUse first over →
-      IsDesk pool most most_commits (history ++ event.Drop pass id text s c ∷ []) (record books {
+      IsDesk pool most (history ++ event.Drop pass id text s c ∷ []) (record books {
         events = length history + 1;
         table = with_slot books.table s c (record { column = became.Dropped; doc = None });
         stages = with_stage books.stages s (after_end pool.limits.columns (length history + 1) first over);
@@ -176,8 +174,8 @@ module _ (pool : PoolId) (most most_commits : ℕ) (history : List Event) (books
       let ended = after_end pool.limits.columns (length history + 1) first over in
       let recorded = recorded-drop pool.limits history books.table kept.legal kept.recorded pass id text s c allowed here in
       desk-with e (record books { events = length history + 1; table = table; stages = with_stage books.stages s ended }) allowed tt
-      (few-next most pool.limits.passes history e (event.Take pass s c) kept.few allowed.pass rule.taken (omega arith)) refl (λ other. refl) refl refl refl refl refl
-      (kept.journal_is ∙ sym (commits-silent history e refl)) recorded
+      (few-next most pool.limits.passes history e (event.Take pass s c) kept.few allowed.pass rule.taken (omega arith)) refl (λ other. refl) refl refl refl refl
+      (journal-silent pool.limits.commits history (history ++ e ∷ []) books.journal (commits-silent history e refl) kept.journal_is) recorded
       (listed-one books.table books.live kept.recorded.size kept.listed s c y here (λ doc l. cc l.column)
       (none_live_in_pending pool.limits history books.table kept.legal kept.recorded pass s c rule.taken here))
       (staged_by pool.limits history e books.table table books.tokens books.stages (with_stage books.stages s ended) kept.staged (length-set books.stages.stages s ended) refl refl
@@ -187,9 +185,9 @@ module _ (pool : PoolId) (most most_commits : ℕ) (history : List Event) (books
   pub desk-delete : (pass s c first over : ℕ) (doc : Parts) (l : IsLiveIn (slot_at books.table s c) doc) (next : Entries) → IsAllowed pool.limits history (event.Del pass doc.id) → length history < most →
       IsColumn books.table s c → ((other : ℕ) → entry_of next other ≡ cond (other == doc.id) None (entry_of books.live other)) → next.slices ≡ books.live.slices → next.columns ≡ books.live.columns →
       stage_of books.stages s ≡ stage.InUse first over →
-      IsDesk pool most most_commits (history ++ event.Del pass doc.id ∷ []) (record books {
+      IsDesk pool most (history ++ event.Del pass doc.id ∷ []) (record books {
         events = length history + 1;
-        journal = books.journal ++ (record { add = false; id = doc.id }) ∷ [];
+        journal = with_commit books.journal (record { add = false; id = doc.id });
         table = with_slot books.table s c (record { column = became.Deleted l.added (place history + 1); doc = Some doc });
         live = next;
         stages = with_stage books.stages s (after_end pool.limits.columns (length history + 1) first over);
@@ -201,9 +199,9 @@ module _ (pool : PoolId) (most most_commits : ℕ) (history : List Event) (books
       let table = with_slot books.table s c y in
       let ended = after_end pool.limits.columns (length history + 1) first over in
       let recorded = recorded-delete pool.limits history books.table kept.legal kept.recorded pass s c doc l allowed here in
-      desk-with e (record books { events = length history + 1; journal = books.journal ++ (record { add = false; id = doc.id }) ∷ []; table = table; live = next; stages = with_stage books.stages s ended }) allowed tt
-      (few-start most pool.limits.passes history e below) refl (λ other. refl) refl refl refl refl refl
-      (ap (λ cs. cs ++ (record { add = false; id = doc.id }) ∷ []) kept.journal_is ∙ sym (commits-append history (e ∷ []))) recorded
+      desk-with e (record books { events = length history + 1; journal = with_commit books.journal (record { add = false; id = doc.id }); table = table; live = next; stages = with_stage books.stages s ended }) allowed tt
+      (few-start most pool.limits.passes history e below) refl (λ other. refl) refl refl refl refl
+      (journal-push pool.limits.commits history e (record { add = false; id = doc.id }) books.journal kept.journal_is refl) recorded
       (listed-delete books.table books.live kept.recorded.size kept.listed s c (place history + 1) doc l next here entries slices columns)
       (staged_by pool.limits history e books.table table books.tokens books.stages (with_stage books.stages s ended) kept.staged (length-set books.stages.stages s ended) refl refl
       (stages-delete pool.limits history books.table books.stages kept.legal kept.recorded kept.staged.count kept.staged.each pass s c first over doc y here l refl allowed recorded at_stage))

@@ -1,5 +1,5 @@
 -- What the call that ends a find finds.
-use Rattle.std.proofs.Common.{◌≡◌, ◌↔◌, ℕ, ◌<◌, List, map, filter_map, refl, sym, ap, ◌∙◌, subst, arith, Contains, IsSorted, IsPermutation}
+use Rattle.std.proofs.Common.{◌≡◌, ◌↔◌, ℕ, ◌<◌, List, filter_map, refl, sym, ap, ◌∙◌, subst, arith, Contains, IsSorted, IsPermutation}
 use Rattle.document_store.specs.Finding.{IsFound, found_at, pair_cmp}
 use Rattle.document_store.specs.Slots.{IsColumn, Table}
 use Rattle.funnel_model.specs.declared.claim.Token.{Token}

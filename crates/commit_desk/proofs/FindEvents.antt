@@ -23,6 +23,7 @@ use Rattle.slice_rule.specs.Pools.{PoolId}
 use Rattle.slice_rule.specs.Seats.{HoldsToken, PassState}
 use Rattle.commit_desk.specs.Kept.{AreTokens, Books, HasFew, IsDesk}
 use Rattle.commit_desk.proofs.Few.{few-next, few-start}
+use Rattle.commit_desk.proofs.Journals.{journal-silent}
 use Rattle.commit_desk.proofs.Marks.{mark-end, mark-find, mark-same}
 use Rattle.commit_desk.proofs.RecordsKept.{recorded-same}
 use Rattle.commit_desk.proofs.StagesKept.{LeavesSlice, stages-same}
@@ -55,17 +56,16 @@ silent_end pass = record {
 }
 
 -- what is kept after a silent event, with the tokens after it
-module _ (pool : PoolId) (most most_commits : ℕ) (history : List Event) (books : Books) (is : IsDesk pool most most_commits history books) (e : Event) (allowed : IsAllowed pool.limits history e) (silent : IsSilent e) where
+module _ (pool : PoolId) (most : ℕ) (history : List Event) (books : Books) (is : IsDesk pool most history books) (e : Event) (allowed : IsAllowed pool.limits history e) (silent : IsSilent e) where
   pub desk-silent : (tokens : List (Option ℕ)) → HasFew most pool.limits.passes (history ++ e ∷ []) → AreTokens pool.limits (history ++ e ∷ []) tokens →
       ((pass number : ℕ) → HasOpened tokens pass number → books.stages.mark ≤ number) →
-      IsDesk pool most most_commits (history ++ e ∷ []) (record books { events = length history + 1; tokens = tokens })
+      IsDesk pool most (history ++ e ∷ []) (record books { events = length history + 1; tokens = tokens })
   desk-silent tokens few tokens_are none_before =
       let kept = is.kept in record {
         in_range = is.in_range;
         sizes = is.sizes;
         some = is.some;
         bounded = is.bounded;
-        commits_are = is.commits_are;
         none_awaited = awaited-push history e ∙ silent.awaits;
         kept = record {
           few = few;
@@ -74,8 +74,7 @@ module _ (pool : PoolId) (most most_commits : ℕ) (history : List Event) (books
           slices_are = kept.slices_are;
           columns_are = kept.columns_are;
           events_are = sym (length-append history (e ∷ []));
-          journal_is = kept.journal_is ∙ sym (commits-silent history e silent.commit);
-          journal_fits = kept.journal_fits;
+          journal_is = journal-silent pool.limits.commits history (history ++ e ∷ []) books.journal (commits-silent history e silent.commit) kept.journal_is;
           recorded = recorded-same pool.limits history e kept.legal allowed books.table silent.stays kept.recorded;
           listed = kept.listed;
           tokens_are = tokens_are;
@@ -90,39 +89,39 @@ module _ (pool : PoolId) (most most_commits : ℕ) (history : List Event) (books
       }
 
 -- the same under other names
-module _ (pool : PoolId) (most most_commits : ℕ) (history : List Event) (books : Books) (is : IsDesk pool most most_commits history books) (next : PoolId) (later : List Event) (events : ℕ) (tokens : List (Option ℕ)) (same_pool : next ≡ pool) where
+module _ (pool : PoolId) (most : ℕ) (history : List Event) (books : Books) (is : IsDesk pool most history books) (next : PoolId) (later : List Event) (events : ℕ) (tokens : List (Option ℕ)) (same_pool : next ≡ pool) where
   renamed : (e : Event) (after_it : List (Option ℕ)) → later ≡ history ++ e ∷ [] → events ≡ length later → tokens ≡ after_it →
-      IsDesk pool most most_commits (history ++ e ∷ []) (record books { events = length history + 1; tokens = after_it }) →
-      IsDesk next most most_commits later (record books { events = events; tokens = tokens })
+      IsDesk pool most (history ++ e ∷ []) (record books { events = length history + 1; tokens = after_it }) →
+      IsDesk next most later (record books { events = events; tokens = tokens })
   renamed e after_it grown count tokens_are desk =
       let events_are : events ≡ length history + 1 = count ∙ ap length grown ∙ length-append history (e ∷ []) in
-      subst (λ (p : PoolId). IsDesk p most most_commits later (record books { events = events; tokens = tokens })) (sym same_pool)
-      (subst (λ (h : List Event). IsDesk pool most most_commits h (record books { events = events; tokens = tokens })) (sym grown)
-      (subst (λ (n : ℕ). IsDesk pool most most_commits (history ++ e ∷ []) (record books { events = n; tokens = tokens })) (sym events_are)
-      (subst (λ (ts : List (Option ℕ)). IsDesk pool most most_commits (history ++ e ∷ []) (record books { events = length history + 1; tokens = ts })) (sym tokens_are) desk)))
+      subst (λ (p : PoolId). IsDesk p most later (record books { events = events; tokens = tokens })) (sym same_pool)
+      (subst (λ (h : List Event). IsDesk pool most h (record books { events = events; tokens = tokens })) (sym grown)
+      (subst (λ (n : ℕ). IsDesk pool most (history ++ e ∷ []) (record books { events = n; tokens = tokens })) (sym events_are)
+      (subst (λ (ts : List (Option ℕ)). IsDesk pool most (history ++ e ∷ []) (record books { events = length history + 1; tokens = ts })) (sym tokens_are) desk)))
 
   -- a find begins
   pub desk-find : (pass : ℕ) (query : List ℕ) → IsAllowed pool.limits history (event.Find pass query) → length history < most →
       later ≡ history ++ event.Find pass query ∷ [] → events ≡ length later → tokens ≡ set books.tokens pass (Some events) →
-      IsDesk next most most_commits later (record books { events = events; tokens = tokens })
+      IsDesk next most later (record books { events = events; tokens = tokens })
   desk-find pass query allowed below grown count tokens_are =
       let e = event.Find pass query in
       let kept = is.kept in
       let events_are : events ≡ length history + 1 = count ∙ ap length grown ∙ length-append history (e ∷ []) in
       let after_it = set books.tokens pass (Some (length history + 1)) in
       renamed e after_it grown count (tokens_are ∙ ap (λ n. set books.tokens pass (Some n)) events_are)
-      (desk-silent pool most most_commits history books is e allowed (silent_find pass query) after_it (few-start most pool.limits.passes history e below)
+      (desk-silent pool most history books is e allowed (silent_find pass query) after_it (few-start most pool.limits.passes history e below)
       (tokens-find pool.limits history pass query books.tokens allowed.pass kept.tokens_are)
       (mark-find books.tokens pass books.stages.mark (length history) (let c = kept.tokens_are.count in let p = allowed.pass in omega arith) kept.staged.mark_within kept.staged.none_before))
 
   -- a find ends
   pub desk-end : (pass : ℕ) → IsAllowed pool.limits history (event.End pass) → later ≡ history ++ event.End pass ∷ [] → events ≡ length later → tokens ≡ set books.tokens pass None →
-      IsDesk next most most_commits later (record books { events = events; tokens = tokens })
+      IsDesk next most later (record books { events = events; tokens = tokens })
   desk-end pass allowed grown count tokens_are =
       let e = event.End pass in
       let kept = is.kept in
       renamed e (set books.tokens pass None) grown count tokens_are
-      (desk-silent pool most most_commits history books is e allowed (silent_end pass) (set books.tokens pass None)
+      (desk-silent pool most history books is e allowed (silent_end pass) (set books.tokens pass None)
       (few-next most pool.limits.passes history e (event.Find pass allowed.rule.query) kept.few allowed.pass allowed.rule.begun (omega arith))
       (tokens-end pool.limits history pass books.tokens allowed.pass kept.tokens_are)
       (mark-end books.tokens pass books.stages.mark (let c = kept.tokens_are.count in let p = allowed.pass in omega arith) kept.staged.none_before))

@@ -1,5 +1,4 @@
 -- The desk as contracts see it and what it keeps, by the fields of its struct.
-use Rattle.std.proofs.Common.{vec_capacity}
 use Rattle.commit_desk.specs.Desks.{DeskState}
 use Rattle.commit_desk.specs.Kept.{Books}
 use Rattle.commit_desk.specs.declared.desk.Desk.TheInside.{Inside}
@@ -12,8 +11,7 @@ books_of i = record {
   slices = i.slices;
   columns = i.columns;
   events = i.events;
-  journal = i.journal.items;
-  room = vec_capacity i.journal;
+  journal = i.journal;
   table = i.records;
   live = i.live;
   tokens = i.tokens;

@@ -26,8 +26,8 @@ use Rattle.commit_desk.proofs.StageReadings.{clearing_stage}
 use Rattle.commit_desk.proofs.Turns.{caught_up}
 
 -- the pass with this number caught up, and its last event is still its Clear of the slice
-pub record JobTurn (before : DeskState) (most most_commits : ℕ) (caught : HomeState) (books : Books) (seat up : PassState) (pass slice : ℕ) : Type 0 where
-  pub desk : IsDesk caught.pool most most_commits caught.history books
+pub record JobTurn (before : DeskState) (most : ℕ) (caught : HomeState) (books : Books) (seat up : PassState) (pass slice : ℕ) : Type 0 where
+  pub desk : IsDesk caught.pool most caught.history books
   pub view : desk_at caught most ≡ before
   pub same : IsSamePass seat up
   pub goes : IsFrontOf up.number seat.front up.front
@@ -36,18 +36,18 @@ pub record JobTurn (before : DeskState) (most most_commits : ℕ) (caught : Home
   pub last : last_by pass caught.history ≡ Some (event.Clear pass slice)
 
 -- what catching up tells
-pub job_turn : (pool : PoolId) (before : DeskState) (most most_commits : ℕ) (home caught : HomeState) (books : Books) (seat up : PassState) (pass : ℕ) (job : ClearJob) → pool ≡ before.pool →
-    IsSeatOf before seat → HoldsJob seat job → desk_at home most ≡ before → IsDesk home.pool most most_commits home.history books → IsSameHome home caught → IsSamePass seat up →
+pub job_turn : (pool : PoolId) (before : DeskState) (most : ℕ) (home caught : HomeState) (books : Books) (seat up : PassState) (pass : ℕ) (job : ClearJob) → pool ≡ before.pool →
+    IsSeatOf before seat → HoldsJob seat job → desk_at home most ≡ before → IsDesk home.pool most home.history books → IsSameHome home caught → IsSamePass seat up →
     up.front ≡ caught.history → IsFrontOf up.number seat.front up.front → HasNoneOutstanding up → up.number < pool.limits.passes → pass ≡ up.number →
-    JobTurn before most most_commits caught books seat up pass job.slice
-job_turn pool before most most_commits home caught books seat up pass job same_pool of holds view is same_home same front goes none in' number =
+    JobTurn before most caught books seat up pass job.slice
+job_turn pool before most home caught books seat up pass job same_pool of holds view is same_home same front goes none in' number =
     let now = desk_is before home caught most view same_home in
     let last : last_by up.number caught.history ≡ Some (event.Clear up.number job.slice) =
     ap (last_by up.number) (sym front) ∙ last_by-front up.number seat.front up.front goes
     ∙ subst (λ n. last_by n seat.front ≡ Some (event.Clear n job.slice)) (sym same.number) holds in
     record {
-      desk = subst (λ (h : List Event). IsDesk caught.pool most most_commits h books) (sym same_home.history)
-          (subst (λ (p : PoolId). IsDesk p most most_commits home.history books) (sym same_home.pool) is);
+      desk = subst (λ (h : List Event). IsDesk caught.pool most h books) (sym same_home.history)
+          (subst (λ (p : PoolId). IsDesk p most home.history books) (sym same_home.pool) is);
       view = now;
       same = same;
       goes = goes;
@@ -57,10 +57,10 @@ job_turn pool before most most_commits home caught books seat up pass job same_p
     }
 
 -- each slice of a desk's pool has a column
-pub some_column : (pool : PoolId) (most most_commits : ℕ) (history : List Event) (books : Books) → IsDesk pool most most_commits history books → 0 < pool.limits.columns
-some_column pool most most_commits history books is = subst (λ n. 0 < n) (sym (ap (λ (l : Limits). l.columns) is.sizes)) (columns-positive pool.config is.in_range)
+pub some_column : (pool : PoolId) (most : ℕ) (history : List Event) (books : Books) → IsDesk pool most history books → 0 < pool.limits.columns
+some_column pool most history books is = subst (λ n. 0 < n) (sym (ap (λ (l : Limits). l.columns) is.sizes)) (columns-positive pool.config is.in_range)
 
-module _ (before : DeskState) (most most_commits : ℕ) (caught : HomeState) (books : Books) (seat up : PassState) (pass slice : ℕ) (turn : JobTurn before most most_commits caught books seat up pass slice) where
+module _ (before : DeskState) (most : ℕ) (caught : HomeState) (books : Books) (seat up : PassState) (pass slice : ℕ) (turn : JobTurn before most caught books seat up pass slice) where
   -- the pool is the desk's
   pub pool_now : (pool : PoolId) → pool ≡ before.pool → caught.pool ≡ pool
   pool_now pool same = ap (λ (d : DeskState). d.pool) turn.view ∙ sym same
@@ -95,7 +95,7 @@ module _ (before : DeskState) (most most_commits : ℕ) (caught : HomeState) (bo
         (books_after books (length caught.history + 1) (with_free_slice books.table slice) (with_stage books.stages slice empty_stage))
         events table stages same.history events_are table_is stages_are
         (kept-opened caught.pool.config caught.pool.limits most caught.history books turn.desk.kept pass slice alone
-        (some_column caught.pool most most_commits caught.history books turn.desk) opened_allowed few) where
+        (some_column caught.pool most caught.history books turn.desk) opened_allowed few) where
           few_left : (b : Bool) → events_left (event.Opened pass slice b) + 1 ≤ events_left (event.Clear pass slice)
           few_left true = omega arith
           few_left false = omega arith

@@ -21,9 +21,11 @@ use Rattle.row_layout.specs.Sound.{HasItsBits}
 use Rattle.slice_stages.specs.declared.stage.Stage.{Stage}
 use Rattle.slice_stages.specs.Stages.{StageTable, empty_stage}
 use Rattle.token_manager.specs.Guarding.{HasOpened}
+use Rattle.commit_desk.specs.Journals.{IsJournalOf}
 use Rattle.commit_desk.specs.Kept.{AreStages, AreTokens, Books, IsAtStage, AreBooksOf}
 use Rattle.commit_desk.specs.Records.{AreListed, AreRecorded, IsLiveIn, IsRecorded, is_over}
 use Rattle.commit_desk.proofs.Few.{few-new}
+use Rattle.commit_desk.proofs.Journals.{journal-new}
 
 none_some : (x : ℕ × ℕ) → None ≡ Some x → ⊥
 none_some x is = cc
@@ -135,19 +137,18 @@ few_columns config is =
     omega (arith, all)
 
 -- a desk without events
-pub kept-new : (config : Config) (limits : Limits) (most : ℕ) (books : Books) → 1 ≤ limits.columns → books.slices ≡ limits.slices → books.columns ≡ limits.columns → books.events ≡ 0 → books.journal ≡ [] →
-    limits.commits ≤ books.room → books.table.slices ≡ limits.slices → books.table.columns ≡ limits.columns → books.table.slots ≡ replicate (limits.slices * limits.columns) free_slot →
+pub kept-new : (config : Config) (limits : Limits) (most : ℕ) (books : Books) → 1 ≤ limits.columns → books.slices ≡ limits.slices → books.columns ≡ limits.columns → books.events ≡ 0 → books.journal ≡ record { most = limits.commits; place = 0; kept = [] } →
+    books.table.slices ≡ limits.slices → books.table.columns ≡ limits.columns → books.table.slots ≡ replicate (limits.slices * limits.columns) free_slot →
     ((id : ℕ) → entry_of books.live id ≡ None) → books.live.slices ≡ limits.slices → books.live.columns ≡ limits.columns → books.tokens ≡ replicate limits.passes None →
     books.stages.columns ≡ limits.columns → books.stages.stages ≡ replicate limits.slices empty_stage → books.stages.mark ≡ 0 → AreBooksOf config limits most [] books
-kept-new config limits most books some slices columns events journal room ts tc free no_entry ls lc tokens sc stages mark = record {
+kept-new config limits most books some slices columns events journal ts tc free no_entry ls lc tokens sc stages mark = record {
   few = few-new most limits.passes;
   legal = tt;
   sound = All-nil (HasItsBits config);
   slices_are = slices;
   columns_are = columns;
   events_are = events;
-  journal_is = journal;
-  journal_fits = room;
+  journal_is = subst (IsJournalOf limits.commits []) (sym journal) (journal-new limits.commits);
   recorded = recorded-new limits books.table books.live ts tc free no_entry ls lc;
   listed = listed-new limits books.table books.live ts tc free no_entry ls lc;
   tokens_are = tokens-new limits books.tokens tokens;

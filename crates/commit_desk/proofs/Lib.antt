@@ -11,6 +11,7 @@ pub mod HeldClaims
 pub mod HeldColumns
 pub mod Inside
 pub mod JobTurns
+pub mod Journals
 pub mod KeptNew
 pub mod LaterStates
 pub mod ListedKept

@@ -163,15 +163,14 @@ module _ (limits : Limits) (history : List Event) (table : Table) (tokens : List
       }
 
 -- a desk with another mark
-pub desk-look : (pool : PoolId) (most most_commits : ℕ) (history : List Event) (books : Books) (mark : ℕ) → IsDesk pool most most_commits history books →
-    IsNextMark history books.tokens mark → IsDesk pool most most_commits history (record books { stages = record books.stages { mark = mark } })
-desk-look pool most most_commits history books mark is next =
+pub desk-look : (pool : PoolId) (most : ℕ) (history : List Event) (books : Books) (mark : ℕ) → IsDesk pool most history books →
+    IsNextMark history books.tokens mark → IsDesk pool most history (record books { stages = record books.stages { mark = mark } })
+desk-look pool most history books mark is next =
     let kept = is.kept in record {
       in_range = is.in_range;
       sizes = is.sizes;
       some = is.some;
       bounded = is.bounded;
-      commits_are = is.commits_are;
       none_awaited = is.none_awaited;
       kept = record {
         few = kept.few;
@@ -181,7 +180,6 @@ desk-look pool most most_commits history books mark is next =
         columns_are = kept.columns_are;
         events_are = kept.events_are;
         journal_is = kept.journal_is;
-        journal_fits = kept.journal_fits;
         recorded = kept.recorded;
         listed = kept.listed;
         tokens_are = kept.tokens_are;

@@ -50,16 +50,16 @@ finds_none (event.Clear by slice) plain pass = absurd plain
 finds_none (event.Opened by slice alone) plain pass = absurd plain
 
 -- the desk after such an event, under the names that a call has for it
-pub desk-plain : (pool next : PoolId) (most most_commits : ℕ) (history later : List Event) (books : Books) (events : ℕ) (e : Event) → IsDesk pool most most_commits history books → IsPlain e →
-    IsAllowed pool.limits history e → length history < most → next ≡ pool → later ≡ history ++ e ∷ [] → events ≡ length later → IsDesk next most most_commits later (record books { events = events })
-desk-plain pool next most most_commits history later books events e is plain allowed below same_pool grown count =
+pub desk-plain : (pool next : PoolId) (most : ℕ) (history later : List Event) (books : Books) (events : ℕ) (e : Event) → IsDesk pool most history books → IsPlain e →
+    IsAllowed pool.limits history e → length history < most → next ≡ pool → later ≡ history ++ e ∷ [] → events ≡ length later → IsDesk next most later (record books { events = events })
+desk-plain pool next most history later books events e is plain allowed below same_pool grown count =
     let events_are : events ≡ length history + 1 = count ∙ ap length grown ∙ length-append history (e ∷ []) in
     let kept = is.kept in
-    let desk = desk-silent pool most most_commits history books is e allowed (silent_plain e plain) books.tokens (few-start most pool.limits.passes history e below)
+    let desk = desk-silent pool most history books is e allowed (silent_plain e plain) books.tokens (few-start most pool.limits.passes history e below)
     (tokens-same pool.limits history e books.tokens (finds_none e plain) kept.tokens_are) kept.staged.none_before in
-    subst (λ (p : PoolId). IsDesk p most most_commits later (record books { events = events })) (sym same_pool)
-    (subst (λ (h : List Event). IsDesk pool most most_commits h (record books { events = events })) (sym grown)
-    (subst (λ (n : ℕ). IsDesk pool most most_commits (history ++ e ∷ []) (record books { events = n })) (sym events_are) desk))
+    subst (λ (p : PoolId). IsDesk p most later (record books { events = events })) (sym same_pool)
+    (subst (λ (h : List Event). IsDesk pool most h (record books { events = events })) (sym grown)
+    (subst (λ (n : ℕ). IsDesk pool most (history ++ e ∷ []) (record books { events = n })) (sym events_are) desk))
 
 -- an event of a pass that caught up is allowed where its rule holds
 pub allowed_now : (desk now : DeskState) (number : ℕ) (e : Event) → desk ≡ now → awaited desk.history ≡ None → number < now.pool.limits.passes → pass_of e ≡ number →

@@ -17,8 +17,7 @@ use Rattle.commit_desk.specs.declared.answers.ClearRefusal.TheVariants as clear
 pub add_is_refused : (most : ℕ) (limits : Limits) (history : List Event) (id : ℕ) (text : List ℕ) (fault : AddFault) → TakesCalls most history → RefusesAdd most limits history id fault →
     IsRefused limits history (call.Add id text)
 add_is_refused most limits history id text (add.Present added) takes is = inl (is_live-from_place id (live history) ∙ ap is_some is.1.live)
-add_is_refused most limits history id text (add.JournalFull count) takes is = inr (inl is.2.full)
-add_is_refused most limits history id text (add.Full blocks) takes is = inr (inr is.1)
+add_is_refused most limits history id text (add.Full blocks) takes is = inr is.1
 add_is_refused most limits history id text (add.Spent events) takes is = let many = is.many in absurd (omega arith)
 add_is_refused most limits history id text add.Memory takes is = absurd is
 

@@ -22,6 +22,7 @@ use Rattle.slice_stages.specs.declared.stage.Stage.{Stage}
 use Rattle.slice_stages.specs.declared.stage.Stage.TheVariants as stage
 use Rattle.commit_desk.specs.Kept.{Books, HasFew, IsDesk, AreBooksOf}
 use Rattle.commit_desk.specs.Records.{AreListed, AreRecorded}
+use Rattle.commit_desk.proofs.Journals.{journal-silent}
 use Rattle.commit_desk.proofs.ListedKept.{listed-one, listed-opened}
 use Rattle.commit_desk.proofs.Marks.{mark-same}
 use Rattle.commit_desk.proofs.RecordFacts.{is_column, none_live_in_cleared, none_live_in_free}
@@ -49,8 +50,7 @@ module _ (config : Config) (limits : Limits) (most : ℕ) (history : List Event)
     slices_are = is.slices_are;
     columns_are = is.columns_are;
     events_are = sym (length-append history (e ∷ []));
-    journal_is = is.journal_is ∙ sym (commits-silent history e no_commit);
-    journal_fits = is.journal_fits;
+    journal_is = journal-silent limits.commits history (history ++ e ∷ []) books.journal (commits-silent history e no_commit) is.journal_is;
     recorded = recorded;
     listed = listed;
     tokens_are = tokens-same limits history e books.tokens no_find is.tokens_are;
@@ -121,15 +121,14 @@ kept-as config limits most history later books events table stages grown events_
     (subst (λ (s : StageTable). AreBooksOf config limits most history (books_after books books.events books.table s)) (sym stages_are) is)))
 
 -- a desk with other books after an event that asks for no other
-pub desk-with : (pool next : PoolId) (most most_commits : ℕ) (was history later : List Event) (books books_now : Books) (e : Event) → next ≡ pool → later ≡ history ++ e ∷ [] → next_after e ≡ None →
-    IsDesk pool most most_commits was books → AreBooksOf pool.config pool.limits most later books_now → IsDesk next most most_commits later books_now
-desk-with pool next most most_commits was history later books books_now e same grown none is kept =
-    subst (λ (p : PoolId). IsDesk p most most_commits later books_now) (sym same) (record {
+pub desk-with : (pool next : PoolId) (most : ℕ) (was history later : List Event) (books books_now : Books) (e : Event) → next ≡ pool → later ≡ history ++ e ∷ [] → next_after e ≡ None →
+    IsDesk pool most was books → AreBooksOf pool.config pool.limits most later books_now → IsDesk next most later books_now
+desk-with pool next most was history later books books_now e same grown none is kept =
+    subst (λ (p : PoolId). IsDesk p most later books_now) (sym same) (record {
       in_range = is.in_range;
       sizes = is.sizes;
       some = is.some;
       bounded = is.bounded;
-      commits_are = is.commits_are;
       none_awaited = ap awaited grown ∙ awaited-push history e ∙ none;
       kept = kept;
     })

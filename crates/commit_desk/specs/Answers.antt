@@ -9,8 +9,8 @@ use Rattle.funnel_model.specs.declared.claim.Token.{Token}
 use Rattle.funnel_model.specs.declared.commit.Commit.{Commit}
 use Rattle.funnel_model.specs.declared.event.Event.{Event}
 use Rattle.funnel_model.specs.declared.event.Event.TheVariants as event
-use Rattle.funnel_model.specs.History.{commits_after, is_live, live, live_place, place}
-use Rattle.funnel_model.specs.Legal.{HasJournalRoom, HasRoom, IsFull, Limits, MayClear, MayTake, NoneCanClear, is_journal_full}
+use Rattle.funnel_model.specs.History.{base, commits_after, is_live, live, live_place, place}
+use Rattle.funnel_model.specs.Legal.{HasRoom, IsFull, Limits, MayClear, MayTake, NoneCanClear}
 use Rattle.funnel_model.specs.Slices.{IsInUse, IsRetired}
 use Rattle.funnel_model.specs.Steps.{NoneRetired}
 use Rattle.funnel_model.specs.Words.{meets}
@@ -41,32 +41,24 @@ pub record IsSpentAt (most : ℕ) (history : List Event) (events : ℕ) : Type 0
 pub record IsPresent (history : List Event) (id added : ℕ) : Type 0 where
   pub live : live_place id history ≡ Some added
 
--- the number is not live, and the journal holds this many commits, which is all that it can
-pub record HasFullJournal (limits : Limits) (history : List Event) (count : ℕ) : Type 0 where
-  pub full : is_journal_full limits history ≡ true
-  pub kept : count ≡ limits.commits
-
--- nothing but want of room keeps a document with this number out: first calls are taken, then the number is not live, and then the
--- journal has room
-pub record MayEnter (most : ℕ) (limits : Limits) (history : List Event) (id : ℕ) : Type 0 where
+-- nothing but want of room keeps a document with this number out: first calls are taken, and then the number is not live
+pub record MayEnter (most : ℕ) (history : List Event) (id : ℕ) : Type 0 where
   pub takes_calls : TakesCalls most history
   pub absent : is_live id history ≡ false
-  pub journal : HasJournalRoom limits history
 
 -- why an add is refused: each reason yields to those before it
 abbrev pub RefusesAdd : ℕ → Limits → List Event → ℕ → AddFault → Type 0
 RefusesAdd most limits history id (add.Spent events) = IsSpentAt most history events
 RefusesAdd most limits history id (add.Present added) = TakesCalls most history × IsPresent history id added
-RefusesAdd most limits history id (add.JournalFull count) = TakesCalls most history × (is_live id history ≡ false) × HasFullJournal limits history count
-RefusesAdd most limits history id (add.Full blocks) = MayEnter most limits history id × IsFull limits history × AreBlocks limits history blocks
+RefusesAdd most limits history id (add.Full blocks) = MayEnter most history id × IsFull limits history × AreBlocks limits history blocks
 RefusesAdd most limits history id add.Memory = ⊥
 
 -- an add takes the next column of the lowest slice with room; where none has room, it is to clear the lowest slice that can be cleared;
 -- else it is refused
 abbrev pub AnswersTake : ℕ → Limits → List Event → ℕ → ℕ → Taken → Type 0
-AnswersTake most limits history pass id (taken.Claim claim) = MayEnter most limits history id × MayTake limits history pass claim.slice claim.column
+AnswersTake most limits history pass id (taken.Claim claim) = MayEnter most history id × MayTake limits history pass claim.slice claim.column
 AnswersTake most limits history pass id (taken.Clear job) =
-    MayEnter most limits history id × ((slice : ℕ) → slice < limits.slices → HasRoom limits.columns history slice → ⊥) × MayClear limits history pass job.slice
+    MayEnter most history id × ((slice : ℕ) → slice < limits.slices → HasRoom limits.columns history slice → ⊥) × MayClear limits history pass job.slice
 AnswersTake most limits history pass id (taken.Refused fault) = RefusesAdd most limits history id fault
 
 -- and these are its events
@@ -76,28 +68,25 @@ events_of_take pass id text (taken.Clear job) = event.Clear pass job.slice ∷ [
 events_of_take pass id text (taken.Refused (add.Spent events)) = []
 events_of_take pass id text (taken.Refused _) = event.No pass (call.Add id text) ∷ []
 
--- a document is added where its number is not live and the journal has room, and else dropped: a live number goes before a full journal
-abbrev pub AnswersCommit : Limits → List Event → ℕ → Result ℕ CommitFault → Type 0
-AnswersCommit limits history id (Ok added) = (is_live id history ≡ false) × HasJournalRoom limits history × (added ≡ place history + 1)
-AnswersCommit limits history id (Err (commit.Present added)) = IsPresent history id added
-AnswersCommit limits history id (Err (commit.JournalFull count)) = (is_live id history ≡ false) × HasFullJournal limits history count
+-- a document is added where its number is not live, and else dropped
+abbrev pub AnswersCommit : List Event → ℕ → Result ℕ CommitFault → Type 0
+AnswersCommit history id (Ok added) = (is_live id history ≡ false) × (added ≡ place history + 1)
+AnswersCommit history id (Err (commit.Present added)) = IsPresent history id added
 
 abbrev pub events_of_commit : ℕ → ℕ → List ℕ → Claim → List Bit → Result ℕ CommitFault → List Event
 events_of_commit pass id text claim bits (Ok added) = event.Add pass id text claim.slice claim.column bits ∷ []
 events_of_commit pass id text claim bits (Err fault) = event.Drop pass id text claim.slice claim.column ∷ []
 
 -- a live document can be deleted now
-pub record MayDeleteNow (most : ℕ) (limits : Limits) (history : List Event) (id : ℕ) : Type 0 where
+pub record MayDeleteNow (most : ℕ) (history : List Event) (id : ℕ) : Type 0 where
   pub takes_calls : TakesCalls most history
   pub live : is_live id history ≡ true
-  pub journal : HasJournalRoom limits history
 
--- a delete is refused first as spent, then for a number that is not live, and then for a full journal
-abbrev pub AnswersDelete : ℕ → Limits → List Event → ℕ → Result ℕ DeleteFault → Type 0
-AnswersDelete most limits history id (Ok deleted) = MayDeleteNow most limits history id × (deleted ≡ place history + 1)
-AnswersDelete most limits history id (Err (delete.Spent events)) = IsSpentAt most history events
-AnswersDelete most limits history id (Err delete.Absent) = TakesCalls most history × (is_live id history ≡ false)
-AnswersDelete most limits history id (Err (delete.JournalFull count)) = TakesCalls most history × (is_live id history ≡ true) × HasFullJournal limits history count
+-- a delete is refused first as spent, and then for a number that is not live
+abbrev pub AnswersDelete : ℕ → List Event → ℕ → Result ℕ DeleteFault → Type 0
+AnswersDelete most history id (Ok deleted) = MayDeleteNow most history id × (deleted ≡ place history + 1)
+AnswersDelete most history id (Err (delete.Spent events)) = IsSpentAt most history events
+AnswersDelete most history id (Err delete.Absent) = TakesCalls most history × (is_live id history ≡ false)
 
 abbrev pub events_of_delete : ℕ → ℕ → Result ℕ DeleteFault → List Event
 events_of_delete pass id (Ok deleted) = event.Del pass id ∷ []
@@ -137,14 +126,17 @@ abbrev pub events_of_place : ℕ → Result ℕ Spent → List Event
 events_of_place pass (Ok count) = event.Read pass call.Place ∷ []
 events_of_place pass (Err spent) = []
 
--- a journal has the commits after the first so many, unless the engine is spent, or there was no memory where it isn't
-abbrev pub AnswersJournal : ℕ → List Event → ℕ → Result (List Commit) JournalFault → Type 0
-AnswersJournal most history from (Ok read) = TakesCalls most history × (read ≡ commits_after history from)
-AnswersJournal most history from (Err (journal.Spent events)) = IsSpentAt most history events
-AnswersJournal most history from (Err journal.Memory) = TakesCalls most history
+-- a journal has the commits after the first so many where all of them are kept, and is else told how many are not; unless the engine
+-- is spent, or there was no memory for those that are kept
+abbrev pub AnswersJournal : ℕ → Limits → List Event → ℕ → Result (List Commit) JournalFault → Type 0
+AnswersJournal most limits history from (Ok read) = TakesCalls most history × (base limits.commits history ≤ from) × (read ≡ commits_after history from)
+AnswersJournal most limits history from (Err (journal.Trimmed n)) = TakesCalls most history × (from < base limits.commits history) × (n ≡ base limits.commits history)
+AnswersJournal most limits history from (Err (journal.Spent events)) = IsSpentAt most history events
+AnswersJournal most limits history from (Err journal.Memory) = TakesCalls most history × (base limits.commits history ≤ from)
 
 abbrev pub events_of_journal : ℕ → ℕ → Result (List Commit) JournalFault → List Event
 events_of_journal pass from (Ok read) = event.Read pass (call.Journal from) ∷ []
+events_of_journal pass from (Err (journal.Trimmed n)) = event.Read pass (call.Journal from) ∷ []
 events_of_journal pass from (Err fault) = []
 
 -- a find begins, unless the engine is spent: its token has the number of commits, the find's own number, and the slices in use

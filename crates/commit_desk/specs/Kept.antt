@@ -5,11 +5,10 @@ use Rattle.std.specs.Option.{option_map_or}
 use Rattle.document_store.specs.Entries.{Entries}
 use Rattle.document_store.specs.Slots.{Table, slots_of}
 use Rattle.funnel_model.specs.Configuration.{IsInRange}
-use Rattle.funnel_model.specs.declared.commit.Commit.{Commit}
 use Rattle.funnel_model.specs.declared.config.Config.{Config}
 use Rattle.funnel_model.specs.declared.event.Event.{Event}
 use Rattle.funnel_model.specs.declared.event.Event.TheVariants as event
-use Rattle.funnel_model.specs.History.{commits, last_by}
+use Rattle.funnel_model.specs.History.{last_by}
 use Rattle.funnel_model.specs.Legal.{Limits, IsLegal, awaited}
 use Rattle.funnel_model.specs.Slices.{IsRetiredAt, claimed, is_clearing, is_clearing_by}
 use Rattle.funnel_model.specs.Tokens.{HasToken}
@@ -19,6 +18,7 @@ use Rattle.slice_stages.specs.Stages.{StageTable, stage_of}
 use Rattle.slice_stages.specs.declared.stage.Stage.{Stage}
 use Rattle.slice_stages.specs.declared.stage.Stage.TheVariants as stage
 use Rattle.token_manager.specs.Guarding.{HasOpened}
+use Rattle.commit_desk.specs.Journals.{IsJournalOf, JournalState}
 use Rattle.commit_desk.specs.Records.{AreListed, AreRecorded, is_over}
 
 -- each pass has the token that is kept of it, and no other
@@ -75,14 +75,13 @@ all_left passes history = sum_by (λ pass. option_map_or events_left (last_by pa
 abbrev pub HasFew : ℕ → ℕ → List Event → Type 0
 HasFew most passes history = length history + all_left passes history ≤ most + 3 * passes
 
--- what the desk keeps beside the history: the numbers of slices and of columns of each, the number of its events, the journal of its commits and the journal's room, the records of
--- the columns, the live numbers, the tokens of running finds, and how far each slice is
+-- what the desk keeps beside the history: the numbers of slices and of columns of each, the number of its events, the journal of its
+-- last commits, the records of the columns, the live numbers, the tokens of running finds, and how far each slice is
 pub record Books : Type 0 where
   pub slices : ℕ
   pub columns : ℕ
   pub events : ℕ
-  pub journal : List Commit
-  pub room : ℕ
+  pub journal : JournalState
   pub table : Table
   pub live : Entries
   pub tokens : List (Option ℕ)
@@ -96,19 +95,17 @@ pub record AreBooksOf (config : Config) (limits : Limits) (most : ℕ) (history 
   pub slices_are : books.slices ≡ limits.slices
   pub columns_are : books.columns ≡ limits.columns
   pub events_are : books.events ≡ length history
-  pub journal_is : books.journal ≡ commits history
-  pub journal_fits : limits.commits ≤ books.room
+  pub journal_is : IsJournalOf limits.commits history books.journal
   pub recorded : AreRecorded limits history books.table
   pub listed : AreListed books.table books.live
   pub tokens_are : AreTokens limits history books.tokens
   pub staged : AreStages limits history books.table books.tokens books.stages
 
--- the desk of this pool, with this limit of events and of commits: the pool's sizes are those of its configuration
-pub record IsDesk (pool : PoolId) (most most_commits : ℕ) (history : List Event) (books : Books) : Type 0 where
+-- the desk of this pool, with this limit of events: the pool's sizes are those of its configuration
+pub record IsDesk (pool : PoolId) (most : ℕ) (history : List Event) (books : Books) : Type 0 where
   pub in_range : IsInRange pool.config
   pub sizes : pool.limits ≡ limits_of pool.config pool.limits.slice_words
   pub some : 1 ≤ most
   pub bounded : most ≤ 2 ^ 62
-  pub commits_are : most_commits ≡ pool.limits.commits
   pub none_awaited : awaited history ≡ None
   pub kept : AreBooksOf pool.config pool.limits most history books

@@ -6,7 +6,7 @@ use Rattle.funnel_model.specs.declared.config.Config.{Config}
 use Rattle.funnel_model.specs.declared.event.Event.{Event}
 use Rattle.funnel_model.specs.declared.bit_list.Bit.{Bit}
 use Rattle.funnel_model.specs.declared.claim.Claim.{Claim}
-use Rattle.funnel_model.specs.History.{commits, live}
+use Rattle.funnel_model.specs.History.{base, commits_after, live, place}
 use Rattle.funnel_model.specs.Legal.{Limits}
 use Rattle.slice_stages.specs.Stages.{empty_stage}
 use Rattle.commit_desk.specs.Answers.{events_of_clear, events_of_commit, events_of_delete, events_of_take}
@@ -22,8 +22,7 @@ pub record AreNew (limits : Limits) (books : Books) : Type 0 where
   pub slices : books.slices ≡ limits.slices
   pub columns : books.columns ≡ limits.columns
   pub events : books.events ≡ 0
-  pub journal : books.journal ≡ []
-  pub room : limits.commits ≤ books.room
+  pub journal : books.journal ≡ record { most = limits.commits; place = 0; kept = [] }
   pub table_slices : books.table.slices ≡ limits.slices
   pub table_columns : books.table.columns ≡ limits.columns
   pub free : books.table.slots ≡ replicate (limits.slices * limits.columns) free_slot
@@ -39,11 +38,11 @@ pub record AreNew (limits : Limits) (books : Books) : Type 0 where
 abbrev pub NewDesksAreKept : Type 0
 NewDesksAreKept = (config : Config) (limits : Limits) (most : ℕ) (books : Books) → 1 ≤ limits.columns → AreNew limits books → AreBooksOf config limits most [] books
 
--- what is kept is that of one list of commits and of one number of events
+-- what is kept is that of one number of commits, of one list of the last of them, and of one number of events
 abbrev pub DesksHaveTheirCommits : Type 0
 DesksHaveTheirCommits =
     (config : Config) (limits : Limits) (most : ℕ) (history other : List Event) (books : Books) → AreBooksOf config limits most history books → AreBooksOf config limits most other books
-    → (commits history ≡ commits other) × (length history ≡ length other)
+    → (place history ≡ place other) × (commits_after history (base limits.commits history) ≡ commits_after other (base limits.commits other)) × (length history ≡ length other)
 
 -- the events leave the live documents as they are
 abbrev pub KeepsDocuments : List Event → List Event → Type 0

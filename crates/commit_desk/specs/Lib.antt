@@ -1,5 +1,6 @@
 pub mod Answers
 pub mod Desks
+pub mod Journals
 pub mod Kept
 pub mod Laws
 pub mod Passes

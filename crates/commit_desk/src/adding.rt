@@ -1,9 +1,9 @@
-ghost use Rattle.std.specs.Prelude.{◌≡◌, ℕ, ◌+◌, ◌<◌, ◌≤◌, ◌↔◌, ◌⊎◌, true, false, [], ◌∷◌, MatchResult, Ok, Err, Contains, All, length, vec_capacity};
+ghost use Rattle.std.specs.Prelude.{◌≡◌, ℕ, ◌+◌, ◌<◌, ◌≤◌, ◌↔◌, true, false, [], ◌∷◌, MatchResult, Ok, Err, Contains, All, length, vec_capacity};
 ghost use Rattle.funnel_model.specs.declared.bit_list.Bit.{Bit};
 ghost use Rattle.funnel_model.specs.declared.call.Call.TheVariants as call;
 ghost use Rattle.funnel_model.specs.declared.event.Event.TheVariants as event;
 ghost use Rattle.funnel_model.specs.History.{is_live, place};
-ghost use Rattle.funnel_model.specs.Legal.{IsIdle, IsInSlice, IsRefused, MayTake, is_journal_full};
+ghost use Rattle.funnel_model.specs.Legal.{IsIdle, IsInSlice, IsRefused, MayTake};
 ghost use Rattle.funnel_model.specs.Slices.{claimed};
 ghost use Rattle.row_layout.specs.DocumentBits.{AreDocumentBits};
 ghost use Rattle.slice_rule.specs.declared.view.Fact.TheVariants as fact;
@@ -80,7 +80,7 @@ impl Desk {
     }
 
     /// Adds the document to its column, all of whose bits the pass has set, and gives the place of the add; or drops it
-    /// where its number is live by now, or the journal full. It takes no memory.
+    /// where its number is live by now. It takes no memory.
     pub fn commit(
         &mut self,
         pool: &Pool,
@@ -95,7 +95,7 @@ impl Desk {
         requires bits { AreDocumentBits self.old.pool.config doc.words claim.slice claim.column bits.now.bits }
         requires inside { All (λ b. IsInSlice self.old.pool.limits.slice_words claim.slice b.word) bits.now.bits }
         requires set { (b : Bit) → Contains bits.now.bits b ↔ Contains seat.old.own (fact.BitSet (last_number seat.old.number seat.old.front) b) }
-        ensures answer { AnswersCommit self.old.pool.limits self.old.history doc.id result }
+        ensures answer { AnswersCommit self.old.history doc.id result }
         ensures events { Makes (events_of_commit seat.old.number doc.id doc.text claim bits.now.bits result) self.old self.new seat.old seat.new }
         ensures none_outstanding { HasNoneOutstanding seat.new }
     {
@@ -112,26 +112,22 @@ impl Desk {
     // Whether nothing but want of room keeps a document with this number out, or what does, where calls are taken.
     fn check_add(&self, id: u64) -> Result<(), AddFault>
         requires { TakesCalls self.now.events_limit self.now.history }
-        ensures { MatchResult result (λ _. MayEnter self.now.events_limit self.now.pool.limits self.now.history id)
+        ensures { MatchResult result (λ _. MayEnter self.now.events_limit self.now.history id)
             (λ fault. RefusesAdd self.now.events_limit self.now.pool.limits self.now.history id fault) }
     {
         match self.check_commit(id) {
             Ok(()) => Ok(()),
             Err(CommitFault::Present(place)) => Err(AddFault::Present(place)),
-            Err(CommitFault::JournalFull(count)) => Err(AddFault::JournalFull(count)),
         }
     }
 
     // Whether a document with this number can be added, or why not.
     fn check_commit(&self, id: u64) -> Result<(), CommitFault>
-        ensures { MatchResult result (λ _. AnswersCommit self.now.pool.limits self.now.history id (Ok (place self.now.history + 1)))
-            (λ fault. AnswersCommit self.now.pool.limits self.now.history id (Err fault)) }
+        ensures { MatchResult result (λ _. AnswersCommit self.now.history id (Ok (place self.now.history + 1)))
+            (λ fault. AnswersCommit self.now.history id (Err fault)) }
     {
         if let Some(place) = self.place_of(id) {
             return Err(CommitFault::Present(place));
-        }
-        if self.is_journal_full() {
-            return Err(CommitFault::JournalFull(self.most_commits));
         }
         Ok(())
     }
@@ -141,7 +137,7 @@ impl Desk {
         requires pool { pool.now ≡ self.old.pool }
         requires caught_up { IsCaughtUp self.old seat.old }
         requires idle { IsIdle seat.old.number self.old.history }
-        requires may { MayEnter self.old.events_limit self.old.pool.limits self.old.history doc.now.id }
+        requires may { MayEnter self.old.events_limit self.old.history doc.now.id }
         requires empty { room.items ≡ [] }
         requires enough { self.old.pool.limits.slices ≤ vec_capacity room }
         ensures answer { AnswersTake self.old.events_limit self.old.pool.limits self.old.history seat.old.number doc.now.id result }
@@ -210,7 +206,7 @@ impl Desk {
         requires pool { pool.now ≡ self.old.pool }
         requires caught_up { IsCaughtUp self.old seat.old }
         requires claim { HoldsClaim seat.old claim }
-        requires may { AnswersCommit self.old.pool.limits self.old.history doc.id (Ok (place self.old.history + 1)) }
+        requires may { AnswersCommit self.old.history doc.id (Ok (place self.old.history + 1)) }
         requires bits { AreDocumentBits self.old.pool.config doc.words claim.slice claim.column bits.now.bits }
         requires inside { All (λ b. IsInSlice self.old.pool.limits.slice_words claim.slice b.word) bits.now.bits }
         requires of_words { All (λ b. b.bit < 64) bits.now.bits }
@@ -219,7 +215,7 @@ impl Desk {
         ensures made { Makes (event.Add seat.old.number doc.id doc.text claim.slice claim.column bits.now.bits ∷ []) self.old self.new seat.old seat.new }
         ensures none_outstanding { HasNoneOutstanding seat.new }
     {
-        let place = self.journal.len() as u64 + 1;
+        let place = self.journal.place() + 1;
         let pass = seat.number();
         let id = doc.id();
         let _ = doc.words();
@@ -233,7 +229,7 @@ impl Desk {
         let Claim { slice, column } = claim;
         self.records.live(slice, column, doc, place);
         self.live.add(id, slice, column);
-        self.journal.push_reserved(Commit { add: true, id });
+        self.journal.push(Commit { add: true, id });
         place
     }
 
@@ -242,7 +238,7 @@ impl Desk {
         requires pool { pool.now ≡ self.old.pool }
         requires caught_up { IsCaughtUp self.old seat.old }
         requires claim { HoldsClaim seat.old claim }
-        requires refused { (is_live doc.id self.old.history ≡ true) ⊎ (is_journal_full self.old.pool.limits self.old.history ≡ true) }
+        requires present { is_live doc.id self.old.history ≡ true }
         ensures made { Makes (event.Drop seat.old.number doc.id doc.text claim.slice claim.column ∷ []) self.old self.new seat.old seat.new }
         ensures none_outstanding { HasNoneOutstanding seat.new }
     {

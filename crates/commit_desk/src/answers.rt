@@ -23,8 +23,6 @@ pub enum Taken {
 pub enum AddFault {
     /// The number is live, and was added at this place.
     Present(u64),
-    /// The journal holds this many commits, which is all that it can.
-    JournalFull(u64),
     /// No slice has a column left, and none can be cleared: what keeps documents out of each.
     Full(Blocked),
     /// The history has this many events, and no call is taken any more.
@@ -38,8 +36,6 @@ pub enum AddFault {
 pub enum CommitFault {
     /// The number is live, and was added at this place.
     Present(u64),
-    /// The journal holds this many commits, which is all that it can.
-    JournalFull(u64),
 }
 
 /// Why no document was deleted.
@@ -47,8 +43,6 @@ pub enum CommitFault {
 pub enum DeleteFault {
     /// The number is not live.
     Absent,
-    /// The journal holds this many commits, which is all that it can.
-    JournalFull(u64),
     /// The history has this many events, and no call is taken any more.
     Spent(u64),
 }
@@ -72,6 +66,8 @@ pub enum ClearRefusal {
 /// Why the journal was not read.
 #[derive(Clone, Copy, Debug, PartialEq, Eq)]
 pub enum JournalFault {
+    /// The journal no longer keeps the first so many commits, one of which was asked for.
+    Trimmed(u64),
     /// The history has this many events, and no call is taken any more.
     Spent(u64),
     /// There was no memory.

@@ -19,7 +19,7 @@ impl Desk {
         requires pool { pool.now ≡ self.old.pool }
         requires seat { IsSeatOf self.old seat.old }
         requires idle { IsIdle seat.old.number seat.old.front }
-        ensures answer { AnswersDelete self.old.events_limit self.old.pool.limits self.old.history id result }
+        ensures answer { AnswersDelete self.old.events_limit self.old.history id result }
         ensures events { Makes (events_of_delete seat.old.number id result) self.old self.new seat.old seat.new }
         ensures none_outstanding { HasNoneOutstanding seat.new }
     {
@@ -30,10 +30,6 @@ impl Desk {
             Err(DeleteFault::Absent) => {
                 self.refuse_delete(pool, seat, id);
                 Err(DeleteFault::Absent)
-            }
-            Err(DeleteFault::JournalFull(count)) => {
-                self.refuse_delete(pool, seat, id);
-                Err(DeleteFault::JournalFull(count))
             }
         }
     }
@@ -55,17 +51,14 @@ impl Desk {
 
     // Whether the document with this number can be deleted, or why not.
     fn check_delete(&self, id: u64) -> Result<(), DeleteFault>
-        ensures { MatchResult result (λ _. MayDeleteNow self.now.events_limit self.now.pool.limits self.now.history id)
-            (λ fault. AnswersDelete self.now.events_limit self.now.pool.limits self.now.history id (Err fault)) }
+        ensures { MatchResult result (λ _. MayDeleteNow self.now.events_limit self.now.history id)
+            (λ fault. AnswersDelete self.now.events_limit self.now.history id (Err fault)) }
     {
         if self.is_spent() {
             return Err(DeleteFault::Spent(self.events));
         }
         if self.place_of(id).is_none() {
             return Err(DeleteFault::Absent);
-        }
-        if self.is_journal_full() {
-            return Err(DeleteFault::JournalFull(self.most_commits));
         }
         Ok(())
     }
@@ -75,12 +68,12 @@ impl Desk {
         requires pool { pool.now ≡ self.old.pool }
         requires caught_up { IsCaughtUp self.old seat.old }
         requires idle { IsIdle seat.old.number self.old.history }
-        requires may { MayDeleteNow self.old.events_limit self.old.pool.limits self.old.history id }
+        requires may { MayDeleteNow self.old.events_limit self.old.history id }
         ensures place { result ≡ place self.old.history + 1 }
         ensures made { Makes (event.Del seat.old.number id ∷ []) self.old self.new seat.old seat.new }
         ensures none_outstanding { HasNoneOutstanding seat.new }
     {
-        let place = self.journal.len() as u64 + 1;
+        let place = self.journal.place() + 1;
         let pass = seat.number();
         let number = pool.make_event(&mut self.home, seat, &Event::Del { pass, id });
         let Some((slice, column)) = self.live.remove(id) else {
@@ -88,7 +81,7 @@ impl Desk {
         };
         self.records.delete(slice, column, place);
         self.stages.end_column(slice, number);
-        self.journal.push_reserved(Commit { add: false, id });
+        self.journal.push(Commit { add: false, id });
         self.events = number;
         place
     }

@@ -1,13 +1,14 @@
 ghost use Rattle.std.specs.Prelude.{◌≡◌, ◌≤◌, ◌^◌, [], ◌∷◌, ◌++◌, IfOk, IsTrue, ◌↔◌, length};
 ghost use Rattle.funnel_model.specs.Configuration.{IsInRange};
-ghost use Rattle.funnel_model.specs.History.{commits, live_place, place};
-ghost use Rattle.funnel_model.specs.Legal.{IsLegal, is_journal_full};
+ghost use Rattle.funnel_model.specs.History.{base, commits_after, live_place};
+ghost use Rattle.funnel_model.specs.Legal.{IsLegal};
 ghost use Rattle.row_layout.specs.Sound.{IsSound};
 ghost use Rattle.slice_rule.specs.Pools.{limits_of};
 ghost use Rattle.slice_rule.specs.Seats.{new_home_state};
 
+use crate::journal::Journal;
 use document_store::{Column, LiveList, Records};
-use funnel_model::{Commit, Commits, Config, Memory};
+use funnel_model::{Commits, Config, Memory};
 use slice_rule::Home;
 use slice_stages::Stages;
 use std::alloc::Global;
@@ -23,8 +24,7 @@ pub struct Desk {
     pub(crate) slices: u32,
     pub(crate) columns: u32,
     pub(crate) events: u64,
-    pub(crate) most_commits: u64,
-    pub(crate) journal: Vec<Commit>,
+    pub(crate) journal: Journal,
     pub(crate) records: Records,
     pub(crate) live: LiveList,
     pub(crate) tokens: Tokens,
@@ -32,7 +32,6 @@ pub struct Desk {
 }
 
 impl Model for Desk {
-    ghost use Rattle.std.specs.Prelude.{vec_capacity};
     ghost use Rattle.commit_desk.specs.Desks.{DeskState};
     ghost use Rattle.commit_desk.specs.Kept.{IsDesk};
 
@@ -40,12 +39,11 @@ impl Model for Desk {
 
     ghost view = { λ d. record { pool = d.home.pool; events_limit = d.events_limit; history = d.home.history } };
 
-    ghost invariant = { λ d. IsDesk d.home.pool d.events_limit d.most_commits d.home.history (record {
+    ghost invariant = { λ d. IsDesk d.home.pool d.events_limit d.home.history (record {
       slices = d.slices;
       columns = d.columns;
       events = d.events;
-      journal = d.journal.items;
-      room = vec_capacity d.journal;
+      journal = d.journal;
       table = d.records;
       live = d.live;
       tokens = d.tokens;
@@ -79,8 +77,7 @@ impl Desk {
             slices: config.slices,
             columns,
             events: 0,
-            most_commits: config.commits,
-            journal: Vec::with_capacity(alloc, config.commits as usize)?,
+            journal: Journal::new(alloc, config.commits)?,
             records: Records::new(alloc, config.slices, columns)?,
             live: LiveList::new(alloc, config.slices, columns)?,
             tokens: Tokens::new(alloc, config.passes)?,
@@ -88,15 +85,18 @@ impl Desk {
         })
     }
 
-    /// The home, which has the whole history, and the history's commits.
-    pub fn into_parts(self) -> (Home, Commits)
+    /// The home, which has the whole history, how many of the history's commits come before those that the journal keeps, and these.
+    pub fn into_parts(self) -> (Home, u64, Commits)
         ensures pool { result.0.pool ≡ self.pool }
         ensures history { result.0.history ≡ self.history }
-        ensures commits { result.1 ≡ commits self.history }
+        ensures base { result.1 ≡ base self.pool.limits.commits self.history }
+        ensures commits { result.2 ≡ commits_after self.history (base self.pool.limits.commits self.history) }
         ensures legal { IsLegal self.pool.limits self.history }
         ensures sound { IsSound self.pool.config self.history }
     {
-        (self.home, Commits::new(self.journal))
+        let Desk { home, journal, .. } = self;
+        let (base, commits) = journal.into_parts();
+        (home, base, commits)
     }
 
     // Whether calls are taken no more.
@@ -105,14 +105,6 @@ impl Desk {
     {
         let _ = &self.home;
         self.events_limit <= self.events
-    }
-
-    // Whether the journal holds as many commits as it can.
-    pub(crate) fn is_journal_full(&self) -> bool
-        ensures full { result ≡ is_journal_full self.now.pool.limits self.now.history }
-    {
-        let _ = &self.home;
-        self.journal.len() as u64 == self.most_commits
     }
 
     // The place of the add of the live document with this number.

@@ -93,7 +93,7 @@ impl Desk {
         ensures none_outstanding { HasNoneOutstanding seat.new }
     {
         let pass = seat.number();
-        let place = self.journal.len() as u64;
+        let place = self.journal.place();
         let opened_at = pool.make_event(&mut self.home, seat, &Finds { pass, query });
         self.tokens.open(pass, opened_at);
         self.events = opened_at;

@@ -6,8 +6,8 @@ pub fn new_desks_are_kept()
     ensures { NewDesksAreKept }
 {}
 
-/// What a desk keeps stands for one list of commits and one number of events: where two histories could be that of one
-/// desk, these are equal. Which of them it is, its home knows.
+/// What a desk keeps stands for one number of commits, one list of the last of them and one number of events: where two
+/// histories could be that of one desk, these are equal. Which of them it is, its home knows.
 pub fn desks_have_their_commits()
     ensures { DesksHaveTheirCommits }
 {}

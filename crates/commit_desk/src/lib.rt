@@ -1,7 +1,7 @@
 //! The desk: what the lock of an engine holds. Every event of the history is made here, one call at a time.
 //!
 //! Beside the pool's home, which stands for the history, the desk keeps what answers calls by that history: the journal
-//! of its commits, the records of its columns, the live numbers, the tokens of running finds, and how far each slice is.
+//! of its last commits, the records of its columns, the live numbers, the tokens of running finds, and how far each slice is.
 //! Each call makes the events that its contract names, in the order of the checks that it names too, and afterwards the
 //! pass that made it has seen the whole history. All memory is taken when the desk is made, but for that of a journal's
 //! answer.
@@ -14,6 +14,7 @@ mod deleting;
 mod desk;
 mod entries;
 mod finding;
+mod journal;
 pub mod laws;
 mod making;
 mod named;

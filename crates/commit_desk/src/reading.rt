@@ -1,13 +1,14 @@
-ghost use Rattle.std.specs.Prelude.{◌≡◌, map, IfOk, OnOk, Ok, Err};
-ghost use Rattle.funnel_model.specs.History.{commits_after};
+ghost use Rattle.std.specs.Prelude.{◌≡◌, [], ◌∷◌};
+ghost use Rattle.funnel_model.specs.declared.call.Call.TheVariants as call;
+ghost use Rattle.funnel_model.specs.declared.event.Event.TheVariants as event;
 ghost use Rattle.funnel_model.specs.Legal.{IsIdle};
 ghost use Rattle.slice_rule.specs.Seats.{HasNoneOutstanding};
-ghost use Rattle.commit_desk.specs.Answers.{AnswersJournal, AnswersPlace, events_of_journal, events_of_place};
-ghost use Rattle.commit_desk.specs.Desks.{IsSeatOf, Makes};
+ghost use Rattle.commit_desk.specs.Answers.{AnswersJournal, AnswersPlace, TakesCalls, events_of_journal, events_of_place};
+ghost use Rattle.commit_desk.specs.Desks.{IsCaughtUp, IsSeatOf, Makes};
 
 use crate::answers::{JournalFault, Spent};
 use crate::desk::Desk;
-use funnel_model::{Call, Commits, Event, Memory};
+use funnel_model::{Call, Commits, Event};
 use slice_rule::{PassSeat, Pool};
 use std::alloc::Global;
 
@@ -27,14 +28,15 @@ impl Desk {
                 events: self.events,
             });
         }
-        let place = self.journal.len() as u64;
+        let place = self.journal.place();
         let pass = seat.number();
         let call = Call::Place;
         self.make_plain(pool, seat, &Event::Read { pass, call });
         Ok(place)
     }
 
-    /// The commits after the first so many, in order. It takes memory for them, and makes its event after that.
+    /// The commits after the first so many, in order, where the journal keeps them all, and else how many it no longer keeps. It
+    /// takes memory for them, and makes its event after that.
     pub fn read_journal(
         &mut self,
         alloc: Global,
@@ -45,7 +47,7 @@ impl Desk {
         requires pool { pool.now ≡ self.old.pool }
         requires seat { IsSeatOf self.old seat.old }
         requires idle { IsIdle seat.old.number seat.old.front }
-        ensures answer { AnswersJournal self.old.events_limit self.old.history from result }
+        ensures answer { AnswersJournal self.old.events_limit self.old.pool.limits self.old.history from result }
         ensures events { Makes (events_of_journal seat.old.number from result) self.old self.new seat.old seat.new }
         ensures none_outstanding { HasNoneOutstanding seat.new }
     {
@@ -53,23 +55,29 @@ impl Desk {
         if self.is_spent() {
             return Err(JournalFault::Spent(self.events));
         }
-        let Ok(commits) = self.commits_after(alloc, from) else {
+        let base = self.journal.base();
+        if from < base {
+            self.note_journal(pool, seat, from);
+            return Err(JournalFault::Trimmed(base));
+        }
+        let Ok(commits) = self.journal.read(alloc, from) else {
             return Err(JournalFault::Memory);
         };
-        let pass = seat.number();
-        let call = Call::Journal { from };
-        self.make_plain(pool, seat, &Event::Read { pass, call });
+        self.note_journal(pool, seat, from);
         Ok(commits)
     }
 
-    // The commits after the first so many.
-    fn commits_after(&self, alloc: Global, from: u64) -> Result<Commits, Memory>
-        ensures { IfOk result (λ commits. commits ≡ commits_after self.now.history from) }
+    // Makes the event of a journal.
+    fn note_journal(&mut self, pool: &Pool, seat: &mut PassSeat, from: u64)
+        requires pool { pool.now ≡ self.old.pool }
+        requires caught_up { IsCaughtUp self.old seat.old }
+        requires idle { IsIdle seat.old.number self.old.history }
+        requires takes_calls { TakesCalls self.old.events_limit self.old.history }
+        ensures made { Makes (event.Read seat.old.number (call.Journal from) ∷ []) self.old self.new seat.old seat.new }
+        ensures none_outstanding { HasNoneOutstanding seat.new }
     {
-        let _ = &self.home;
-        let first = self.journal.len().min(from as usize);
-        let mut commits = Vec::new(alloc);
-        commits.extend_from_slice(&self.journal[first..])?;
-        Ok(Commits::new(commits))
+        let pass = seat.number();
+        let call = Call::Journal { from };
+        self.make_plain(pool, seat, &Event::Read { pass, call });
     }
 }

@@ -26,7 +26,7 @@ impl<N: PoolName> Setting<N> {
     /// The commits, once the desk is closed.
     pub fn into_commits(self) -> Commits {
         let Setting { desk, .. } = self;
-        let (_home, commits) = desk.into_parts();
+        let (_home, _base, commits) = desk.into_parts();
         commits
     }
 

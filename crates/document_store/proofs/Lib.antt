@@ -5,5 +5,4 @@ pub mod WordSets
 pub mod EntryLemmas
 pub mod TreeLemmas
 pub mod ColumnLemmas
-pub mod AddedLemmas
 pub mod RemovalLemmas

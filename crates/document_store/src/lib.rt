@@ -16,6 +16,3 @@ pub use found::Found;
 pub use live_list::LiveList;
 pub use records::{Records, Slot};
 pub use resolving::resolve;
-
-#[cfg(test)]
-mod tests;

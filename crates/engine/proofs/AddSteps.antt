@@ -1,7 +1,6 @@
 -- The step of an add, from its turns.
 use Rattle.std.proofs.Common.{◌≡◌, ℕ, ◌<◌, Bool, true, false, cond, List, [], ◌∷◌, Option, Some, None, Ok, Err, refl, sym, ap, ◌∙◌, ⊎_elim, inl, inr, arith}
-use Rattle.std.proofs.lemmas.Bool.{ne_eqb}
-use Rattle.std.specs.Option.{is_some, option_map_or}
+use Rattle.std.specs.Option.{is_some, option_map, option_map_or}
 use Rattle.funnel_model.specs.declared.call.Call.TheVariants as call
 use Rattle.funnel_model.specs.declared.claim.Claim.{Claim}
 use Rattle.funnel_model.specs.declared.config.Config.{Config}
@@ -9,8 +8,8 @@ use Rattle.funnel_model.specs.declared.event.Event.{Event}
 use Rattle.funnel_model.specs.declared.event.Event.TheVariants as event
 use Rattle.funnel_model.specs.declared.reply.Reply.{Reply}
 use Rattle.funnel_model.specs.declared.reply.Reply.TheVariants as reply
-use Rattle.funnel_model.specs.History.{is_live, live, live_place, place}
-use Rattle.funnel_model.specs.Legal.{IsIdle, IsLegal, Limits, is_journal_full}
+use Rattle.funnel_model.specs.History.{is_live, live, live_place}
+use Rattle.funnel_model.specs.Legal.{IsIdle, IsLegal, Limits}
 use Rattle.funnel_model.specs.Steps.{IsReplyToRefused, Step}
 use Rattle.funnel_model.proofs.LiveLemmas.{is_live-from_place}
 use Rattle.funnel_model.proofs.StepLemmas.{call_by-own}
@@ -32,21 +31,13 @@ none_of (Some n) none = cc
 no_place : (id : ℕ) (history : List Event) → is_live id history ≡ false → live_place id history ≡ None
 no_place id history absent = none_of (live_place id history) (sym (is_live-from_place id (live history)) ∙ absent)
 
-module _ (limits : Limits) (history : List Event) (id : ℕ) where
-  -- what an add is answered that is refused before the journal is looked at, and after
+module _ (history : List Event) (id : ℕ) where
+  -- what an add is answered whose number is live, and one whose number isn't
   present_reply : (added : ℕ) (rest : Reply) → live_place id history ≡ Some added → reply.Present added ≡ option_map_or reply.Present (live_place id history) rest
   present_reply added rest here = sym (ap (λ o. option_map_or reply.Present o rest) here)
 
   absent_reply : (rest : Reply) → is_live id history ≡ false → rest ≡ option_map_or reply.Present (live_place id history) rest
   absent_reply rest absent = sym (ap (λ o. option_map_or reply.Present o rest) (no_place id history absent))
-
-  full_reply : (b : Bool) → is_journal_full limits history ≡ b → is_live id history ≡ false →
-      cond b reply.JournalFull reply.Full ≡ option_map_or reply.Present (live_place id history) (cond (is_journal_full limits history) reply.JournalFull reply.Full)
-  full_reply b full absent =
-      ap (λ x. cond x reply.JournalFull reply.Full) (sym full) ∙ absent_reply (cond (is_journal_full limits history) reply.JournalFull reply.Full) absent
-
-  has_room : place history < limits.commits → is_journal_full limits history ≡ false
-  has_room room = ne_eqb (place history) limits.commits (λ same. absurd (omega arith))
 
 module _ (limits : Limits) (pass id : ℕ) (text : List ℕ) where
   -- to claim a column answers nothing
@@ -65,14 +56,12 @@ module _ (limits : Limits) (pass id : ℕ) (text : List ℕ) where
   module _ (before after : List Event) where
     pub refused_turns : (config : Config) (fault : AddFault) → TakeTurn limits pass id text before after (taken.Refused fault) → AddTurns config limits pass id text before after (Err fault)
     refused_turns config (add.Present added) turn = inl turn
-    refused_turns config (add.JournalFull count) turn = inl turn
     refused_turns config (add.Full blocks) turn = turn
     refused_turns config (add.Spent events) turn = turn
     refused_turns config add.Memory turn = absurd turn.answer
 
     pub dropped_turns : (config : Config) (fault : CommitFault) → CommitTurns config limits pass id text before after (Err fault) → AddTurns config limits pass id text before after (Err (fault_of_drop fault))
     dropped_turns config (commit.Present added) turns = inr turns
-    dropped_turns config (commit.JournalFull count) turns = inr turns
 
     module _ (idle : IsIdle pass before) (legal : IsLegal limits after) where
       -- an add that was refused in its first turn
@@ -84,10 +73,8 @@ module _ (limits : Limits) (pass id : ℕ) (text : List ℕ) where
 
       pub refused_step : (fault : AddFault) → TakeTurn limits pass id text before after (taken.Refused fault) → Step limits pass before after (call.Add id text) (reply_of_add (Err fault))
       refused_step (add.Present added) turn =
-          refused_by (reply.Present added) turn (present_reply limits turn.earlier id added (cond (is_journal_full limits turn.earlier) reply.JournalFull reply.Full) turn.answer.1.live)
-      refused_step (add.JournalFull count) turn = refused_by reply.JournalFull turn (full_reply limits turn.earlier id true turn.answer.2.full turn.answer.1)
-      refused_step (add.Full blocks) turn =
-          refused_by reply.Full turn (full_reply limits turn.earlier id false (has_room limits turn.earlier id turn.answer.0.journal) turn.answer.0.absent)
+          refused_by (reply.Present added) turn (present_reply turn.earlier id added reply.Full turn.answer.1.live)
+      refused_step (add.Full blocks) turn = refused_by reply.Full turn (absent_reply turn.earlier id reply.Full turn.answer.0.absent)
       refused_step (add.Spent events) turn = step_spent_turn limits pass before after (call.Add id text) idle turn turn.answer.many legal
       refused_step add.Memory turn = absurd turn.answer
 
@@ -97,11 +84,11 @@ module _ (limits : Limits) (pass id : ℕ) (text : List ℕ) where
             let claim = turns.claim in
             let e = event.Add pass id text claim.slice claim.column turns.bits in
             step_made_after limits pass before turns.middle after e (call.Add id text) (reply.Added added) idle (claim_is_quiet before turns.middle claim turns.claimed) turns.committed refl
-            (call_by-own pass e refl) refl (ap reply.Added turns.committed.answer.2) legal
+            (call_by-own pass e refl) refl (ap reply.Added turns.committed.answer.1) legal
 
         -- an add whose document was dropped
         dropped_by : {answers : List Event → Type 0} (given : Reply) (middle : List Event) (claim : Claim) → ClaimTurns limits pass id text before middle claim →
-            (turn : IsTurn pass middle after answers (event.Drop pass id text claim.slice claim.column ∷ [])) → given ≡ option_map_or reply.Present (live_place id turn.earlier) reply.JournalFull →
+            (turn : IsTurn pass middle after answers (event.Drop pass id text claim.slice claim.column ∷ [])) → option_map reply.Present (live_place id turn.earlier) ≡ Some given →
             Step limits pass before after (call.Add id text) given
         dropped_by given middle claim claimed turn replied =
             let e = event.Drop pass id text claim.slice claim.column in
@@ -110,7 +97,4 @@ module _ (limits : Limits) (pass id : ℕ) (text : List ℕ) where
         pub dropped_step : (fault : CommitFault) → CommitTurns config limits pass id text before after (Err fault) → Step limits pass before after (call.Add id text) (reply_of_add (Err (fault_of_drop fault)))
         dropped_step (commit.Present added) turns =
             let turn = turns.committed in
-            dropped_by (reply.Present added) turns.middle turns.claim turns.claimed turn (present_reply limits turn.earlier id added reply.JournalFull turn.answer.live)
-        dropped_step (commit.JournalFull count) turns =
-            let turn = turns.committed in
-            dropped_by reply.JournalFull turns.middle turns.claim turns.claimed turn (absent_reply limits turn.earlier id reply.JournalFull turn.answer.0)
+            dropped_by (reply.Present added) turns.middle turns.claim turns.claimed turn (ap (option_map reply.Present) turn.answer.live)

@@ -79,7 +79,7 @@ cleared_first limits pass id text before after job claim seat next cleared numbe
 -- the turns of an add whose pass wrote its bits before the last one
 pub commit_turns : (config : Config) (limits : Limits) (pass id : ℕ) (text : List ℕ) (before after : List Event) (claim : Claim) (bits : List Bit) (answer : Result ℕ CommitFault) (seat next : PassState) →
     ClaimTurns limits pass id text before seat.front claim → seat.number ≡ pass → next ≡ record seat { own = next.own } → AreDocumentBits config (words text) claim.slice claim.column bits →
-    IsTurn next.number next.front after (λ history. AnswersCommit limits history id answer) (events_of_commit next.number id text claim bits answer) →
+    IsTurn next.number next.front after (λ history. AnswersCommit history id answer) (events_of_commit next.number id text claim bits answer) →
     CommitTurns config limits pass id text before after answer
 commit_turns config limits pass id text before after claim bits answer seat next claimed number is of_text turn = record {
   claim = claim;
@@ -87,6 +87,6 @@ commit_turns config limits pass id text before after claim bits answer seat next
   middle = seat.front;
   claimed = claimed;
   of_text = of_text;
-  committed = subst (λ (n : ℕ). IsTurn n seat.front after (λ history. AnswersCommit limits history id answer) (events_of_commit n id text claim bits answer)) number
-      (subst (λ (p : PassState). IsTurn p.number p.front after (λ history. AnswersCommit limits history id answer) (events_of_commit p.number id text claim bits answer)) is turn);
+  committed = subst (λ (n : ℕ). IsTurn n seat.front after (λ history. AnswersCommit history id answer) (events_of_commit n id text claim bits answer)) number
+      (subst (λ (p : PassState). IsTurn p.number p.front after (λ history. AnswersCommit history id answer) (events_of_commit p.number id text claim bits answer)) is turn);
 }

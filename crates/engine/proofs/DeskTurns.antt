@@ -1,6 +1,5 @@
 -- What a call at the desk, under the engine's lock, is as a turn of its pass.
 use Rattle.std.proofs.Common.{◌≡◌, ℕ, ◌<◌, ◌^◌, false, List, [], ◌∷◌, ◌++◌, Result, Ok, Err, Some, sym, refl, ap, ◌∙◌, subst, append_assoc}
-use Rattle.std.specs.Prelude.{if◌then◌else◌}
 use Rattle.funnel_model.specs.declared.call.Call.TheVariants as call
 use Rattle.funnel_model.specs.declared.claim.Claim.{Claim}
 use Rattle.funnel_model.specs.declared.commit.Commit.{Commit}
@@ -12,6 +11,7 @@ use Rattle.funnel_model.specs.Legal.{IsIdle, IsLegal, Limits}
 use Rattle.funnel_model.specs.Steps.{Step}
 use Rattle.funnel_model.proofs.Claims.{take_within}
 use Rattle.funnel_model.proofs.Histories.{allowed_within, legal_before}
+use Rattle.funnel_model.proofs.ReplyLemmas.{journal_read, journal_trimmed}
 use Rattle.funnel_model.proofs.Spans.{last_by-own}
 use Rattle.funnel_model.proofs.StepLemmas.{call_by-own}
 use Rattle.slice_rule.specs.Pools.{PoolId}
@@ -47,16 +47,21 @@ module _ (limits : Limits) (pass : ℕ) (before after : List Event) (idle : IsId
       step_made_by_turn limits pass before after e call.Place (reply.Place count) idle turn refl (call_by-own pass e refl) refl (ap reply.Place turn.answer.1) legal
   place_step (Err spent) turn = step_spent_turn limits pass before after call.Place idle turn turn.answer.many legal
 
-  journal_step : (from : ℕ) (answer : Result (List Commit) JournalFault) → IsTurn pass before after (λ history. AnswersJournal limits.events history from answer) (events_of_journal pass from answer) →
+  journal_step : (from : ℕ) (answer : Result (List Commit) JournalFault) → IsTurn pass before after (λ history. AnswersJournal limits.events limits history from answer) (events_of_journal pass from answer) →
       Step limits pass before after (call.Journal from) (reply_of_journal answer)
   journal_step from (Ok commits) turn =
       let e = event.Read pass (call.Journal from) in
-      step_made_by_turn limits pass before after e (call.Journal from) (reply.Commits commits) idle turn refl (call_by-own pass e refl) refl (ap reply.Commits turn.answer.1) legal
+      step_made_by_turn limits pass before after e (call.Journal from) (reply.Commits commits) idle turn refl (call_by-own pass e refl) refl
+      (journal_read limits turn.earlier from commits turn.answer.1 turn.answer.2) legal
+  journal_step from (Err (journal.Trimmed n)) turn =
+      let e = event.Read pass (call.Journal from) in
+      step_made_by_turn limits pass before after e (call.Journal from) (reply.Trimmed n) idle turn refl (call_by-own pass e refl) refl
+      (journal_trimmed limits turn.earlier from n turn.answer.1 turn.answer.2) legal
   journal_step from (Err (journal.Spent events)) turn = step_spent_turn limits pass before after (call.Journal from) idle turn turn.answer.many legal
   journal_step from (Err journal.Memory) turn =
       step_journal_without_memory limits pass before after idle (quiet_turn pass before after [] turn refl) legal (idle_still pass before after turn idle) from
 
-  delete_step : (id : ℕ) (answer : Result ℕ DeleteFault) → IsTurn pass before after (λ history. AnswersDelete limits.events limits history id answer) (events_of_delete pass id answer) →
+  delete_step : (id : ℕ) (answer : Result ℕ DeleteFault) → IsTurn pass before after (λ history. AnswersDelete limits.events history id answer) (events_of_delete pass id answer) →
       Step limits pass before after (call.Delete id) (reply_of_delete answer)
   delete_step id (Ok deleted) turn =
       let e = event.Del pass id in
@@ -65,11 +70,7 @@ module _ (limits : Limits) (pass : ℕ) (before after : List Event) (idle : IsId
   delete_step id (Err delete.Absent) turn =
       let e = event.No pass (call.Delete id) in
       step_made_by_turn limits pass before after e (call.Delete id) reply.Absent idle turn refl (call_by-own pass e refl) refl
-      (ap (λ b. if b then reply.JournalFull else reply.Absent) (sym turn.answer.1)) legal
-  delete_step id (Err (delete.JournalFull count)) turn =
-      let e = event.No pass (call.Delete id) in
-      step_made_by_turn limits pass before after e (call.Delete id) reply.JournalFull idle turn refl (call_by-own pass e refl) refl
-      (ap (λ b. if b then reply.JournalFull else reply.Absent) (sym turn.answer.1)) legal
+      refl legal
 
 -- the first column of a slice that its pass cleared and opened is its to write
 pub claims_first : (pool : PoolId) (before after : DeskState) (seat next : PassState) (slice : ℕ) (claim : Claim) → seat.pool ≡ pool → HasNoneOutstanding next → before.pool ≡ pool → slice < pool.limits.slices →
@@ -105,17 +106,17 @@ module _ (pool : PoolId) (before after : DeskState) (seat next : PassState) (of 
       place_step pool.limits seat.number seat.front next.front idle (legal_made pool events before after seat next of made) answer
       (turn_made events before after seat next (subst (λ n. AnswersPlace n before.history answer) same_limit may) made)
 
-  pub journal_made : (from : ℕ) (answer : Result (List Commit) JournalFault) → AnswersJournal before.events_limit before.history from answer →
+  pub journal_made : (from : ℕ) (answer : Result (List Commit) JournalFault) → AnswersJournal before.events_limit before.pool.limits before.history from answer →
       Makes (events_of_journal seat.number from answer) before after seat next → Step pool.limits seat.number seat.front next.front (call.Journal from) (reply_of_journal answer)
   journal_made from answer may made =
       let events = events_of_journal seat.number from answer in
       journal_step pool.limits seat.number seat.front next.front idle (legal_made pool events before after seat next of made) from answer
-      (turn_made events before after seat next (subst (λ n. AnswersJournal n before.history from answer) same_limit may) made)
+      (turn_made events before after seat next (subst (λ (p : PoolId). AnswersJournal pool.limits.events p.limits before.history from answer) of (subst (λ n. AnswersJournal n before.pool.limits before.history from answer) same_limit may)) made)
 
-  pub delete_made : (id : ℕ) (answer : Result ℕ DeleteFault) → AnswersDelete before.events_limit before.pool.limits before.history id answer →
+  pub delete_made : (id : ℕ) (answer : Result ℕ DeleteFault) → AnswersDelete before.events_limit before.history id answer →
       Makes (events_of_delete seat.number id answer) before after seat next → Step pool.limits seat.number seat.front next.front (call.Delete id) (reply_of_delete answer)
   delete_made id answer may made =
       let events = events_of_delete seat.number id answer in
       delete_step pool.limits seat.number seat.front next.front idle (legal_made pool events before after seat next of made) id answer
       (turn_made events before after seat next
-      (subst (λ (p : PoolId). AnswersDelete pool.limits.events p.limits before.history id answer) of (subst (λ n. AnswersDelete n before.pool.limits before.history id answer) same_limit may)) made)
+      (subst (λ n. AnswersDelete n before.history id answer) same_limit may) made)

@@ -41,21 +41,18 @@ pub record CommitTurns (config : Config) (limits : Limits) (pass id : ℕ) (text
   pub middle : List Event
   pub claimed : ClaimTurns limits pass id text before middle claim
   pub of_text : AreDocumentBits config (words text) claim.slice claim.column bits
-  pub committed : IsTurn pass middle after (λ history. AnswersCommit limits history id answer) (events_of_commit pass id text claim bits answer)
+  pub committed : IsTurn pass middle after (λ history. AnswersCommit history id answer) (events_of_commit pass id text claim bits answer)
 
 -- what an add is answered whose document was dropped so
 abbrev pub fault_of_drop : CommitFault → AddFault
 fault_of_drop (commit.Present added) = add.Present added
-fault_of_drop (commit.JournalFull count) = add.JournalFull count
 
--- An add that is answered by its place was added in its last turn. It is refused as present or for a full journal in its first turn
--- or in its last, and for want of room or as spent in its first. Where no memory was found nothing was done.
+-- An add that is answered by its place was added in its last turn. It is refused as present in its first turn or in its last, and for
+-- want of room or as spent in its first. Where no memory was found nothing was done.
 abbrev pub AddTurns : Config → Limits → ℕ → ℕ → List ℕ → List Event → List Event → Result ℕ AddFault → Type 0
 AddTurns config limits pass id text before after (Ok added) = CommitTurns config limits pass id text before after (Ok added)
 AddTurns config limits pass id text before after (Err (add.Present added)) =
     TakeTurn limits pass id text before after (taken.Refused (add.Present added)) ⊎ CommitTurns config limits pass id text before after (Err (commit.Present added))
-AddTurns config limits pass id text before after (Err (add.JournalFull count)) =
-    TakeTurn limits pass id text before after (taken.Refused (add.JournalFull count)) ⊎ CommitTurns config limits pass id text before after (Err (commit.JournalFull count))
 AddTurns config limits pass id text before after (Err (add.Full blocks)) = TakeTurn limits pass id text before after (taken.Refused (add.Full blocks))
 AddTurns config limits pass id text before after (Err (add.Spent events)) = TakeTurn limits pass id text before after (taken.Refused (add.Spent events))
 AddTurns config limits pass id text before after (Err add.Memory) = before ≡ after

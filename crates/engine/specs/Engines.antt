@@ -5,7 +5,7 @@ use Rattle.funnel_model.specs.Configuration.{IsValid}
 use Rattle.funnel_model.specs.declared.commit.Commit.{Commit}
 use Rattle.funnel_model.specs.declared.config.Config.{Config}
 use Rattle.funnel_model.specs.declared.event.Event.{Event}
-use Rattle.funnel_model.specs.History.{IsFrontOf, commits, own}
+use Rattle.funnel_model.specs.History.{IsFrontOf, commits_after, own}
 use Rattle.funnel_model.specs.Sizes.{words_of_slice}
 use Rattle.slice_rule.specs.Pools.{PoolId, limits_of}
 use Rattle.slice_rule.specs.Seats.{HomeState, PassState, new_home_state, new_pass_state}
@@ -28,15 +28,17 @@ pub record IsEngine (named pool : PoolId) (layout : Config) (slices : ℕ) : Typ
   pub laid_out : layout ≡ pool.config
   pub count : slices ≡ pool.config.slices
 
--- an engine that is closed: the commits and the number of events of its history, and the history
+-- an engine that is closed: how many commits of its history come before those that its journal keeps, these, the number of its
+-- events, and the history
 pub record ClosedState : Type 0 where
+  pub base : ℕ
   pub commits : List Commit
   pub events : ℕ
   pub history : List Event
 
--- its commits and the number of its events are those of its history
+-- its commits are the last ones of its history, and the number of its events is that of its history
 pub record IsClosed (closed : ClosedState) : Type 0 where
-  pub commits : closed.commits ≡ commits closed.history
+  pub commits : closed.commits ≡ commits_after closed.history closed.base
   pub events : closed.events ≡ length closed.history
 
 -- the history goes on from what the pass had seen, without a further event of the pass

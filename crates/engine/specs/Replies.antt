@@ -17,7 +17,6 @@ use Rattle.engine.specs.declared.finding.FindFault.TheVariants as find
 abbrev pub reply_of_add : Result ℕ AddFault → Reply
 reply_of_add (Ok place) = reply.Added place
 reply_of_add (Err (add.Present place)) = reply.Present place
-reply_of_add (Err (add.JournalFull count)) = reply.JournalFull
 reply_of_add (Err (add.Full blocks)) = reply.Full
 reply_of_add (Err (add.Spent events)) = reply.Spent
 reply_of_add (Err add.Memory) = reply.Memory
@@ -25,7 +24,6 @@ reply_of_add (Err add.Memory) = reply.Memory
 abbrev pub reply_of_delete : Result ℕ DeleteFault → Reply
 reply_of_delete (Ok place) = reply.Deleted place
 reply_of_delete (Err delete.Absent) = reply.Absent
-reply_of_delete (Err (delete.JournalFull count)) = reply.JournalFull
 reply_of_delete (Err (delete.Spent events)) = reply.Spent
 
 abbrev pub reply_of_find_fault : FindFault → Reply
@@ -42,5 +40,6 @@ reply_of_place (Err spent) = reply.Spent
 
 abbrev pub reply_of_journal : Result (List Commit) JournalFault → Reply
 reply_of_journal (Ok commits) = reply.Commits commits
+reply_of_journal (Err (journal.Trimmed base)) = reply.Trimmed base
 reply_of_journal (Err (journal.Spent events)) = reply.Spent
 reply_of_journal (Err journal.Memory) = reply.Memory

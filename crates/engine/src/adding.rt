@@ -163,6 +163,5 @@ fn dropped(fault: CommitFault) -> AddFault
 {
     match fault {
         CommitFault::Present(place) => AddFault::Present(place),
-        CommitFault::JournalFull(count) => AddFault::JournalFull(count),
     }
 }

@@ -123,7 +123,6 @@ fn reply_to_add(answer: Result<u64, AddFault>) -> Reply
     match answer {
         Ok(place) => Reply::Added(place),
         Err(AddFault::Present(place)) => Reply::Present(place),
-        Err(AddFault::JournalFull(_)) => Reply::JournalFull,
         Err(AddFault::Full(_)) => Reply::Full,
         Err(AddFault::Spent(_)) => Reply::Spent,
         Err(AddFault::Memory) => Reply::Memory,
@@ -136,7 +135,6 @@ fn reply_to_delete(answer: Result<u64, DeleteFault>) -> Reply
     match answer {
         Ok(place) => Reply::Deleted(place),
         Err(DeleteFault::Absent) => Reply::Absent,
-        Err(DeleteFault::JournalFull(_)) => Reply::JournalFull,
         Err(DeleteFault::Spent(_)) => Reply::Spent,
     }
 }
@@ -165,6 +163,7 @@ fn reply_to_journal(answer: Result<Commits, JournalFault>) -> Reply
 {
     match answer {
         Ok(commits) => Reply::Commits(commits),
+        Err(JournalFault::Trimmed(base)) => Reply::Trimmed(base),
         Err(JournalFault::Spent(_)) => Reply::Spent,
         Err(JournalFault::Memory) => Reply::Memory,
     }

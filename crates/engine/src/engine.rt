@@ -2,7 +2,7 @@ ghost use Rattle.std.specs.Prelude.{◌≡◌, ℕ, ◌<◌, length, map, All, C
 ghost use Rattle.std.specs.List.{range_with_len};
 ghost use mathlib.Core.List.{IsPrefix};
 ghost use Rattle.funnel_model.specs.declared.call.Call.TheVariants as call;
-ghost use Rattle.funnel_model.specs.History.{IsFrontOf, commits};
+ghost use Rattle.funnel_model.specs.History.{IsFrontOf, base, commits_after};
 ghost use Rattle.funnel_model.specs.Legal.{IsLegal};
 ghost use Rattle.funnel_model.specs.Steps.{AddsNone, Step};
 ghost use Rattle.commit_desk.specs.Answers.{AnswersDelete, AnswersJournal, AnswersPlace, events_of_delete, events_of_journal, events_of_place};
@@ -78,7 +78,7 @@ impl<N: PoolName> Engine<N> {
         requires pass { IsResting self.now pass.old }
         ensures step { Step self.now.limits pass.old.number pass.old.front pass.new.front (call.Delete id) (reply_of_delete result) }
         ensures turn { IsTurn pass.old.number pass.old.front pass.new.front
-            (λ history. AnswersDelete self.now.limits.events self.now.limits history id result) (events_of_delete pass.old.number id result) }
+            (λ history. AnswersDelete self.now.limits.events history id result) (events_of_delete pass.old.number id result) }
         ensures rests { IsResting self.now pass.new }
         ensures number { pass.new.number ≡ pass.old.number }
     {
@@ -100,8 +100,9 @@ impl<N: PoolName> Engine<N> {
         self.desk.lock(rt).desk.read_place(&self.pool, pass)
     }
 
-    /// The commits after the first so many, in order. It takes memory for them while it holds the lock, for which it waits
-    /// once; where there is none it makes no event. Where the engine is spent it takes none.
+    /// The commits after the first so many, in order, or how many are no longer kept where one of these is asked for. It takes
+    /// memory for the commits while it holds the lock, for which it waits once; where there is none it makes no event. Where
+    /// the engine is spent, or the commits are no longer kept, it takes none.
     pub fn journal<R: Wait>(
         &self,
         rt: &R,
@@ -112,7 +113,7 @@ impl<N: PoolName> Engine<N> {
         requires pass { IsResting self.now pass.old }
         ensures step { Step self.now.limits pass.old.number pass.old.front pass.new.front (call.Journal from) (reply_of_journal result) }
         ensures turn { IsTurn pass.old.number pass.old.front pass.new.front
-            (λ history. AnswersJournal self.now.limits.events history from result) (events_of_journal pass.old.number from result) }
+            (λ history. AnswersJournal self.now.limits.events self.now.limits history from result) (events_of_journal pass.old.number from result) }
         ensures rests { IsResting self.now pass.new }
         ensures number { pass.new.number ≡ pass.old.number }
     {
@@ -183,7 +184,8 @@ impl<N: PoolName> Engine<N> {
         ensures sound { IsSound self.config result.history }
         ensures passes { All (EndsIn result.history) passes.items }
         ensures calls { All (HasItsCalls result.history) passes.items }
-        ensures commits { result.commits ≡ commits result.history }
+        ensures base { result.base ≡ base self.limits.commits result.history }
+        ensures commits { result.commits ≡ commits_after result.history (base self.limits.commits result.history) }
         ensures events { result.events ≡ length result.history }
     {
         let Engine {
@@ -193,9 +195,10 @@ impl<N: PoolName> Engine<N> {
             desk,
         } = self;
         let Named { desk, of: _ } = desk.into_inner();
-        let (home, commits) = desk.into_parts();
+        let (home, base, commits) = desk.into_parts();
         let ended = pool.close(home, passes);
         Closed {
+            base,
             commits,
             events: ended.events,
             ended,

@@ -66,7 +66,7 @@ impl<N: PoolName> Engine<N> {
         bits: &Bits,
     ) -> Result<u64, CommitFault>
         requires written { HasWritten self.now claim doc.words bits.now.bits pass.old }
-        ensures turn { IsTurn pass.old.number pass.old.front pass.new.front (λ history. AnswersCommit self.now.limits history doc.id result)
+        ensures turn { IsTurn pass.old.number pass.old.front pass.new.front (λ history. AnswersCommit history doc.id result)
             (events_of_commit pass.old.number doc.id doc.text claim bits.now.bits result) }
         ensures rests { IsResting self.now pass.new }
         ensures number { pass.new.number ≡ pass.old.number }

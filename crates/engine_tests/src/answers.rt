@@ -9,30 +9,19 @@ use slice_rule::{PassSeat, Pool};
 use std::sync::Wait;
 use std::test::*;
 
-/// An engine whose journal has room for three commits.
+/// An engine whose journal keeps one commit.
 #[test]
 fn each_refusal_is_told(rt: HostRuntime) -> Result<(), Fail> {
     let alloc = rt.alloc();
-    let (adds, deletes, journal) = run::<Refusals, _>(&rt, alloc, &config(alloc, 2, 1, 1, 3))?;
-    let wanted = [Commit { add: false, id: 1 }, Commit { add: true, id: 2 }];
+    let (adds, deletes, journals) = run::<Refusals, _>(&rt, alloc, &config(alloc, 2, 1, 1, 1))?;
+    let (trimmed, journal) = journals;
+    assert_eq!(rt; adds, (Ok(1), Err(Refused::Present(1)), Ok(3)));
+    assert_eq!(rt; deletes, (Err(DeleteFault::Absent), Ok(2)));
+    assert_eq!(rt; trimmed, Some(JournalFault::Trimmed(2)));
     assert_eq!(rt;
-        adds,
-        (
-            Ok(1),
-            Err(Refused::Present(1)),
-            Ok(3),
-            Err(Refused::JournalFull(3))
-        )
+        journal?.as_slice(),
+        [Commit { add: true, id: 2 }].as_slice()
     );
-    assert_eq!(rt;
-        deletes,
-        (
-            Err(DeleteFault::Absent),
-            Ok(2),
-            Err(DeleteFault::JournalFull(3))
-        )
-    );
-    assert_eq!(rt; journal?.as_slice(), wanted.as_slice());
     Ok(())
 }
 
@@ -44,9 +33,9 @@ struct Refusals;
 
 impl Case for Refusals {
     type Seen = (
-        (Added, Added, Added, Added),
-        (Deleted, Deleted, Deleted),
-        Result<Commits, JournalFault>,
+        (Added, Added, Added),
+        (Deleted, Deleted),
+        (Option<JournalFault>, Result<Commits, JournalFault>),
     );
 
     fn run<N: PoolName, R: Wait>(callers: Callers<'_, N, R>) -> Self::Seen {
@@ -60,10 +49,9 @@ impl Case for Refusals {
         let absent = first.delete(2);
         let deleted = second.delete(1);
         let last = first.add(2, "x");
-        let full = first.add(3, "x");
-        let kept = second.delete(2);
-        let adds = (added, present, last, full);
-        (adds, (absent, deleted, kept), second.journal(1))
+        let adds = (added, present, last);
+        let trimmed = second.journal(1).err();
+        (adds, (absent, deleted), (trimmed, second.journal(2)))
     }
 }
 

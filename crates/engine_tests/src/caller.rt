@@ -14,7 +14,6 @@ use std::sync::Wait;
 #[derive(Clone, Copy, Debug, PartialEq, Eq)]
 pub(crate) enum Refused {
     Present(u64),
-    JournalFull(u64),
     Full(Option<Block>),
     Spent(u64),
     Memory,
@@ -239,7 +238,6 @@ fn told(answer: Result<u64, AddFault>) -> Result<u64, Refused> {
     match answer {
         Ok(place) => Ok(place),
         Err(AddFault::Present(place)) => Err(Refused::Present(place)),
-        Err(AddFault::JournalFull(count)) => Err(Refused::JournalFull(count)),
         Err(AddFault::Full(blocks)) => Err(Refused::Full(only(&blocks))),
         Err(AddFault::Spent(events)) => Err(Refused::Spent(events)),
         Err(AddFault::Memory) => Err(Refused::Memory),

@@ -116,6 +116,6 @@ fn two_threads_use_an_engine(rt: HostRuntime) -> Result<(), Fail> {
     let blank = blank(alloc, &config)?;
     let (closed, found) = use_engine::<Brand, _>(&rt, alloc, &config, blank)?;
     assert!(rt; found);
-    assert_eq!(rt; closed.commits.len(), 2);
+    assert_eq!(rt; (closed.base, closed.commits.len()), (0, 2));
     Ok(())
 }

@@ -1,5 +1,6 @@
 -- How programs end.
-use Rattle.std.proofs.Common.{◌≡◌, ℕ, List, length, map, Option, None, inl, inr, refl, sym, subst}
+use Rattle.std.proofs.Common.{◌≡◌, ℕ, List, length, map, Option, None, inl, inr, refl, sym, ap, ◌∙◌, subst}
+use Rattle.std.specs.Prelude.{IfSome}
 use Rattle.engine.specs.Engines.{ClosedState}
 use Rattle.funnel_io.specs.Calls.{Read, Write}
 use Rattle.funnel_io.specs.Streams.{Incoming, Outgoing}
@@ -7,6 +8,9 @@ use Rattle.funnel_io.specs.declared.end.End.{End}
 use Rattle.funnel_io.specs.declared.gate.Next.{Next}
 use Rattle.funnel_server.specs.Gates.{GateState}
 use Rattle.funnel_model.specs.declared.config.Config.{Config}
+use Rattle.funnel_model.specs.History.{base}
+use Rattle.funnel_model.specs.Legal.{Limits}
+use Rattle.slice_rule.specs.Pools.{PoolId}
 use Rattle.funnel.specs.declared.command.Command.{Command}
 use Rattle.funnel.specs.declared.command.Command.TheVariants as command
 use Rattle.funnel.specs.declared.command.ServeCommand.{ServeCommand}
@@ -14,20 +18,26 @@ use Rattle.funnel.specs.declared.ended.Why.{Why}
 use Rattle.funnel.specs.declared.ended.Why.TheVariants as why_of
 use Rattle.funnel.specs.Misfits.{misfit_of}
 use Rattle.funnel.specs.Programs.{Ends, IsConfigured, Streams}
+use Rattle.funnel.specs.Runs.{KeepsLast, limits_by}
 use Rattle.funnel.specs.Served.{EndsServe}
 use Rattle.funnel.specs.Turns.{EndsInTurns, ServeGoesInTurns}
 use Rattle.funnel.specs.Workers.{EndsServeInTurns}
+
+-- an engine with the limits of the configuration keeps as many commits as it says
+pub keeps_last : (pool : PoolId) (config : Config) (closed : ClosedState) → pool.limits ≡ limits_by config →
+    closed.base ≡ base pool.limits.commits closed.history → KeepsLast config closed
+keeps_last pool config closed limits_are base_is = base_is ∙ ap (λ (l : Limits). base l.commits closed.history) limits_are
 
 -- a command that fits ends for want of memory before its engine is made
 pub ends_without_engine : (words : List (List ℕ)) (before after : Streams) (command : Command) (config : Config) →
     IsConfigured words before after command config → misfit_of command (length before.gates) config ≡ None →
     after.input ≡ before.input → after.output ≡ before.output → after.gates ≡ before.gates → Ends words before after why_of.Memory None
 ends_without_engine words before after command.Run config configured fits input output gates =
-    inr (inr (inr (inl (record { config = config; configured = configured; gates = gates; ran = refl }))))
+    inr (inr (inr (inl (record { config = config; configured = configured; gates = gates; ran = refl; kept = tt }))))
 ends_without_engine words before after (command.Serve serve) config configured fits input output gates =
-    inr (inr (inr (inr (inl (record { serve = serve; config = config; configured = configured; fits = fits; input = input; output = output; served = (refl, gates) })))))
+    inr (inr (inr (inr (inl (record { serve = serve; config = config; configured = configured; fits = fits; input = input; output = output; served = (refl, gates); kept = tt })))))
 ends_without_engine words before after (command.Load load) config configured fits input output gates =
-    inr (inr (inr (inr (inr (record { load = load; config = config; configured = configured; fits = fits; input = input; gates = gates; ends = output })))))
+    inr (inr (inr (inr (inr (record { load = load; config = config; configured = configured; fits = fits; input = input; gates = gates; ends = output; kept = tt })))))
 
 -- ---- the calls on gates
 
@@ -69,13 +79,14 @@ pub serve_in_turns : {G C : Type 0} (next_gives : G → Next C → G → Type 0)
     IsConfigured words before after (command.Serve serve) config → misfit_of (command.Serve serve) (length before.gates) config ≡ None →
     after.input ≡ before.input → after.output ≡ before.output →
     EndsServeInTurns next_gives done_gives read_gives write_gives incoming outgoing state config serve.connections gates laters why closed →
+    IfSome closed (KeepsLast config) →
     EndsInTurns next_gives done_gives read_gives write_gives incoming outgoing words before after why closed gates laters
-serve_in_turns {G} {C} next_gives done_gives read_gives write_gives incoming outgoing state words before after why closed gates laters serve config from to configured fits input output served =
+serve_in_turns {G} {C} next_gives done_gives read_gives write_gives incoming outgoing state words before after why closed gates laters serve config from to configured fits input output served kept =
     let told : ServedInTurns next_gives done_gives read_gives write_gives incoming outgoing config serve.connections before.gates after.gates gates laters why closed =
     subst (λ (gs : List GateState). ServedInTurns next_gives done_gives read_gives write_gives incoming outgoing config serve.connections gs after.gates gates laters why closed) (sym from)
     (subst (λ (gs : List GateState). ServedInTurns next_gives done_gives read_gives write_gives incoming outgoing config serve.connections (map state gates) gs gates laters why closed) (sym to)
     (record { ends = served.ends; in_turns = served.in_turns })) in
     inr (inr (inr (inr (inl (record {
-      ends = record { serve = serve; config = config; configured = configured; fits = fits; input = input; output = output; served = told.ends };
+      ends = record { serve = serve; config = config; configured = configured; fits = fits; input = input; output = output; served = told.ends; kept = kept };
       in_turns = told.in_turns;
     })))))

@@ -10,6 +10,7 @@ pub mod LoadPasses
 pub mod Loaded
 pub mod NumberLemmas
 pub mod OpenGates
+pub mod Opened
 pub mod Passes
 pub mod Served
 pub mod ServedCalls

@@ -24,7 +24,7 @@ use Rattle.funnel.specs.declared.command.LoadCommand.{LoadCommand}
 use Rattle.funnel.specs.declared.ended.Why.{Why}
 use Rattle.funnel.specs.declared.ended.Why.TheVariants as why_of
 use Rattle.funnel.specs.LoadRuns.{EndsLoad, IsPartOfLoad, IsWholeLoad, Tells}
-use Rattle.funnel.specs.Misfits.{commits_of_load, misfit_of_load}
+use Rattle.funnel.specs.Misfits.{misfit_of_load}
 use Rattle.funnel.specs.Runs.{limits_by}
 use Rattle.funnel.proofs.Loaded.{are_answered, calls_are, fronts, is_loaded, met, replies_to, results_told}
 use Rattle.funnel.proofs.LoadPasses.{AreUsedBy, nothing_before, of_workers, seen_by}
@@ -40,10 +40,9 @@ on_fault {V} {E} P Q result fault is holds = subst (λ (r : Result V E). MatchRe
 pub record LoadFits (load : LoadCommand) (config : Config) : Type 0 where
   pub passes : load.workers ≤ config.passes
   pub columns : load.docs ≤ columns_of_pool config
-  pub commits : commits_of_load load.docs ≤ config.commits
 
 pub load_fits : (load : LoadCommand) (config : Config) → misfit_of_load load config ≡ None → LoadFits load config
-load_fits load config none = record { passes = search (rules, none); columns = search (rules, none); commits = search (rules, none) }
+load_fits load config none = record { passes = search (rules, none); columns = search (rules, none) }
 
 -- the load was made, and these are the results that the summary tells
 pub record IsAsTold (config : Config) (load : LoadCommand) (closed : ClosedState) (results : List (ℕ × ℕ)) : Type 0 where
@@ -73,7 +72,7 @@ module _ (pool : PoolId) (config : Config) (load : LoadCommand) (before after : 
   room : HasRoomFor (limits_by config) load.docs
   room =
       let fits = load_fits load config ended.fits in
-      record { few = ended.few; columns = fits.columns; commits = fits.commits; events = omega arith }
+      record { few = ended.few; columns = fits.columns; events = omega arith }
 
   legal_here : IsLegal (limits_by config) closed.history
   legal_here = subst (λ (l : Limits). IsLegal l closed.history) ended.limits ended.legal

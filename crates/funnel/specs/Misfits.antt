@@ -1,8 +1,7 @@
 -- The numbers of a command that don't fit the gates that the program was handed or its configuration, or are no ports.
-use Rattle.std.specs.Prelude.{ℕ, ◌+◌, ◌-◌, ◌/◌, ◌==◌, nat_lt, Option, Some, None, if◌then◌else◌}
+use Rattle.std.specs.Prelude.{ℕ, ◌+◌, ◌-◌, ◌==◌, nat_lt, Option, Some, None, if◌then◌else◌}
 use Rattle.funnel_model.specs.declared.config.Config.{Config}
 use Rattle.funnel_model.specs.Sizes.{columns_of_pool}
-use Rattle.load_gen.specs.declared.limits.TheConstants.{DELETED_ONE_IN}
 use Rattle.funnel.specs.declared.command.Command.{Command}
 use Rattle.funnel.specs.declared.command.Command.TheVariants as command
 use Rattle.funnel.specs.declared.command.LoadCommand.{LoadCommand}
@@ -11,16 +10,11 @@ use Rattle.funnel.specs.declared.command.TheConstants.{MOST_PORT}
 use Rattle.funnel.specs.declared.ended.Misfit.{Misfit}
 use Rattle.funnel.specs.declared.ended.Misfit.TheVariants as misfit
 
--- the adds and the deletes of a load of so many documents
-abbrev pub commits_of_load : ℕ → ℕ
-commits_of_load docs = docs + docs / DELETED_ONE_IN
-
--- each worker needs a pass of its own, each document a column, and each add and each delete a place in the journal
+-- each worker needs a pass of its own, and each document a column
 abbrev pub misfit_of_load : LoadCommand → Config → Option Misfit
 misfit_of_load load config =
     if nat_lt config.passes load.workers then Some (misfit.Workers load.workers config.passes)
-    else (if nat_lt (columns_of_pool config) load.docs then Some (misfit.Columns load.docs (columns_of_pool config))
-    else (if nat_lt config.commits (commits_of_load load.docs) then Some (misfit.Commits (commits_of_load load.docs) config.commits) else None))
+    else (if nat_lt (columns_of_pool config) load.docs then Some (misfit.Columns load.docs (columns_of_pool config)) else None)
 
 -- the port of the last worker
 abbrev pub last_port_of : ServeCommand → ℕ

@@ -1,5 +1,5 @@
 -- What a program of funnel does, from its words to its end. How each end is told stands in `Ends`, and the laws in `Laws`.
-use Rattle.std.specs.Prelude.{◌≡◌, ◌⊎◌, ℕ, List, length, Option, Some, None, IsSome, Ok, Err}
+use Rattle.std.specs.Prelude.{◌≡◌, ◌⊎◌, ℕ, List, length, Option, Some, None, IsSome, IfSome, Ok, Err}
 use Rattle.engine.specs.Engines.{ClosedState}
 use Rattle.funnel_io.specs.Counts.{counted}
 use Rattle.funnel_io.specs.Streams.{Incoming, Outgoing}
@@ -11,7 +11,7 @@ use Rattle.funnel.specs.Commands.{command_of}
 use Rattle.funnel.specs.Ends.{why_of_config}
 use Rattle.funnel.specs.LoadRuns.{EndsLoad}
 use Rattle.funnel.specs.Misfits.{misfit_of}
-use Rattle.funnel.specs.Runs.{RanOrNot}
+use Rattle.funnel.specs.Runs.{KeepsLast, RanOrNot}
 use Rattle.funnel.specs.Served.{EndsServe}
 use Rattle.funnel.specs.declared.command.Command.{Command}
 use Rattle.funnel.specs.declared.command.Command.TheVariants as command
@@ -67,6 +67,7 @@ pub record EndsAfterRun (words : List (List ℕ)) (before after : Streams) (why 
   pub configured : IsConfigured words before after command.Run config
   pub gates : after.gates ≡ before.gates
   pub ran : RanOrNot config before.input after.input before.output after.output why closed
+  pub kept : IfSome closed (KeepsLast config)
 
 -- the serve that the words ask for fits, and the connections of the gates are answered by an engine with the configuration
 pub record EndsAfterServe (words : List (List ℕ)) (before after : Streams) (why : Why) (closed : Option ClosedState) : Type 0 where
@@ -77,6 +78,7 @@ pub record EndsAfterServe (words : List (List ℕ)) (before after : Streams) (wh
   pub input : after.input ≡ before.input
   pub output : after.output ≡ before.output
   pub served : EndsServe config serve.connections before.gates after.gates why closed
+  pub kept : IfSome closed (KeepsLast config)
 
 -- the load that the words ask for fits, and is put to an engine with the configuration
 pub record EndsAfterLoad (words : List (List ℕ)) (before after : Streams) (why : Why) (closed : Option ClosedState) : Type 0 where
@@ -87,6 +89,7 @@ pub record EndsAfterLoad (words : List (List ℕ)) (before after : Streams) (why
   pub input : after.input ≡ before.input
   pub gates : after.gates ≡ before.gates
   pub ends : EndsLoad config load before.output after.output why closed
+  pub kept : IfSome closed (KeepsLast config)
 
 -- a program ends at its words, or at its configuration, or at numbers that don't fit, or after its run, its serve or its load; what is
 -- said of a serve is given

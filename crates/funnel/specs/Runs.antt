@@ -5,6 +5,7 @@ use Rattle.funnel_io.specs.Streams.{Incoming, Outgoing}
 use Rattle.funnel_io.specs.declared.end.End.{End}
 use Rattle.funnel_model.specs.declared.config.Config.{Config}
 use Rattle.funnel_model.specs.Events.{pass_of}
+use Rattle.funnel_model.specs.History.{base}
 use Rattle.funnel_model.specs.Legal.{IsLegal, Limits}
 use Rattle.funnel_model.specs.Sizes.{words_of_slice}
 use Rattle.line_proto.specs.Services.{Caller}
@@ -19,6 +20,10 @@ use Rattle.session.specs.declared.serving.TheConstants.{MOST_BYTES}
 -- the limits of an engine with this configuration
 abbrev pub limits_by : Config → Limits
 limits_by config = limits_of config (words_of_slice config)
+
+-- the closed engine tells the last commits of its history, as many as the configuration says, and how many came before these
+abbrev pub KeepsLast : Config → ClosedState → Type 0
+KeepsLast config closed = closed.base ≡ base config.commits closed.history
 
 -- the engine's first pass, which the session is on
 abbrev pub first_caller : Limits → Caller

@@ -43,8 +43,6 @@ pub enum Misfit {
     Ports { last: u32 },
     /// A load has more documents than there are columns in all slices.
     Columns { docs: u64, columns: u64 },
-    /// A load makes more commits than the journal holds.
-    Commits { needed: u64, commits: u64 },
 }
 
 impl Why {

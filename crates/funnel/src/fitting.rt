@@ -6,7 +6,6 @@ ghost use Rattle.funnel.specs.Misfits.{misfit_of, misfit_of_load, misfit_of_serv
 use crate::command::{Command, LoadCommand, MOST_PORT, ServeCommand};
 use crate::ended::Misfit;
 use funnel_model::Config;
-use load_gen::DELETED_ONE_IN;
 use treatment::sizes;
 
 /// The first of the command's numbers that does not fit this number of gates, or the configuration.
@@ -58,11 +57,6 @@ fn misfit_of_load(load: LoadCommand, config: &Config) -> Option<Misfit>
     let columns = sizes(config).columns;
     if columns < docs {
         return Some(Misfit::Columns { docs, columns });
-    }
-    let needed = docs + docs / u64::from(DELETED_ONE_IN);
-    if config.commits < needed {
-        let commits = config.commits;
-        return Some(Misfit::Commits { needed, commits });
     }
     None
 }

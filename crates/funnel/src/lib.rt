@@ -1,7 +1,7 @@
 //! A search engine over a stream of documents: it answers which of them have every word of a query. This is the program as one
 //! call: [`funnel_main`] takes the words after the program's name, a configuration, an input, an output and gates, and runs the
-//! command that the words are. It can be handed real streams, as the crate `funnel_program` does, or streams in memory, as that
-//! crate's tests do.
+//! command that the words are. It can be handed real streams, as the crate `funnel_program` does, or streams in memory, as
+//! `program_tests` does.
 //!
 //! [`ports`] tells on which ports a serve listens, and [`gates_on`] makes their gates, before the call. [`Ended`] is what a
 //! program gives back: why it ended, which tells its exit status, its gates, and what is left of its engine.

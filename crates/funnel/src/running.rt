@@ -2,7 +2,7 @@
 ghost use Rattle.std.specs.Prelude.{◌≡◌, ◌≤◌, [], IfNone, IfSome};
 ghost use Rattle.engine.specs.Engines.{IsClosed};
 ghost use Rattle.funnel_model.specs.Configuration.{IsValid};
-ghost use Rattle.funnel.specs.Runs.{RanOrNot, first_caller, limits_by};
+ghost use Rattle.funnel.specs.Runs.{KeepsLast, RanOrNot, first_caller, limits_by};
 ghost use Rattle.funnel.specs.Serving.{FirstDid, new_passes};
 ghost use Rattle.funnel.specs.Turns.{RunsInTurns};
 ghost use Rattle.session.specs.declared.serving.TheConstants.{MOST_BYTES};
@@ -34,6 +34,7 @@ pub(crate) fn run<N: PoolName, R: Wait, S: Source, K: Sink>(
     ensures ran { RanOrNot config.now (S.incoming input.old) (S.incoming input.new) (K.outgoing output.old) (K.outgoing output.new) result.0 result.1 }
     ensures in_turns { RunsInTurns S.read_gives K.write_gives (result.0 ≡ Why.Done) (input.old, output.old) (input.new, output.new) }
     ensures closed { IfSome result.1 IsClosed }
+    ensures kept { IfSome result.1 (KeepsLast config.now) }
     ensures input_untouched { IfNone result.1 (input.new ≡ input.old) }
     ensures output_untouched { IfNone result.1 (output.new ≡ output.old) }
     ensures without_memory { result.0 ≡ Why.Memory → (input.new ≡ input.old) × (output.new ≡ output.old) }

@@ -4,7 +4,7 @@ ghost use Rattle.std.specs.List.{list_any};
 ghost use Rattle.engine.specs.Engines.{IsClosed};
 ghost use Rattle.funnel_model.specs.Configuration.{IsValid};
 ghost use Rattle.funnel_server.specs.Gates.{gate_state};
-ghost use Rattle.funnel.specs.Runs.{limits_by};
+ghost use Rattle.funnel.specs.Runs.{KeepsLast, limits_by};
 ghost use Rattle.funnel.specs.Served.{new_workers};
 ghost use Rattle.funnel.specs.Serving.{new_passes};
 ghost use Rattle.funnel.specs.Workers.{ComeBack, EndsServeInTurns, HaveWorkedInTurns, gates_of, states_of};
@@ -36,6 +36,7 @@ where
         (gate_state G.is_closed G.gate_faults G.waiting G.Conn.incoming G.Conn.outgoing G.served)
         config.now connections gates.items result.gates.items result.why result.closed }
     ensures closed { IfSome result.closed IsClosed }
+    ensures kept { IfSome result.closed (KeepsLast config.now) }
     ensures untouched { IfNone result.closed (result.gates ≡ gates) }
     ensures count { length result.gates.items ≡ length gates.items }
 {

@@ -6,7 +6,7 @@ ghost use Rattle.load_gen.specs.declared.limits.TheConstants.{MOST_DOCS, MOST_WO
 ghost use Rattle.load_gen.specs.Summary.{summary_text};
 ghost use Rattle.funnel.specs.LoadRuns.{EndsLoad, Tells};
 ghost use Rattle.funnel.specs.Misfits.{misfit_of_load};
-ghost use Rattle.funnel.specs.Runs.{limits_by};
+ghost use Rattle.funnel.specs.Runs.{KeepsLast, limits_by};
 
 use crate::command::LoadCommand;
 use crate::ended::Why;
@@ -40,6 +40,7 @@ pub(crate) fn make_load<N: PoolName + Send + Sync, R: Threads + Wait + Sync, K: 
     requires fits { misfit_of_load command config.now ≡ None }
     ensures ends { EndsLoad config.now command (K.outgoing output.old) (K.outgoing output.new) result.0 result.1 }
     ensures closed { IfSome result.1 IsClosed }
+    ensures kept { IfSome result.1 (KeepsLast config.now) }
     ensures borrowed { K.borrowed output.new ≡ K.borrowed output.old }
     ensures untouched { result.1 ≡ None → output.new ≡ output.old }
     ensures without_memory { result.0 ≡ Why.Memory → output.new ≡ output.old }

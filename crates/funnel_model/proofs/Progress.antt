@@ -10,7 +10,7 @@ use Rattle.funnel_model.specs.declared.event.Event.{Event}
 use Rattle.funnel_model.specs.declared.event.Event.TheVariants as event
 use Rattle.funnel_model.specs.Events.{pass_of}
 use Rattle.funnel_model.specs.History.{is_live, last_by, place}
-use Rattle.funnel_model.specs.Legal.{Limits, IsBlocked, CanClear, HasJournalRoom, HasRoom, IsAllowed, IsFull, IsIdle, IsInSlice, IsLegal, MayFollow, NoneCanClear, awaited, is_journal_full}
+use Rattle.funnel_model.specs.Legal.{Limits, IsBlocked, CanClear, HasRoom, IsAllowed, IsFull, IsIdle, IsInSlice, IsLegal, MayFollow, NoneCanClear, awaited}
 use Rattle.funnel_model.specs.Slices.{HasUnclaimed, claimed, is_claimed, is_clearing}
 use Rattle.funnel_model.specs.Tokens.{Guards, IsGuarded}
 use Rattle.funnel_model.proofs.Blocks.{guards_or_not, least_below}
@@ -19,21 +19,6 @@ use Rattle.funnel_model.proofs.Histories.{allowed_within, holds_of_legal}
 use Rattle.funnel_model.proofs.LiveLemmas.{place-append}
 use Rattle.funnel_model.proofs.ReplyLemmas.{retired_cases}
 use Rattle.funnel_model.proofs.Retirement.{retired_at_some}
-
--- the journal of a legal history holds its commits
-pub place_within : (limits : Limits) (history : List Event) → IsLegal limits history → place history ≤ limits.commits
-place_within limits = holds_of_legal limits (λ h. place h ≤ limits.commits) (omega arith) (λ h e legal within allowed. by_kind h e within allowed) where
-  by_kind : (h : List Event) (e : Event) → place h ≤ limits.commits → IsAllowed limits h e → place (h ++ e ∷ []) ≤ limits.commits
-  by_kind h (event.Add pass id text slice column bits) within allowed =
-      let room = allowed.rule.room in omega (arith, place-append h (event.Add pass id text slice column bits ∷ []))
-  by_kind h (event.Del pass id) within allowed = let room = allowed.rule.room in omega (arith, place-append h (event.Del pass id ∷ []))
-  by_kind h e within allowed = omega (arith, place-append h (e ∷ []))
-
--- the journal has room or is full
-pub room_or_full : (limits : Limits) (history : List Event) → IsLegal limits history → HasJournalRoom limits history ⊎ (is_journal_full limits history ≡ true)
-room_or_full limits history legal =
-    let within = place_within limits history legal in
-    ⊎_elim (λ less. inl less) (λ more. inr (eq-eqb (place history) limits.commits (omega arith))) (cases_lt (place history) limits.commits)
 
 -- a column of the slice is unclaimed or all are claimed
 unclaimed_cases : (limits : Limits) (history : List Event) → IsLegal limits history → (slice : ℕ) →
@@ -157,7 +142,7 @@ module _ (limits : Limits) (history : List Event) (pass : ℕ) (legal : IsLegal 
         allowed_by limits history (event.Clear pass found.0) in' none (record { idle = idle; in_range = found.1; can_clear = found.2; lowest = found.3 }),
       )))
       (λ none_can. inr (inr (allowed_by limits history (event.No pass (call.Add id text)) in' none
-      (record { idle = idle; refused = inr (inr (full_by limits history legal no_room none_can)) }))))
+      (record { idle = idle; refused = inr (full_by limits history legal no_room none_can) }))))
       (clear_or_guarded limits history legal))
       (least_below (HasRoom limits.columns history) (room_cases limits history legal) limits.slices)
 
@@ -166,12 +151,8 @@ module _ (limits : Limits) (history : List Event) (pass : ℕ) (legal : IsLegal 
       IsAllowed limits history (event.Del pass id) ⊎ IsAllowed limits history (event.No pass (call.Delete id))
   delete_begins id idle = by_live (is_live id history) refl where
     by_live : (b : Bool) → is_live id history ≡ b → IsAllowed limits history (event.Del pass id) ⊎ IsAllowed limits history (event.No pass (call.Delete id))
-    by_live false absent = inr (allowed_by limits history (event.No pass (call.Delete id)) in' none (record { idle = idle; refused = inl absent }))
-    by_live true present =
-        ⊎_elim
-        (λ room. inl (allowed_by limits history (event.Del pass id) in' none (record { idle = idle; present = present; room = room })))
-        (λ full. inr (allowed_by limits history (event.No pass (call.Delete id)) in' none (record { idle = idle; refused = inr full })))
-        (room_or_full limits history legal)
+    by_live false absent = inr (allowed_by limits history (event.No pass (call.Delete id)) in' none (record { idle = idle; refused = absent }))
+    by_live true present = inl (allowed_by limits history (event.Del pass id) in' none (record { idle = idle; present = present }))
 
   -- its recycle clears a slice or is refused
   pub recycle_begins : IsIdle pass history →
@@ -190,15 +171,9 @@ module _ (limits : Limits) (history : List Event) (pass : ℕ) (legal : IsLegal 
       All (λ b. IsInSlice limits.slice_words slice b.word) bits → All (λ (b : Bit). b.bit < 64) bits →
       IsAllowed limits history (event.Add pass id text slice column bits) ⊎ IsAllowed limits history (event.Drop pass id text slice column)
   take_ends slice column id text bits taken inside in_word = by_live (is_live id history) refl where
-    drop : (is_live id history ≡ true) ⊎ (is_journal_full limits history ≡ true) → IsAllowed limits history (event.Drop pass id text slice column)
-    drop refused = allowed_by limits history (event.Drop pass id text slice column) in' none (record { taken = taken; refused = refused })
-
     by_live : (b : Bool) → is_live id history ≡ b →
         IsAllowed limits history (event.Add pass id text slice column bits) ⊎ IsAllowed limits history (event.Drop pass id text slice column)
-    by_live true present = inr (drop (inl present))
+    by_live true present = inr (allowed_by limits history (event.Drop pass id text slice column) in' none (record { taken = taken; present = present }))
     by_live false absent =
-        ⊎_elim
-        (λ room. inl (allowed_by limits history (event.Add pass id text slice column bits) in' none
-        (record { taken = taken; absent = absent; room = room; inside = inside; in_word = in_word })))
-        (λ full. inr (drop (inr full)))
-        (room_or_full limits history legal)
+        inl (allowed_by limits history (event.Add pass id text slice column bits) in' none
+        (record { taken = taken; absent = absent; inside = inside; in_word = in_word }))

@@ -1,20 +1,21 @@
 -- What events are answered: each call has one reply, and refusals have their cause.
-use Rattle.std.proofs.Common.{◌≡◌, ℕ, ◌+◌, ⊎_elim, Bool, true, false, cond, List, Option, Some, None, sym, refl, ap, ◌∙◌, subst, inl, inr}
-use Rattle.std.proofs.lemmas.Bool.{both_ways}
-use Rattle.std.specs.Option.{is_some, option_map_or}
-use Rattle.std.specs.Prelude.{◌⊎◌}
+use Rattle.std.proofs.Common.{◌≡◌, ℕ, ◌+◌, ◌<◌, ◌≤◌, ⊎_elim, Bool, true, false, cond, List, Option, Some, None, sym, refl, ap, ◌∙◌, subst, inl, inr, arith}
+use Rattle.std.proofs.lemmas.Bool.{both_ways, lt-ltb, ltb-true}
+use Rattle.std.specs.Option.{is_some, option_map, option_map_or}
+use Rattle.std.specs.Prelude.{◌⊎◌, nat_lt}
 use Rattle.funnel_model.specs.declared.call.Call.{Call}
 use Rattle.funnel_model.specs.declared.call.Call.TheVariants as call
+use Rattle.funnel_model.specs.declared.commit.Commit.{Commit}
 use Rattle.funnel_model.specs.declared.event.Event.{Event}
 use Rattle.funnel_model.specs.declared.event.Event.TheVariants as event
 use Rattle.funnel_model.specs.declared.reply.Reply.{Reply}
 use Rattle.funnel_model.specs.declared.reply.Reply.TheVariants as reply
 use Rattle.funnel_model.specs.Blocks.{IsLowestGuard}
 use Rattle.funnel_model.specs.Events.{call_of}
-use Rattle.funnel_model.specs.History.{answer, commits_after, is_live, live, live_place, place}
-use Rattle.funnel_model.specs.Legal.{Limits, IsAllowed, IsFull, IsLegal, IsRefused, NoneCanClear, is_journal_full}
+use Rattle.funnel_model.specs.History.{answer, base, commits_after, is_live, live, live_place, place}
+use Rattle.funnel_model.specs.Legal.{Limits, IsAllowed, IsFull, IsLegal, IsRefused, NoneCanClear}
 use Rattle.funnel_model.specs.Slices.{IsRetired, is_clearing}
-use Rattle.funnel_model.specs.Steps.{IsLowestGuarded, IsReply, IsReplyToRecycle, IsReplyToRefused, NoneRetired}
+use Rattle.funnel_model.specs.Steps.{IsLowestGuarded, IsReply, IsReplyToRead, IsReplyToRecycle, IsReplyToRefused, NoneRetired}
 use Rattle.funnel_model.proofs.Blocks.{least_below, lowest_guard, one_guard, one_lowest}
 use Rattle.funnel_model.proofs.LiveLemmas.{is_live-from_place}
 use Rattle.funnel_model.proofs.Retirement.{all_over_cases}
@@ -49,24 +50,42 @@ recycle_reply limits history legal none_can =
 refused_reply : (limits : Limits) (history : List Event) (asked : Call) → IsLegal limits history → IsRefused limits history asked →
     (given : Reply) × IsReplyToRefused limits history asked given
 refused_reply limits history (call.Add id text) legal refused =
-    (option_map_or reply.Present (live_place id history) (cond (is_journal_full limits history) reply.JournalFull reply.Full), refl)
-refused_reply limits history (call.Delete id) legal refused = (cond (is_live id history) reply.JournalFull reply.Absent, refl)
+    (option_map_or reply.Present (live_place id history) reply.Full, refl)
+refused_reply limits history (call.Delete id) legal refused = (reply.Absent, refl)
 refused_reply limits history call.Recycle legal refused = recycle_reply limits history legal refused
 refused_reply limits history asked legal refused = absurd refused
+
+-- a number is live where its add has a place, and is not where it has none
+live_by : (id : ℕ) (history : List Event) (o : Option ℕ) → live_place id history ≡ o → is_live id history ≡ is_some o
+live_by id history o is = is_live-from_place id (live history) ∙ ap is_some is
+
+-- a dropped add has a reply, since its number is live
+dropped_reply : (id : ℕ) (history : List Event) (o : Option ℕ) → live_place id history ≡ o → is_live id history ≡ true →
+    (given : Reply) × (option_map reply.Present (live_place id history) ≡ Some given)
+dropped_reply id history (Some place) is present = (reply.Present place, ap (option_map reply.Present) is)
+dropped_reply id history None is present = absurd (both_ways (is_live id history) (live_by id history None is) present)
+
+-- and it tells the place of that number's add
+pub dropped_at : (o : Option ℕ) (given : Reply) → option_map reply.Present o ≡ Some given → (place : ℕ) × (o ≡ Some place) × (reply.Present place ≡ given)
+dropped_at (Some place) given is = let same : reply.Present place ≡ given = cc in (place, refl, same)
+dropped_at None given is = cc
 
 -- each event that is allowed and answers a call has a reply
 pub has_reply : (limits : Limits) (history : List Event) (e : Event) (asked : Call) → IsLegal limits history → IsAllowed limits history e →
     call_of e ≡ Some asked → (given : Reply) × IsReply limits history e given
 has_reply limits history (event.Add pass id text slice column bits) asked legal allowed is = (reply.Added (place history + 1), refl)
 has_reply limits history (event.Drop pass id text slice column) asked legal allowed is =
-    (option_map_or reply.Present (live_place id history) reply.JournalFull, refl)
+    dropped_reply id history (live_place id history) refl allowed.rule.present
 has_reply limits history (event.Del pass id) asked legal allowed is = (reply.Deleted (place history + 1), refl)
 has_reply limits history (event.Find pass query) asked legal allowed is = (reply.Found (answer history query), refl)
 has_reply limits history (event.Opened pass slice true) asked legal allowed is = (reply.Recycled slice, (refl, refl))
 has_reply limits history (event.Opened pass slice false) asked legal allowed is = cc
 has_reply limits history (event.No pass refused) asked legal allowed is = refused_reply limits history refused legal allowed.rule.refused
 has_reply limits history (event.Read pass call.Place) asked legal allowed is = (reply.Place (place history), refl)
-has_reply limits history (event.Read pass (call.Journal from)) asked legal allowed is = (reply.Commits (commits_after history from), refl)
+has_reply limits history (event.Read pass (call.Journal from)) asked legal allowed is = (
+  cond (nat_lt from (base limits.commits history)) (reply.Trimmed (base limits.commits history)) (reply.Commits (commits_after history from)),
+  refl,
+)
 has_reply limits history (event.Read pass _) asked legal allowed is = absurd allowed.rule.reads
 has_reply limits history _ asked legal allowed is = cc
 
@@ -104,7 +123,7 @@ one_refused_reply limits history asked given other is also = absurd is
 -- an event has one reply
 pub one_reply : (limits : Limits) (history : List Event) (e : Event) (given other : Reply) → IsReply limits history e given → IsReply limits history e other → given ≡ other
 one_reply limits history (event.Add pass id text slice column bits) given other is also = is ∙ sym also
-one_reply limits history (event.Drop pass id text slice column) given other is also = is ∙ sym also
+one_reply limits history (event.Drop pass id text slice column) given other is also = let same : Some given ≡ Some other = sym is ∙ also in cc
 one_reply limits history (event.Del pass id) given other is also = is ∙ sym also
 one_reply limits history (event.Find pass query) given other is also = is ∙ sym also
 one_reply limits history (event.Opened pass slice alone) given other is also = is.1 ∙ sym also.1
@@ -135,99 +154,83 @@ present_of : (o : Option ℕ) (other : Reply) (n : ℕ) → is_present other ≡
 present_of (Some m) other n not_present is = let same : m ≡ n = cc in ap Some same
 present_of None other n not_present is = let same = ap is_present is ∙ not_present in cc
 
-journal_or_full : (b : Bool) → is_present (cond b reply.JournalFull reply.Full) ≡ false
-journal_or_full true = refl
-journal_or_full false = refl
+full_of : (o : Option ℕ) → reply.Full ≡ option_map_or reply.Present o reply.Full → o ≡ None
+full_of (Some m) is = cc
+full_of None is = refl
 
-journal_of : (o : Option ℕ) (b : Bool) → reply.JournalFull ≡ option_map_or reply.Present o (cond b reply.JournalFull reply.Full) → b ≡ true
-journal_of (Some m) b is = cc
-journal_of None true is = refl
-journal_of None false is = cc
+-- whether a reply is one to a journal
+abbrev pub answers_journal : Reply → Bool
+answers_journal (reply.Trimmed n) = true
+answers_journal (reply.Commits commits) = true
+answers_journal _ = false
 
-full_of : (o : Option ℕ) (b : Bool) → reply.Full ≡ option_map_or reply.Present o (cond b reply.JournalFull reply.Full) → (o ≡ None) × (b ≡ false)
-full_of (Some m) b is = cc
-full_of None true is = cc
-full_of None false is = (refl, refl)
-
--- a number is live where its add has a place, and is not where it has none
-live_by : (id : ℕ) (history : List Event) (o : Option ℕ) → live_place id history ≡ o → is_live id history ≡ is_some o
-live_by id history o is = is_live-from_place id (live history) ∙ ap is_some is
+-- no other reply is given to a journal
+not_journal : (limits : Limits) (history : List Event) (from : ℕ) (given : Reply) → answers_journal given ≡ false →
+    IsReplyToRead limits history (call.Journal from) given → ⊥
+not_journal limits history from given other is =
+    both_ways (answers_journal given) other
+    (ap answers_journal is ∙ told (nat_lt from (base limits.commits history)) (base limits.commits history) (commits_after history from)) where
+      told : (b : Bool) (n : ℕ) (commits : List Commit) → answers_journal (cond b (reply.Trimmed n) (reply.Commits commits)) ≡ true
+      told true n commits = refl
+      told false n commits = refl
 
 -- Present tells the place of the live document's add
 pub present_cause : (limits : Limits) (history : List Event) (e : Event) (n : ℕ) → IsReply limits history e (reply.Present n) →
     (id : ℕ) × (text : List ℕ) × (call_of e ≡ Some (call.Add id text)) × (live_place id history ≡ Some n)
 present_cause limits history (event.Drop pass id text slice column) n is =
-    (id, text, refl, present_of (live_place id history) reply.JournalFull n refl is)
-present_cause limits history (event.No pass (call.Add id text)) n is = (
-  id,
-  text,
-  refl,
-  present_of (live_place id history) (cond (is_journal_full limits history) reply.JournalFull reply.Full) n (journal_or_full (is_journal_full limits history)) is,
-)
-present_cause limits history (event.No pass (call.Delete id)) n is = absurd (not_delete (is_live id history) is) where
-  not_delete : (b : Bool) → reply.Present n ≡ cond b reply.JournalFull reply.Absent → ⊥
-  not_delete true same = cc
-  not_delete false same = cc
+    let at = dropped_at (live_place id history) (reply.Present n) is in
+    let same : at.0 ≡ n = let told = at.2 in cc in (id, text, refl, at.1 ∙ ap Some same)
+present_cause limits history (event.No pass (call.Add id text)) n is = (id, text, refl, present_of (live_place id history) reply.Full n refl is)
+present_cause limits history (event.No pass (call.Delete id)) n is = cc
 present_cause limits history (event.No pass _) n is = absurd is
 present_cause limits history (event.Opened pass slice alone) n is = let same = is.1 in cc
 present_cause limits history (event.Read pass call.Place) n is = cc
-present_cause limits history (event.Read pass (call.Journal from)) n is = cc
+present_cause limits history (event.Read pass (call.Journal from)) n is = absurd (not_journal limits history from (reply.Present n) refl is)
 present_cause limits history (event.Read pass _) n is = absurd is
 present_cause limits history (event.Add pass id text slice column bits) n is = cc
 present_cause limits history (event.Del pass id) n is = cc
 present_cause limits history (event.Find pass query) n is = cc
 present_cause limits history _ n is = absurd is
 
--- Journal full tells that it is
-pub journal_cause : (limits : Limits) (history : List Event) (e : Event) → IsAllowed limits history e → IsReply limits history e reply.JournalFull →
-    is_journal_full limits history ≡ true
-journal_cause limits history (event.Drop pass id text slice column) allowed is =
-    ⊎_elim
-    (λ live'. let none = absent_of (live_place id history) is in absurd (both_ways (is_live id history) (live_by id history None none) live'))
-    (λ full. full)
-    allowed.rule.refused where
-      absent_of : (o : Option ℕ) → reply.JournalFull ≡ option_map_or reply.Present o reply.JournalFull → o ≡ None
-      absent_of (Some m) same = cc
-      absent_of None same = refl
-journal_cause limits history (event.No pass (call.Add id text)) allowed is = journal_of (live_place id history) (is_journal_full limits history) is
-journal_cause limits history (event.No pass (call.Delete id)) allowed is =
-    ⊎_elim
-    (λ absent. absurd (both_ways (is_live id history) absent (live_of (is_live id history) is)))
-    (λ full. full)
-    allowed.rule.refused where
-      live_of : (b : Bool) → reply.JournalFull ≡ cond b reply.JournalFull reply.Absent → b ≡ true
-      live_of true same = refl
-      live_of false same = cc
-journal_cause limits history (event.No pass _) allowed is = absurd is
-journal_cause limits history (event.Opened pass slice alone) allowed is = let same = is.1 in cc
-journal_cause limits history (event.Read pass call.Place) allowed is = cc
-journal_cause limits history (event.Read pass (call.Journal from)) allowed is = cc
-journal_cause limits history (event.Read pass _) allowed is = absurd is
-journal_cause limits history (event.Add pass id text slice column bits) allowed is = cc
-journal_cause limits history (event.Del pass id) allowed is = cc
-journal_cause limits history (event.Find pass query) allowed is = cc
-journal_cause limits history _ allowed is = absurd is
+-- Trimmed tells how many commits the journal no longer keeps, and that one of them was asked for
+pub trimmed_cause : (limits : Limits) (history : List Event) (e : Event) (n : ℕ) → IsReply limits history e (reply.Trimmed n) →
+    (pass : ℕ) × (from : ℕ) × (e ≡ event.Read pass (call.Journal from)) × (from < n) × (n ≡ base limits.commits history)
+trimmed_cause limits history (event.Read pass (call.Journal from)) n is =
+    let same = told (nat_lt from (base limits.commits history)) refl is in (pass, from, refl, same.0, same.1) where
+      told : (b : Bool) → nat_lt from (base limits.commits history) ≡ b →
+          reply.Trimmed n ≡ cond b (reply.Trimmed (base limits.commits history)) (reply.Commits (commits_after history from)) →
+          (from < n) × (n ≡ base limits.commits history)
+      told true below same =
+          let kept : n ≡ base limits.commits history = cc in
+          (subst (λ m. from < m) (sym kept) (ltb-true from (base limits.commits history) below), kept)
+      told false below same = cc
+trimmed_cause limits history (event.Read pass call.Place) n is = cc
+trimmed_cause limits history (event.Read pass _) n is = absurd is
+trimmed_cause limits history (event.No pass (call.Add id text)) n is = absurd (not_add (live_place id history) is) where
+  not_add : (o : Option ℕ) → reply.Trimmed n ≡ option_map_or reply.Present o reply.Full → ⊥
+  not_add (Some m) same = cc
+  not_add None same = cc
+trimmed_cause limits history (event.No pass (call.Delete id)) n is = cc
+trimmed_cause limits history (event.No pass call.Recycle) n is = absurd is
+trimmed_cause limits history (event.No pass _) n is = absurd is
+trimmed_cause limits history (event.Drop pass id text slice column) n is = let other = (dropped_at (live_place id history) (reply.Trimmed n) is).2 in cc
+trimmed_cause limits history (event.Opened pass slice alone) n is = let same = is.1 in cc
+trimmed_cause limits history (event.Add pass id text slice column bits) n is = cc
+trimmed_cause limits history (event.Del pass id) n is = cc
+trimmed_cause limits history (event.Find pass query) n is = cc
+trimmed_cause limits history _ n is = absurd is
 
 -- Full tells that the engine is
 pub full_cause : (limits : Limits) (history : List Event) (e : Event) → IsAllowed limits history e → IsReply limits history e reply.Full → IsFull limits history
 full_cause limits history (event.No pass (call.Add id text)) allowed is =
-    let tells = full_of (live_place id history) (is_journal_full limits history) is in
-    ⊎_elim
-    (λ live'. absurd (both_ways (is_live id history) (live_by id history None tells.0) live'))
-    (λ rest. ⊎_elim (λ journal. absurd (both_ways (is_journal_full limits history) tells.1 journal)) (λ full. full) rest)
-    allowed.rule.refused
-full_cause limits history (event.No pass (call.Delete id)) allowed is = absurd (not_delete (is_live id history) is) where
-  not_delete : (b : Bool) → reply.Full ≡ cond b reply.JournalFull reply.Absent → ⊥
-  not_delete true same = cc
-  not_delete false same = cc
+    let none = full_of (live_place id history) is in
+    ⊎_elim (λ live'. absurd (both_ways (is_live id history) (live_by id history None none) live')) (λ full. full) allowed.rule.refused
+full_cause limits history (event.No pass (call.Delete id)) allowed is = cc
 full_cause limits history (event.No pass _) allowed is = absurd is
-full_cause limits history (event.Drop pass id text slice column) allowed is = absurd (not_drop (live_place id history) is) where
-  not_drop : (o : Option ℕ) → reply.Full ≡ option_map_or reply.Present o reply.JournalFull → ⊥
-  not_drop (Some m) same = cc
-  not_drop None same = cc
+full_cause limits history (event.Drop pass id text slice column) allowed is = let other = (dropped_at (live_place id history) reply.Full is).2 in cc
 full_cause limits history (event.Opened pass slice alone) allowed is = let same = is.1 in cc
 full_cause limits history (event.Read pass call.Place) allowed is = cc
-full_cause limits history (event.Read pass (call.Journal from)) allowed is = cc
+full_cause limits history (event.Read pass (call.Journal from)) allowed is = absurd (not_journal limits history from reply.Full refl is)
 full_cause limits history (event.Read pass _) allowed is = absurd is
 full_cause limits history (event.Add pass id text slice column bits) allowed is = cc
 full_cause limits history (event.Del pass id) allowed is = cc
@@ -235,30 +238,23 @@ full_cause limits history (event.Find pass query) allowed is = cc
 full_cause limits history _ allowed is = absurd is
 
 -- Absent tells that a delete's number isn't live
-pub absent_cause : (limits : Limits) (history : List Event) (e : Event) → IsReply limits history e reply.Absent →
+pub absent_cause : (limits : Limits) (history : List Event) (e : Event) → IsAllowed limits history e → IsReply limits history e reply.Absent →
     (pass : ℕ) × (id : ℕ) × (e ≡ event.No pass (call.Delete id)) × (is_live id history ≡ false)
-absent_cause limits history (event.No pass (call.Delete id)) is = (pass, id, refl, absent_of (is_live id history) is) where
-  absent_of : (b : Bool) → reply.Absent ≡ cond b reply.JournalFull reply.Absent → b ≡ false
-  absent_of true same = cc
-  absent_of false same = refl
-absent_cause limits history (event.No pass (call.Add id text)) is = absurd (not_add (live_place id history) (is_journal_full limits history) is) where
-  not_add : (o : Option ℕ) (b : Bool) → reply.Absent ≡ option_map_or reply.Present o (cond b reply.JournalFull reply.Full) → ⊥
-  not_add (Some m) b same = cc
-  not_add None true same = cc
-  not_add None false same = cc
-absent_cause limits history (event.No pass _) is = absurd is
-absent_cause limits history (event.Drop pass id text slice column) is = absurd (not_drop (live_place id history) is) where
-  not_drop : (o : Option ℕ) → reply.Absent ≡ option_map_or reply.Present o reply.JournalFull → ⊥
-  not_drop (Some m) same = cc
-  not_drop None same = cc
-absent_cause limits history (event.Opened pass slice alone) is = let same = is.1 in cc
-absent_cause limits history (event.Read pass call.Place) is = cc
-absent_cause limits history (event.Read pass (call.Journal from)) is = cc
-absent_cause limits history (event.Read pass _) is = absurd is
-absent_cause limits history (event.Add pass id text slice column bits) is = cc
-absent_cause limits history (event.Del pass id) is = cc
-absent_cause limits history (event.Find pass query) is = cc
-absent_cause limits history _ is = absurd is
+absent_cause limits history (event.No pass (call.Delete id)) allowed is = (pass, id, refl, allowed.rule.refused)
+absent_cause limits history (event.No pass (call.Add id text)) allowed is = absurd (not_add (live_place id history) is) where
+  not_add : (o : Option ℕ) → reply.Absent ≡ option_map_or reply.Present o reply.Full → ⊥
+  not_add (Some m) same = cc
+  not_add None same = cc
+absent_cause limits history (event.No pass _) allowed is = absurd is
+absent_cause limits history (event.Drop pass id text slice column) allowed is = let other = (dropped_at (live_place id history) reply.Absent is).2 in cc
+absent_cause limits history (event.Opened pass slice alone) allowed is = let same = is.1 in cc
+absent_cause limits history (event.Read pass call.Place) allowed is = cc
+absent_cause limits history (event.Read pass (call.Journal from)) allowed is = absurd (not_journal limits history from reply.Absent refl is)
+absent_cause limits history (event.Read pass _) allowed is = absurd is
+absent_cause limits history (event.Add pass id text slice column bits) allowed is = cc
+absent_cause limits history (event.Del pass id) allowed is = cc
+absent_cause limits history (event.Find pass query) allowed is = cc
+absent_cause limits history _ allowed is = absurd is
 
 -- whether a reply is one to a refused recycle
 abbrev pub refuses_recycle : Reply → Bool
@@ -271,25 +267,22 @@ recycle_cause : (limits : Limits) (history : List Event) (e : Event) (given : Re
     (pass : ℕ) × (e ≡ event.No pass call.Recycle) × IsReplyToRecycle limits history given
 recycle_cause limits history (event.No pass call.Recycle) given refuses is = (pass, refl, is)
 recycle_cause limits history (event.No pass (call.Add id text)) given refuses is =
-    absurd (both_ways (refuses_recycle given) (ap refuses_recycle is ∙ not_add (live_place id history) (is_journal_full limits history)) refuses) where
-      not_add : (o : Option ℕ) (b : Bool) → refuses_recycle (option_map_or reply.Present o (cond b reply.JournalFull reply.Full)) ≡ false
-      not_add (Some m) b = refl
-      not_add None true = refl
-      not_add None false = refl
-recycle_cause limits history (event.No pass (call.Delete id)) given refuses is =
-    absurd (both_ways (refuses_recycle given) (ap refuses_recycle is ∙ not_delete (is_live id history)) refuses) where
-      not_delete : (b : Bool) → refuses_recycle (cond b reply.JournalFull reply.Absent) ≡ false
-      not_delete true = refl
-      not_delete false = refl
+    absurd (both_ways (refuses_recycle given) (ap refuses_recycle is ∙ not_add (live_place id history)) refuses) where
+      not_add : (o : Option ℕ) → refuses_recycle (option_map_or reply.Present o reply.Full) ≡ false
+      not_add (Some m) = refl
+      not_add None = refl
+recycle_cause limits history (event.No pass (call.Delete id)) given refuses is = absurd (both_ways (refuses_recycle given) (ap refuses_recycle is) refuses)
 recycle_cause limits history (event.No pass _) given refuses is = absurd is
 recycle_cause limits history (event.Drop pass id text slice column) given refuses is =
-    absurd (both_ways (refuses_recycle given) (ap refuses_recycle is ∙ not_drop (live_place id history)) refuses) where
-      not_drop : (o : Option ℕ) → refuses_recycle (option_map_or reply.Present o reply.JournalFull) ≡ false
-      not_drop (Some m) = refl
-      not_drop None = refl
+    absurd (both_ways (refuses_recycle given) (ap refuses_recycle (sym (dropped_at (live_place id history) given is).2)) refuses)
 recycle_cause limits history (event.Opened pass slice alone) given refuses is = absurd (both_ways (refuses_recycle given) (ap refuses_recycle is.1) refuses)
 recycle_cause limits history (event.Read pass call.Place) given refuses is = absurd (both_ways (refuses_recycle given) (ap refuses_recycle is) refuses)
-recycle_cause limits history (event.Read pass (call.Journal from)) given refuses is = absurd (both_ways (refuses_recycle given) (ap refuses_recycle is) refuses)
+recycle_cause limits history (event.Read pass (call.Journal from)) given refuses is =
+    absurd (not_journal limits history from given (other given refuses) is) where
+      other : (reply : Reply) → refuses_recycle reply ≡ true → answers_journal reply ≡ false
+      other reply.NothingRetired is' = refl
+      other (reply.Guarded slice pass) is' = refl
+      other _ is' = cc
 recycle_cause limits history (event.Read pass _) given refuses is = absurd is
 recycle_cause limits history (event.Add pass id text slice column bits) given refuses is = absurd (both_ways (refuses_recycle given) (ap refuses_recycle is) refuses)
 recycle_cause limits history (event.Del pass id) given refuses is = absurd (both_ways (refuses_recycle given) (ap refuses_recycle is) refuses)
@@ -304,3 +297,19 @@ pub guarded_cause : (limits : Limits) (history : List Event) (e : Event) (slice 
 guarded_cause limits history e slice pass allowed is =
     let cause = recycle_cause limits history e (reply.Guarded slice pass) refl is in
     (cause.2, (subst (IsAllowed limits history) cause.1 allowed).rule.refused)
+
+-- a journal from there on that the journal keeps has its commits
+pub journal_read : (limits : Limits) (history : List Event) (from : ℕ) (read : List Commit) → base limits.commits history ≤ from → read ≡ commits_after history from →
+    IsReplyToRead limits history (call.Journal from) (reply.Commits read)
+journal_read limits history from read kept is = by_case (nat_lt from (base limits.commits history)) refl where
+  by_case : (b : Bool) → nat_lt from (base limits.commits history) ≡ b →
+      reply.Commits read ≡ cond b (reply.Trimmed (base limits.commits history)) (reply.Commits (commits_after history from))
+  by_case true below = let less = ltb-true from (base limits.commits history) below in absurd (omega (arith, less, kept))
+  by_case false above = ap reply.Commits is
+
+-- and one from before it is told how many commits it no longer keeps
+pub journal_trimmed : (limits : Limits) (history : List Event) (from n : ℕ) → from < base limits.commits history → n ≡ base limits.commits history →
+    IsReplyToRead limits history (call.Journal from) (reply.Trimmed n)
+journal_trimmed limits history from n less is =
+    ap reply.Trimmed is
+    ∙ sym (ap (λ b. cond b (reply.Trimmed (base limits.commits history)) (reply.Commits (commits_after history from))) (lt-ltb from (base limits.commits history) less))

@@ -3,16 +3,18 @@ use Rattle.std.proofs.Common.{◌≡◌, ℕ, ◌<◌, ◌≤◌, ⊎_elim, Bool
 use Rattle.std.proofs.lemmas.Bool.{both_ways, cases_order}
 use Rattle.std.specs.List.{cons_option}
 use Rattle.std.specs.Option.{option_map_or}
+use Rattle.std.specs.Prelude.{nat_lt}
 use Rattle.funnel_model.specs.declared.call.Call.{Call}
 use Rattle.funnel_model.specs.declared.call.Call.TheVariants as call
+use Rattle.funnel_model.specs.declared.commit.Commit.{Commit}
 use Rattle.funnel_model.specs.declared.event.Event.{Event}
 use Rattle.funnel_model.specs.declared.event.Event.TheVariants as event
 use Rattle.funnel_model.specs.declared.reply.Reply.{Reply}
 use Rattle.funnel_model.specs.declared.reply.Reply.TheVariants as reply
-use Rattle.funnel_model.specs.History.{call_by, is_live, live_place, own}
-use Rattle.funnel_model.specs.Legal.{Limits, is_journal_full}
+use Rattle.funnel_model.specs.History.{base, call_by, commits_after, live_place, own}
+use Rattle.funnel_model.specs.Legal.{Limits}
 use Rattle.funnel_model.specs.Steps.{AddsNone, AnswersLast, FindsNoMemory, IsReply, IsReplyToRecycle, IsReplyToRefused, Step}
-use Rattle.funnel_model.proofs.ReplyLemmas.{one_reply}
+use Rattle.funnel_model.proofs.ReplyLemmas.{dropped_at, one_reply}
 use Rattle.funnel_model.proofs.Retirement.{same_split, split_front}
 use Rattle.funnel_model.proofs.Spans.{not_empty}
 use Rattle.funnel_model.proofs.StepLemmas.{own-append}
@@ -44,31 +46,28 @@ recycle_inside limits history given is = absurd is
 
 -- nor any other refused call
 refused_inside : (limits : Limits) (history : List Event) (asked : Call) (given : Reply) → IsReplyToRefused limits history asked given → is_outside given ≡ false
-refused_inside limits history (call.Add id text) given is = ap is_outside is ∙ inside (live_place id history) (is_journal_full limits history) where
-  inside : (o : Option ℕ) (b : Bool) → is_outside (option_map_or reply.Present o (cond b reply.JournalFull reply.Full)) ≡ false
-  inside (Some n) b = refl
-  inside None true = refl
-  inside None false = refl
-refused_inside limits history (call.Delete id) given is = ap is_outside is ∙ inside (is_live id history) where
-  inside : (b : Bool) → is_outside (cond b reply.JournalFull reply.Absent) ≡ false
-  inside true = refl
-  inside false = refl
+refused_inside limits history (call.Add id text) given is = ap is_outside is ∙ inside (live_place id history) where
+  inside : (o : Option ℕ) → is_outside (option_map_or reply.Present o reply.Full) ≡ false
+  inside (Some n) = refl
+  inside None = refl
+refused_inside limits history (call.Delete id) given is = ap is_outside is
 refused_inside limits history call.Recycle given is = recycle_inside limits history given is
 refused_inside limits history asked given is = absurd is
 
 -- no event gives such a reply
 reply_inside : (limits : Limits) (history : List Event) (e : Event) (given : Reply) → IsReply limits history e given → is_outside given ≡ false
 reply_inside limits history (event.Add pass id text slice column bits) given is = ap is_outside is
-reply_inside limits history (event.Drop pass id text slice column) given is = ap is_outside is ∙ inside (live_place id history) where
-  inside : (o : Option ℕ) → is_outside (option_map_or reply.Present o reply.JournalFull) ≡ false
-  inside (Some n) = refl
-  inside None = refl
+reply_inside limits history (event.Drop pass id text slice column) given is = ap is_outside (sym (dropped_at (live_place id history) given is).2)
 reply_inside limits history (event.Del pass id) given is = ap is_outside is
 reply_inside limits history (event.Find pass query) given is = ap is_outside is
 reply_inside limits history (event.Opened pass slice alone) given is = ap is_outside is.1
 reply_inside limits history (event.No pass asked) given is = refused_inside limits history asked given is
 reply_inside limits history (event.Read pass call.Place) given is = ap is_outside is
-reply_inside limits history (event.Read pass (call.Journal from)) given is = ap is_outside is
+reply_inside limits history (event.Read pass (call.Journal from)) given is =
+    ap is_outside is ∙ inside (nat_lt from (base limits.commits history)) (base limits.commits history) (commits_after history from) where
+      inside : (b : Bool) (n : ℕ) (commits : List Commit) → is_outside (cond b (reply.Trimmed n) (reply.Commits commits)) ≡ false
+      inside true n commits = refl
+      inside false n commits = refl
 reply_inside limits history (event.Read pass _) given is = absurd is
 reply_inside limits history _ given is = absurd is
 

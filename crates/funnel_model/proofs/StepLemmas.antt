@@ -181,7 +181,7 @@ step_deleted limits pass before id n idle is legal =
     (ap (λ k. reply.Deleted k) is) legal (idle_after pass before (event.Del pass id) refl refl)
 
 -- a call that only read
-pub step_read_off : (limits : Limits) (pass : ℕ) (before : List Event) (asked : Call) (given : Reply) → IsIdle pass before → IsReplyToRead before asked given →
+pub step_read_off : (limits : Limits) (pass : ℕ) (before : List Event) (asked : Call) (given : Reply) → IsIdle pass before → IsReplyToRead limits before asked given →
     IsLegal limits (before ++ event.Read pass asked ∷ []) → Step limits pass before (before ++ event.Read pass asked ∷ []) asked given
 step_read_off limits pass before asked given idle told legal =
     step_of_one limits pass before (event.Read pass asked) asked given idle (call_by-own pass (event.Read pass asked) refl)

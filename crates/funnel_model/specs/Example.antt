@@ -1,6 +1,6 @@
--- Small engines and histories of them. Together the histories have each kind of event, and the refusals Present, Full,
--- JournalFull and Absent.
-use Rattle.std.specs.Prelude.{◌≡◌, ◌⊎◌, false, List, [], ◌∷◌, ◌++◌, None}
+-- Small engines and histories of them. Together the histories have each kind of event, and the refusals Present, Full, Absent and
+-- Trimmed.
+use Rattle.std.specs.Prelude.{◌≡◌, ◌⊎◌, true, false, List, [], ◌∷◌, ◌++◌, None}
 use Rattle.funnel_model.specs.declared.call.Call.{Call}
 use Rattle.funnel_model.specs.declared.call.Call.TheVariants as call
 use Rattle.funnel_model.specs.declared.event.Event.{Event}
@@ -45,7 +45,7 @@ episode_calls = call.Add 9 [] ∷ call.Add 9 [] ∷ call.Add 7 [] ∷ call.Find 
 abbrev pub episode_replies : List Reply
 episode_replies = reply.Added 1 ∷ reply.Present 1 ∷ reply.Added 2 ∷ reply.Found (9 ∷ 7 ∷ []) ∷ reply.Full ∷ []
 
--- two passes, one slice of two columns, and a journal of five commits
+-- two passes, one slice of two columns, and a journal that keeps five commits
 abbrev pub shared : Limits
 shared = record { passes = 2; slices = 1; columns = 2; slice_words = 4; commits = 5; events = 64 }
 
@@ -55,19 +55,19 @@ filling_and_deleting =
     event.Take 0 0 0 ∷ event.Add 0 9 [] 0 0 [] ∷ event.Take 0 0 1 ∷ event.Add 0 7 [] 0 1 []
     ∷ event.Find 1 [] ∷ event.Del 0 9 ∷ event.Del 0 7 ∷ []
 
--- it is guarded, and 5 is refused; the find ends, and the slice is cleared, opened and used again for 5; then the journal is full
+-- it is guarded, and 5 is refused; the find ends, and the slice is cleared, opened and used again for 5
 abbrev pub reuse : List Event
 reuse =
     filling_and_deleting ++ event.No 0 (call.Add 5 []) ∷ event.End 1
     ∷ event.Clear 0 0 ∷ event.Opened 0 0 false ∷ event.Take 0 0 0 ∷ event.Add 0 5 [] 0 0 []
     ∷ event.Find 0 [] ∷ event.End 0 ∷ event.Read 0 call.Place
-    ∷ event.No 0 (call.Delete 9) ∷ event.No 0 (call.Delete 5) ∷ event.No 0 (call.Add 5 []) ∷ event.No 0 (call.Add 6 []) ∷ []
+    ∷ event.No 0 (call.Delete 9) ∷ event.No 0 (call.Add 5 []) ∷ []
 
 -- the replies to its calls, in order
 abbrev pub reuse_replies : List Reply
 reuse_replies =
     reply.Added 1 ∷ reply.Added 2 ∷ reply.Found (9 ∷ 7 ∷ []) ∷ reply.Deleted 3 ∷ reply.Deleted 4 ∷ reply.Full ∷ reply.Added 5
-    ∷ reply.Found (5 ∷ []) ∷ reply.Place 5 ∷ reply.Absent ∷ reply.JournalFull ∷ reply.Present 5 ∷ reply.JournalFull ∷ []
+    ∷ reply.Found (5 ∷ []) ∷ reply.Place 5 ∷ reply.Absent ∷ reply.Present 5 ∷ []
 
 -- both passes take a column for the same number; pass 0 adds its document, and pass 1 drops its own
 abbrev pub same_number : List Event
@@ -81,10 +81,22 @@ same_number_replies = reply.Added 1 ∷ reply.Present 1 ∷ []
 abbrev pub later_added : List Event
 later_added = event.Take 0 0 0 ∷ event.Take 1 0 1 ∷ event.Add 1 9 [] 0 1 [] ∷ []
 
--- both take a column, and pass 0 adds its document; where that was the last commit that the journal has room for, pass 1 drops its own
-abbrev pub last_commit : List Event
-last_commit = event.Take 0 0 0 ∷ event.Take 1 0 1 ∷ event.Add 0 4 [] 0 0 [] ∷ event.Drop 1 5 [] 0 1 ∷ []
+-- one pass, one slice of four columns, and a journal that keeps one commit
+abbrev pub forgetful : Limits
+forgetful = record { passes = 1; slices = 1; columns = 4; slice_words = 4; commits = 1; events = 64 }
+
+-- documents 1 and 2 are added and deleted, and 1 is added again
+abbrev pub five_commits : List Event
+five_commits =
+    event.Take 0 0 0 ∷ event.Add 0 1 [] 0 0 [] ∷ event.Take 0 0 1 ∷ event.Add 0 2 [] 0 1 []
+    ∷ event.Del 0 1 ∷ event.Del 0 2 ∷ event.Take 0 0 2 ∷ event.Add 0 1 [] 0 2 [] ∷ []
+
+-- the journal is read below the one commit that it keeps, at it, and past it
+abbrev pub trimmed : List Event
+trimmed = five_commits ++ event.Read 0 (call.Journal 3) ∷ event.Read 0 (call.Journal 4) ∷ event.Read 0 (call.Journal 9) ∷ []
 
 -- the replies to its calls, in order
-abbrev pub last_commit_replies : List Reply
-last_commit_replies = reply.Added 1 ∷ reply.JournalFull ∷ []
+abbrev pub trimmed_replies : List Reply
+trimmed_replies =
+    reply.Added 1 ∷ reply.Added 2 ∷ reply.Deleted 3 ∷ reply.Deleted 4 ∷ reply.Added 5
+    ∷ reply.Trimmed 4 ∷ reply.Commits (record { add = true; id = 1 } ∷ []) ∷ reply.Commits [] ∷ []

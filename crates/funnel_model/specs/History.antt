@@ -1,5 +1,5 @@
 -- What a history says: its commits, its live documents and each pass's calls. A history is the list of its events, oldest first.
-use Rattle.std.specs.Prelude.{ℕ, ◌+◌, ◌≡◌, ◌==◌, Bool, false, List, [], ◌∷◌, ◌++◌, length, map, filter, drop, Option, Some, None, option_to_list, if◌then◌else◌}
+use Rattle.std.specs.Prelude.{ℕ, ◌+◌, ◌-◌, ◌≡◌, ◌==◌, Bool, false, List, [], ◌∷◌, ◌++◌, length, map, filter, drop, Option, Some, None, option_to_list, if◌then◌else◌}
 use Rattle.std.specs.List.{filter_map, list_any, find, fold}
 use Rattle.std.specs.Option.{option_map}
 use Rattle.funnel_model.specs.declared.call.Call.{Call}
@@ -19,6 +19,10 @@ place history = length (commits history)
 -- the commits without the first so many; none where there are no more
 abbrev pub commits_after : List Event → ℕ → List Commit
 commits_after history n = drop n (commits history)
+
+-- how many commits there are before those that a journal keeps, which are the last so many; none while it keeps them all
+abbrev pub base : ℕ → List Event → ℕ
+base kept history = place history - kept
 
 -- a document that is live: its number, its text, and the place right after its add
 pub record Document : Type 0 where

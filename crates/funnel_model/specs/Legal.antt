@@ -7,12 +7,12 @@ use Rattle.funnel_model.specs.declared.call.Call.TheVariants as call
 use Rattle.funnel_model.specs.declared.event.Event.{Event}
 use Rattle.funnel_model.specs.declared.event.Event.TheVariants as event
 use Rattle.funnel_model.specs.Events.{pass_of, leaves_open, next_after}
-use Rattle.funnel_model.specs.History.{is_live, last_by, place}
+use Rattle.funnel_model.specs.History.{is_live, last_by}
 use Rattle.funnel_model.specs.Slices.{claimed, is_clearing, HasUnclaimed, IsFilled, IsInUse, IsRetired}
 use Rattle.funnel_model.specs.Tokens.{IsGuarded}
 
--- the sizes of an engine: its passes and slices, the columns and row words of each slice, the commits that its journal
--- holds, and the events from which on no call is taken any more
+-- the sizes of an engine: its passes and slices, the columns and row words of each slice, the last commits that its journal
+-- keeps, and the events from which on no call is taken any more
 pub record Limits : Type 0 where
   pub passes : ℕ
   pub slices : ℕ
@@ -35,14 +35,6 @@ IsBlocked columns history slice =
 -- the engine is full: in no slice can a column be taken, and no slice can be cleared
 abbrev pub IsFull : Limits → List Event → Type 0
 IsFull limits history = (slice : ℕ) → slice < limits.slices → IsBlocked limits.columns history slice
-
--- whether the journal holds as many commits as it can
-abbrev pub is_journal_full : Limits → List Event → Bool
-is_journal_full limits history = place history == limits.commits
-
--- the journal has room for one more commit
-abbrev pub HasJournalRoom : Limits → List Event → Type 0
-HasJournalRoom limits history = place history < limits.commits
 
 -- the row word is one of the slice
 pub record IsInSlice (slice_words slice word : ℕ) : Type 0 where
@@ -68,25 +60,23 @@ pub record MayTakeOpened (limits : Limits) (history : List Event) (pass slice co
   pub first : column ≡ 0
   pub in_range : column < limits.columns
 
--- a pass may add a document to the column that it just took: its number is not live, the journal has room, and its bits are bits of
--- the slice's words of 64 bits
+-- a pass may add a document to the column that it just took: its number is not live, and its bits are bits of the slice's words of
+-- 64 bits
 pub record MayAdd (limits : Limits) (history : List Event) (pass id slice column : ℕ) (bits : List Bit) : Type 0 where
   pub taken : last_by pass history ≡ Some (event.Take pass slice column)
   pub absent : is_live id history ≡ false
-  pub room : HasJournalRoom limits history
   pub inside : All (λ b. IsInSlice limits.slice_words slice b.word) bits
   pub in_word : All (λ b. b.bit < 64) bits
 
--- a pass may drop the document for the column that it just took, where it can't be added
-pub record MayDrop (limits : Limits) (history : List Event) (pass id slice column : ℕ) : Type 0 where
+-- a pass may drop the document for the column that it just took where its number is live by now
+pub record MayDrop (history : List Event) (pass id slice column : ℕ) : Type 0 where
   pub taken : last_by pass history ≡ Some (event.Take pass slice column)
-  pub refused : (is_live id history ≡ true) ⊎ (is_journal_full limits history ≡ true)
+  pub present : is_live id history ≡ true
 
--- an idle pass may delete a live document where the journal has room
-pub record MayDelete (limits : Limits) (history : List Event) (pass id : ℕ) : Type 0 where
+-- an idle pass may delete a live document
+pub record MayDelete (history : List Event) (pass id : ℕ) : Type 0 where
   pub idle : IsIdle pass history
   pub present : is_live id history ≡ true
-  pub room : HasJournalRoom limits history
 
 -- a pass may end a find that it began
 pub record MayEnd (history : List Event) (pass : ℕ) : Type 0 where
@@ -114,12 +104,11 @@ abbrev pub NoneCanClear : Limits → List Event → Type 0
 NoneCanClear limits history =
     (slice : ℕ) → slice < limits.slices → IsRetired limits.columns slice history → IsGuarded limits.columns history slice
 
--- an add may be refused where its number is live, where the journal is full, and where the engine is full; a delete where its
--- number is not live, and where the journal is full; a recycle where no slice can be cleared; other calls never
+-- an add may be refused where its number is live, and where the engine is full; a delete where its number is not live; a recycle
+-- where no slice can be cleared; other calls never
 abbrev pub IsRefused : Limits → List Event → Call → Type 0
-IsRefused limits history (call.Add id text) =
-    (is_live id history ≡ true) ⊎ (is_journal_full limits history ≡ true) ⊎ IsFull limits history
-IsRefused limits history (call.Delete id) = (is_live id history ≡ false) ⊎ (is_journal_full limits history ≡ true)
+IsRefused limits history (call.Add id text) = (is_live id history ≡ true) ⊎ IsFull limits history
+IsRefused limits history (call.Delete id) = is_live id history ≡ false
 IsRefused limits history call.Recycle = NoneCanClear limits history
 IsRefused limits history _ = ⊥
 
@@ -143,8 +132,8 @@ pub record MayReadOff (history : List Event) (pass : ℕ) (asked : Call) : Type 
 abbrev pub MayFollow : Limits → List Event → Event → Type 0
 MayFollow limits history (event.Take pass slice column) = MayTake limits history pass slice column ⊎ MayTakeOpened limits history pass slice column
 MayFollow limits history (event.Add pass id text slice column bits) = MayAdd limits history pass id slice column bits
-MayFollow limits history (event.Drop pass id text slice column) = MayDrop limits history pass id slice column
-MayFollow limits history (event.Del pass id) = MayDelete limits history pass id
+MayFollow limits history (event.Drop pass id text slice column) = MayDrop history pass id slice column
+MayFollow limits history (event.Del pass id) = MayDelete history pass id
 MayFollow limits history (event.Find pass query) = IsIdle pass history
 MayFollow limits history (event.End pass) = MayEnd history pass
 MayFollow limits history (event.Clear pass slice) = MayClear limits history pass slice

@@ -1,6 +1,6 @@
 -- What a call is answered, and the step from front to front that it makes. A front is the part of the history that a pass has seen.
-use Rattle.std.specs.Prelude.{ℕ, ◌+◌, ◌<◌, ◌≤◌, ◌≡◌, ◌⊎◌, true, List, [], ◌∷◌, ◌++◌, length, Some, if◌then◌else◌}
-use Rattle.std.specs.Option.{option_map_or}
+use Rattle.std.specs.Prelude.{ℕ, ◌+◌, ◌<◌, ◌≤◌, ◌≡◌, ◌⊎◌, true, List, [], ◌∷◌, ◌++◌, length, nat_lt, Some, if◌then◌else◌}
+use Rattle.std.specs.Option.{option_map, option_map_or}
 use mathlib.Core.List.{IsPrefix}
 use Rattle.funnel_model.specs.declared.call.Call.{Call}
 use Rattle.funnel_model.specs.declared.call.Call.TheVariants as call
@@ -9,8 +9,8 @@ use Rattle.funnel_model.specs.declared.event.Event.TheVariants as event
 use Rattle.funnel_model.specs.declared.reply.Reply.{Reply}
 use Rattle.funnel_model.specs.declared.reply.Reply.TheVariants as reply
 use Rattle.funnel_model.specs.Blocks.{IsLowestGuard}
-use Rattle.funnel_model.specs.History.{place, commits_after, answer, is_live, live_place, own, call_by}
-use Rattle.funnel_model.specs.Legal.{Limits, IsIdle, IsLegal, is_journal_full}
+use Rattle.funnel_model.specs.History.{base, place, commits_after, answer, live_place, own, call_by}
+use Rattle.funnel_model.specs.Legal.{Limits, IsIdle, IsLegal}
 use Rattle.funnel_model.specs.Slices.{IsRetired}
 
 -- no slice is retired
@@ -31,31 +31,31 @@ IsReplyToRecycle limits history reply.NothingRetired = NoneRetired limits histor
 IsReplyToRecycle limits history (reply.Guarded slice pass) = IsLowestGuarded limits history slice pass
 IsReplyToRecycle limits history _ = ⊥
 
--- a call is refused so after these events: an add by the place of its number's add where it is live, then by a full journal, then
--- by want of room; a delete by the number's absence, then by a full journal; a recycle as above; no other call is refused
+-- a call is refused so after these events: an add by the place of its number's add where it is live, and else by want of room; a
+-- delete by the number's absence; a recycle as above; no other call is refused
 abbrev pub IsReplyToRefused : Limits → List Event → Call → Reply → Type 0
-IsReplyToRefused limits history (call.Add id text) given =
-    given ≡ option_map_or reply.Present (live_place id history) (if is_journal_full limits history then reply.JournalFull else reply.Full)
-IsReplyToRefused limits history (call.Delete id) given = given ≡ (if is_live id history then reply.JournalFull else reply.Absent)
+IsReplyToRefused limits history (call.Add id text) given = given ≡ option_map_or reply.Present (live_place id history) reply.Full
+IsReplyToRefused limits history (call.Delete id) given = given ≡ reply.Absent
 IsReplyToRefused limits history call.Recycle given = IsReplyToRecycle limits history given
 IsReplyToRefused limits history _ given = ⊥
 
--- a call that only reads is answered so
-abbrev pub IsReplyToRead : List Event → Call → Reply → Type 0
-IsReplyToRead history call.Place given = given ≡ reply.Place (place history)
-IsReplyToRead history (call.Journal from) given = given ≡ reply.Commits (commits_after history from)
-IsReplyToRead history _ given = ⊥
+-- a call that only reads is answered so: commits that the journal no longer keeps are told as trimmed, with the number of those
+abbrev pub IsReplyToRead : Limits → List Event → Call → Reply → Type 0
+IsReplyToRead limits history call.Place given = given ≡ reply.Place (place history)
+IsReplyToRead limits history (call.Journal from) given =
+    given ≡ (if nat_lt from (base limits.commits history) then reply.Trimmed (base limits.commits history) else reply.Commits (commits_after history from))
+IsReplyToRead limits history _ given = ⊥
 
--- the event, which comes after these, gives this reply; an event that answers no call gives none
+-- the event, which comes after these, gives this reply; an event that answers no call gives none. A dropped add is told the place
+-- of the add of its number, which is live
 abbrev pub IsReply : Limits → List Event → Event → Reply → Type 0
 IsReply limits history (event.Add pass id text slice column bits) given = given ≡ reply.Added (place history + 1)
-IsReply limits history (event.Drop pass id text slice column) given =
-    given ≡ option_map_or reply.Present (live_place id history) reply.JournalFull
+IsReply limits history (event.Drop pass id text slice column) given = option_map reply.Present (live_place id history) ≡ Some given
 IsReply limits history (event.Del pass id) given = given ≡ reply.Deleted (place history + 1)
 IsReply limits history (event.Find pass query) given = given ≡ reply.Found (answer history query)
 IsReply limits history (event.Opened pass slice alone) given = (alone ≡ true) × (given ≡ reply.Recycled slice)
 IsReply limits history (event.No pass asked) given = IsReplyToRefused limits history asked given
-IsReply limits history (event.Read pass asked) given = IsReplyToRead history asked given
+IsReply limits history (event.Read pass asked) given = IsReplyToRead limits history asked given
 IsReply limits history _ given = ⊥
 
 -- the event with this number gives this reply; the first event has number 1

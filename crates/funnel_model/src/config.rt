@@ -12,7 +12,7 @@ pub const MOST_BLOCKS: u32 = 64;
 /// The highest rank that a row may have.
 pub const MOST_RANK: u8 = 6;
 
-/// The most commits of a journal.
+/// The most commits that a journal keeps.
 pub const MOST_COMMITS: u64 = 16_777_216;
 
 /// The least number of bits of a shared row of which one is set.
@@ -53,7 +53,7 @@ pub struct Config {
     pub blocks: u32,
     /// The highest rank of a row: 0 to [`MOST_RANK`].
     pub max_rank: u8,
-    /// The commits that the journal holds: 1 to [`MOST_COMMITS`].
+    /// The commits that the journal keeps, which are the last ones: 1 to [`MOST_COMMITS`].
     pub commits: u64,
     /// One bit in this many is set in a shared row: [`LEAST_ONE_IN`] to [`MOST_ONE_IN`].
     pub one_in: u64,

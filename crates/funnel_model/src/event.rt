@@ -20,7 +20,7 @@ pub enum Event {
         column: u32,
         bits: BitList,
     },
-    /// The document isn't added to the claimed column: its number is live by now, or the journal is full.
+    /// The document isn't added to the claimed column: its number is live by now.
     Drop {
         pass: u32,
         id: u64,

@@ -41,6 +41,3 @@ pub use reply::Reply;
 pub use slice_set::SliceSet;
 pub use text::Text;
 pub use word_set::{WordSet, Words};
-
-#[cfg(test)]
-mod tests;

@@ -61,23 +61,3 @@ impl Listed {
         self.entries
     }
 }
-
-#[cfg(test)]
-mod tests {
-    use super::*;
-    use std::test::Fail;
-
-    #[test]
-    fn words_stay_in_byte_order(rt: HostRuntime) -> Result<(), Fail> {
-        let cat = String::from_str(rt.alloc(), "cat")?;
-        let the = String::from_str(rt.alloc(), "the")?;
-        let listed = Listed::new(vec![in rt.alloc(); (cat, 100), (the, 1000)]?);
-        assert_eq!(rt; listed.len(), 2);
-        assert!(rt; !listed.is_empty());
-        for (word, count) in listed.as_slice() {
-            assert_eq!(rt; word.as_str() == "cat", *count == 100);
-        }
-        assert_eq!(rt; listed.into_inner().len(), 2);
-        Ok(())
-    }
-}

@@ -10,8 +10,6 @@ pub enum Reply {
     Present(u64),
     /// There is no column for another document.
     Full,
-    /// The journal holds as many commits as it can.
-    JournalFull,
     /// The document was deleted, at this place.
     Deleted(u64),
     /// No document with this number is live.
@@ -22,6 +20,8 @@ pub enum Reply {
     Place(u64),
     /// The commits that were asked for, in order.
     Commits(Commits),
+    /// The journal no longer keeps the commits that were asked for, but only those after this many.
+    Trimmed(u64),
     /// This slice was cleared, and its columns are free again.
     Recycled(u32),
     /// No slice can be recycled: none is retired.

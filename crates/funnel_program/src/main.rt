@@ -79,6 +79,3 @@ fn report(rt: &HostRuntime, why: Why) -> ExitCode {
     }
     ExitCode::from(why.status())
 }
-
-#[cfg(test)]
-mod tests;

@@ -17,7 +17,7 @@ pub enum Key {
     Blocks,
     /// The highest rank of a row.
     MaxRank,
-    /// The commits that the journal holds.
+    /// The commits that the journal keeps, which are the last ones.
     Commits,
     /// One bit in this many is set in a shared row.
     OneIn,

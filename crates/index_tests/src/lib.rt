@@ -1,13 +1,26 @@
-//! Tests of crates below the engine that stand by themselves: the words of texts, the tables of classes and sizes, the rows
-//! of words and their bits, the plans of queries, and the tokens of finds.
+//! Tests of crates below the engine that stand by themselves: lists and sets, the words of texts and their hashes, the tables
+//! of classes and sizes, the rows of words and their bits, the plans of queries, scans of words, documents in their columns and
+//! live numbers, how far slices are, and the tokens of finds.
 #![tactic(auto)]
 
 #[cfg(test)]
+mod documents;
+#[cfg(test)]
+mod hashes;
+#[cfg(test)]
 mod layouts;
+#[cfg(test)]
+mod lists;
+#[cfg(test)]
+mod live_numbers;
 #[cfg(test)]
 mod plans;
 #[cfg(test)]
+mod scans;
+#[cfg(test)]
 mod setting;
+#[cfg(test)]
+mod stages;
 #[cfg(test)]
 mod tokens;
 #[cfg(test)]

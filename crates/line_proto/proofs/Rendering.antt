@@ -9,9 +9,10 @@ use Rattle.funnel_model.specs.declared.event.Event.TheVariants as event
 use Rattle.funnel_model.specs.declared.reply.Reply.{Reply}
 use Rattle.funnel_model.specs.declared.reply.Reply.TheVariants as reply
 use Rattle.funnel_model.specs.Events.{call_of, pass_of}
-use Rattle.funnel_model.specs.History.{is_live, live_place, place}
-use Rattle.funnel_model.specs.Legal.{Limits, is_journal_full}
+use Rattle.funnel_model.specs.History.{live_place, place}
+use Rattle.funnel_model.specs.Legal.{Limits}
 use Rattle.funnel_model.specs.Steps.{AddsCall, FindsNoMemory, IsReply, IsReplyToRecycle, IsReplyToRefused, Step}
+use Rattle.funnel_model.proofs.ReplyLemmas.{dropped_at}
 use Rattle.line_proto.specs.Texts.{is_list}
 
 -- a reply that is none of the lists is no list
@@ -24,14 +25,6 @@ placed : (o : Option ℕ) (full : Reply) → is_list full ≡ false → is_list 
 placed None full is = is
 placed (Some n) full is = refl
 
-full_or : (b : Bool) → is_list (cond b reply.JournalFull reply.Full) ≡ false
-full_or true = refl
-full_or false = refl
-
-absent_or : (b : Bool) → is_list (cond b reply.JournalFull reply.Absent) ≡ false
-absent_or true = refl
-absent_or false = refl
-
 -- a refused recycle is answered by no list
 recycle_is_short : (limits : Limits) (history : List Event) (given : Reply) → IsReplyToRecycle limits history given → is_list given ≡ true → ⊥
 recycle_is_short limits history reply.NothingRetired is long = cc
@@ -41,10 +34,8 @@ recycle_is_short limits history given is long = absurd is
 -- nor is another refused call
 refused_is_short : (limits : Limits) (history : List Event) (asked : Call) (given : Reply) → IsReplyToRefused limits history asked given → is_list given ≡ true → ⊥
 refused_is_short limits history (call.Add id text) given is long =
-    not_long given (option_map_or reply.Present (live_place id history) (cond (is_journal_full limits history) reply.JournalFull reply.Full)) is
-    (placed (live_place id history) (cond (is_journal_full limits history) reply.JournalFull reply.Full) (full_or (is_journal_full limits history))) long
-refused_is_short limits history (call.Delete id) given is long =
-    not_long given (cond (is_live id history) reply.JournalFull reply.Absent) is (absent_or (is_live id history)) long
+    not_long given (option_map_or reply.Present (live_place id history) reply.Full) is (placed (live_place id history) reply.Full refl) long
+refused_is_short limits history (call.Delete id) given is long = not_long given reply.Absent is refl long
 refused_is_short limits history call.Recycle given is long = recycle_is_short limits history given is long
 refused_is_short limits history asked given is long = absurd is
 
@@ -61,7 +52,7 @@ lists_want_memory : (limits : Limits) (pass : ℕ) (history before after : List 
     is_list given ≡ true → call_of e ≡ Some asked → AddsCall pass before after asked → FindsNoMemory pass before after asked
 lists_want_memory limits pass history before after (event.Add p id text s c bits) asked given is long by made = absurd (not_long given (reply.Added (place history + 1)) is refl long)
 lists_want_memory limits pass history before after (event.Drop p id text s c) asked given is long by made =
-    absurd (not_long given (option_map_or reply.Present (live_place id history) reply.JournalFull) is (placed (live_place id history) reply.JournalFull refl) long)
+    let at = dropped_at (live_place id history) given is in absurd (not_long given (reply.Present at.0) (sym at.2) refl long)
 lists_want_memory limits pass history before after (event.Del p id) asked given is long by made = absurd (not_long given (reply.Deleted (place history + 1)) is refl long)
 lists_want_memory limits pass history before after (event.Find p query) asked given is long by made =
     subst (FindsNoMemory pass before after) (the_same (call.Find query) asked by) (inr (at_call asked (call.Find query) (AddsCall pass before after) by made))

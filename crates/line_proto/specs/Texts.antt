@@ -2,7 +2,7 @@
 use Rattle.std.specs.Prelude.{ℕ, Bool, true, false, List, ◌∷◌, ◌++◌, length, flat_map, codes, decimal, if◌then◌else◌}
 use Rattle.funnel_model.specs.declared.commit.Commit.{Commit}
 use Rattle.funnel_model.specs.declared.reply.Reply.{Reply}
-use Rattle.funnel_model.specs.declared.reply.Reply.TheVariants.{Added, Present, Full, JournalFull, Deleted, Absent, Found, Place, Commits, Recycled, NothingRetired, Guarded, Spent, Memory, Line, Long}
+use Rattle.funnel_model.specs.declared.reply.Reply.TheVariants.{Added, Present, Full, Deleted, Absent, Found, Place, Commits, Trimmed, Recycled, NothingRetired, Guarded, Spent, Memory, Line, Long}
 
 -- each number after a space
 abbrev pub spaced : List ℕ → List ℕ
@@ -25,12 +25,12 @@ abbrev pub message_of : Reply → List ℕ
 message_of (Added place) = codes "added " ++ decimal place
 message_of (Present place) = codes "refused present " ++ decimal place
 message_of Full = codes "refused full"
-message_of JournalFull = codes "refused journal full"
 message_of (Deleted place) = codes "deleted " ++ decimal place
 message_of Absent = codes "refused absent"
 message_of (Found ids) = codes "found " ++ counted_ids ids
 message_of (Place place) = codes "place " ++ decimal place
 message_of (Commits commits) = codes "commits " ++ counted_commits commits
+message_of (Trimmed base) = codes "refused trimmed " ++ decimal base
 message_of (Recycled slice) = codes "recycled " ++ decimal slice
 message_of NothingRetired = codes "nothing retired"
 message_of (Guarded slice pass) = codes "guarded " ++ decimal slice ++ 32 ∷ decimal pass

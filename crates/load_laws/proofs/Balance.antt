@@ -4,7 +4,7 @@ use Rattle.std.proofs.lemmas.Bool.{eqb-true}
 use Rattle.std.proofs.lemmas.List.Sums.{sum_by-cons, sum_by_push}
 use Rattle.std.specs.List.{list_any, sum_by}
 use Rattle.funnel_model.proofs.Histories.{holds_of_legal}
-use Rattle.funnel_model.proofs.LiveLemmas.{live-adds, live-deletes, live-silent, place-append}
+use Rattle.funnel_model.proofs.LiveLemmas.{live-adds, live-deletes, live-silent}
 use Rattle.funnel_model.specs.declared.event.Event.{Event}
 use Rattle.funnel_model.specs.declared.event.Event.TheVariants as event
 use Rattle.funnel_model.specs.History.{Document, is_live, live, place}
@@ -196,22 +196,6 @@ balanced-push limits history (event.Read pass read) before allowed =
 pub balanced : (limits : Limits) (history : List Event) → IsLegal limits history → IsBalanced history
 balanced limits = holds_of_legal limits IsBalanced (record { once = λ id. omega arith; balance = λ g. refl })
     (λ h e legal before allowed. balanced-push limits h e before allowed)
-
--- the commits are the adds and the deletes
-pub commits_counted : (history : List Event) → place history ≡ sum_by (added (λ id. 1)) history + sum_by (deleted (λ id. 1)) history
-commits_counted [] = refl
-commits_counted (e ∷ later) =
-    let here = one e in
-    let rest = commits_counted later in
-    let places = place-append (e ∷ []) later in
-    let adds = sum_by-cons (added (λ id. 1)) e later in
-    let deletes = sum_by-cons (deleted (λ id. 1)) e later in
-    omega arith
-  where
-    one : (x : Event) → place (x ∷ []) ≡ added (λ id. 1) x + deleted (λ id. 1) x
-    one (event.Add pass id text slice column bits) = refl
-    one (event.Del pass id) = refl
-    one _ = refl
 
 -- each was asked for
 pub no_more : {A : Type 0} (f g : A → ℕ) (xs : List A) → ((x : A) → f x ≤ g x) → sum_by f xs ≤ sum_by g xs

@@ -1,6 +1,6 @@
 -- In the history of a load each add is committed, and each delete.
-use Rattle.std.proofs.Common.{◌≡◌, ℕ, ◌+◌, ◌*◌, ◌<◌, ◌≤◌, ◌⊎◌, inl, inr, ⊎_elim, true, cond, List, [], ◌∷◌, ◌++◌, Option, Some, None, refl, sym, ap, ap₂, ◌∙◌, subst, arith, append_assoc}
-use Rattle.std.proofs.lemmas.Bool.{eq-eqb, eqb-true}
+use Rattle.std.proofs.Common.{◌≡◌, ℕ, ◌+◌, ◌*◌, ◌<◌, ◌≤◌, ◌⊎◌, inl, inr, ⊎_elim, cond, List, [], ◌∷◌, ◌++◌, Option, Some, None, refl, sym, ap, ap₂, ◌∙◌, subst, arith, append_assoc}
+use Rattle.std.proofs.lemmas.Bool.{eq-eqb}
 use Rattle.std.proofs.lemmas.List.Elements.{All-head}
 use Rattle.std.proofs.lemmas.List.Sums.{sum_by-append, sum_by-cons}
 use Rattle.std.specs.List.{All, sum_by}
@@ -13,15 +13,14 @@ use Rattle.funnel_model.specs.declared.event.Event.{Event}
 use Rattle.funnel_model.specs.declared.event.Event.TheVariants as event
 use Rattle.funnel_model.specs.declared.reply.Reply.{Reply}
 use Rattle.funnel_model.specs.Events.{call_of, pass_of}
-use Rattle.funnel_model.specs.History.{place}
-use Rattle.funnel_model.specs.Legal.{Limits, IsFull, IsIdle, IsLegal, is_journal_full}
+use Rattle.funnel_model.specs.Legal.{Limits, IsFull, IsIdle, IsLegal}
 use Rattle.load_gen.specs.Documents.{documents}
 use Rattle.load_gen.specs.Jobs.{adds_of, deletes_of, jobs, queries_of}
 use Rattle.load_laws.specs.LonePass.{count_of_takes}
 use Rattle.load_laws.specs.Workers.{HasRoomFor, IsLoaded}
-use Rattle.load_laws.proofs.Balance.{added, added_was_asked, balanced, commits_counted, deleted, deleted_was_asked, event_added_was_asked, event_deleted_was_asked, is_number, live_by_count, no_more, not_live_by_count}
+use Rattle.load_laws.proofs.Balance.{added, added_was_asked, balanced, deleted, deleted_was_asked, event_added_was_asked, event_deleted_was_asked, is_number, live_by_count, no_more, not_live_by_count}
 use Rattle.load_laws.proofs.CallEvents.{add_event, delete_event}
-use Rattle.load_laws.proofs.JobCounts.{add_weight, adds_in_adds, adds_in_deletes, delete_weight, deletes_in_adds, deletes_in_deletes, none_in_queries, over, over-deleted, over-one, where_deleted}
+use Rattle.load_laws.proofs.JobCounts.{add_weight, adds_in_adds, adds_in_deletes, delete_weight, deletes_in_adds, deletes_in_deletes, none_in_queries, over, over-one, where_deleted}
 use Rattle.load_laws.proofs.JobFacts.{IsOfLoad, at_least_once, at_most_once, deleted_at_most_once, jobs_are_of_load}
 use Rattle.load_laws.proofs.PassTotals.{asked, asked-total, total-same_below, total-weigh_by, weigh_by}
 use Rattle.load_laws.proofs.Quiet.{all_first, all_second}
@@ -104,23 +103,6 @@ filled_was_asked history = no_more fill_weight (asked (add_weight (λ id. 1))) h
   one (event.Drop pass id text slice column) = omega arith
   one _ = omega arith
 
--- where an event comes that answers an add or a delete, the journal has room
-room_in_journal : (limits : Limits) (docs words seed workers : ℕ) (history : List Event) (replies : ℕ → List Reply) →
-    IsLoaded limits docs words seed workers history replies → HasRoomFor limits docs →
-    (earlier : List Event) (e : Event) (later : List Event) → history ≡ earlier ++ e ∷ later →
-    1 ≤ asked (add_weight (λ id. 1)) e + asked (delete_weight (λ id. 1)) e → is_journal_full limits earlier ≡ true → ⊥
-room_in_journal limits docs words seed workers history replies loaded room earlier e later whole one full =
-    let commits = room.commits in
-    let adds = adds_asked limits docs words seed workers history replies loaded (λ id. 1) ∙ over-one docs in
-    let deletes = deletes_asked limits docs words seed workers history replies loaded (λ id. 1) ∙ over-deleted docs in
-    let adds_around = sum_around (asked (add_weight (λ id. 1))) history earlier e later whole in
-    let deletes_around = sum_around (asked (delete_weight (λ id. 1))) history earlier e later whole in
-    let added_before = added_was_asked (λ id. 1) earlier in
-    let deleted_before = deleted_was_asked (λ id. 1) earlier in
-    let at = commits_counted earlier in
-    let is = eqb-true (place earlier) limits.commits full in
-    absurd (omega (arith, commits, adds, deletes, adds_around, deletes_around, added_before, deleted_before, at, is, one))
-
 -- where a pass that is idle answers an add, the engine isn't full
 room_in_columns : (limits : Limits) (docs words seed workers : ℕ) (history : List Event) (replies : ℕ → List Reply) →
     IsLoaded limits docs words seed workers history replies → HasRoomFor limits docs →
@@ -180,7 +162,6 @@ add_is_committed limits docs words seed workers history replies loaded room earl
     let balance = (balanced limits earlier legal).balance (is_number id) in
     let one = asked_is (add_weight (λ n. 1)) e (call.Add id text) is in
     add_event limits earlier e id text (not_live_by_count id earlier (omega (arith, adds, once, around, here, before, balance)))
-    (room_in_journal limits docs words seed workers history replies loaded room earlier e later whole (omega (arith, one)))
     (room_in_columns limits docs words seed workers history replies loaded room earlier e later whole one)
     (allowed_within limits history earlier e later loaded.legal whole) is
 
@@ -260,10 +241,8 @@ delete_is_committed limits docs words seed workers history replies loaded room e
     let one_add = at_least_once docs id number.0 number.1 in
     let added_by_then = ap (sum_by (added (is_number id))) behind.1 ∙ sum_by-append (added (is_number id)) p.adding behind.0 in
     let balance = (balanced limits earlier legal).balance (is_number id) in
-    let one = asked_is (delete_weight (λ n. 1)) e (call.Delete id) is in
     delete_event limits earlier e id
     (live_by_count id earlier (omega (arith, deletes, once, around, here, before, committed, all, one_add, added_by_then, balance)))
-    (room_in_journal limits docs words seed workers history replies loaded room earlier e later whole (omega (arith, one)))
     allowed is
 
 -- so each event deletes what it was asked to

@@ -1,5 +1,5 @@
 -- What the calls of all workers weigh together.
-use Rattle.std.proofs.Common.{◌≡◌, ℕ, zero, suc, ◌+◌, ◌/◌, ◌%◌, ◌<◌, ◌==◌, Bool, true, false, cond, List, [], ◌∷◌, length, map, filter, flat_map, refl, sym, ap, ap₂, ◌∙◌, arith}
+use Rattle.std.proofs.Common.{◌≡◌, ℕ, zero, suc, ◌+◌, ◌%◌, ◌<◌, ◌==◌, Bool, true, false, cond, List, [], ◌∷◌, length, map, filter, flat_map, refl, sym, ap, ap₂, ◌∙◌, arith}
 use Rattle.std.proofs.lemmas.List.Sums.{sum_by-append, sum_by-cons}
 use Rattle.std.specs.List.{enumerate_from, range_with_len, sum_by}
 use Rattle.funnel_model.specs.declared.call.Call.{Call}
@@ -8,7 +8,6 @@ use Rattle.load_gen.specs.declared.limits.TheConstants.{CHECKED_ONE_IN}
 use Rattle.load_gen.specs.Documents.{documents, name_of_document}
 use Rattle.load_gen.specs.Jobs.{add_and_check, adds_of, deletes_of, is_deleted, nth_add, queries_of, share}
 use Rattle.load_gen.specs.Queries.{queries}
-use Rattle.load_gen.proofs.Deletes.{each_tenth, length-cond}
 use Rattle.load_gen.proofs.Shares.{weigh, weigh-shares}
 use Rattle.load_gen.proofs.Totals.{total, total-none, total-same}
 use Rattle.load_laws.proofs.OneWorker.{length-documents}
@@ -121,18 +120,9 @@ none_in_queries w none workers =
     total-same (λ worker. sum_by w (queries_of workers worker)) (λ worker. 0) workers (λ worker. queries_weigh w none (share queries workers worker))
     ∙ total-none workers
 
--- how many numbers there are, and how many are deleted
+-- how many numbers there are
 pub over-one : (docs : ℕ) → over docs (λ id. 1) ≡ docs
 over-one docs = from 1 docs where
   from : (n m : ℕ) → sum_by (λ id. 1) (range_with_len n m) ≡ m
   from n zero = refl
   from n (suc m) = let later = from (n + 1) m in sum_by-cons (λ (id : ℕ). 1) n (range_with_len (n + 1) m) ∙ omega arith
-
-pub over-deleted : (docs : ℕ) → over docs (where_deleted (λ id. 1)) ≡ docs / 10
-over-deleted docs = counted (range_with_len 1 docs) ∙ each_tenth docs where
-  counted : (ids : List ℕ) → sum_by (where_deleted (λ id. 1)) ids ≡ length (filter is_deleted ids)
-  counted [] = refl
-  counted (id ∷ ids) =
-      let later = counted ids in
-      let here = length-cond (is_deleted id) id (filter is_deleted ids) in
-      sum_by-cons (where_deleted (λ x. 1)) id ids ∙ omega arith

@@ -85,11 +85,10 @@ made_first limits pass before after asked calls given replies made =
       };
     }
 
--- the calls fit what stands in the history: they are in turn, there is a column for each add, and room for each commit
+-- the calls fit what stands in the history: they are in turn, and there is a column for each add
 record FitsAfter (limits : Limits) (before : List Event) (calls : List Call) : Type 0 where
   in_turn : AreInTurn (pairs (live before)) calls
   columns : count_of_takes before + adds_in calls ≤ limits.slices * limits.columns
-  commits : place before + commits_in calls ≤ limits.commits
 
 -- the adds and the commits of calls, where one more comes first
 adds-cons : (asked : Call) (calls : List Call) → adds_in (asked ∷ calls) ≡ cond (is_add asked) 1 0 + adds_in calls
@@ -124,9 +123,8 @@ answered_by_list limits pass before after (call.Add id text ∷ calls) (given �
     let more_adds = adds-cons (call.Add id text) calls in
     let more_commits = commits-cons (call.Add id text) calls in
     let columns = fits.columns in
-    let commits = fits.commits in
     let done = adds limits pass before split.middle id text given split.first (sym (holds_pairs id (live before)) ∙ fits.in_turn.0)
-    (omega arith) (omega arith) in
+    (omega arith) in
     let documents : pairs (live split.middle) ≡ pairs (live before) ++ (id, text) ∷ [] =
     ap pairs done.documents ∙ map-append (λ (d : Document). (d.id, d.text)) (live before) (record { id = id; text = text; place = place before + 1 } ∷ []) in
     let at_place = done.at_place in
@@ -135,7 +133,6 @@ answered_by_list limits pass before after (call.Add id text ∷ calls) (given �
     (answered_by_list limits pass split.middle after calls replies split.others (record {
       in_turn = subst (λ ds. AreInTurn ds calls) (sym documents) fits.in_turn.1;
       columns = omega arith;
-      commits = omega arith;
     })) in
     let end = others.at_place in
     record {
@@ -148,9 +145,7 @@ answered_by_list limits pass before after (call.Delete id ∷ calls) (given ∷ 
     let more_adds = adds-cons (call.Delete id) calls in
     let more_commits = commits-cons (call.Delete id) calls in
     let columns = fits.columns in
-    let commits = fits.commits in
-    let done = deletes_it limits pass before split.middle id given split.first (sym (holds_pairs id (live before)) ∙ fits.in_turn.0)
-    (omega arith) in
+    let done = deletes_it limits pass before split.middle id given split.first (sym (holds_pairs id (live before)) ∙ fits.in_turn.0) in
     let documents : pairs (live split.middle) ≡ without id (pairs (live before)) = ap pairs done.documents ∙ sym (without_pairs id (live before)) in
     let at_place = done.at_place in
     let takes = done.takes in
@@ -158,7 +153,6 @@ answered_by_list limits pass before after (call.Delete id ∷ calls) (given ∷ 
     (answered_by_list limits pass split.middle after calls replies split.others (record {
       in_turn = subst (λ ds. AreInTurn ds calls) (sym documents) fits.in_turn.1;
       columns = omega arith;
-      commits = omega arith;
     })) in
     let end = others.at_place in
     record {
@@ -171,7 +165,6 @@ answered_by_list limits pass before after (call.Find query ∷ calls) (given ∷
     let more_adds = adds-cons (call.Find query) calls in
     let more_commits = commits-cons (call.Find query) calls in
     let columns = fits.columns in
-    let commits = fits.commits in
     let done = finds limits pass before split.middle query given split.first in
     let documents = ap pairs done.documents in
     let at_place = done.at_place in
@@ -180,7 +173,6 @@ answered_by_list limits pass before after (call.Find query ∷ calls) (given ∷
     (answered_by_list limits pass split.middle after calls replies split.others (record {
       in_turn = subst (λ ds. AreInTurn ds calls) (sym documents) fits.in_turn;
       columns = omega arith;
-      commits = omega arith;
     })) in
     let end = others.at_place in
     record {
@@ -198,8 +190,7 @@ from_nothing : (limits : Limits) (pass : ℕ) (after : List Event) (calls : List
     FitsEmptyEngine limits calls → AnsweredFrom after 0 [] calls replies
 from_nothing limits pass after calls replies made fits =
     let columns = fits.columns in
-    let commits = fits.commits in
-    answered_by_list limits pass [] after calls replies made (record { in_turn = fits.in_turn; columns = omega arith; commits = omega arith })
+    answered_by_list limits pass [] after calls replies made (record { in_turn = fits.in_turn; columns = omega arith })
 
 pub load_is_answered : (limits : Limits) (pass : ℕ) (after : List Event) (calls : List Call) (replies : List Reply) → Linear limits pass [] after calls replies →
     IsAlone pass after → length after < limits.events → All (λ r. r ≢ reply.Memory) replies → FitsEmptyEngine limits calls → replies ≡ answers_of [] calls

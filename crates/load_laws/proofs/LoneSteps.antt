@@ -1,6 +1,5 @@
 -- What a call of a pass that is alone in its history does.
 use Rattle.std.proofs.Common.{◌≡◌, ℕ, ◌+◌, ◌*◌, ◌<◌, Bool, true, false, cond, not, List, [], ◌∷◌, ◌++◌, map, filter, sym, refl, ap, ◌∙◌, subst, arith}
-use Rattle.std.proofs.lemmas.Bool.{eqb-true}
 use Rattle.std.specs.List.{list_any}
 use Rattle.std.specs.Prelude.{◌==◌}
 use Rattle.funnel_model.proofs.LiveLemmas.{live-adds, live-deletes, live-silent}
@@ -13,7 +12,7 @@ use Rattle.funnel_model.specs.declared.reply.Reply.{Reply}
 use Rattle.funnel_model.specs.declared.reply.Reply.TheVariants as reply
 use Rattle.funnel_model.specs.Events.{pass_of}
 use Rattle.funnel_model.specs.History.{Document, is_live, live, place}
-use Rattle.funnel_model.specs.Legal.{Limits, IsFull, IsIdle, is_journal_full}
+use Rattle.funnel_model.specs.Legal.{Limits, IsFull, IsIdle}
 use Rattle.funnel_model.specs.Steps.{IsReply}
 use Rattle.funnel_model.specs.Words.{meets}
 use Rattle.load_laws.specs.LonePass.{LoneStep, Adds, Deletes, Finds, count_of_takes}
@@ -26,13 +25,6 @@ use Rattle.load_laws.proofs.CallEvents.{add_event, delete_event, find_event}
 -- a number is live as long as the documents stay
 live_same : (id : ℕ) (before after : List Event) (b : Bool) → Quiet before after → is_live id before ≡ b → is_live id after ≡ b
 live_same id before after b quiet is = ap (λ (ds : List Document). list_any (λ d. d.id == id) ds) quiet.documents ∙ is
-
--- a journal that has room isn't full
-room_not_full : (limits : Limits) (before after : List Event) → Quiet before after → place before < limits.commits → is_journal_full limits after ≡ true → ⊥
-room_not_full limits before after quiet room full =
-    let same = quiet.at_place in
-    let at_end = eqb-true (place after) limits.commits full in
-    omega arith
 
 -- a find of a pass that is alone is answered by the documents that are live before it
 finds_by : (limits : Limits) (pass : ℕ) (before after : List Event) (query : List ℕ) (given : Reply) → Answered limits pass before after (call.Find query) given →
@@ -57,13 +49,12 @@ pub finds : (limits : Limits) (pass : ℕ) (before after : List Event) (query : 
 finds limits pass before after query given lone =
     finds_by limits pass before after query given (answered limits pass before after (call.Find query) given lone)
 
--- a live document of a pass that is alone is deleted where the journal has room
+-- a live document of a pass that is alone is deleted
 deletes_it_by : (limits : Limits) (pass : ℕ) (before after : List Event) (id : ℕ) (given : Reply) → Answered limits pass before after (call.Delete id) given →
-    is_live id before ≡ true → place before < limits.commits → Deletes before after id given
-deletes_it_by limits pass before after id given is present room =
+    is_live id before ≡ true → Deletes before after id given
+deletes_it_by limits pass before after id given is present =
     let h = is.earlier in
-    let by = delete_event limits h is.event id (live_same id before h true is.first present)
-    (room_not_full limits before h is.first room) is.allowed is.call in
+    let by = delete_event limits h is.event id (live_same id before h true is.first present) is.allowed is.call in
     let told : given ≡ reply.Deleted (place h + 1) = subst (λ x. IsReply limits h x given) by.1 is.reply in
     let one_commit : place (is.event ∷ []) ≡ 1 = ap (λ x. place (x ∷ [])) by.1 in
     let commits = place_after limits pass before after (call.Delete id) given is in
@@ -78,9 +69,9 @@ deletes_it_by limits pass before after id given is present room =
     }
 
 pub deletes_it : (limits : Limits) (pass : ℕ) (before after : List Event) (id : ℕ) (given : Reply) → LoneStep limits pass before after (call.Delete id) given →
-    is_live id before ≡ true → place before < limits.commits → Deletes before after id given
-deletes_it limits pass before after id given lone present room =
-    deletes_it_by limits pass before after id given (answered limits pass before after (call.Delete id) given lone) present room
+    is_live id before ≡ true → Deletes before after id given
+deletes_it limits pass before after id given lone present =
+    deletes_it_by limits pass before after id given (answered limits pass before after (call.Delete id) given lone) present
 
 -- while a pass that is alone makes an add, the engine isn't full where fewer columns were claimed than it has
 room_left : (limits : Limits) (pass : ℕ) (before after : List Event) (asked : Call) (given : Reply) → (is : Answered limits pass before after asked given) →
@@ -101,14 +92,13 @@ live_added before history pass id text slice column bits quiet =
     ∙ ap (λ (ds : List Document). ds ++ added (place history) ∷ []) quiet.documents
     ∙ ap (λ n. live before ++ added n ∷ []) quiet.at_place
 
--- a document of a pass that is alone is added, where its number isn't live, the journal has room, and fewer columns were claimed
--- than the engine has
+-- a document of a pass that is alone is added, where its number isn't live, and fewer columns were claimed than the engine has
 adds_by : (limits : Limits) (pass : ℕ) (before after : List Event) (id : ℕ) (text : List ℕ) (given : Reply) →
-    Answered limits pass before after (call.Add id text) given → is_live id before ≡ false → place before < limits.commits →
+    Answered limits pass before after (call.Add id text) given → is_live id before ≡ false →
     count_of_takes before < limits.slices * limits.columns → Adds before after id text given
-adds_by limits pass before after id text given is absent room few =
+adds_by limits pass before after id text given is absent few =
     let h = is.earlier in
-    let by = add_event limits h is.event id text (live_same id before h false is.first absent) (room_not_full limits before h is.first room)
+    let by = add_event limits h is.event id text (live_same id before h false is.first absent)
     (room_left limits pass before after (call.Add id text) given is few) is.allowed is.call in
     let told : given ≡ reply.Added (place h + 1) = subst (λ x. IsReply limits h x given) by.4 is.reply in
     let one_commit : place (is.event ∷ []) ≡ 1 = ap (λ x. place (x ∷ [])) by.4 in
@@ -123,7 +113,7 @@ adds_by limits pass before after id text given is absent room few =
     }
 
 pub adds : (limits : Limits) (pass : ℕ) (before after : List Event) (id : ℕ) (text : List ℕ) (given : Reply) →
-    LoneStep limits pass before after (call.Add id text) given → is_live id before ≡ false → place before < limits.commits →
+    LoneStep limits pass before after (call.Add id text) given → is_live id before ≡ false →
     count_of_takes before < limits.slices * limits.columns → Adds before after id text given
-adds limits pass before after id text given lone absent room few =
-    adds_by limits pass before after id text given (answered limits pass before after (call.Add id text) given lone) absent room few
+adds limits pass before after id text given lone absent few =
+    adds_by limits pass before after id text given (answered limits pass before after (call.Add id text) given lone) absent few

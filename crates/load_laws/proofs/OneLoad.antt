@@ -1,5 +1,5 @@
 -- A whole load that one worker makes: it fits an engine that has room for it, and its replies.
-use Rattle.std.proofs.Common.{◌≡◌, ◌≢◌, ℕ, zero, suc, ◌+◌, ◌*◌, ◌/◌, ◌%◌, ◌^◌, ◌==◌, ◌<◌, ◌≤◌, Bool, true, false, cond, not, ◌&&◌, List, [], ◌∷◌, ◌++◌, length, map, filter, flat_map, drop, refl, sym, ap, ap₂, ◌∙◌, subst, arith}
+use Rattle.std.proofs.Common.{◌≡◌, ◌≢◌, ℕ, zero, suc, ◌+◌, ◌*◌, ◌%◌, ◌^◌, ◌==◌, ◌<◌, ◌≤◌, Bool, true, false, cond, not, ◌&&◌, List, [], ◌∷◌, ◌++◌, length, map, filter, flat_map, drop, refl, sym, ap, ap₂, ◌∙◌, subst, arith}
 use Rattle.std.specs.List.{All, enumerate_from, range_with_len, sum_by}
 use Rattle.std.proofs.Math.Seq.{drop-append_seam}
 use Rattle.std.proofs.lemmas.List.{append_assoc, length-append}
@@ -14,7 +14,7 @@ use Rattle.funnel_model.specs.declared.reply.Reply.TheVariants as reply
 use Rattle.funnel_model.specs.Legal.{Limits}
 use Rattle.funnel_model.specs.Steps.{Linear}
 use Rattle.funnel_model.specs.Words.{meets}
-use Rattle.load_gen.specs.declared.limits.TheConstants.{CHECKED_ONE_IN, DELETED_ONE_IN, MOST_DOCS}
+use Rattle.load_gen.specs.declared.limits.TheConstants.{CHECKED_ONE_IN, MOST_DOCS}
 use Rattle.load_gen.specs.Documents.{document, documents, name_of_document}
 use Rattle.load_gen.specs.Jobs.{adds_of, deletes_of, is_deleted, jobs, queries_of}
 use Rattle.load_gen.specs.Queries.{queries}
@@ -98,13 +98,7 @@ adds_counted p add find n (text ∷ texts) =
     one true = ap₂ (λ a f. sum_by (λ b. cond b 1 0) (a ∷ f ∷ [])) (add n text) (find (name_of_document n))
     one false = ap (λ a. sum_by (λ b. cond b 1 0) (a ∷ [])) (add n text)
 
--- of deletes all are commits, and none is an add
-deletes_are_commits : (ids : List ℕ) → count_of is_commit (map call.Delete ids) ≡ length ids
-deletes_are_commits [] = refl
-deletes_are_commits (id ∷ ids) =
-    let later = deletes_are_commits ids in
-    sum_by-cons (λ c. cond (is_commit c) 1 0) (call.Delete id) (map call.Delete ids) ∙ omega (arith, later)
-
+-- of deletes none is an add
 deletes_are_no_adds : (ids : List ℕ) → count_of is_add (map call.Delete ids) ≡ 0
 deletes_are_no_adds [] = refl
 deletes_are_no_adds (id ∷ ids) =
@@ -119,17 +113,6 @@ adds_of_load texts =
     let third : count_of is_add third_part ≡ 0 = refl in
     let others = sum_by-append (λ c. cond (is_add c) 1 0) (second_part texts) third_part in
     sum_by-append (λ c. cond (is_add c) 1 0) (first_part texts) (second_part texts ++ third_part) ∙ omega (arith, first, second, third, others)
-
--- and besides a delete for one in ten
-commits_of_load : (texts : List (List ℕ)) → commits_in (all_parts texts) ≡ length texts + length texts / 10
-commits_of_load texts =
-    let first = adds_counted is_commit (λ id text. refl) (λ query. refl) 1 texts in
-    let second = deletes_are_commits (filter is_deleted (range_with_len 1 (length texts))) in
-    let third : count_of is_commit third_part ≡ 0 = refl in
-    let others = sum_by-append (λ c. cond (is_commit c) 1 0) (second_part texts) third_part in
-    let tenth = each_tenth (length texts) in
-    sum_by-append (λ c. cond (is_commit c) 1 0) (first_part texts) (second_part texts ++ third_part)
-    ∙ omega (arith, first, second, third, others, tenth)
 
 -- the generated documents are found by their names
 named_from : (words seed n docs : ℕ) → n + docs < 2 ^ 64 → All IsNamed (enumerate_from (n + 1) (map (document words seed) (range_with_len n docs)))
@@ -157,18 +140,16 @@ in_turn docs words seed few =
     (subst (λ held. AreInTurn held (second_part texts ++ third_part)) (sym first.after)
     (in_turn-append (enumerate_from 1 texts) (second_part texts) third_part (deletes_in_turn texts) (queries_in_turn left queries)))
 
--- a load fits an engine with a column for each document and with room in the journal for the adds and the deletes
+-- a load fits an engine with a column for each document
 pub load_fits : (limits : Limits) (docs words seed : ℕ) → docs ≤ MOST_DOCS → docs ≤ limits.slices * limits.columns →
-    docs + docs / DELETED_ONE_IN ≤ limits.commits → FitsEmptyEngine limits (jobs docs words seed 1 0)
-load_fits limits docs words seed few columns commits =
+    FitsEmptyEngine limits (jobs docs words seed 1 0)
+load_fits limits docs words seed few columns =
     let texts = documents docs words seed in
     let count = length-documents docs words seed in
     let of_adds = adds_of_load texts in
-    let of_commits = commits_of_load texts ∙ ap (λ n. n + n / 10) count in
     subst (FitsEmptyEngine limits) (sym (parts docs words seed)) (record {
       in_turn = in_turn docs words seed few;
       columns = omega (arith, of_adds, count, columns);
-      commits = omega (arith, of_commits, commits);
     })
 
 -- the replies to the second and the third part
@@ -207,14 +188,14 @@ load_is_short docs words seed few =
 
 -- a pass that is alone and finds memory is answered so
 pub load_is_replied : (limits : Limits) (pass docs words seed : ℕ) (after : List Event) (replies : List Reply) → docs ≤ MOST_DOCS →
-    docs ≤ limits.slices * limits.columns → docs + docs / DELETED_ONE_IN ≤ limits.commits → 2 ^ 62 ≤ limits.events →
+    docs ≤ limits.slices * limits.columns → 2 ^ 62 ≤ limits.events →
     Linear limits pass [] after (jobs docs words seed 1 0) replies → IsAlone pass after → All (λ r. r ≢ reply.Memory) replies →
     replies ≡ replies_to_jobs docs words seed
-load_is_replied limits pass docs words seed after replies few columns commits many run alone memory =
+load_is_replied limits pass docs words seed after replies few columns many run alone memory =
     let short = load_is_short docs words seed few in
     let events = four_events_a_call limits pass after (jobs docs words seed 1 0) replies run alone in
     load_is_answered limits pass after (jobs docs words seed 1 0) replies run alone (omega (arith, short, events, many)) memory
-    (load_fits limits docs words seed few columns commits)
+    (load_fits limits docs words seed few columns)
     ∙ load_answers docs words seed few
 
 -- the results in the last eight replies are those of the summary

@@ -68,11 +68,10 @@ adds_in calls = count_by is_add calls
 abbrev pub commits_in : List Call → ℕ
 commits_in calls = count_by is_commit calls
 
--- the calls fit an engine that is empty: they are in turn, it has a column for each add, and its journal has room for each commit
+-- the calls fit an engine that is empty: they are in turn, and it has a column for each add
 pub record FitsEmptyEngine (limits : Limits) (calls : List Call) : Type 0 where
   pub in_turn : AreInTurn [] calls
   pub columns : adds_in calls ≤ limits.slices * limits.columns
-  pub commits : commits_in calls ≤ limits.commits
 
 -- the history of an engine to which a load was put: these documents are live, and so many commits were made
 pub record HasDocuments (history : List Event) (documents : List (ℕ × List ℕ)) (commits : ℕ) : Type 0 where

@@ -1,5 +1,5 @@
 -- A load that several workers make: the history of the engine once all of them have ended, and what each was answered.
-use Rattle.std.specs.Prelude.{ℕ, ◌+◌, ◌-◌, ◌*◌, ◌/◌, ◌^◌, ◌<◌, ◌≤◌, ◌≡◌, ◌≢◌, List, [], ◌∷◌, ◌++◌, length, map, filter, not}
+use Rattle.std.specs.Prelude.{ℕ, ◌-◌, ◌*◌, ◌^◌, ◌<◌, ◌≤◌, ◌≡◌, ◌≢◌, List, [], ◌∷◌, ◌++◌, length, map, filter, not}
 use Rattle.std.specs.List.{All, range_with_len, sum_by}
 use Rattle.std.specs.List.Sorted.{IsPermutation}
 use mathlib.Core.List.{IsPrefix}
@@ -12,7 +12,7 @@ use Rattle.funnel_model.specs.Events.{pass_of}
 use Rattle.funnel_model.specs.History.{IsFrontOf, live, own}
 use Rattle.funnel_model.specs.Legal.{Limits, IsIdle, IsLegal}
 use Rattle.funnel_model.specs.Steps.{Linear}
-use Rattle.load_gen.specs.declared.limits.TheConstants.{DELETED_ONE_IN, MOST_DOCS}
+use Rattle.load_gen.specs.declared.limits.TheConstants.{MOST_DOCS}
 use Rattle.load_gen.specs.Documents.{document, documents, name_of_document}
 use Rattle.load_gen.specs.Jobs.{adds_of, calls_of_share, deletes_of, is_deleted, jobs, queries_of, share}
 use Rattle.load_gen.specs.Summary.{results_of}
@@ -88,12 +88,10 @@ pub record IsLoaded (limits : Limits) (docs words seed workers : ℕ) (history :
   pub parts : HasParts (documents docs words seed) workers history
   pub asked : (worker : ℕ) → worker < workers → HasAsked limits history worker (jobs docs words seed workers worker) (replies worker)
 
--- an empty engine has room for a load of so many documents: a column for each, and commits for the adds and the deletes; and it
--- takes more events than any load makes
+-- an empty engine has room for a load of so many documents: a column for each; and it takes more events than any load makes
 pub record HasRoomFor (limits : Limits) (docs : ℕ) : Type 0 where
   pub few : docs ≤ MOST_DOCS
   pub columns : docs ≤ limits.slices * limits.columns
-  pub commits : docs + docs / DELETED_ONE_IN ≤ limits.commits
   pub events : 2 ^ 62 ≤ limits.events
 
 -- how many calls all workers make

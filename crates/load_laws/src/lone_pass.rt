@@ -8,17 +8,17 @@ ghost use Rattle.funnel_model.specs.declared.reply.Reply.{Reply};
 ghost use Rattle.funnel_model.specs.declared.reply.Reply.TheVariants as reply;
 ghost use Rattle.funnel_model.specs.Example.{small};
 ghost use Rattle.funnel_model.specs.History.{IsFrontOf, is_live};
-ghost use Rattle.funnel_model.specs.Legal.{HasJournalRoom, IsLegal, Limits};
+ghost use Rattle.funnel_model.specs.Legal.{IsLegal, Limits};
 ghost use Rattle.funnel_model.specs.Steps.{Linear};
 ghost use Rattle.funnel_model.specs.Words.{meets};
 ghost use Rattle.load_laws.specs.LonePass.{IsAlone, LoneStep, Adds, Deletes, Finds, count_of_takes};
 ghost use Rattle.load_laws.specs.LoadExample.{small_load, small_load_events, small_load_replies};
 ghost use Rattle.load_laws.specs.Loads.{AreInTurn, FitsEmptyEngine, HasDocuments, answers_from, answers_of, commits_in, numbers_meeting, held_after};
 
-/// A document whose number is not live is added where the journal has room and fewer columns were claimed than the engine has.
+/// A document whose number is not live is added where fewer columns were claimed than the engine has.
 pub fn adds_are_committed()
     ensures { (limits : Limits) (pass : ℕ) (before after : List Event) (id : ℕ) (text : List ℕ) (given : Reply) →
-        LoneStep limits pass before after (call.Add id text) given → is_live id before ≡ false → HasJournalRoom limits before →
+        LoneStep limits pass before after (call.Add id text) given → is_live id before ≡ false →
         count_of_takes before < limits.slices * limits.columns → Adds before after id text given }
 {}
 
@@ -28,10 +28,10 @@ pub fn finds_are_answered()
         LoneStep limits pass before after (call.Find query) given → Finds before after query given }
 {}
 
-/// A live document is deleted where the journal has room.
+/// A live document is deleted.
 pub fn deletes_are_committed()
     ensures { (limits : Limits) (pass : ℕ) (before after : List Event) (id : ℕ) (given : Reply) →
-        LoneStep limits pass before after (call.Delete id) given → is_live id before ≡ true → HasJournalRoom limits before →
+        LoneStep limits pass before after (call.Delete id) given → is_live id before ≡ true →
         Deletes before after id given }
 {}
 

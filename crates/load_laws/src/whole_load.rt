@@ -35,10 +35,10 @@ pub fn one_more_document_is_walked()
         map call.Find (take (j + 1) queries) ≡ map call.Find (take j queries) ++ call.Find query ∷ [] }
 {}
 
-/// A load fits an empty engine that has a column for each document and a journal with room for the adds and the deletes.
+/// A load fits an empty engine that has a column for each document.
 pub fn loads_fit()
     ensures { (limits : Limits) (docs words seed : ℕ) → docs ≤ MOST_DOCS → docs ≤ limits.slices * limits.columns →
-        docs + docs / DELETED_ONE_IN ≤ limits.commits → FitsEmptyEngine limits (jobs docs words seed 1 0) }
+        FitsEmptyEngine limits (jobs docs words seed 1 0) }
 {}
 
 /// By a plain list of documents each add and each delete of a load is answered with its place, each find of a document's name
@@ -56,7 +56,7 @@ pub fn loads_are_short()
 /// eight replies have the results that the summary tells.
 pub fn loads_are_answered_as_told()
     ensures replies { (limits : Limits) (pass docs words seed : ℕ) (after : List Event) (replies : List Reply) → docs ≤ MOST_DOCS →
-        docs ≤ limits.slices * limits.columns → docs + docs / DELETED_ONE_IN ≤ limits.commits → 2 ^ 62 ≤ limits.events →
+        docs ≤ limits.slices * limits.columns → 2 ^ 62 ≤ limits.events →
         Linear limits pass [] after (jobs docs words seed 1 0) replies → IsAlone pass after → All (λ r. r ≢ reply.Memory) replies →
         replies ≡ replies_to_jobs docs words seed }
     ensures results { (docs words seed : ℕ) (earlier last : List Reply) → earlier ++ last ≡ replies_to_jobs docs words seed → length last ≡ 8 →

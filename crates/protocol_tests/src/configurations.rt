@@ -57,230 +57,132 @@ fn read(alloc: Global, bytes: &[u8], piece: usize, fails: &[u64]) -> Result<Stri
 
 const DEFAULTS: &str = "2 2 1 0 1024 10 10 1000 10 65536";
 
-/// Each row has bytes, and what they are read as.
-fn assert_rows(rt: &impl Abort, alloc: Global, rows: &[(&str, &str)]) -> Result<(), Fail> {
-    for (bytes, wanted) in rows {
-        let whole = read(alloc, bytes.as_bytes(), 5_000, &[])?;
-        assert_eq!(rt; whole.as_str(), *wanted, "of {bytes}");
-        let cut = read(alloc, bytes.as_bytes(), 1, &[])?;
-        assert_eq!(rt; cut.as_str(), *wanted, "of {bytes} in pieces of one byte");
-    }
-    Ok(())
-}
-
-const OBJECTS: [(&str, &str); 13] = [
-    ("", DEFAULTS),
-    ("{}", DEFAULTS),
-    (" \t\r\n{ }\n", DEFAULTS),
+/// Bytes, and what they are read as.
+static ROWS: [(&[u8], &str); 45] = [
+    (b"", DEFAULTS),
+    (b"{}", DEFAULTS),
+    (b" \t\r\n{ }\n", DEFAULTS),
     (
-        "{\"slices\":1,\"max_rank\":1}",
+        br#"{"slices":1,"max_rank":1}"#,
         "2 1 1 1 1024 10 10 1000 10 65536",
     ),
     (
-        "{\"passes\":64,\"slices\":1,\"blocks\":64,\"max_rank\":6,\"commits\":16777216,\"one_in\":20,\"snr\":1000,\"documents\":4294967296,\"tail\":0,\"max_rows\":1,\"words\":{}}",
+        br#"{"passes":64,"slices":1,"blocks":64,"max_rank":6,"commits":16777216,"one_in":20,"snr":1000,"documents":4294967296,"tail":0,"max_rows":1,"words":{}}"#,
         "64 1 64 6 16777216 20 1000 4294967296 0 1",
     ),
     (
-        "{\"passes\":1,\"slices\":1,\"blocks\":1,\"max_rank\":0,\"commits\":1,\"one_in\":2,\"snr\":1,\"documents\":1,\"tail\":100000,\"max_rows\":1048576,\"words\":{\"a\":1}}",
+        br#"{"passes":1,"slices":1,"blocks":1,"max_rank":0,"commits":1,"one_in":2,"snr":1,"documents":1,"tail":100000,"max_rows":1048576,"words":{"a":1}}"#,
         "1 1 1 0 1 2 1 1 100000 1048576 a:1",
     ),
     (
-        "{\"words\":{\"the\":1000,\"cat\":100,\"axolotl\":1}}",
+        br#"{"words":{"the":1000,"cat":100,"axolotl":1}}"#,
         "2 2 1 0 1024 10 10 1000 10 65536 axolotl:1 cat:100 the:1000",
     ),
     (
-        "{\"words\":{\"don't\":7,\"3.14\":8}}",
+        br#"{"words":{"don't":7,"3.14":8}}"#,
         "2 2 1 0 1024 10 10 1000 10 65536 3.14:8 don't:7",
     ),
     (
-        "{\"passes\":4,\"slices\":8,\"max_rank\":6,\"commits\":65536,\"documents\":20000,\"tail\":80}",
+        br#"{"passes":4,"slices":8,"max_rank":6,"commits":65536,"documents":20000,"tail":80}"#,
         "4 8 1 6 65536 10 10 20000 80 65536",
     ),
     // The last value of a key stands, and escapes in a key are read first.
     (
-        "{\"passes\":0,\"passes\":3}",
+        br#"{"passes":0,"passes":3}"#,
         "3 2 1 0 1024 10 10 1000 10 65536",
     ),
     (
-        "{\"passes\":3,\"p\\u0061sses\":4}",
+        br#"{"passes":3,"p\u0061sses":4}"#,
         "4 2 1 0 1024 10 10 1000 10 65536",
     ),
     (
-        "{\"words\":{\"cat\":0,\"cat\":5}}",
+        br#"{"words":{"cat":0,"cat":5}}"#,
         "2 2 1 0 1024 10 10 1000 10 65536 cat:5",
     ),
-    ("{\"words\":{\"Cat\":5},\"words\":{}}", DEFAULTS),
-];
-
-#[test]
-fn an_object_is_a_configuration(rt: HostRuntime) -> Result<(), Fail> {
-    assert_rows(&rt, rt.alloc(), &OBJECTS)
-}
-
-const NO_OBJECTS: [(&str, &str); 8] = [
-    ("[1]", "3: no JSON object"),
-    ("1", "3: no JSON object"),
-    (" ", "3: no JSON object"),
-    ("{", "3: no JSON object"),
-    ("{}{}", "3: no JSON object"),
-    ("{\"passes\":01}", "3: no JSON object"),
-    ("{\"passes\":1e999}", "3: no JSON object"),
-    ("{\"passes\":1,}", "3: no JSON object"),
-];
-
-#[test]
-fn other_bytes_are_no_object(rt: HostRuntime) -> Result<(), Fail> {
-    assert_rows(&rt, rt.alloc(), &NO_OBJECTS)
-}
-
-const UNKNOWN_KEYS: [(&str, &str); 3] = [
-    ("{\"speed\":1}", "4: unknown key \"speed\""),
+    (br#"{"words":{"Cat":5},"words":{}}"#, DEFAULTS),
+    // no object
+    (b"[1]", "3: no JSON object"),
+    (b"1", "3: no JSON object"),
+    (b" ", "3: no JSON object"),
+    (b"{", "3: no JSON object"),
+    (b"{}{}", "3: no JSON object"),
+    (br#"{"passes":01}"#, "3: no JSON object"),
+    (br#"{"passes":1e999}"#, "3: no JSON object"),
+    (br#"{"passes":1,}"#, "3: no JSON object"),
+    (b"{\"\xff\":1}", "3: no JSON object"),
+    // the first unknown key
+    (br#"{"speed":1}"#, r#"4: unknown key "speed""#),
     (
-        "{\"slow\":1,\"passes\":0,\"fast\":2}",
-        "4: unknown key \"fast\"",
+        br#"{"slow":1,"passes":0,"fast":2}"#,
+        r#"4: unknown key "fast""#,
     ),
-    ("{\"Passes\":1}", "4: unknown key \"Passes\""),
-];
-
-#[test]
-fn the_first_unknown_key_is_a_fault(rt: HostRuntime) -> Result<(), Fail> {
-    assert_rows(&rt, rt.alloc(), &UNKNOWN_KEYS)
-}
-
-const BAD_VALUES: [(&str, &str); 13] = [
-    ("{\"passes\":0}", "5: passes is 0"),
-    ("{\"passes\":65}", "5: passes is 65"),
-    ("{\"passes\":1.0}", "5: passes is another value"),
-    ("{\"passes\":1e0}", "5: passes is another value"),
-    ("{\"max_rank\":-0}", "5: max_rank is another value"),
+    (br#"{"Passes":1}"#, r#"4: unknown key "Passes""#),
+    // the first bad value
+    (br#"{"passes":0}"#, "5: passes is 0"),
+    (br#"{"passes":65}"#, "5: passes is 65"),
+    (br#"{"passes":1.0}"#, "5: passes is another value"),
+    (br#"{"passes":1e0}"#, "5: passes is another value"),
+    (br#"{"max_rank":-0}"#, "5: max_rank is another value"),
     (
-        "{\"commits\":18446744073709551616}",
+        br#"{"commits":18446744073709551616}"#,
         "5: commits is another value",
     ),
     (
-        "{\"commits\":18446744073709551615}",
+        br#"{"commits":18446744073709551615}"#,
         "5: commits is 18446744073709551615",
     ),
-    ("{\"documents\":4294967297}", "5: documents is 4294967297"),
-    ("{\"one_in\":1}", "5: one_in is 1"),
-    ("{\"snr\":\"10\"}", "5: snr is another value"),
-    ("{\"words\":5,\"tail\":null}", "5: tail is another value"),
-    ("{\"words\":[]}", "5: words is another value"),
-    ("{\"words\":{\"Cat\":1},\"max_rows\":0}", "5: max_rows is 0"),
-];
-
-#[test]
-fn the_first_bad_value_is_a_fault(rt: HostRuntime) -> Result<(), Fail> {
-    assert_rows(&rt, rt.alloc(), &BAD_VALUES)
-}
-
-const BAD_WORDS: [(&str, &str); 5] = [
-    ("{\"words\":{\"Cat\":1}}", "6: \"Cat\" is no folded word"),
+    (br#"{"documents":4294967297}"#, "5: documents is 4294967297"),
+    (br#"{"one_in":1}"#, "5: one_in is 1"),
+    (br#"{"snr":"10"}"#, "5: snr is another value"),
+    (br#"{"words":5,"tail":null}"#, "5: tail is another value"),
+    (br#"{"words":[]}"#, "5: words is another value"),
+    (br#"{"words":{"Cat":1},"max_rows":0}"#, "5: max_rows is 0"),
+    // the first bad word or count
+    (br#"{"words":{"Cat":1}}"#, r#"6: "Cat" is no folded word"#),
     (
-        "{\"words\":{\"a\":0,\"two words\":1}}",
-        "6: \"two words\" is no folded word",
+        br#"{"words":{"a":0,"two words":1}}"#,
+        r#"6: "two words" is no folded word"#,
     ),
-    ("{\"words\":{\"\":1}}", "6: \"\" is no folded word"),
+    (br#"{"words":{"":1}}"#, r#"6: "" is no folded word"#),
     (
-        "{\"documents\":10,\"words\":{\"cat\":11}}",
-        "7: the count of \"cat\" is 11",
+        br#"{"documents":10,"words":{"cat":11}}"#,
+        r#"7: the count of "cat" is 11"#,
     ),
     (
-        "{\"words\":{\"cat\":0.5,\"bat\":1}}",
-        "7: the count of \"cat\" is another value",
+        br#"{"words":{"cat":0.5,"bat":1}}"#,
+        r#"7: the count of "cat" is another value"#,
     ),
-];
-
-#[test]
-fn the_first_bad_word_or_count_is_a_fault(rt: HostRuntime) -> Result<(), Fail> {
-    assert_rows(&rt, rt.alloc(), &BAD_WORDS)
-}
-
-const BAD_SIZES: [(&str, &str); 2] = [
+    // sizes above their limits
     (
-        "{\"slices\":1024,\"blocks\":64,\"max_rank\":1}",
+        br#"{"slices":1024,"blocks":64,"max_rank":1}"#,
         "8: 8388608 columns",
     ),
     (
-        "{\"slices\":1024,\"blocks\":64}",
+        br#"{"slices":1024,"blocks":64}"#,
         "9: 39321600 words in the pool",
     ),
 ];
 
 #[test]
-fn sizes_above_their_limits_are_faults(rt: HostRuntime) -> Result<(), Fail> {
-    assert_rows(&rt, rt.alloc(), &BAD_SIZES)
-}
-
-#[test]
-fn bytes_that_are_no_text_are_no_json(rt: HostRuntime) -> Result<(), Fail> {
-    let answer = read(rt.alloc(), b"{\"\xff\":1}", 3, &[])?;
-    assert_eq!(rt; answer.as_str(), "3: no JSON object");
+fn bytes_are_a_configuration_or_have_a_fault(rt: HostRuntime) -> Result<(), Fail> {
+    for (bytes, wanted) in &ROWS {
+        for piece in [5_000, 1] {
+            let answer = read(rt.alloc(), bytes, piece, &[])?;
+            assert_eq!(rt;
+                answer.as_str(),
+                *wanted,
+                "of {bytes:?} in pieces of {piece}"
+            );
+        }
+    }
     Ok(())
 }
 
 #[test]
-fn the_second_read_fails(rt: HostRuntime) -> Result<(), Fail> {
-    let answer = read(rt.alloc(), b"{\"passes\":0}", 4, &[2])?;
+fn a_failed_read_and_too_many_bytes_are_told(rt: HostRuntime) -> Result<(), Fail> {
+    let answer = read(rt.alloc(), br#"{"passes":0}"#, 4, &[2])?;
     assert_eq!(rt; answer.as_str(), "1: a read failed");
-    Ok(())
-}
-
-/// `{"passes":` and so many arrays one in the other.
-fn nested(alloc: Global, depth: usize) -> Result<String, AllocError> {
-    let mut text = String::from_str(alloc, "{\"passes\":")?;
-    for _ in 0..depth {
-        text.push('[')?;
-    }
-    for _ in 0..depth {
-        text.push(']')?;
-    }
-    text.push('}')?;
-    Ok(text)
-}
-
-#[test]
-fn an_object_nests_at_most_127_deep(rt: HostRuntime) -> Result<(), Fail> {
-    for (arrays, wanted) in [
-        (126, "5: passes is another value"),
-        (127, "3: no JSON object"),
-    ] {
-        let text = nested(rt.alloc(), arrays)?;
-        let answer = read(rt.alloc(), text.as_bytes(), 4_096, &[])?;
-        assert_eq!(rt; answer.as_str(), wanted, "of {arrays} arrays");
-    }
-    Ok(())
-}
-
-#[test]
-fn a_source_is_read_to_the_limit(rt: HostRuntime) -> Result<(), Fail> {
-    for (spaces, object, wanted) in [
-        (16_777_214, "{}", DEFAULTS),
-        (16_777_215, "{}", "2: more than 16777216 bytes"),
-        (2_000_000, "[1]", "3: no JSON object"),
-        (
-            2_000_000,
-            "{\"slices\":1024,\"blocks\":64}",
-            "9: 39321600 words in the pool",
-        ),
-    ] {
-        let mut bytes = vec![in rt.alloc(); b' '; spaces]?;
-        bytes.extend_from_slice(object.as_bytes())?;
-        let answer = read(rt.alloc(), &bytes, 1_000_000, &[])?;
-        assert_eq!(rt; answer.as_str(), wanted, "of {spaces} spaces");
-    }
-    Ok(())
-}
-
-#[test]
-fn at_most_65536_words_are_listed(rt: HostRuntime) -> Result<(), Fail> {
-    let mut text = String::from_str(rt.alloc(), "{\"words\":{\"0\":1")?;
-    for i in 1..65_537 {
-        let entry = format!(in rt.alloc(); ",\"{i}\":1")?;
-        text.push_str(&entry)?;
-    }
-    text.push_str("}}")?;
-    let answer = read(rt.alloc(), text.as_bytes(), 100_000, &[])?;
-    assert_eq!(rt; answer.as_str(), "5: words is 65537");
+    let answer = told(rt.alloc(), &Err(ConfigFault::TooLong(16_777_216)))?;
+    assert_eq!(rt; answer.as_str(), "2: more than 16777216 bytes");
     Ok(())
 }

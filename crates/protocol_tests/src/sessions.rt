@@ -1,12 +1,9 @@
-//! Sessions over services of the tests.
-ghost use Rattle.std.specs.Prelude.{◌≡◌, IfOk};
-
+//! Sessions over a service that refuses each call.
 use funnel_io::{End, Got, MemConn, MemSink, MemSource, Source};
-use funnel_model::{Call, Event, Reply};
+use funnel_model::Reply;
 use line_proto::{Request, Service};
 use session::{MOST_BYTES, serve_session};
-use std::alloc::{AllocError, Global};
-use std::marker::Model;
+use std::alloc::Global;
 use std::process::Abort;
 use std::test::Fail;
 
@@ -26,60 +23,6 @@ impl Service for SpentPass {
 
     fn call(&mut self, _request: &Request<'_>) -> Reply {
         Reply::Spent
-    }
-}
-
-// A pass of an engine without slices, which takes one event.
-#[derive(Drop)]
-struct OneEvent {
-    made: Option<Event>,
-}
-
-impl Model for OneEvent {
-    ghost use Rattle.std.specs.Prelude.{List};
-    ghost use Rattle.std.specs.Option.{option_to_list};
-    ghost use Rattle.funnel_model.specs.declared.event.Event.{Event};
-    ghost use Rattle.funnel_model.specs.Legal.{IsIdle, IsLegal};
-
-    ghost Value = { List Event };
-
-    ghost view = { λ p. option_to_list p.made };
-
-    ghost invariant = { λ p. IsIdle 0 (option_to_list p.made) × IsLegal
-        (record { passes = 1; slices = 0; columns = 1; slice_words = 1; commits = 1; events = 1 })
-        (option_to_list p.made) };
-}
-
-impl Service for OneEvent {
-    ghost caller = { λ _. record {
-      limits = record { passes = 1; slices = 0; columns = 1; slice_words = 1; commits = 1; events = 1 };
-      pass = 0;
-    } };
-
-    ghost front = { λ history. history };
-
-    fn call(&mut self, request: &Request<'_>) -> Reply {
-        if self.made.is_some() {
-            return Reply::Spent;
-        }
-        match request {
-            Request::Add { .. } | Request::Find { .. } | Request::Journal { .. } => Reply::Memory,
-            Request::Delete { id } => {
-                let call = Call::Delete { id: *id };
-                self.made = Some(Event::No { pass: 0, call });
-                Reply::Absent
-            }
-            Request::Recycle => {
-                let call = Call::Recycle;
-                self.made = Some(Event::No { pass: 0, call });
-                Reply::NothingRetired
-            }
-            Request::Place => {
-                let call = Call::Place;
-                self.made = Some(Event::Read { pass: 0, call });
-                Reply::Place(0)
-            }
-        }
     }
 }
 
@@ -108,119 +51,51 @@ fn expect_session(
     end: End,
     output: &str,
 ) {
-    if limit == 0 || limit > MOST_BYTES {
-        return;
-    }
+    assert!(rt; 0 < limit && limit <= MOST_BYTES);
     assert_eq!(rt; serve_session(alloc, &mut SpentPass, conn, limit), end);
     assert_eq!(rt; conn.sink.bytes(), output.as_bytes());
 }
 
+// Three lines and a fourth one without its newline, in five pieces.
 const FIVE: &[&[u8]] = &[b"place\n", b"fi", b"nd\nplaces\nadd 1 a\n", b"del ", b"5"];
 
-#[test]
-fn each_line_is_answered(rt: HostRuntime) -> Result<(), Fail> {
-    let mut none = conn_of(rt.alloc(), &[], &[], &[])?;
-    expect_session(&rt, rt.alloc(), &mut none, MOST_BYTES, End::Done, "");
-    let mut five = conn_of(rt.alloc(), FIVE, &[], &[])?;
-    expect_session(
-        &rt,
-        rt.alloc(),
-        &mut five,
-        MOST_BYTES,
-        End::Done,
-        "refused spent\nrefused spent\nrefused line\nrefused spent\nrefused spent\n",
-    );
-    Ok(())
-}
+const ONE: &str = "refused spent\n";
+
+const TWO: &str = "refused spent\nrefused spent\n";
+
+const THREE: &str = "refused spent\nrefused spent\nrefused line\n";
+
+const FOUR: &str = "refused spent\nrefused spent\nrefused line\nrefused spent\n";
+
+const ALL: &str = "refused spent\nrefused spent\nrefused line\nrefused spent\nrefused spent\n";
+
+const NONE: &[u64] = &[];
+
+// The pieces of an input, the reads and the writes that fail, how many bytes are taken at most, the end and the output.
+static SESSIONS: [(&[&[u8]], &[u64], &[u64], u64, End, &str); 15] = [
+    (&[], NONE, NONE, MOST_BYTES, End::Done, ""),
+    (FIVE, NONE, NONE, MOST_BYTES, End::Done, ALL),
+    (FIVE, &[1], NONE, MOST_BYTES, End::ReadFault, ""),
+    (FIVE, &[2], NONE, MOST_BYTES, End::ReadFault, ONE),
+    (FIVE, &[3], NONE, MOST_BYTES, End::ReadFault, ONE),
+    (FIVE, &[4], NONE, MOST_BYTES, End::ReadFault, FOUR),
+    (FIVE, &[5], NONE, MOST_BYTES, End::ReadFault, FOUR),
+    (FIVE, &[6], NONE, MOST_BYTES, End::ReadFault, FOUR),
+    (FIVE, NONE, &[1], MOST_BYTES, End::WriteFault, ""),
+    (FIVE, NONE, &[2], MOST_BYTES, End::WriteFault, ONE),
+    (FIVE, NONE, &[3], MOST_BYTES, End::WriteFault, TWO),
+    (FIVE, NONE, &[4], MOST_BYTES, End::WriteFault, THREE),
+    (FIVE, NONE, &[5], MOST_BYTES, End::WriteFault, FOUR),
+    // a line that the limit cuts is not answered, nor one that ends at it without a newline
+    (&[b"place\nplace\n"], NONE, NONE, 8, End::ByteLimit(8), ONE),
+    (&[b"place\nplace"], NONE, NONE, 11, End::ByteLimit(11), ONE),
+];
 
 #[test]
-fn a_session_ends_at_its_limit(rt: HostRuntime) -> Result<(), Fail> {
-    let mut conn = conn_of(rt.alloc(), &[b"place\nplace\n"], &[], &[])?;
-    expect_session(
-        &rt,
-        rt.alloc(),
-        &mut conn,
-        8,
-        End::ByteLimit(8),
-        "refused spent\n",
-    );
-    let mut exact = conn_of(rt.alloc(), &[b"place\nplace"], &[], &[])?;
-    expect_session(
-        &rt,
-        rt.alloc(),
-        &mut exact,
-        11,
-        End::ByteLimit(11),
-        "refused spent\n",
-    );
-    Ok(())
-}
-
-#[test]
-fn a_line_that_the_limit_cuts_is_not_answered(rt: HostRuntime) -> Result<(), Fail> {
-    let mut pass = OneEvent { made: None };
-    let mut conn = conn_of(rt.alloc(), &[b"place\nplace\n"], &[], &[])?;
-    assert_eq!(rt;
-        serve_session(rt.alloc(), &mut pass, &mut conn, 8),
-        End::ByteLimit(8)
-    );
-    assert_eq!(rt; conn.sink.bytes(), b"place 0\n".as_slice());
-    Ok(())
-}
-
-#[test]
-fn a_failed_read_ends_it_and_cuts_its_line(rt: HostRuntime) -> Result<(), Fail> {
-    for (number, output) in [
-        (1u64, ""),
-        (2, "refused spent\n"),
-        (3, "refused spent\n"),
-        (
-            4,
-            "refused spent\nrefused spent\nrefused line\nrefused spent\n",
-        ),
-        (
-            5,
-            "refused spent\nrefused spent\nrefused line\nrefused spent\n",
-        ),
-        (
-            6,
-            "refused spent\nrefused spent\nrefused line\nrefused spent\n",
-        ),
-    ] {
-        let mut conn = conn_of(rt.alloc(), FIVE, &[number], &[])?;
-        expect_session(
-            &rt,
-            rt.alloc(),
-            &mut conn,
-            MOST_BYTES,
-            End::ReadFault,
-            output,
-        );
-    }
-    Ok(())
-}
-
-#[test]
-fn a_failed_write_ends_it(rt: HostRuntime) -> Result<(), Fail> {
-    for (number, output) in [
-        (1u64, ""),
-        (2, "refused spent\n"),
-        (3, "refused spent\nrefused spent\n"),
-        (4, "refused spent\nrefused spent\nrefused line\n"),
-        (
-            5,
-            "refused spent\nrefused spent\nrefused line\nrefused spent\n",
-        ),
-    ] {
-        let mut conn = conn_of(rt.alloc(), FIVE, &[], &[number])?;
-        expect_session(
-            &rt,
-            rt.alloc(),
-            &mut conn,
-            MOST_BYTES,
-            End::WriteFault,
-            output,
-        );
+fn lines_are_answered_to_the_end_the_limit_or_the_first_fault(rt: HostRuntime) -> Result<(), Fail> {
+    for (pieces, reads, writes, limit, end, output) in &SESSIONS {
+        let mut conn = conn_of(rt.alloc(), pieces, reads, writes)?;
+        expect_session(&rt, rt.alloc(), &mut conn, *limit, *end, output);
     }
     Ok(())
 }
@@ -237,11 +112,8 @@ fn after_a_failed_write_nothing_more_is_read(rt: HostRuntime) -> Result<(), Fail
 
 // A line of an add with so many letters and this ending, in pieces of one size.
 fn long_add(alloc: Global, letters: usize, ending: &[u8], size: usize) -> Result<MemConn, Fail> {
-    let mut bytes = Vec::new(alloc);
-    bytes.extend_from_slice(b"add 1 ")?;
-    for _ in 0..letters {
-        bytes.push(b'a')?;
-    }
+    let mut bytes = Vec::from_slice(alloc, b"add 1 ")?;
+    bytes.resize(letters.saturating_add(6), b'a')?;
     bytes.extend_from_slice(ending)?;
     let mut pieces = Vec::new(alloc);
     for piece in bytes.chunks(size.max(1)) {
@@ -251,21 +123,36 @@ fn long_add(alloc: Global, letters: usize, ending: &[u8], size: usize) -> Result
     Ok(MemConn::new(MemSource::new(pieces, Vec::new(alloc)), sink))
 }
 
+// The letters of an add, what follows them, the size of the pieces, and the reply.
+static LONG: [(usize, &[u8], usize, &str); 21] = [
+    (65_530, b"", 1, "refused spent\n"),
+    (65_530, b"\n", 1, "refused spent\n"),
+    (65_529, b"\r\n", 1, "refused spent\n"),
+    (65_530, b"\r\n", 1, "refused long\n"),
+    (65_530, b"\r", 1, "refused long\n"),
+    (65_531, b"", 1, "refused long\n"),
+    (65_531, b"\n", 1, "refused long\n"),
+    (65_530, b"", 4_096, "refused spent\n"),
+    (65_530, b"\n", 4_096, "refused spent\n"),
+    (65_529, b"\r\n", 4_096, "refused spent\n"),
+    (65_530, b"\r\n", 4_096, "refused long\n"),
+    (65_530, b"\r", 4_096, "refused long\n"),
+    (65_531, b"", 4_096, "refused long\n"),
+    (65_531, b"\n", 4_096, "refused long\n"),
+    (65_530, b"", 100_000, "refused spent\n"),
+    (65_530, b"\n", 100_000, "refused spent\n"),
+    (65_529, b"\r\n", 100_000, "refused spent\n"),
+    (65_530, b"\r\n", 100_000, "refused long\n"),
+    (65_530, b"\r", 100_000, "refused long\n"),
+    (65_531, b"", 100_000, "refused long\n"),
+    (65_531, b"\n", 100_000, "refused long\n"),
+];
+
 #[test]
 fn a_line_of_more_than_65536_bytes_is_refused(rt: HostRuntime) -> Result<(), Fail> {
-    for (letters, ending, output) in [
-        (65_530, b"" as &[u8], "refused spent\n"),
-        (65_530, b"\n", "refused spent\n"),
-        (65_529, b"\r\n", "refused spent\n"),
-        (65_530, b"\r\n", "refused long\n"),
-        (65_530, b"\r", "refused long\n"),
-        (65_531, b"", "refused long\n"),
-        (65_531, b"\n", "refused long\n"),
-    ] {
-        for size in [1, 4_096, 100_000] {
-            let mut conn = long_add(rt.alloc(), letters, ending, size)?;
-            expect_session(&rt, rt.alloc(), &mut conn, MOST_BYTES, End::Done, output);
-        }
+    for (letters, ending, size, output) in &LONG {
+        let mut conn = long_add(rt.alloc(), *letters, ending, *size)?;
+        expect_session(&rt, rt.alloc(), &mut conn, MOST_BYTES, End::Done, output);
     }
     Ok(())
 }

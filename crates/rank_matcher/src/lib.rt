@@ -12,6 +12,3 @@ mod words;
 
 pub use laws::{documents_with_all_bits_are_hits, written_bits_are_found};
 pub use scanning::scan;
-
-#[cfg(test)]
-mod tests;

@@ -11,6 +11,3 @@ mod shared;
 pub use image::Image;
 pub use rows::Rows;
 pub use shared::Shared;
-
-#[cfg(test)]
-mod tests;

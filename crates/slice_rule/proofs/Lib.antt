@@ -15,5 +15,4 @@ pub mod OwnSteps
 pub mod KeptStates
 pub mod Opening
 mod Told
-pub mod TestHistories
 pub mod Sharing

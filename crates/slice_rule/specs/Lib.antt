@@ -6,4 +6,3 @@ pub mod Rule
 pub mod Tells
 pub mod Seats
 pub mod Kept
-pub mod Tested

@@ -33,6 +33,3 @@ pub use close::Ended;
 pub use entry::Entry;
 pub use pool::{Pool, PoolName};
 pub use seats::{Home, Note, PassSeat};
-
-#[cfg(test)]
-mod tests;

@@ -95,6 +95,7 @@ impl Pool {
         requires pool { seat.old.pool ≡ self.now }
         requires own { pass_of (E.event entry.now) ≡ seat.old.number }
         requires none_outstanding { HasNoneOutstanding seat.old }
+        requires ready { IsReady self.now.limits seat.old (E.event entry.now) }
         requires named { J.named ≡ E.event entry.now }
         ensures { seat.new ≡ after_ask seat.old (E.event entry.now) }
     {

@@ -11,6 +11,3 @@ mod stages;
 
 pub use stage::Stage;
 pub use stages::Stages;
-
-#[cfg(test)]
-mod tests;

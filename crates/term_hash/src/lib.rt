@@ -3,8 +3,6 @@
 
 mod hash;
 mod row;
-#[cfg(test)]
-mod tests;
 
 pub use hash::fnv;
 pub use row::{WordHash, row_of};

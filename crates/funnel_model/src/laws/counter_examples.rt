@@ -15,14 +15,13 @@ ghost use Rattle.funnel_model.specs.Tokens.{MayRead};
 
 /// Not legal are a take of slice 1 while slice 0 has an unclaimed column, the clear of slice 1 while slice 0 can be cleared,
 /// that of a slice that isn't retired, that of one under a token that may read it, a refused recycle while a retired slice is
-/// unguarded, also where the journal is full, and an opening of a slice that wasn't cleared.
+/// unguarded, and an opening of a slice that wasn't cleared.
 pub fn slices_out_of_turn()
     ensures take { IsLegal paired (event.Take 0 1 0 ∷ []) → ⊥ }
     ensures clear { IsLegal paired (unguarded ++ event.Clear 0 1 ∷ []) → ⊥ }
     ensures live { IsLegal paired (slices_filled ++ event.Clear 0 0 ∷ []) → ⊥ }
     ensures reader { IsLegal paired (guarded ++ event.Clear 0 0 ∷ []) → ⊥ }
     ensures recycle { IsLegal paired (unguarded ++ event.No 0 call.Recycle ∷ []) → ⊥ }
-    ensures full { IsLegal (record paired { commits = 4 }) (unguarded ++ event.No 0 call.Recycle ∷ []) → ⊥ }
     ensures opened { IsLegal paired (event.Opened 0 0 true ∷ []) → ⊥ }
 {}
 
@@ -51,14 +50,8 @@ pub fn adds_out_of_place()
     ensures absent { IsLegal paired (event.Take 0 0 0 ∷ event.Add 0 9 [] 0 0 [] ∷ event.Del 0 7 ∷ []) → ⊥ }
 {}
 
-/// Not legal are an add and a delete that would be one commit more than the journal holds.
-pub fn full_journals_take_no_commit()
-    ensures add { IsLegal (record paired { commits = 1 }) (event.Take 0 0 0 ∷ event.Add 0 9 [] 0 0 [] ∷ event.Take 0 1 0 ∷ event.Add 0 7 [] 1 0 [] ∷ []) → ⊥ }
-    ensures delete { IsLegal (record paired { commits = 1 }) (event.Take 0 0 0 ∷ event.Add 0 9 [] 0 0 [] ∷ event.Del 0 9 ∷ []) → ⊥ }
-{}
-
-/// Not legal are a refusal of an add that has room, of a delete of a live number while the journal has room, and of a call that
-/// only reads, and the reading of a call that doesn't.
+/// Not legal are a refusal of an add that has room, of a delete of a live number, and of a call that only reads, and the reading
+/// of a call that doesn't.
 pub fn calls_refused_for_no_cause()
     ensures add { IsLegal paired (event.No 0 (call.Add 9 []) ∷ []) → ⊥ }
     ensures delete { IsLegal paired (event.Take 0 0 0 ∷ event.Add 0 9 [] 0 0 [] ∷ event.No 0 (call.Delete 9) ∷ []) → ⊥ }

@@ -5,7 +5,7 @@ ghost use Rattle.funnel_model.specs.Blocks.{AreBlocks};
 ghost use Rattle.funnel_model.specs.declared.block.Block.TheVariants as block;
 ghost use Rattle.funnel_model.specs.declared.call.Call.TheVariants as call;
 ghost use Rattle.funnel_model.specs.declared.event.Event.TheVariants as event;
-ghost use Rattle.funnel_model.specs.Example.{AreReplies, episode, episode_calls, episode_replies, filling_and_deleting, last_commit, last_commit_replies, later_added, reuse, reuse_replies, same_number, same_number_replies, shared, small};
+ghost use Rattle.funnel_model.specs.Example.{AreReplies, episode, episode_calls, episode_replies, filling_and_deleting, forgetful, later_added, reuse, reuse_replies, same_number, same_number_replies, shared, small, trimmed, trimmed_replies};
 ghost use Rattle.funnel_model.specs.History.{own};
 ghost use Rattle.funnel_model.specs.Legal.{IsFull, IsLegal};
 ghost use Rattle.funnel_model.specs.RecycleExample.{both_clearing, covering, first_set, guarded, held, low_bit, not_covering, paired, recycled, second_set, together, together_replies, unguarded};
@@ -32,15 +32,18 @@ pub fn reuse_example()
 {}
 
 /// There is a legal history in which two passes add the same number at once, and the later one is dropped. These are its
-/// replies, also where the journal is full by then, and the dropped add is the later pass's own call. In another one the later
-/// document is dropped for the full journal alone.
+/// replies, and the dropped add is the later pass's own call.
 pub fn drop_example()
     ensures legal { IsLegal shared same_number }
     ensures replies { AreReplies shared same_number same_number_replies }
     ensures own { own 1 same_number ≡ call.Add 4 [] ∷ [] }
-    ensures present_first { AreReplies (record shared { commits = 1 }) same_number same_number_replies }
-    ensures full_legal { IsLegal (record shared { commits = 1 }) last_commit }
-    ensures full_replies { AreReplies (record shared { commits = 1 }) last_commit last_commit_replies }
+{}
+
+/// There is a legal history of five commits, of which the journal keeps one. A journal from before it is told how many commits are
+/// no longer kept, one from there on has it, and one from past it has none.
+pub fn trimmed_example()
+    ensures legal { IsLegal forgetful trimmed }
+    ensures replies { AreReplies forgetful trimmed trimmed_replies }
 {}
 
 /// There is a legal history of two slices with a recycle that is refused where nothing is retired, one that is refused with its

@@ -1,5 +1,5 @@
 //! What events are answered: each call has one reply, and each refusal has its cause.
-ghost use Rattle.std.specs.Prelude.{◌≡◌, ◌+◌, ◌<◌, ◌↔◌, ℕ, true, false, List, [], ◌∷◌, ◌++◌, length, Some};
+ghost use Rattle.std.specs.Prelude.{◌≡◌, ◌+◌, ◌<◌, ◌≤◌, ◌↔◌, ℕ, true, false, List, [], ◌∷◌, ◌++◌, length, Some};
 ghost use mathlib.Core.List.{IsPrefix};
 ghost use Rattle.funnel_model.specs.Blocks.{AreBlocks, IsBlock};
 ghost use Rattle.funnel_model.specs.declared.block.Block.{Block};
@@ -10,8 +10,8 @@ ghost use Rattle.funnel_model.specs.declared.event.Event.TheVariants as event;
 ghost use Rattle.funnel_model.specs.declared.reply.Reply.{Reply};
 ghost use Rattle.funnel_model.specs.declared.reply.Reply.TheVariants as reply;
 ghost use Rattle.funnel_model.specs.Events.{call_of};
-ghost use Rattle.funnel_model.specs.History.{is_live, live_place};
-ghost use Rattle.funnel_model.specs.Legal.{IsFull, IsLegal, Limits, is_journal_full};
+ghost use Rattle.funnel_model.specs.History.{base, commits_after, is_live, live_place, place};
+ghost use Rattle.funnel_model.specs.Legal.{IsFull, IsLegal, Limits};
 ghost use Rattle.funnel_model.specs.Slices.{IsRetired};
 ghost use Rattle.funnel_model.specs.Steps.{IsLowestGuarded, IsReply, IsReplyAt, Linear, NoneRetired};
 ghost use Rattle.funnel_model.specs.Tokens.{IsGuarded};
@@ -33,23 +33,32 @@ pub fn each_call_has_one_reply()
         (asked : Call) × (call_of e ≡ Some asked) }
 {}
 
-/// In a legal history a refusal tells what was so right before its event: Present the place of the live document's add, Journal
-/// full and Full that they are, Absent that the number wasn't live, and of a recycle that no slice was retired, or that each
-/// retired one was guarded, the lowest of them by this pass and none below it.
+/// In a legal history a refusal tells what was so right before its event: Present the place of the live document's add, Full that
+/// the engine was, Absent that the number wasn't live, Trimmed how many commits the journal no longer kept, one of which was asked
+/// for, and of a recycle that no slice was retired, or that each retired one was guarded, the lowest of them by this pass and none
+/// below it.
 pub fn refusals_have_their_cause()
     ensures present { (limits : Limits) (before : List Event) (e : Event) (place : ℕ) → IsReply limits before e (reply.Present place) →
         (id : ℕ) × (text : List ℕ) × (call_of e ≡ Some (call.Add id text)) × (live_place id before ≡ Some place) }
-    ensures journal_full { (limits : Limits) (before later : List Event) (e : Event) → IsLegal limits (before ++ e ∷ later) →
-        IsReply limits before e reply.JournalFull → is_journal_full limits before ≡ true }
+    ensures trimmed { (limits : Limits) (before : List Event) (e : Event) (n : ℕ) → IsReply limits before e (reply.Trimmed n) →
+        (pass : ℕ) × (from : ℕ) × (e ≡ event.Read pass (call.Journal from)) × (from < n) × (n ≡ base limits.commits before) }
     ensures full { (limits : Limits) (before later : List Event) (e : Event) → IsLegal limits (before ++ e ∷ later) →
         IsReply limits before e reply.Full → IsFull limits before }
-    ensures absent { (limits : Limits) (before : List Event) (e : Event) → IsReply limits before e reply.Absent →
+    ensures absent { (limits : Limits) (before later : List Event) (e : Event) → IsLegal limits (before ++ e ∷ later) → IsReply limits before e reply.Absent →
         (pass : ℕ) × (id : ℕ) × (e ≡ event.No pass (call.Delete id)) × (is_live id before ≡ false) }
     ensures none_retired { (limits : Limits) (before : List Event) (e : Event) → IsReply limits before e reply.NothingRetired →
         NoneRetired limits before }
     ensures guarded { (limits : Limits) (before later : List Event) (e : Event) (slice pass : ℕ) → IsLegal limits (before ++ e ∷ later) →
         IsReply limits before e (reply.Guarded slice pass) → IsLowestGuarded limits before slice pass
         × ((other : ℕ) → other < limits.slices → IsRetired limits.columns other before → IsGuarded limits.columns before other) }
+{}
+
+/// The commits that a journal keeps are the last ones: with those before them they are all, they are no more than it keeps, and
+/// no fewer while there are so many.
+pub fn journals_keep_the_last_commits()
+    ensures all { (kept : ℕ) (history : List Event) → place history ≡ base kept history + length (commits_after history (base kept history)) }
+    ensures few { (kept : ℕ) (history : List Event) → length (commits_after history (base kept history)) ≤ kept }
+    ensures many { (kept : ℕ) (history : List Event) → kept ≤ place history → length (commits_after history (base kept history)) ≡ kept }
 {}
 
 /// In a legal history one thing at most keeps documents out of a slice, so the blocks of a full engine are determined.

@@ -1,4 +1,4 @@
-use Rattle.std.proofs.Common.{◌≡◌, ℕ, List, [], ◌∷◌, ◌++◌, Err, refl, ap, append-nil}
+use Rattle.std.proofs.Common.{ℕ, List, [], ◌∷◌, Err, refl, ap, append-nil}
 use Rattle.funnel_model.specs.declared.call.Call.{Call}
 use Rattle.funnel_model.specs.declared.call.Call.TheVariants as call
 use Rattle.funnel_model.specs.declared.event.Event.{Event}
@@ -25,14 +25,12 @@ refusal history pass asked = live-silent history (event.No pass asked) (λ id. r
 take : (history : List Event) (pass id : ℕ) (text : List ℕ) (fault : AddFault) → KeepsDocuments history (events_of_take pass id text (taken.Refused fault))
 take history pass id text (add.Spent events) = none history
 take history pass id text (add.Present added) = refusal history pass (call.Add id text)
-take history pass id text (add.JournalFull count) = refusal history pass (call.Add id text)
 take history pass id text (add.Full blocks) = refusal history pass (call.Add id text)
 take history pass id text add.Memory = refusal history pass (call.Add id text)
 
 deleting : (history : List Event) (pass id : ℕ) (fault : DeleteFault) → KeepsDocuments history (events_of_delete pass id (Err fault))
 deleting history pass id (delete.Spent events) = none history
 deleting history pass id delete.Absent = refusal history pass (call.Delete id)
-deleting history pass id (delete.JournalFull count) = refusal history pass (call.Delete id)
 
 clearing : (history : List Event) (pass : ℕ) (fault : ClearRefusal) → KeepsDocuments history (events_of_clear pass (Err fault))
 clearing history pass (clear.Spent events) = none history

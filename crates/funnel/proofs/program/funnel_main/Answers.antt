@@ -64,4 +64,4 @@ returns-in-Serve-clause-ends g c =
     serve_in_turns g.G.Gate.next_gives g.G.Gate.done_gives g.G.Conn.Source.read_gives g.G.Conn.Sink.write_gives g.G.Conn.Source.incoming g.G.Conn.Sink.outgoing
     state words before after c.serve_gates.result.why c.serve_gates.result.closed c.args.gates.items c.serve_gates.result.gates.items serve config refl refl
     (record { words_are = search rules; read = search rules; faults = search rules })
-    (subst (λ n. misfit_of (command.Serve serve) n config ≡ None) (sym (length-map c.args.gates.items state)) fits) refl refl c.serve_gates.ensures.ends
+    (subst (λ n. misfit_of (command.Serve serve) n config ≡ None) (sym (length-map c.args.gates.items state)) fits) refl refl c.serve_gates.ensures.ends c.serve_gates.ensures.kept

@@ -7,8 +7,10 @@ use Rattle.engine.proofs.NewPasses.{new_numbers, new_rest}
 use Rattle.funnel_server.specs.Loads.{IsCutShort, IsPut, front_at}
 use Rattle.load_gen.specs.Documents.{documents}
 use Rattle.slice_rule.specs.Seats.{new_pass_state}
+use Rattle.funnel.proofs.Endings.{keeps_last}
 use Rattle.funnel.proofs.LoadEnds.{HasClosed, ends_load, from_nothing, load_fits, on_fault, on_ok, part_of_load, whole_load}
 use Rattle.funnel.proofs.LoadPasses.{AreUsedBy, every_pass}
+use Rattle.funnel.proofs.Opened.{opened_config, opened_counted, opened_limits, opened_passes}
 use Rattle.funnel.proofs.Passes.{number_of}
 use Rattle.funnel.specs.Runs.{limits_by}
 use Rattle.funnel.specs.Serving.{new_passes}
@@ -17,8 +19,8 @@ use Rattle.funnel.proofs.workload.make_load.Goals as goal
 pub run_load-passes-requires-clause-enough : goal.run_load-passes-requires-clause-enough
 run_load-passes-requires-clause-enough g c κs within =
     let pool = c.in-Ok-open.engine in
-    let new : c.in-Ok-open.passes.items ≡ new_passes pool 0 pool.config.passes = search rules in
-    let config_is : pool.config ≡ c.args.config.now = search rules in
+    let new = opened_passes pool c.args.blank c.args.config.now c.in-Ok-open.ensures.engine c.requires.made_with c.in-Ok-open.passes.items c.in-Ok-open.ensures.passes in
+    let config_is = opened_config pool c.args.blank c.args.config.now c.in-Ok-open.ensures.engine c.requires.made_with in
     let fits = load_fits c.args.command c.args.config.now c.requires.fits in
     let count = ap length new ∙ length-map-range_with_len (new_pass_state pool) 0 pool.config.passes in
     omega (arith, fits.passes, count, ap (λ k. k.passes) config_is)
@@ -26,21 +28,21 @@ run_load-passes-requires-clause-enough g c κs within =
 pub run_load-passes-requires-clause-rest : goal.run_load-passes-requires-clause-rest
 run_load-passes-requires-clause-rest g c κs within =
     let pool = c.in-Ok-open.engine in
-    let new : c.in-Ok-open.passes.items ≡ new_passes pool 0 pool.config.passes = search rules in
+    let new = opened_passes pool c.args.blank c.args.config.now c.in-Ok-open.ensures.engine c.requires.made_with c.in-Ok-open.passes.items c.in-Ok-open.ensures.passes in
     subst (All (IsResting pool)) (sym new) (new_rest pool (range_with_len 0 pool.config.passes))
 
 pub run_load-passes-requires-clause-numbers : goal.run_load-passes-requires-clause-numbers
 run_load-passes-requires-clause-numbers g c κs within =
     let pool = c.in-Ok-open.engine in
-    let new : c.in-Ok-open.passes.items ≡ new_passes pool 0 pool.config.passes = search rules in
+    let new = opened_passes pool c.args.blank c.args.config.now c.in-Ok-open.ensures.engine c.requires.made_with c.in-Ok-open.passes.items c.in-Ok-open.ensures.passes in
     ap (map number_of) new ∙ new_numbers pool 0 pool.config.passes
     ∙ ap (range_with_len 0) (sym (ap length new ∙ length-map-range_with_len (new_pass_state pool) 0 pool.config.passes))
 
 pub close-closed-requires-clause-every : goal.close-closed-requires-clause-every
 close-closed-requires-clause-every g c =
     let pool = c.in-Ok-open.engine in
-    let new : c.in-Ok-open.passes.items ≡ new_passes pool 0 pool.config.passes = search rules in
-    let counted : pool.limits.passes ≡ pool.config.passes = search rules in
+    let new = opened_passes pool c.args.blank c.args.config.now c.in-Ok-open.ensures.engine c.requires.made_with c.in-Ok-open.passes.items c.in-Ok-open.ensures.passes in
+    let counted = opened_counted pool c.args.blank c.args.config.now c.in-Ok-open.ensures.engine c.requires.made_with c.requires.limits in
     every_pass pool c.args.command.workers c.in-Ok-open.passes.items c.run_load-passes.result.0.items
     (record { counted = counted; new = new; numbers = c.run_load-passes.ensures.numbers; others = c.run_load-passes.ensures.others })
 
@@ -52,10 +54,10 @@ returns-in-Ok-results-clause-ends g c =
     let after = c.run_load-passes.result.0.items in
     let config = c.args.config.now in
     let texts = documents c.args.command.docs c.args.command.words c.args.command.seed in
-    let new : c.in-Ok-open.passes.items ≡ new_passes pool 0 pool.config.passes = search rules in
-    let counted : pool.limits.passes ≡ pool.config.passes = search rules in
-    let limits_are : pool.limits ≡ limits_by c.args.config.now = search rules in
-    let config_is : pool.config ≡ c.args.config.now = search rules in
+    let new = opened_passes pool c.args.blank c.args.config.now c.in-Ok-open.ensures.engine c.requires.made_with c.in-Ok-open.passes.items c.in-Ok-open.ensures.passes in
+    let counted = opened_counted pool c.args.blank c.args.config.now c.in-Ok-open.ensures.engine c.requires.made_with c.requires.limits in
+    let limits_are = opened_limits pool c.args.blank c.args.config.now c.in-Ok-open.ensures.engine c.requires.limits in
+    let config_is = opened_config pool c.args.blank c.args.config.now c.in-Ok-open.ensures.engine c.requires.made_with in
     let used : AreUsedBy pool c.args.command.workers c.in-Ok-open.passes.items c.run_load-passes.result.0.items =
     record { counted = counted; new = new; numbers = c.run_load-passes.ensures.numbers; others = c.run_load-passes.ensures.others } in
     let ended : HasClosed pool c.args.config.now c.args.command c.in-Ok-open.passes.items c.run_load-passes.result.0.items c.close-closed.result = record {
@@ -84,10 +86,10 @@ returns-clause-ends g c =
     let after = c.run_load-passes.result.0.items in
     let config = c.args.config.now in
     let texts = documents c.args.command.docs c.args.command.words c.args.command.seed in
-    let new : c.in-Ok-open.passes.items ≡ new_passes pool 0 pool.config.passes = search rules in
-    let counted : pool.limits.passes ≡ pool.config.passes = search rules in
-    let limits_are : pool.limits ≡ limits_by c.args.config.now = search rules in
-    let config_is : pool.config ≡ c.args.config.now = search rules in
+    let new = opened_passes pool c.args.blank c.args.config.now c.in-Ok-open.ensures.engine c.requires.made_with c.in-Ok-open.passes.items c.in-Ok-open.ensures.passes in
+    let counted = opened_counted pool c.args.blank c.args.config.now c.in-Ok-open.ensures.engine c.requires.made_with c.requires.limits in
+    let limits_are = opened_limits pool c.args.blank c.args.config.now c.in-Ok-open.ensures.engine c.requires.limits in
+    let config_is = opened_config pool c.args.blank c.args.config.now c.in-Ok-open.ensures.engine c.requires.made_with in
     let used : AreUsedBy pool c.args.command.workers c.in-Ok-open.passes.items c.run_load-passes.result.0.items =
     record { counted = counted; new = new; numbers = c.run_load-passes.ensures.numbers; others = c.run_load-passes.ensures.others } in
     let ended : HasClosed pool c.args.config.now c.args.command c.in-Ok-open.passes.items c.run_load-passes.result.0.items c.close-closed.result = record {
@@ -106,3 +108,15 @@ returns-clause-ends g c =
     let cut = on_fault (λ results. IsPut (limits_by config) texts workers (λ _. []) (front_at after) results)
     (λ _. IsCutShort (limits_by config) texts workers (λ _. []) (front_at after)) c.run_load-passes.result.1 c.in-Err.field-0 c.in-Err.is did in
     (refl, inl (part_of_load pool c.args.config.now c.args.command before after c.close-closed.result ended cut))
+
+pub returns-in-Ok-results-clause-kept : goal.returns-in-Ok-results-clause-kept
+returns-in-Ok-results-clause-kept g c =
+    let pool = c.in-Ok-open.engine in
+    let limits_are = opened_limits pool c.args.blank c.args.config.now c.in-Ok-open.ensures.engine c.requires.limits in
+    keeps_last pool c.args.config.now c.close-closed.result limits_are c.close-closed.ensures.base
+
+pub returns-clause-kept : goal.returns-clause-kept
+returns-clause-kept g c =
+    let pool = c.in-Ok-open.engine in
+    let limits_are = opened_limits pool c.args.blank c.args.config.now c.in-Ok-open.ensures.engine c.requires.limits in
+    keeps_last pool c.args.config.now c.close-closed.result limits_are c.close-closed.ensures.base

@@ -17,7 +17,7 @@ events_are_legal : IsLegal small small_load_events
 events_are_legal = (
   record { pass = omega arith; at_once = tt; rule = inl (record { idle = tt; in_range = omega arith; room = room_by 2 0 0 _ (omega arith) refl refl refl refl; lowest = λ lower in'. absurd (omega arith); next = refl }) },
   (
-    record { pass = omega arith; at_once = tt; rule = record { taken = refl; absent = refl; room = omega arith; inside = no_bits; in_word = none_wide } },
+    record { pass = omega arith; at_once = tt; rule = record { taken = refl; absent = refl; inside = no_bits; in_word = none_wide } },
     (
       record { pass = omega arith; at_once = tt; rule = refl },
       (
@@ -25,13 +25,13 @@ events_are_legal = (
         (
           record { pass = omega arith; at_once = tt; rule = inl (record { idle = refl; in_range = omega arith; room = room_by 2 0 1 _ (omega arith) refl refl refl refl; lowest = λ lower in'. absurd (omega arith); next = refl }) },
           (
-            record { pass = omega arith; at_once = tt; rule = record { taken = refl; absent = refl; room = omega arith; inside = no_bits; in_word = none_wide } },
+            record { pass = omega arith; at_once = tt; rule = record { taken = refl; absent = refl; inside = no_bits; in_word = none_wide } },
             (
               record { pass = omega arith; at_once = tt; rule = refl },
               (
                 record { pass = omega arith; at_once = tt; rule = record { query = []; begun = refl } },
                 (
-                  record { pass = omega arith; at_once = tt; rule = record { idle = refl; present = refl; room = omega arith } },
+                  record { pass = omega arith; at_once = tt; rule = record { idle = refl; present = refl } },
                   (
                     record { pass = omega arith; at_once = tt; rule = refl },
                     (

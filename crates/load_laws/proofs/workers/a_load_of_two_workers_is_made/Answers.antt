@@ -6,4 +6,4 @@ pub returns-clause-loaded : goal.returns-clause-loaded
 returns-clause-loaded c = is_loaded
 
 pub returns-clause-room : goal.returns-clause-room
-returns-clause-room c = record { few = omega arith; columns = omega arith; commits = omega arith; events = omega arith }
+returns-clause-room c = record { few = omega arith; columns = omega arith; events = omega arith }

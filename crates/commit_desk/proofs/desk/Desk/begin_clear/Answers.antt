@@ -28,12 +28,12 @@ abbrev looked : After-clearable → Books
 looked c = let b = books_of c.self.inside in record b { stages = c.look.new.self }
 
 -- the desk with the mark moved
-desk_now : (c : After-clearable) → IsDesk c.self.inside.home.pool c.self.inside.events_limit c.self.inside.most_commits c.self.inside.home.history (looked c)
+desk_now : (c : After-clearable) → IsDesk c.self.inside.home.pool c.self.inside.events_limit c.self.inside.home.history (looked c)
 desk_now c =
     let i = c.self.inside in
     let now : Books = books_of i in
-    subst (λ (s : StageTable). IsDesk i.home.pool i.events_limit i.most_commits i.home.history (record now { stages = s })) (sym c.look.ensures)
-    (desk-look i.home.pool i.events_limit i.most_commits i.home.history now c.match-oldest.mark c.self.invariant (next_mark c))
+    subst (λ (s : StageTable). IsDesk i.home.pool i.events_limit i.home.history (record now { stages = s })) (sym c.look.ensures)
+    (desk-look i.home.pool i.events_limit i.home.history now c.match-oldest.mark c.self.invariant (next_mark c))
 
 found : (c : After-clearable) → MatchOption c.clearable.result (NoneCanClear c.self.inside.home.pool.limits c.self.inside.home.history)
     (IsLowestClearable c.self.inside.home.pool.limits c.self.inside.home.history)
@@ -91,7 +91,7 @@ invariant_of-self-2 c =
     let few = few-start i.events_limit i.home.pool.limits.passes i.home.history e
     (subst (λ (d : DeskState). TakesCalls d.events_limit d.history) (sym c.self.view_is) c.requires.takes_calls) in
     let stages = with_stage c.look.new.self c.in-Some-clearable.slice (stage.Clearing c.number-pass.result) in
-    desk-with i.home.pool home.pool i.events_limit i.most_commits i.home.history i.home.history home.history before (books_after before c.make_event-self-inside.result i.records c.clear.new.self) e
+    desk-with i.home.pool home.pool i.events_limit i.home.history i.home.history home.history before (books_after before c.make_event-self-inside.result i.records c.clear.new.self) e
     made.home.pool made.home.history refl desk
     (kept-as i.home.pool.config i.home.pool.limits i.events_limit (i.home.history ++ e ∷ []) home.history (books_after before (length i.home.history + 1) i.records stages)
     c.make_event-self-inside.result i.records c.clear.new.self made.home.history (number_is i.home home e c.make_event-self-inside.result made.home made.number) refl c.clear.ensures

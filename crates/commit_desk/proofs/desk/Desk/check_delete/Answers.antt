@@ -1,26 +1,13 @@
-use Rattle.std.proofs.Common.{sym, ap, ◌∙◌, subst}
+use Rattle.std.proofs.Common.{sym, ap, ◌∙◌}
 use Rattle.std.specs.Option.{is_some}
-use Rattle.funnel_model.specs.Legal.{HasJournalRoom, is_journal_full}
-use Rattle.commit_desk.specs.Desks.{DeskState}
-use Rattle.commit_desk.proofs.Checks.{absent_by_place, live_by_place, room_by_test, takes_calls}
+use Rattle.commit_desk.proofs.Checks.{absent_by_place, live_by_place, takes_calls}
 use Rattle.commit_desk.proofs.desk.Desk.check_delete.Goals as goal
 
 pub returns-then-is_none : goal.returns-then-is_none
 returns-then-is_none c = (takes_calls c.args.self.now.events_limit c.args.self.now.history c.if-is_spent.ensures.spent.1, absent_by_place c.args.self.now.history c.args.id (ap is_some (sym c.place_of.ensures) ∙ c.if-is_none.ensures))
 
-pub returns-then-is_journal_full : goal.returns-then-is_journal_full
-returns-then-is_journal_full c = (
-  takes_calls c.args.self.now.events_limit c.args.self.now.history c.if-is_spent.ensures.spent.1,
-  live_by_place c.args.self.now.history c.args.id (ap is_some (sym c.place_of.ensures) ∙ c.if-is_none.ensures),
-  record { full = sym c.if-is_journal_full.ensures.full; kept = c.self.invariant.commits_are ∙ ap (λ (d : DeskState). d.pool.limits.commits) c.self.view_is },
-)
-
 pub returns : goal.returns
-returns c =
-    let i = c.self.inside in
-    let not_full = ap (λ (d : DeskState). is_journal_full d.pool.limits d.history) c.self.view_is ∙ sym c.if-is_journal_full.ensures.full in
-    record {
-      takes_calls = takes_calls c.args.self.now.events_limit c.args.self.now.history c.if-is_spent.ensures.spent.1;
-      live = live_by_place c.args.self.now.history c.args.id (ap is_some (sym c.place_of.ensures) ∙ c.if-is_none.ensures);
-      journal = subst (λ (d : DeskState). HasJournalRoom d.pool.limits d.history) c.self.view_is (room_by_test i.home.pool.limits i.home.history c.self.invariant.kept.legal not_full);
-    }
+returns c = record {
+  takes_calls = takes_calls c.args.self.now.events_limit c.args.self.now.history c.if-is_spent.ensures.spent.1;
+  live = live_by_place c.args.self.now.history c.args.id (ap is_some (sym c.place_of.ensures) ∙ c.if-is_none.ensures);
+}

@@ -110,7 +110,7 @@ invariant_of-self c =
     (subst (λ (d : DeskState). TakesCalls d.events_limit d.history) (sym c.self.view_is) c.requires.takes_calls) in
     let table = with_slot i.records slice column (record { column = became.Pending pass; doc = None }) in
     let stages = with_stage i.stages slice (stage.InUse (column + 1) over) in
-    desk-with i.home.pool home.pool i.events_limit i.most_commits i.home.history i.home.history home.history before (books_after before c.make_event-self-inside.result c.claim.new.self c.claim-column.new.self) e
+    desk-with i.home.pool home.pool i.events_limit i.home.history i.home.history home.history before (books_after before c.make_event-self-inside.result c.claim.new.self c.claim-column.new.self) e
     made.home.pool made.home.history refl c.self.invariant
     (kept-as i.home.pool.config i.home.pool.limits i.events_limit (i.home.history ++ e ∷ []) home.history (books_after before (length i.home.history + 1) table stages)
     c.make_event-self-inside.result c.claim.new.self c.claim-column.new.self made.home.history (number_is i.home home e c.make_event-self-inside.result made.home made.number) c.claim.ensures t.1

@@ -1,11 +1,10 @@
-use Rattle.std.proofs.Common.{◌≡◌, ◌⊎◌, ℕ, ◌<◌, true, List, ap, subst, arith, All, Contains}
+use Rattle.std.proofs.Common.{◌≡◌, ℕ, ◌<◌, true, List, ap, subst, arith, All, Contains}
 use Rattle.std.proofs.lemmas.List.Elements.{All-contains_itself, All-weaker}
 use Rattle.funnel_model.specs.declared.bit_list.Bit.{Bit}
 use Rattle.funnel_model.specs.declared.config.Config.{Config}
 use Rattle.funnel_model.specs.History.{is_live}
-use Rattle.funnel_model.specs.Legal.{is_journal_full}
 use Rattle.row_layout.specs.DocumentBits.{AreDocumentBits}
-use Rattle.commit_desk.proofs.Checks.{dropped_is_refused}
+use Rattle.commit_desk.proofs.Checks.{dropped_is_live}
 use Rattle.commit_desk.proofs.HeldClaims.{bits_held, claim_held}
 use Rattle.commit_desk.proofs.desk.Desk.commit.Goals as goal
 
@@ -27,8 +26,7 @@ make_add-requires-clause-of_words c = of_words c.requires.bits
 pub make_drop-requires-clause-claim : goal.make_drop-requires-clause-claim
 make_drop-requires-clause-claim c = let up = c.catch_up.ensures in claim_held c.args.seat.now c.catch_up.new.seat up.seat up.none_since c.args.claim c.requires.claim
 
-pub make_drop-requires-clause-refused : goal.make_drop-requires-clause-refused
-make_drop-requires-clause-refused c =
+pub make_drop-requires-clause-present : goal.make_drop-requires-clause-present
+make_drop-requires-clause-present c =
     let home = c.catch_up.new.home in
-    subst (λ n. (is_live n home.history ≡ true) ⊎ (is_journal_full home.pool.limits home.history ≡ true)) c.id.ensures
-    (dropped_is_refused home.pool.limits home.history c.id.result c.in-Err.fault c.in-Err.ensures)
+    subst (λ n. is_live n home.history ≡ true) c.id.ensures (dropped_is_live home.history c.id.result c.in-Err.fault c.in-Err.ensures)

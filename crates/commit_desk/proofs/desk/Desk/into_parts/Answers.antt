@@ -1,7 +1,14 @@
-use Rattle.std.proofs.Common.{subst}
+use Rattle.std.proofs.Common.{◌≡◌, ◌∙◌, subst}
+use Rattle.funnel_model.specs.History.{base}
 use Rattle.row_layout.specs.Sound.{IsSound}
 use Rattle.commit_desk.specs.Desks.{DeskState}
+use Rattle.commit_desk.proofs.Journals.{base-journal}
 use Rattle.commit_desk.proofs.desk.Desk.into_parts.Goals as goal
 
 pub returns-clause-sound : goal.returns-clause-sound
 returns-clause-sound c = subst (λ (d : DeskState). IsSound d.pool.config d.history) c.self.view_is c.self.invariant.kept.sound
+
+pub returns-clause-base : goal.returns-clause-base
+returns-clause-base c =
+    subst (λ (d : DeskState). c.into_parts-base.result.0 ≡ base d.pool.limits.commits d.history) c.self.view_is
+    (c.into_parts-base.ensures.base ∙ base-journal c.self.inside.home.pool.limits.commits c.self.inside.home.history c.self.inside.journal c.self.invariant.kept.journal_is)

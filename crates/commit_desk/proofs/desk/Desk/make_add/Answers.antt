@@ -1,4 +1,4 @@
-use Rattle.std.proofs.Common.{◌≡◌, false, true, ◌+◌, ◌<◌, List, [], ◌∷◌, ◌++◌, Some, length, All, cond, refl, sym, ap, ◌∙◌, subst, arith, rules, vec_capacity, vec_len, Contains, ◌↔◌}
+use Rattle.std.proofs.Common.{◌≡◌, false, true, ◌+◌, ◌<◌, List, [], ◌∷◌, ◌++◌, Some, length, All, cond, refl, sym, ap, ◌∙◌, subst, arith, Contains, ◌↔◌}
 use Rattle.std.proofs.lemmas.List.{length-append}
 use Rattle.std.specs.Prelude.{◌==◌}
 use Rattle.document_store.specs.Entries.{column_of}
@@ -8,15 +8,18 @@ use Rattle.funnel_model.specs.declared.bit_list.Bit.{Bit}
 use Rattle.funnel_model.specs.declared.event.Event.{Event}
 use Rattle.funnel_model.specs.declared.event.Event.TheVariants as event
 use Rattle.funnel_model.specs.History.{is_live, last_by, place}
-use Rattle.funnel_model.specs.Legal.{HasJournalRoom, IsAllowed, IsInSlice}
+use Rattle.funnel_model.specs.Legal.{IsAllowed, IsInSlice}
 use Rattle.funnel_model.proofs.Progress.{allowed_by}
 use Rattle.row_layout.specs.DocumentBits.{AreDocumentBits}
 use Rattle.slice_rule.specs.declared.view.Fact.TheVariants as fact
 use Rattle.slice_rule.specs.Numbers.{last_number}
 use Rattle.slice_rule.specs.Pools.{PoolId}
 use Rattle.commit_desk.specs.Desks.{DeskState, IsCaughtUp, Makes}
+use Rattle.commit_desk.specs.Journals.{with_commit}
 use Rattle.commit_desk.specs.Kept.{Books}
 use Rattle.commit_desk.proofs.DocumentEvents.{desk-add, desk-as, taken_column}
+use Rattle.commit_desk.proofs.Inside.{books_of}
+use Rattle.commit_desk.proofs.Journals.{journal_fits}
 use Rattle.commit_desk.proofs.RecordFacts.{no_entry, none_live_in_pending, taken_is_pending}
 use Rattle.commit_desk.proofs.Turns.{makes_one}
 use Rattle.commit_desk.proofs.desk.Desk.make_add.Goals as goal
@@ -32,8 +35,7 @@ books c =
       slices = i.slices;
       columns = i.columns;
       events = i.events;
-      journal = i.journal.items;
-      room = vec_capacity i.journal;
+      journal = i.journal;
       table = i.records;
       live = i.live;
       tokens = i.tokens;
@@ -51,7 +53,7 @@ taken_now c =
 column_now : (c : goal.After-live-arg-1) → IsColumn c.self.inside.records c.args.claim.slice c.args.claim.column
 column_now c =
     let i = c.self.inside in
-    taken_column i.home.pool i.events_limit i.most_commits i.home.history (books c) c.self.invariant c.number-pass.result c.args.claim.slice c.args.claim.column (taken_now c)
+    taken_column i.home.pool i.events_limit i.home.history (books c) c.self.invariant c.number-pass.result c.args.claim.slice c.args.claim.column (taken_now c)
 
 absent_now : (c : goal.After-live-arg-1) → is_live c.args.doc.id c.self.inside.home.history ≡ false
 absent_now c = subst (λ (d : DeskState). is_live c.args.doc.id d.history ≡ false) (sym c.self.view_is) c.requires.may.0
@@ -96,16 +98,21 @@ allowed_now c =
     (record {
       taken = taken_now c;
       absent = absent_now c;
-      room = subst (λ (d : DeskState). HasJournalRoom d.pool.limits d.history) (sym c.self.view_is) c.requires.may.1;
       inside = subst (λ (d : DeskState). All (λ (b : Bit). IsInSlice d.pool.limits.slice_words c.args.claim.slice b.word) c.args.bits.now.bits) (sym c.self.view_is) c.requires.inside;
       in_word = c.requires.of_words;
     })
 
-place_now : (c : goal.After-live-arg-1) → c.len.result + 1 ≡ place c.self.inside.home.history + 1
-place_now c =
-    let i = c.self.inside in
-    let long : vec_len i.journal ≡ length i.journal.items = search rules in
-    omega (arith, long, c.len.ensures, ap length c.self.invariant.kept.journal_is)
+place_now : (c : goal.After-live-arg-1) → c.place-place.result + 1 ≡ place c.self.inside.home.history + 1
+place_now c = ap (λ n. n + 1) (c.place-place.ensures ∙ c.self.invariant.kept.journal_is.place_is)
+
+-- one more commit can be counted
+pub push-requires : goal.push-requires
+push-requires c = journal_fits c.self.inside.home.pool c.self.inside.events_limit c.self.inside.home.history (books_of c.self.inside) c.self.invariant
+
+pub overflow_add-place : goal.overflow_add-place
+overflow_add-place c =
+    let few = journal_fits c.self.inside.home.pool c.self.inside.events_limit c.self.inside.home.history (books_of c.self.inside) c.self.invariant in
+    omega (arith, few, c.place-place.ensures)
 
 pub invariant_of-self : goal.invariant_of-self
 invariant_of-self c =
@@ -119,27 +126,25 @@ invariant_of-self c =
     let bits = c.args.bits.now.bits in
     let earlier = c.before.before.before.before.before in
     let id : c.id-id.result ≡ doc.id = c.id-id.ensures in
-    desk-as i.home.pool home.pool i.events_limit i.most_commits (i.home.history ++ event.Add pass doc.id doc.text s k bits ∷ []) home.history
+    desk-as i.home.pool home.pool i.events_limit (i.home.history ++ event.Add pass doc.id doc.text s k bits ∷ []) home.history
     (record {
       slices = i.slices;
       columns = i.columns;
       events = length i.home.history + 1;
-      journal = i.journal.items ++ (record { add = true; id = doc.id }) ∷ [];
-      room = vec_capacity i.journal;
+      journal = with_commit i.journal (record { add = true; id = doc.id });
       table = with_slot i.records s k (record { column = became.Live (place i.home.history + 1); doc = Some doc });
       live = c.add.new.self;
       tokens = i.tokens;
       stages = i.stages;
     })
-    c.make_event-self-inside.result c.push_reserved.new.self.items (vec_capacity c.push_reserved.new.self) c.live.new.self c.add.new.self i.stages
-    (desk-add i.home.pool i.events_limit i.most_commits i.home.history (books earlier) c.self.invariant pass s k doc bits c.add.new.self (allowed_now earlier) c.words.ensures.of_text
+    c.make_event-self-inside.result c.push.new.self c.live.new.self c.add.new.self i.stages
+    (desk-add i.home.pool i.events_limit i.home.history (books earlier) c.self.invariant pass s k doc bits c.add.new.self (allowed_now earlier) c.words.ensures.of_text
     (subst (λ (d : DeskState). AreDocumentBits d.pool.config doc.words s k bits) (sym c.self.view_is) c.requires.bits)
     (λ other. c.add.ensures.columns other ∙ ap (λ n. cond (other == n) (Some (s, k)) (column_of i.live other)) id)
     c.add.ensures.slices c.add.ensures.slice_columns)
     made.home.pool (made.home.history ∙ ap (λ (bs : List Bit). i.home.history ++ event.Add pass doc.id doc.text s k bs ∷ []) c.list.ensures)
     (made.number ∙ ap length made.home.history ∙ length-append i.home.history (event.Add pass doc.id doc.text s k c.list.result.now ∷ []))
-    (c.push_reserved.ensures.items ∙ ap (λ n. i.journal.items ++ (record { add = true; id = n }) ∷ []) id)
-    c.push_reserved.ensures.capacity
+    (c.push.ensures ∙ ap (λ n. with_commit i.journal (record { add = true; id = n })) id)
     (c.live.ensures ∙ ap (λ n. with_slot i.records s k (record { column = became.Live n; doc = Some doc })) (place_now earlier))
     refl refl
 

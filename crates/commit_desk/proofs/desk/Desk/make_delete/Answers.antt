@@ -1,4 +1,4 @@
-use Rattle.std.proofs.Common.{◌≡◌, ℕ, ◌+◌, ◌<◌, false, [], ◌∷◌, ◌++◌, Some, None, length, cond, refl, sym, ap, ◌∙◌, subst, arith, rules, vec_capacity, vec_len}
+use Rattle.std.proofs.Common.{◌≡◌, ℕ, ◌+◌, ◌<◌, false, [], ◌∷◌, ◌++◌, Some, None, length, cond, refl, sym, ap, ◌∙◌, subst, arith}
 use Rattle.std.proofs.lemmas.List.{length-append}
 use Rattle.std.specs.Prelude.{◌==◌}
 use Rattle.document_store.specs.Entries.{column_of}
@@ -13,9 +13,12 @@ use Rattle.slice_stages.specs.Stages.{IsUsed, after_end, stage_of, with_stage}
 use Rattle.slice_stages.specs.declared.stage.Stage.TheVariants as stage
 use Rattle.commit_desk.specs.Answers.{MayDeleteNow}
 use Rattle.commit_desk.specs.Desks.{DeskState, IsCaughtUp, Makes}
+use Rattle.commit_desk.specs.Journals.{with_commit}
 use Rattle.commit_desk.specs.Kept.{Books}
 use Rattle.commit_desk.specs.Records.{IsEntry}
 use Rattle.commit_desk.proofs.DocumentEvents.{desk-as, desk-delete, live_stage, none_retired_later}
+use Rattle.commit_desk.proofs.Inside.{books_of}
+use Rattle.commit_desk.proofs.Journals.{journal_fits}
 use Rattle.commit_desk.proofs.RecordFacts.{live_entry}
 use Rattle.commit_desk.proofs.Turns.{makes_one}
 use Rattle.commit_desk.proofs.desk.Desk.make_delete.Goals as goal
@@ -28,8 +31,8 @@ pub unreachable-requires : goal.unreachable-requires
 unreachable-requires c =
     let i = c.self.inside in
     let kept = c.self.invariant.kept in
-    let may : MayDeleteNow i.events_limit i.home.pool.limits i.home.history c.args.id =
-    subst (λ (d : DeskState). MayDeleteNow d.events_limit d.pool.limits d.history c.args.id) (sym c.self.view_is) c.requires.may in
+    let may : MayDeleteNow i.events_limit i.home.history c.args.id =
+    subst (λ (d : DeskState). MayDeleteNow d.events_limit d.history c.args.id) (sym c.self.view_is) c.requires.may in
     let e = live_entry i.home.pool.limits i.home.history i.records kept.legal kept.recorded i.live kept.listed c.args.id may.live in
     none_some (e.slice, e.column) (sym e.entry ∙ sym c.remove.ensures.was ∙ c.in_default.is)
 
@@ -39,8 +42,7 @@ books c =
       slices = i.slices;
       columns = i.columns;
       events = i.events;
-      journal = i.journal.items;
-      room = vec_capacity i.journal;
+      journal = i.journal;
       table = i.records;
       live = i.live;
       tokens = i.tokens;
@@ -54,7 +56,7 @@ stage_now : (c : goal.After-delete-arg-1) → (first : ℕ) × (over : ℕ) × (
 stage_now c =
     let i = c.self.inside in
     let e = entry_now c in
-    live_stage i.home.pool i.events_limit i.most_commits i.home.history (books c) c.self.invariant c.in-Some.slice c.in-Some.column e.doc e.in_table e.live
+    live_stage i.home.pool i.events_limit i.home.history (books c) c.self.invariant c.in-Some.slice c.in-Some.column e.doc e.in_table e.live
 
 number_now : (c : goal.After-delete-arg-1) → c.make_event-number.result ≡ length c.self.inside.home.history + 1
 number_now c =
@@ -79,7 +81,7 @@ end_column-requires-clause-used c = subst IsUsed (sym (stage_now c.before.before
 pub end_column-requires-clause-last : goal.end_column-requires-clause-last
 end_column-requires-clause-last c =
     let i = c.self.inside in
-    none_retired_later i.home.pool i.events_limit i.most_commits i.home.history (books c.before.before) c.self.invariant c.make_event-number.result (number_now c.before.before)
+    none_retired_later i.home.pool i.events_limit i.home.history (books c.before.before) c.self.invariant c.make_event-number.result (number_now c.before.before)
 
 pub end_column-requires-clause-later : goal.end_column-requires-clause-later
 end_column-requires-clause-later c = let within = c.self.invariant.kept.staged.mark_within in omega (arith, within, number_now c.before.before)
@@ -88,21 +90,26 @@ allowed_now : (c : goal.After-delete-arg-1) → IsAllowed c.self.inside.home.poo
 allowed_now c =
     let i = c.self.inside in
     let pool : c.args.seat.now.pool ≡ i.home.pool = c.requires.caught_up.seat_of.pool ∙ sym (ap (λ (d : DeskState). d.pool) c.self.view_is) in
-    let may : MayDeleteNow i.events_limit i.home.pool.limits i.home.history c.args.id =
-    subst (λ (d : DeskState). MayDeleteNow d.events_limit d.pool.limits d.history c.args.id) (sym c.self.view_is) c.requires.may in
+    let may : MayDeleteNow i.events_limit i.home.history c.args.id =
+    subst (λ (d : DeskState). MayDeleteNow d.events_limit d.history c.args.id) (sym c.self.view_is) c.requires.may in
     allowed_by i.home.pool.limits i.home.history (event.Del c.number-pass.result c.args.id)
     (subst (λ (p : PoolId). c.number-pass.result < p.limits.passes) pool c.number-pass.ensures.in_range) c.self.invariant.none_awaited
     (record {
       idle = subst (λ n. IsIdle n i.home.history) (sym c.number-pass.ensures.number) (subst (λ (d : DeskState). IsIdle c.args.seat.now.number d.history) (sym c.self.view_is) c.requires.idle);
       present = may.live;
-      room = may.journal;
     })
 
-place_now : (c : goal.After-delete-arg-1) → c.len.result + 1 ≡ place c.self.inside.home.history + 1
-place_now c =
-    let i = c.self.inside in
-    let long : vec_len i.journal ≡ length i.journal.items = search rules in
-    omega (arith, long, c.len.ensures, ap length c.self.invariant.kept.journal_is)
+place_now : (c : goal.After-delete-arg-1) → c.place-place.result + 1 ≡ place c.self.inside.home.history + 1
+place_now c = ap (λ n. n + 1) (c.place-place.ensures ∙ c.self.invariant.kept.journal_is.place_is)
+
+-- one more commit can be counted
+pub push-requires : goal.push-requires
+push-requires c = journal_fits c.self.inside.home.pool c.self.inside.events_limit c.self.inside.home.history (books_of c.self.inside) c.self.invariant
+
+pub overflow_add-place : goal.overflow_add-place
+overflow_add-place c =
+    let few = journal_fits c.self.inside.home.pool c.self.inside.events_limit c.self.inside.home.history (books_of c.self.inside) c.self.invariant in
+    omega (arith, few, c.place-place.ensures)
 
 pub invariant_of-self : goal.invariant_of-self
 invariant_of-self c =
@@ -118,28 +125,26 @@ invariant_of-self c =
     let at = stage_now earlier in
     let deletes = event.Del pass doc.id in
     let ended = after_end i.home.pool.limits.columns (length i.home.history + 1) at.0 at.1 in
-    let may : MayDeleteNow i.events_limit i.home.pool.limits i.home.history c.args.id =
-    subst (λ (d : DeskState). MayDeleteNow d.events_limit d.pool.limits d.history c.args.id) (sym c.self.view_is) c.requires.may in
-    desk-as i.home.pool home.pool i.events_limit i.most_commits (i.home.history ++ deletes ∷ []) home.history
+    let may : MayDeleteNow i.events_limit i.home.history c.args.id =
+    subst (λ (d : DeskState). MayDeleteNow d.events_limit d.history c.args.id) (sym c.self.view_is) c.requires.may in
+    desk-as i.home.pool home.pool i.events_limit (i.home.history ++ deletes ∷ []) home.history
     (record {
       slices = i.slices;
       columns = i.columns;
       events = length i.home.history + 1;
-      journal = i.journal.items ++ (record { add = false; id = doc.id }) ∷ [];
-      room = vec_capacity i.journal;
+      journal = with_commit i.journal (record { add = false; id = doc.id });
       table = with_slot i.records s k (record { column = became.Deleted e.live.added (place i.home.history + 1); doc = Some doc });
       live = c.remove.new.self;
       tokens = i.tokens;
       stages = with_stage i.stages s ended;
     })
-    c.make_event-number.result c.push_reserved.new.self.items (vec_capacity c.push_reserved.new.self) c.delete.new.self c.remove.new.self c.end_column.new.self
-    (desk-delete i.home.pool i.events_limit i.most_commits i.home.history (books earlier) c.self.invariant pass s k at.0 at.1 doc e.live c.remove.new.self
+    c.make_event-number.result c.push.new.self c.delete.new.self c.remove.new.self c.end_column.new.self
+    (desk-delete i.home.pool i.events_limit i.home.history (books earlier) c.self.invariant pass s k at.0 at.1 doc e.live c.remove.new.self
     (subst (λ n. IsAllowed i.home.pool.limits i.home.history (event.Del pass n)) (sym e.number) (allowed_now earlier)) may.takes_calls e.in_table
     (λ other. c.in-Some.ensures.columns other ∙ ap (λ n. cond (other == n) None (column_of i.live other)) (sym e.number))
     c.in-Some.ensures.slices c.in-Some.ensures.slice_columns at.2)
     made.home.pool (made.home.history ∙ ap (λ n. i.home.history ++ event.Del pass n ∷ []) (sym e.number)) (number_now earlier)
-    (c.push_reserved.ensures.items ∙ ap (λ n. i.journal.items ++ (record { add = false; id = n }) ∷ []) (sym e.number))
-    c.push_reserved.ensures.capacity
+    (c.push.ensures ∙ ap (λ n. with_commit i.journal (record { add = false; id = n })) (sym e.number))
     (c.delete.ensures e.live.added e.live.column
     ∙ ap (λ n. with_slot i.records s k (record { column = became.Deleted e.live.added n; doc = (slot_at i.records s k).doc })) (place_now earlier)
     ∙ ap (λ d. with_slot i.records s k (record { column = became.Deleted e.live.added (place i.home.history + 1); doc = d })) e.live.doc_is)

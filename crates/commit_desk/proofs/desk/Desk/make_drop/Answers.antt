@@ -1,11 +1,11 @@
-use Rattle.std.proofs.Common.{◌≡◌, ◌⊎◌, true, ℕ, ◌+◌, ◌<◌, List, [], ◌∷◌, ◌++◌, Some, None, length, refl, sym, ap, ◌∙◌, subst, arith, vec_capacity}
+use Rattle.std.proofs.Common.{◌≡◌, true, ℕ, ◌+◌, ◌<◌, List, [], ◌∷◌, ◌++◌, Some, None, length, refl, sym, ap, ◌∙◌, subst, arith}
 use Rattle.std.proofs.lemmas.List.{length-append}
 use Rattle.document_store.specs.Slots.{IsColumn, with_slot}
 use Rattle.document_store.specs.declared.column.Column.TheVariants as became
 use Rattle.funnel_model.specs.declared.event.Event.{Event}
 use Rattle.funnel_model.specs.declared.event.Event.TheVariants as event
 use Rattle.funnel_model.specs.History.{is_live, last_by}
-use Rattle.funnel_model.specs.Legal.{IsAllowed, is_journal_full}
+use Rattle.funnel_model.specs.Legal.{IsAllowed}
 use Rattle.funnel_model.proofs.Progress.{allowed_by}
 use Rattle.slice_rule.specs.Pools.{PoolId}
 use Rattle.slice_stages.specs.Stages.{IsUsed, after_end, stage_of, with_stage}
@@ -23,8 +23,7 @@ books c =
       slices = i.slices;
       columns = i.columns;
       events = i.events;
-      journal = i.journal.items;
-      room = vec_capacity i.journal;
+      journal = i.journal;
       table = i.records;
       live = i.live;
       tokens = i.tokens;
@@ -42,12 +41,12 @@ taken_now c =
 column_now : (c : goal.After-drop_column-arg-1) → IsColumn c.self.inside.records c.args.claim.slice c.args.claim.column
 column_now c =
     let i = c.self.inside in
-    taken_column i.home.pool i.events_limit i.most_commits i.home.history (books c) c.self.invariant c.number-pass.result c.args.claim.slice c.args.claim.column (taken_now c)
+    taken_column i.home.pool i.events_limit i.home.history (books c) c.self.invariant c.number-pass.result c.args.claim.slice c.args.claim.column (taken_now c)
 
 stage_now : (c : goal.After-drop_column-arg-1) → (first : ℕ) × (over : ℕ) × (stage_of c.self.inside.stages c.args.claim.slice ≡ stage.InUse first over)
 stage_now c =
     let i = c.self.inside in
-    taken_stage i.home.pool i.events_limit i.most_commits i.home.history (books c) c.self.invariant c.number-pass.result c.args.claim.slice c.args.claim.column (taken_now c)
+    taken_stage i.home.pool i.events_limit i.home.history (books c) c.self.invariant c.number-pass.result c.args.claim.slice c.args.claim.column (taken_now c)
 
 number_now : (c : goal.After-drop_column-arg-1) → c.make_event-number.result ≡ length c.self.inside.home.history + 1
 number_now c =
@@ -75,7 +74,7 @@ end_column-requires-clause-used c = subst IsUsed (sym (stage_now c.before.before
 pub end_column-requires-clause-last : goal.end_column-requires-clause-last
 end_column-requires-clause-last c =
     let i = c.self.inside in
-    none_retired_later i.home.pool i.events_limit i.most_commits i.home.history (books c.before.before) c.self.invariant c.make_event-number.result (number_now c.before.before)
+    none_retired_later i.home.pool i.events_limit i.home.history (books c.before.before) c.self.invariant c.make_event-number.result (number_now c.before.before)
 
 pub end_column-requires-clause-later : goal.end_column-requires-clause-later
 end_column-requires-clause-later c = let within = c.self.invariant.kept.staged.mark_within in omega (arith, within, number_now c.before.before)
@@ -89,7 +88,7 @@ allowed_now c =
     (subst (λ (p : PoolId). c.number-pass.result < p.limits.passes) pool c.number-pass.ensures.in_range) c.self.invariant.none_awaited
     (record {
       taken = taken_now c;
-      refused = subst (λ (d : DeskState). (is_live c.args.doc.id d.history ≡ true) ⊎ (is_journal_full d.pool.limits d.history ≡ true)) (sym c.self.view_is) c.requires.refused;
+      present = subst (λ (d : DeskState). is_live c.args.doc.id d.history ≡ true) (sym c.self.view_is) c.requires.present;
     })
 
 pub invariant_of-self : goal.invariant_of-self
@@ -105,21 +104,20 @@ invariant_of-self c =
     let at = stage_now earlier in
     let e = event.Drop pass doc.id doc.text s k in
     let ended = after_end i.home.pool.limits.columns (length i.home.history + 1) at.0 at.1 in
-    desk-as i.home.pool home.pool i.events_limit i.most_commits (i.home.history ++ e ∷ []) home.history
+    desk-as i.home.pool home.pool i.events_limit (i.home.history ++ e ∷ []) home.history
     (record {
       slices = i.slices;
       columns = i.columns;
       events = length i.home.history + 1;
-      journal = i.journal.items;
-      room = vec_capacity i.journal;
+      journal = i.journal;
       table = with_slot i.records s k (record { column = became.Dropped; doc = None });
       live = i.live;
       tokens = i.tokens;
       stages = with_stage i.stages s ended;
     })
-    c.make_event-number.result i.journal.items (vec_capacity i.journal) c.drop_column.new.self i.live c.end_column.new.self
-    (desk-drop i.home.pool i.events_limit i.most_commits i.home.history (books earlier) c.self.invariant pass doc.id doc.text s k at.0 at.1 (allowed_now earlier) at.2)
-    made.home.pool made.home.history (number_now earlier) refl refl c.drop_column.ensures refl
+    c.make_event-number.result i.journal c.drop_column.new.self i.live c.end_column.new.self
+    (desk-drop i.home.pool i.events_limit i.home.history (books earlier) c.self.invariant pass doc.id doc.text s k at.0 at.1 (allowed_now earlier) at.2)
+    made.home.pool made.home.history (number_now earlier) refl c.drop_column.ensures refl
     (c.end_column.ensures at.0 at.1 at.2 ∙ ap (λ n. with_stage i.stages s (after_end n c.make_event-number.result at.0 at.1)) c.self.invariant.kept.staged.columns_are
     ∙ ap (λ n. with_stage i.stages s (after_end i.home.pool.limits.columns n at.0 at.1)) (number_now earlier))
 

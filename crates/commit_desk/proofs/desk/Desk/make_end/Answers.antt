@@ -49,7 +49,7 @@ invariant_of-self c =
     let begun = begun_at desk c.args.self.now c.args.seat.now c.number-pass.result c.args.token.opened_at c.self.view_is c.number-pass.ensures.number c.requires.caught_up c.requires.token.begun in
     let allowed = allowed_at desk c.args.self.now c.args.seat.now c.number-pass.result c.args.token.opened_at c.self.view_is c.number-pass.ensures.in_range c.self.invariant.kept.legal
     c.self.invariant.none_awaited c.requires.caught_up begun in
-    desk-end i.home.pool i.events_limit i.most_commits i.home.history (books_of i) c.self.invariant home.pool home.history c.make_event-self-inside.result c.end.new.self made.home.pool
+    desk-end i.home.pool i.events_limit i.home.history (books_of i) c.self.invariant home.pool home.history c.make_event-self-inside.result c.end.new.self made.home.pool
     c.number-pass.result allowed made.home.history made.number c.end.ensures
 
 pub returns-clause-made : goal.returns-clause-made

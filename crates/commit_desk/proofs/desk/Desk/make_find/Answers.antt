@@ -1,4 +1,4 @@
-use Rattle.std.proofs.Common.{rules, ◌≡◌, ◌↔◌, ℕ, ◌+◌, ◌<◌, [], ◌∷◌, ◌++◌, length, refl, sym, ap, ◌∙◌, subst, Contains}
+use Rattle.std.proofs.Common.{◌≡◌, ◌↔◌, ℕ, ◌+◌, ◌<◌, [], ◌∷◌, ◌++◌, length, refl, sym, ap, ◌∙◌, subst, Contains}
 use Rattle.std.proofs.lemmas.List.{length-append}
 use Rattle.funnel_model.specs.declared.claim.Token.{Token}
 use Rattle.funnel_model.specs.declared.event.Event.TheVariants as event
@@ -41,7 +41,7 @@ invariant_of-self c =
     let made = c.make_event-opened_at.ensures in
     let below : length i.home.history < i.events_limit =
     subst (λ (d : DeskState). TakesCalls d.events_limit d.history) (sym c.self.view_is) c.requires.takes_calls in
-    desk-find i.home.pool i.events_limit i.most_commits i.home.history (books_of i) c.self.invariant home.pool home.history c.make_event-opened_at.result c.open.new.self made.home.pool
+    desk-find i.home.pool i.events_limit i.home.history (books_of i) c.self.invariant home.pool home.history c.make_event-opened_at.result c.open.new.self made.home.pool
     c.number-pass.result c.args.query.now (allowed_now c) below made.home.history made.number c.open.ensures
 
 -- the number of the find, its place and the slices in use before it
@@ -51,10 +51,8 @@ opened_now c =
     let made = c.make_event-opened_at.ensures in
     made.number ∙ ap length made.home.history ∙ length-append i.home.history (event.Find c.number-pass.result c.args.query.now ∷ [])
 
-place_now : (c : goal.After-in_use) → c.len-place.result ≡ place c.self.inside.home.history
-place_now c =
-    let journal_is : c.len-place.result ≡ length c.self.inside.journal.items = search rules in
-    journal_is ∙ ap length c.self.invariant.kept.journal_is
+place_now : (c : goal.After-in_use) → c.place-place.result ≡ place c.self.inside.home.history
+place_now c = c.place-place.ensures ∙ c.self.invariant.kept.journal_is.place_is
 
 slices_now : (c : goal.After-in_use) → (slice : ℕ) →
     Contains c.in_use.result slice ↔ ((slice < c.self.inside.home.pool.limits.slices) × IsInUse c.self.inside.home.pool.limits.columns slice c.self.inside.home.history)
@@ -65,7 +63,7 @@ slices_now c =
 
 pub returns-clause-answer : goal.returns-clause-answer
 returns-clause-answer c =
-    let token : Token = record { place = c.len-place.result; opened_at = c.make_event-opened_at.result; slices = c.in_use.result } in (
+    let token : Token = record { place = c.place-place.result; opened_at = c.make_event-opened_at.result; slices = c.in_use.result } in (
       c.requires.takes_calls,
       subst (λ (d : DeskState). token.place ≡ place d.history) c.self.view_is (place_now c),
       subst (λ (d : DeskState). token.opened_at ≡ length d.history + 1) c.self.view_is (opened_now c),
@@ -77,7 +75,7 @@ returns-clause-token c =
     let i = c.self.inside in
     let made = c.make_event-opened_at.ensures in
     let seat = c.make_event-opened_at.new.seat in
-    let token : Token = record { place = c.len-place.result; opened_at = c.make_event-opened_at.result; slices = c.in_use.result } in
+    let token : Token = record { place = c.place-place.result; opened_at = c.make_event-opened_at.result; slices = c.in_use.result } in
     let number : c.number-pass.result ≡ seat.number = c.number-pass.ensures.number ∙ sym made.seat.number in
     let before : c.args.seat.now.front ≡ i.home.history = c.requires.caught_up.front ∙ sym (ap (λ (d : DeskState). d.history) c.self.view_is) in
     let pool : i.home.pool ≡ seat.pool = ap (λ (d : DeskState). d.pool) c.self.view_is ∙ sym c.requires.caught_up.seat_of.pool ∙ sym made.seat.pool in

@@ -1,4 +1,4 @@
-use Rattle.std.proofs.Common.{◌≡◌, ◌<◌, [], ◌∷◌, length, refl, sym, ap, ◌∙◌, subst, vec_capacity}
+use Rattle.std.proofs.Common.{◌≡◌, ◌<◌, [], ◌∷◌, length, refl, sym, ap, ◌∙◌, subst}
 use Rattle.funnel_model.specs.Legal.{IsAllowed}
 use Rattle.slice_rule.specs.Pools.{PoolId}
 use Rattle.commit_desk.specs.Desks.{DeskState, IsCaughtUp, Makes}
@@ -24,8 +24,7 @@ invariant_of-self g c =
       slices = i.slices;
       columns = i.columns;
       events = i.events;
-      journal = i.journal.items;
-      room = vec_capacity i.journal;
+      journal = i.journal;
       table = i.records;
       live = i.live;
       tokens = i.tokens;
@@ -34,7 +33,7 @@ invariant_of-self g c =
     let home = c.make_event-self-inside.new.home in
     let made = c.make_event-self-inside.ensures in
     let e = g.E.Entry.event c.args.entry.now in
-    desk-plain i.home.pool home.pool i.events_limit i.most_commits i.home.history home.history books c.make_event-self-inside.result e c.self.invariant c.requires.plain
+    desk-plain i.home.pool home.pool i.events_limit i.home.history home.history books c.make_event-self-inside.result e c.self.invariant c.requires.plain
     (allowed_now desk c.args.self.now c.args.seat.now.number e c.self.view_is c.self.invariant.none_awaited c.requires.caught_up.in_range c.requires.own c.requires.may)
     (subst (λ (d : DeskState). length d.history < d.events_limit) (sym c.self.view_is) c.requires.takes_calls)
     made.home.pool made.home.history made.number

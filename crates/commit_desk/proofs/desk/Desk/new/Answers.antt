@@ -1,4 +1,4 @@
-use Rattle.std.proofs.Common.{◌*◌, ◌^◌, ◌%◌, ◌<◌, List, sym, refl, ap, ◌∙◌, subst, arith, replicate, vec_capacity}
+use Rattle.std.proofs.Common.{◌*◌, ◌^◌, ◌%◌, ◌<◌, List, sym, refl, ap, ◌∙◌, subst, replicate}
 use Rattle.document_store.specs.Slots.{free_slot}
 use Rattle.funnel_model.specs.Configuration.{IsInRange}
 use Rattle.funnel_model.specs.declared.config.Config.{Config}
@@ -19,28 +19,26 @@ invariant_of-result c =
       slices = config.slices;
       columns = 64 * (1 * 2 ^ config.max_rank % 2 ^ 32) * config.blocks;
       events = 0;
-      journal = c.in_ok-with_capacity.field-0.items;
-      room = vec_capacity c.in_ok-with_capacity.field-0;
-      table = c.in_ok-new.field-0;
-      live = c.in_ok-new-2.field-0;
-      tokens = c.in_ok-new-3.field-0;
-      stages = c.in_ok-new-4.field-0;
+      journal = c.in_ok-new.field-0;
+      table = c.in_ok-new-2.field-0;
+      live = c.in_ok-new-3.field-0;
+      tokens = c.in_ok-new-4.field-0;
+      stages = c.in_ok-new-5.field-0;
     } in
     record {
       in_range = subst IsInRange (sym c.requires.made_with) c.requires.config;
       sizes = c.requires.sizes ∙ ap (λ k. limits_of k pool.limits.slice_words) (sym c.requires.made_with);
       some = c.requires.some;
       bounded = c.requires.bounded;
-      commits_are = ap (λ (l : Limits). l.commits) (sym c.requires.sizes);
       none_awaited = ap awaited c.requires.empty;
       kept = subst (λ (k : Config). AreBooksOf k pool.limits c.args.events_limit c.args.home.history books) (sym c.requires.made_with)
           (subst (λ (l : Limits). AreBooksOf config l c.args.events_limit c.args.home.history books) (sym c.requires.sizes)
           (subst (λ (h : List Event). AreBooksOf config limits c.args.events_limit h books) (sym c.requires.empty)
-          (kept-new config limits c.args.events_limit books (some_columns config c.requires.config) refl columns refl c.in_ok-with_capacity.ensures.items (let h = c.in_ok-with_capacity.ensures.exact in omega arith)
-          c.in_ok-new.ensures.slices (c.in_ok-new.ensures.columns ∙ columns) (c.in_ok-new.ensures.free ∙ ap (λ n. replicate (config.slices * n) free_slot) columns) c.in_ok-new-2.ensures.empty c.in_ok-new-2.ensures.slices (c.in_ok-new-2.ensures.slice_columns ∙ columns)
-          c.in_ok-new-3.ensures (c.in_ok-new-4.ensures.columns ∙ columns) c.in_ok-new-4.ensures.stages c.in_ok-new-4.ensures.mark)));
+          (kept-new config limits c.args.events_limit books (some_columns config c.requires.config) refl columns refl c.in_ok-new.ensures
+          c.in_ok-new-2.ensures.slices (c.in_ok-new-2.ensures.columns ∙ columns) (c.in_ok-new-2.ensures.free ∙ ap (λ n. replicate (config.slices * n) free_slot) columns) c.in_ok-new-3.ensures.empty c.in_ok-new-3.ensures.slices (c.in_ok-new-3.ensures.slice_columns ∙ columns)
+          c.in_ok-new-4.ensures (c.in_ok-new-5.ensures.columns ∙ columns) c.in_ok-new-5.ensures.stages c.in_ok-new-5.ensures.mark)));
     }
 
-pub new-requires-2 : goal.new-requires-2
-new-requires-2 c =
+pub new-requires-3 : goal.new-requires-3
+new-requires-3 c =
     subst (λ n. c.args.config.now.slices * n < 2 ^ 32) (sym (columns_as_made c.args.config.now c.requires.config)) (few_columns c.args.config.now c.requires.config)

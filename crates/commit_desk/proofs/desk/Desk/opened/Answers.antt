@@ -14,21 +14,21 @@ use Rattle.commit_desk.proofs.desk.Desk.opened.Goals.{After-number-pass}
 
 -- the pass caught up
 turn_now : (c : After-number-pass) →
-    JobTurn c.args.self.now c.self.inside.events_limit c.self.inside.most_commits c.catch_up.new.home (books_of c.self.inside) c.args.seat.now c.catch_up.new.seat c.number-pass.result c.args.job.slice
+    JobTurn c.args.self.now c.self.inside.events_limit c.catch_up.new.home (books_of c.self.inside) c.args.seat.now c.catch_up.new.seat c.number-pass.result c.args.job.slice
 turn_now c =
     let i = c.self.inside in
     let up = c.catch_up.ensures in
-    job_turn c.args.pool.now c.args.self.now i.events_limit i.most_commits i.home c.catch_up.new.home (books_of i) c.args.seat.now c.catch_up.new.seat c.number-pass.result c.args.job c.requires.pool
+    job_turn c.args.pool.now c.args.self.now i.events_limit i.home c.catch_up.new.home (books_of i) c.args.seat.now c.catch_up.new.seat c.number-pass.result c.args.job c.requires.pool
     c.requires.seat c.requires.job c.self.view_is c.self.invariant up.home up.seat up.front up.none_since up.none_outstanding up.in_range c.number-pass.ensures.number
 
 allowed_now : (c : After-number-pass) → IsAllowed c.catch_up.new.home.pool.limits c.catch_up.new.home.history (event.Opened c.number-pass.result c.args.job.slice true)
-allowed_now c = opened_allowed c.args.self.now c.self.inside.events_limit c.self.inside.most_commits c.catch_up.new.home (books_of c.self.inside) c.args.seat.now c.catch_up.new.seat c.number-pass.result c.args.job.slice (turn_now c) true
+allowed_now c = opened_allowed c.args.self.now c.self.inside.events_limit c.catch_up.new.home (books_of c.self.inside) c.args.seat.now c.catch_up.new.seat c.number-pass.result c.args.job.slice (turn_now c) true
 
 pub make_event-self-inside-requires-clause-allowed : goal.make_event-self-inside-requires-clause-allowed
 make_event-self-inside-requires-clause-allowed c =
     let number = c.before.before.before in
     subst (λ (p : PoolId). IsAllowed p.limits c.catch_up.new.home.history (event.Opened c.number-pass.result c.args.job.slice true))
-    (pool_now c.args.self.now c.self.inside.events_limit c.self.inside.most_commits c.catch_up.new.home (books_of c.self.inside) c.args.seat.now c.catch_up.new.seat c.number-pass.result c.args.job.slice (turn_now number) c.args.pool.now c.requires.pool) (allowed_now number)
+    (pool_now c.args.self.now c.self.inside.events_limit c.catch_up.new.home (books_of c.self.inside) c.args.seat.now c.catch_up.new.seat c.number-pass.result c.args.job.slice (turn_now number) c.args.pool.now c.requires.pool) (allowed_now number)
 
 pub make_event-self-inside-requires-clause-ready : goal.make_event-self-inside-requires-clause-ready
 make_event-self-inside-requires-clause-ready c =
@@ -36,7 +36,7 @@ make_event-self-inside-requires-clause-ready c =
     zero_caught c.args.pool.now c.args.self.now.pool c.args.seat.now c.catch_up.new.seat c.number-pass.result c.args.job.slice c.requires.pool up.seat up.none_since c.number-pass.ensures.number c.requires.zero
 
 in_range_now : (c : After-number-pass) → c.args.job.slice < c.catch_up.new.home.pool.limits.slices
-in_range_now c = slice_in_range c.args.self.now c.self.inside.events_limit c.self.inside.most_commits c.catch_up.new.home (books_of c.self.inside) c.args.seat.now c.catch_up.new.seat c.number-pass.result c.args.job.slice (turn_now c)
+in_range_now c = slice_in_range c.args.self.now c.self.inside.events_limit c.catch_up.new.home (books_of c.self.inside) c.args.seat.now c.catch_up.new.seat c.number-pass.result c.args.job.slice (turn_now c)
 
 pub free-requires : goal.free-requires
 free-requires c =
@@ -53,7 +53,7 @@ open-requires-clause-in_range c =
     omega arith
 
 pub open-requires-clause-clearing : goal.open-requires-clause-clearing
-open-requires-clause-clearing c = slice_clearing c.args.self.now c.self.inside.events_limit c.self.inside.most_commits c.catch_up.new.home (books_of c.self.inside) c.args.seat.now c.catch_up.new.seat c.number-pass.result c.args.job.slice (turn_now c.before.before.before.before.before.before.before.before)
+open-requires-clause-clearing c = slice_clearing c.args.self.now c.self.inside.events_limit c.catch_up.new.home (books_of c.self.inside) c.args.seat.now c.catch_up.new.seat c.number-pass.result c.args.job.slice (turn_now c.before.before.before.before.before.before.before.before)
 
 pub invariant_of-self : goal.invariant_of-self
 invariant_of-self c =
@@ -63,9 +63,9 @@ invariant_of-self c =
     let caught = c.catch_up.new.home in
     let made = c.make_event-self-inside.ensures in
     let home = c.make_event-self-inside.new.home in
-    desk-with caught.pool home.pool i.events_limit i.most_commits caught.history caught.history home.history (books_of i)
+    desk-with caught.pool home.pool i.events_limit caught.history caught.history home.history (books_of i)
     (books_after (books_of i) c.make_event-self-inside.result c.free.new.self c.open.new.self) e made.home.pool made.home.history refl (turn_now number).desk
-    (opened_kept c.args.self.now c.self.inside.events_limit c.self.inside.most_commits c.catch_up.new.home (books_of c.self.inside) c.args.seat.now c.catch_up.new.seat c.number-pass.result c.args.job.slice (turn_now number) true home c.make_event-self-inside.result c.free.new.self c.open.new.self made.home
+    (opened_kept c.args.self.now c.self.inside.events_limit c.catch_up.new.home (books_of c.self.inside) c.args.seat.now c.catch_up.new.seat c.number-pass.result c.args.job.slice (turn_now number) true home c.make_event-self-inside.result c.free.new.self c.open.new.self made.home
     (number_is caught home e c.make_event-self-inside.result made.home made.number) c.free.ensures c.open.ensures)
 
 pub returns-clause-events : goal.returns-clause-events
@@ -78,4 +78,4 @@ returns-clause-events c =
     let next = c.make_event-self-inside.new.seat in
     subst (λ n. Makes (event.Opened n c.args.job.slice true ∷ []) c.args.self.now (desk_at home c.self.inside.events_limit) c.args.seat.now next) (turn.number ∙ turn.same.number)
     (makes_later (e ∷ []) c.args.self.now (desk_at home c.self.inside.events_limit) c.args.seat.now up next turn.same turn.goes turn.caught_up.front
-    (opened_made c.args.self.now c.self.inside.events_limit c.self.inside.most_commits c.catch_up.new.home (books_of c.self.inside) c.args.seat.now c.catch_up.new.seat c.number-pass.result c.args.job.slice turn true home next made.home made.seat))
+    (opened_made c.args.self.now c.self.inside.events_limit c.catch_up.new.home (books_of c.self.inside) c.args.seat.now c.catch_up.new.seat c.number-pass.result c.args.job.slice turn true home next made.home made.seat))

@@ -29,21 +29,21 @@ use Rattle.commit_desk.proofs.desk.Desk.opened_take.Goals.{After-number-pass, Af
 
 -- the pass caught up
 turn_now : (c : After-number-pass) →
-    JobTurn c.args.self.now c.self.inside.events_limit c.self.inside.most_commits c.catch_up.new.home (books_of c.self.inside) c.args.seat.now c.catch_up.new.seat c.number-pass.result c.args.job.slice
+    JobTurn c.args.self.now c.self.inside.events_limit c.catch_up.new.home (books_of c.self.inside) c.args.seat.now c.catch_up.new.seat c.number-pass.result c.args.job.slice
 turn_now c =
     let i = c.self.inside in
     let up = c.catch_up.ensures in
-    job_turn c.args.pool.now c.args.self.now i.events_limit i.most_commits i.home c.catch_up.new.home (books_of i) c.args.seat.now c.catch_up.new.seat c.number-pass.result c.args.job c.requires.pool
+    job_turn c.args.pool.now c.args.self.now i.events_limit i.home c.catch_up.new.home (books_of i) c.args.seat.now c.catch_up.new.seat c.number-pass.result c.args.job c.requires.pool
     c.requires.seat c.requires.job c.self.view_is c.self.invariant up.home up.seat up.front up.none_since up.none_outstanding up.in_range c.number-pass.ensures.number
 
 allowed_now : (c : After-number-pass) → IsAllowed c.catch_up.new.home.pool.limits c.catch_up.new.home.history (event.Opened c.number-pass.result c.args.job.slice false)
-allowed_now c = opened_allowed c.args.self.now c.self.inside.events_limit c.self.inside.most_commits c.catch_up.new.home (books_of c.self.inside) c.args.seat.now c.catch_up.new.seat c.number-pass.result c.args.job.slice (turn_now c) false
+allowed_now c = opened_allowed c.args.self.now c.self.inside.events_limit c.catch_up.new.home (books_of c.self.inside) c.args.seat.now c.catch_up.new.seat c.number-pass.result c.args.job.slice (turn_now c) false
 
 pub make_event-self-inside-requires-clause-allowed : goal.make_event-self-inside-requires-clause-allowed
 make_event-self-inside-requires-clause-allowed c =
     let number = c.before.before.before in
     subst (λ (p : PoolId). IsAllowed p.limits c.catch_up.new.home.history (event.Opened c.number-pass.result c.args.job.slice false))
-    (pool_now c.args.self.now c.self.inside.events_limit c.self.inside.most_commits c.catch_up.new.home (books_of c.self.inside) c.args.seat.now c.catch_up.new.seat c.number-pass.result c.args.job.slice (turn_now number) c.args.pool.now c.requires.pool) (allowed_now number)
+    (pool_now c.args.self.now c.self.inside.events_limit c.catch_up.new.home (books_of c.self.inside) c.args.seat.now c.catch_up.new.seat c.number-pass.result c.args.job.slice (turn_now number) c.args.pool.now c.requires.pool) (allowed_now number)
 
 pub make_event-self-inside-requires-clause-ready : goal.make_event-self-inside-requires-clause-ready
 make_event-self-inside-requires-clause-ready c =
@@ -51,7 +51,7 @@ make_event-self-inside-requires-clause-ready c =
     zero_caught c.args.pool.now c.args.self.now.pool c.args.seat.now c.catch_up.new.seat c.number-pass.result c.args.job.slice c.requires.pool up.seat up.none_since c.number-pass.ensures.number c.requires.zero
 
 in_range_now : (c : After-number-pass) → c.args.job.slice < c.catch_up.new.home.pool.limits.slices
-in_range_now c = slice_in_range c.args.self.now c.self.inside.events_limit c.self.inside.most_commits c.catch_up.new.home (books_of c.self.inside) c.args.seat.now c.catch_up.new.seat c.number-pass.result c.args.job.slice (turn_now c)
+in_range_now c = slice_in_range c.args.self.now c.self.inside.events_limit c.catch_up.new.home (books_of c.self.inside) c.args.seat.now c.catch_up.new.seat c.number-pass.result c.args.job.slice (turn_now c)
 
 pub free-requires : goal.free-requires
 free-requires c =
@@ -68,7 +68,7 @@ open-requires-clause-in_range c =
     omega arith
 
 pub open-requires-clause-clearing : goal.open-requires-clause-clearing
-open-requires-clause-clearing c = slice_clearing c.args.self.now c.self.inside.events_limit c.self.inside.most_commits c.catch_up.new.home (books_of c.self.inside) c.args.seat.now c.catch_up.new.seat c.number-pass.result c.args.job.slice (turn_now c.before.before.before.before.before.before.before)
+open-requires-clause-clearing c = slice_clearing c.args.self.now c.self.inside.events_limit c.catch_up.new.home (books_of c.self.inside) c.args.seat.now c.catch_up.new.seat c.number-pass.result c.args.job.slice (turn_now c.before.before.before.before.before.before.before)
 
 abbrev books_opened : After-open → Books
 books_opened c = books_after (books_of c.self.inside) (length c.catch_up.new.home.history + 1) c.free.new.self c.open.new.self
@@ -76,7 +76,7 @@ books_opened c = books_after (books_of c.self.inside) (length c.catch_up.new.hom
 -- what is kept after the slice is opened
 kept_opened : (c : After-open) → AreBooksOf c.catch_up.new.home.pool.config c.catch_up.new.home.pool.limits c.self.inside.events_limit c.make_event-self-inside.new.home.history (books_opened c)
 kept_opened c =
-    opened_kept c.args.self.now c.self.inside.events_limit c.self.inside.most_commits c.catch_up.new.home (books_of c.self.inside) c.args.seat.now c.catch_up.new.seat c.number-pass.result c.args.job.slice (turn_now c.before.before.before.before.before.before.before.before) false c.make_event-self-inside.new.home
+    opened_kept c.args.self.now c.self.inside.events_limit c.catch_up.new.home (books_of c.self.inside) c.args.seat.now c.catch_up.new.seat c.number-pass.result c.args.job.slice (turn_now c.before.before.before.before.before.before.before.before) false c.make_event-self-inside.new.home
     (length c.catch_up.new.home.history + 1) c.free.new.self c.open.new.self c.make_event-self-inside.ensures.home refl c.free.ensures c.open.ensures
 
 pub claim-column-requires-clause-in_range : goal.claim-column-requires-clause-in_range
@@ -99,7 +99,7 @@ columns_now c =
     let i = c.self.inside in
     let caught = c.catch_up.new.home in
     let number = c.before.before.before.before.before.before.before.before in
-    some_column caught.pool i.events_limit i.most_commits caught.history (books_of i) (turn_now number).desk
+    some_column caught.pool i.events_limit caught.history (books_of i) (turn_now number).desk
 
 pub claim-column-requires-clause-left : goal.claim-column-requires-clause-left
 claim-column-requires-clause-left c =
@@ -135,7 +135,7 @@ pub make_event-self-inside-requires-2-clause-allowed : goal.make_event-self-insi
 make_event-self-inside-requires-2-clause-allowed c =
     let then = c.before.before.before in
     subst (λ (p : PoolId). IsAllowed p.limits c.make_event-self-inside.new.home.history (event.Take c.number-pass.result c.args.job.slice c.claim-column.result))
-    (pool_now c.args.self.now c.self.inside.events_limit c.self.inside.most_commits c.catch_up.new.home (books_of c.self.inside) c.args.seat.now c.catch_up.new.seat c.number-pass.result c.args.job.slice (turn_now then.before.before.before.before.before.before.before.before.before.before) c.args.pool.now c.requires.pool) (take_allowed then)
+    (pool_now c.args.self.now c.self.inside.events_limit c.catch_up.new.home (books_of c.self.inside) c.args.seat.now c.catch_up.new.seat c.number-pass.result c.args.job.slice (turn_now then.before.before.before.before.before.before.before.before.before.before) c.args.pool.now c.requires.pool) (take_allowed then)
 
 column_now : (c : After-claim-column) → IsColumn c.free.new.self c.args.job.slice c.claim-column.result
 column_now c =
@@ -176,7 +176,7 @@ invariant_of-self c =
     let table = with_slot c.free.new.self slice column (record { column = became.Pending pass; doc = None }) in
     let stages = with_stage c.open.new.self slice (stage.InUse (column + 1) 0) in
     let told_stage : stage_of c.open.new.self slice ≡ stage.InUse column 0 = stage_now then.before.before ∙ ap (λ n. stage.InUse n 0) (sym (told then).0) in
-    desk-with caught.pool home.pool i.events_limit i.most_commits caught.history middle.history home.history before (books_after before c.make_event-self-inside-2.result c.claim.new.self c.claim-column.new.self) e
+    desk-with caught.pool home.pool i.events_limit caught.history middle.history home.history before (books_after before c.make_event-self-inside-2.result c.claim.new.self c.claim-column.new.self) e
     (made.home.pool ∙ c.make_event-self-inside.ensures.home.pool) made.home.history refl desk
     (kept-as caught.pool.config caught.pool.limits i.events_limit (middle.history ++ e ∷ []) home.history (books_after opened (length middle.history + 1) table stages)
     c.make_event-self-inside-2.result c.claim.new.self c.claim-column.new.self made.home.history (number_is middle home e c.make_event-self-inside-2.result made.home made.number) c.claim.ensures (told then).1
@@ -199,7 +199,7 @@ returns-clause-events c =
     let up = c.catch_up.new.seat in
     let middle = desk_at first.new.home c.self.inside.events_limit in
     let after = desk_at second.new.home c.self.inside.events_limit in
-    let one = opened_made c.args.self.now c.self.inside.events_limit c.self.inside.most_commits c.catch_up.new.home (books_of c.self.inside) c.args.seat.now c.catch_up.new.seat c.number-pass.result c.args.job.slice turn false first.new.home first.new.seat first.ensures.home first.ensures.seat in
+    let one = opened_made c.args.self.now c.self.inside.events_limit c.catch_up.new.home (books_of c.self.inside) c.args.seat.now c.catch_up.new.seat c.number-pass.result c.args.job.slice turn false first.new.home first.new.seat first.ensures.home first.ensures.seat in
     let two = made_one middle first.new.home second.new.home c.self.inside.events_limit first.new.seat second.new.seat takes refl
     (caught_after (opens ∷ []) now middle up first.new.seat turn.caught_up one first.ensures.none_outstanding) second.ensures.home
     (subst (λ (p : PoolId). IsLegal p.limits (first.new.home.history ++ takes ∷ [])) (sym first.ensures.home.pool)

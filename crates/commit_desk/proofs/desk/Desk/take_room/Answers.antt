@@ -58,7 +58,7 @@ blocks-blocks-requires-clause-full c =
 
 pub refuse_add-requires-clause-refused : goal.refuse_add-requires-clause-refused
 refuse_add-requires-clause-refused c =
-    inr (inr (subst (λ (d : DeskState). IsFull d.pool.limits d.history) (sym c.in_default-begin_clear.ensures.made.0) (full_now c.before.before.before)))
+    inr (subst (λ (d : DeskState). IsFull d.pool.limits d.history) (sym c.in_default-begin_clear.ensures.made.0) (full_now c.before.before.before))
 
 pub returns-clause-answer : goal.returns-clause-answer
 returns-clause-answer c = (

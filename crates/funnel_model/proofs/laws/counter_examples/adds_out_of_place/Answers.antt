@@ -4,7 +4,7 @@ use Rattle.std.proofs.lemmas.List.Elements.{All-head}
 use Rattle.funnel_model.specs.declared.bit_list.Bit.{Bit}
 use Rattle.funnel_model.specs.declared.event.Event.TheVariants as event
 use Rattle.funnel_model.specs.History.{is_live}
-use Rattle.funnel_model.specs.Legal.{IsInSlice, is_journal_full}
+use Rattle.funnel_model.specs.Legal.{IsInSlice}
 use Rattle.funnel_model.specs.RecycleExample.{paired}
 use Rattle.funnel_model.proofs.Histories.{allowed_within}
 use Rattle.funnel_model.proofs.laws.counter_examples.adds_out_of_place.Goals as goal
@@ -49,8 +49,7 @@ pub returns-clause-dropped : goal.returns-clause-dropped
 returns-clause-dropped c legal =
     let taken = event.Take 0 0 0 ∷ [] in
     let drop = event.Drop 0 9 [] 0 0 in
-    ⊎_elim (λ live. both_ways (is_live 9 taken) refl live) (λ full. both_ways (is_journal_full paired taken) refl full)
-    (allowed_within paired (taken ++ drop ∷ []) taken drop [] legal refl).rule.refused
+    both_ways (is_live 9 taken) refl (allowed_within paired (taken ++ drop ∷ []) taken drop [] legal refl).rule.present
 
 pub returns-clause-absent : goal.returns-clause-absent
 returns-clause-absent c legal =

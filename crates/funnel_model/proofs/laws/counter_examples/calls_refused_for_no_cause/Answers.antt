@@ -3,7 +3,7 @@ use Rattle.std.proofs.lemmas.Bool.{both_ways}
 use Rattle.funnel_model.specs.declared.call.Call.TheVariants as call
 use Rattle.funnel_model.specs.declared.event.Event.TheVariants as event
 use Rattle.funnel_model.specs.History.{is_live}
-use Rattle.funnel_model.specs.Legal.{IsFull, is_journal_full}
+use Rattle.funnel_model.specs.Legal.{IsFull}
 use Rattle.funnel_model.specs.RecycleExample.{paired}
 use Rattle.funnel_model.specs.Slices.{is_claimed, is_clearing}
 use Rattle.funnel_model.proofs.Histories.{allowed_within}
@@ -26,15 +26,14 @@ returns-clause-add c legal =
     let no = event.No 0 (call.Add 9 []) in
     ⊎_elim
     (λ live. both_ways (is_live 9 []) refl live)
-    (λ rest. ⊎_elim (λ full. both_ways (is_journal_full paired []) refl full) not_full rest)
+    not_full
     (allowed_within paired (no ∷ []) [] no [] legal refl).rule.refused
 
 pub returns-clause-delete : goal.returns-clause-delete
 returns-clause-delete c legal =
     let before = event.Take 0 0 0 ∷ event.Add 0 9 [] 0 0 [] ∷ [] in
     let no = event.No 0 (call.Delete 9) in
-    ⊎_elim (λ absent. both_ways (is_live 9 before) absent refl) (λ full. both_ways (is_journal_full paired before) refl full)
-    (allowed_within paired (before ++ no ∷ []) before no [] legal refl).rule.refused
+    both_ways (is_live 9 before) (allowed_within paired (before ++ no ∷ []) before no [] legal refl).rule.refused refl
 
 pub returns-clause-place : goal.returns-clause-place
 returns-clause-place c legal = (allowed_within paired (event.No 0 call.Place ∷ []) [] (event.No 0 call.Place) [] legal refl).rule.refused

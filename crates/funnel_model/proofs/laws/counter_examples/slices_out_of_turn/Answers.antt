@@ -40,12 +40,6 @@ returns-clause-recycle c legal =
     low_unguarded 0
     ((allowed_within paired (unguarded ++ event.No 0 call.Recycle ∷ []) unguarded (event.No 0 call.Recycle) [] legal refl).rule.refused 0 (omega arith) can.retired)
 
-pub returns-clause-full : goal.returns-clause-full
-returns-clause-full c legal =
-    low_unguarded 0
-    ((allowed_within (record paired { commits = 4 }) (unguarded ++ event.No 0 call.Recycle ∷ []) unguarded (event.No 0 call.Recycle) [] legal refl).rule.refused 0
-    (omega arith) can.retired)
-
 pub returns-clause-opened : goal.returns-clause-opened
 returns-clause-opened c legal =
     let none = (allowed_within paired (event.Opened 0 0 true ∷ []) [] (event.Opened 0 0 true) [] legal refl).rule.cleared in cc

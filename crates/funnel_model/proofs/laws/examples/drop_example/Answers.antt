@@ -1,4 +1,4 @@
-use Rattle.std.proofs.Common.{ℕ, [], ◌∷◌, refl, arith, inl, inr}
+use Rattle.std.proofs.Common.{[], ◌∷◌, refl, arith, inl, inr}
 use Rattle.unicode_segmentation.proofs.Computing.{unicode_segmentation}
 use Rattle.funnel_model.specs.declared.event.Event.TheVariants as event
 use Rattle.funnel_model.specs.Example.{shared}
@@ -8,8 +8,8 @@ use Rattle.funnel_model.proofs.SpareLemmas.{room_by}
 use Rattle.funnel_model.proofs.laws.examples.drop_example.Goals as goal
 
 -- the slice has room for the takes of its two columns
-first : (commits : ℕ) → MayFollow (record shared { commits = commits }) [] (event.Take 0 0 0)
-first commits = inl (record {
+first : MayFollow shared [] (event.Take 0 0 0)
+first = inl (record {
   idle = tt;
   in_range = omega arith;
   room = room_by 2 0 0 _ (omega arith) refl refl refl refl;
@@ -17,8 +17,8 @@ first commits = inl (record {
   next = refl;
 })
 
-second : (commits : ℕ) → MayFollow (record shared { commits = commits }) (event.Take 0 0 0 ∷ []) (event.Take 1 0 1)
-second commits = inl (record {
+second : MayFollow shared (event.Take 0 0 0 ∷ []) (event.Take 1 0 1)
+second = inl (record {
   idle = tt;
   in_range = omega arith;
   room = room_by 2 0 1 _ (omega arith) refl refl refl refl;
@@ -28,13 +28,13 @@ second commits = inl (record {
 
 pub returns-clause-legal : goal.returns-clause-legal
 returns-clause-legal c = (
-  record { pass = omega arith; at_once = tt; rule = first 5 },
+  record { pass = omega arith; at_once = tt; rule = first },
   (
-    record { pass = omega arith; at_once = tt; rule = second 5 },
+    record { pass = omega arith; at_once = tt; rule = second },
     (
-      record { pass = omega arith; at_once = tt; rule = record { taken = refl; absent = refl; room = omega arith; inside = no_bits; in_word = none_wide } },
+      record { pass = omega arith; at_once = tt; rule = record { taken = refl; absent = refl; inside = no_bits; in_word = none_wide } },
       (
-        record { pass = omega arith; at_once = tt; rule = record { taken = refl; refused = inl refl } },
+        record { pass = omega arith; at_once = tt; rule = record { taken = refl; present = refl } },
         tt,
       ),
     ),
@@ -45,28 +45,5 @@ pub returns-clause-replies : goal.returns-clause-replies
 unfolding unicode_segmentation
 returns-clause-replies c = inl (refl, inl (refl, inr (_, _, refl, refl, inr (_, _, refl, refl, refl))))
 
-pub returns-clause-present_first : goal.returns-clause-present_first
-unfolding unicode_segmentation
-returns-clause-present_first c = inl (refl, inl (refl, inr (_, _, refl, refl, inr (_, _, refl, refl, refl))))
-
 pub returns-clause-own : goal.returns-clause-own
 returns-clause-own c = refl
-
-pub returns-clause-full_legal : goal.returns-clause-full_legal
-returns-clause-full_legal c = (
-  record { pass = omega arith; at_once = tt; rule = first 1 },
-  (
-    record { pass = omega arith; at_once = tt; rule = second 1 },
-    (
-      record { pass = omega arith; at_once = tt; rule = record { taken = refl; absent = refl; room = omega arith; inside = no_bits; in_word = none_wide } },
-      (
-        record { pass = omega arith; at_once = tt; rule = record { taken = refl; refused = inr refl } },
-        tt,
-      ),
-    ),
-  ),
-)
-
-pub returns-clause-full_replies : goal.returns-clause-full_replies
-unfolding unicode_segmentation
-returns-clause-full_replies c = inl (refl, inl (refl, inr (_, _, refl, refl, inr (_, _, refl, refl, refl))))

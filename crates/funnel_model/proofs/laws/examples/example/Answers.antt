@@ -16,19 +16,19 @@ episode_is_legal : IsLegal small episode
 episode_is_legal = (
   record { pass = omega arith; at_once = tt; rule = inl (record { idle = tt; in_range = omega arith; room = room_by 2 0 0 _ (omega arith) refl refl refl refl; lowest = λ lower in'. absurd (omega arith); next = refl }) },
   (
-    record { pass = omega arith; at_once = tt; rule = record { taken = refl; absent = refl; room = omega arith; inside = no_bits; in_word = none_wide } },
+    record { pass = omega arith; at_once = tt; rule = record { taken = refl; absent = refl; inside = no_bits; in_word = none_wide } },
     (
       record { pass = omega arith; at_once = tt; rule = record { idle = refl; refused = inl refl } },
       (
         record { pass = omega arith; at_once = tt; rule = inl (record { idle = refl; in_range = omega arith; room = room_by 2 0 1 _ (omega arith) refl refl refl refl; lowest = λ lower in'. absurd (omega arith); next = refl }) },
         (
-          record { pass = omega arith; at_once = tt; rule = record { taken = refl; absent = refl; room = omega arith; inside = no_bits; in_word = none_wide } },
+          record { pass = omega arith; at_once = tt; rule = record { taken = refl; absent = refl; inside = no_bits; in_word = none_wide } },
           (
             record { pass = omega arith; at_once = tt; rule = refl },
             (
               record { pass = omega arith; at_once = tt; rule = record { query = []; begun = refl } },
               (
-                record { pass = omega arith; at_once = tt; rule = record { idle = refl; refused = inr (inr (one_slice _ (inl (two_columns _ refl refl, not_retired 2 0 0 _ (omega arith) refl refl)))) } },
+                record { pass = omega arith; at_once = tt; rule = record { idle = refl; refused = inr (one_slice _ (inl (two_columns _ refl refl, not_retired 2 0 0 _ (omega arith) refl refl))) } },
                 tt,
               ),
             ),

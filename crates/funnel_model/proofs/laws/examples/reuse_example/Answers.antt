@@ -35,7 +35,7 @@ clearing = event.Clear 0 0 ∷ event.Opened 0 0 false ∷ event.Take 0 0 0 ∷ e
 abbrev telling : List Event
 telling =
     event.Find 0 [] ∷ event.End 0 ∷ event.Read 0 call.Place
-    ∷ event.No 0 (call.Delete 9) ∷ event.No 0 (call.Delete 5) ∷ event.No 0 (call.Add 5 []) ∷ event.No 0 (call.Add 6 []) ∷ []
+    ∷ event.No 0 (call.Delete 9) ∷ event.No 0 (call.Add 5 []) ∷ []
 
 -- both columns are deleted, and stay so while the slice isn't opened
 both_over : (later : List Event) → list_any (opens 0) later ≡ false → AllOver 2 0 (filling ++ (deleting ++ later))
@@ -106,25 +106,25 @@ filling_is_legal : GoesOn shared [] filling
 filling_is_legal = (
   record { pass = omega arith; at_once = tt; rule = inl (record { idle = tt; in_range = omega arith; room = room_by 2 0 0 _ (omega arith) refl refl refl refl; lowest = λ lower in'. absurd (omega arith); next = refl }) },
   (
-    record { pass = omega arith; at_once = tt; rule = record { taken = refl; absent = refl; room = omega arith; inside = no_bits; in_word = none_wide } },
+    record { pass = omega arith; at_once = tt; rule = record { taken = refl; absent = refl; inside = no_bits; in_word = none_wide } },
     (
       record { pass = omega arith; at_once = tt; rule = inl (record { idle = refl; in_range = omega arith; room = room_by 2 0 1 _ (omega arith) refl refl refl refl; lowest = λ lower in'. absurd (omega arith); next = refl }) },
       (
-        record { pass = omega arith; at_once = tt; rule = record { taken = refl; absent = refl; room = omega arith; inside = no_bits; in_word = none_wide } },
+        record { pass = omega arith; at_once = tt; rule = record { taken = refl; absent = refl; inside = no_bits; in_word = none_wide } },
         tt,
       ),
     ),
   ),
 )
 
--- both numbers are live, and the journal has room
+-- both numbers are live
 deleting_is_legal : GoesOn shared filling deleting
 deleting_is_legal = (
   record { pass = omega arith; at_once = tt; rule = tt },
   (
-    record { pass = omega arith; at_once = tt; rule = record { idle = refl; present = refl; room = omega arith } },
+    record { pass = omega arith; at_once = tt; rule = record { idle = refl; present = refl } },
     (
-      record { pass = omega arith; at_once = tt; rule = record { idle = refl; present = refl; room = omega arith } },
+      record { pass = omega arith; at_once = tt; rule = record { idle = refl; present = refl } },
       tt,
     ),
   ),
@@ -133,7 +133,7 @@ deleting_is_legal = (
 -- the slice is retired and guarded, so that nothing can be taken
 guarding_is_legal : GoesOn shared (filling ++ deleting) guarding
 guarding_is_legal = (
-  record { pass = omega arith; at_once = tt; rule = record { idle = refl; refused = inr (inr (one_slice _ (inr (inl (record { over = both_over [] refl; not_clearing = refl }, guarded))))) } },
+  record { pass = omega arith; at_once = tt; rule = record { idle = refl; refused = inr (one_slice _ (inr (inl (record { over = both_over [] refl; not_clearing = refl }, guarded)))) } },
   (
     record { pass = omega arith; at_once = tt; rule = record { query = []; begun = refl } },
     tt,
@@ -149,14 +149,14 @@ clearing_is_legal = (
     (
       record { pass = omega arith; at_once = refl; rule = inr (record { opened = refl; first = refl; in_range = omega arith }) },
       (
-        record { pass = omega arith; at_once = tt; rule = record { taken = refl; absent = refl; room = omega arith; inside = no_bits; in_word = none_wide } },
+        record { pass = omega arith; at_once = tt; rule = record { taken = refl; absent = refl; inside = no_bits; in_word = none_wide } },
         tt,
       ),
     ),
   ),
 )
 
--- 9 is not live, 5 is, and the journal is full
+-- 9 is not live, and 5 is
 telling_is_legal : GoesOn shared (filling ++ (deleting ++ (guarding ++ clearing))) telling
 telling_is_legal = (
   record { pass = omega arith; at_once = tt; rule = refl },
@@ -165,16 +165,10 @@ telling_is_legal = (
     (
       record { pass = omega arith; at_once = tt; rule = record { idle = refl; reads = tt } },
       (
-        record { pass = omega arith; at_once = tt; rule = record { idle = refl; refused = inl refl } },
+        record { pass = omega arith; at_once = tt; rule = record { idle = refl; refused = refl } },
         (
-          record { pass = omega arith; at_once = tt; rule = record { idle = refl; refused = inr refl } },
-          (
-            record { pass = omega arith; at_once = tt; rule = record { idle = refl; refused = inl refl } },
-            (
-              record { pass = omega arith; at_once = tt; rule = record { idle = refl; refused = inr (inl refl) } },
-              tt,
-            ),
-          ),
+          record { pass = omega arith; at_once = tt; rule = record { idle = refl; refused = inl refl } },
+          tt,
         ),
       ),
     ),
@@ -190,7 +184,7 @@ returns-clause-legal c =
 
 pub returns-clause-replies : goal.returns-clause-replies
 unfolding unicode_segmentation
-returns-clause-replies c = inl (refl, inr (_, _, refl, refl, inl (refl, inr (_, _, refl, refl, inr (_, _, refl, refl, inr (_, _, refl, refl, inr (_, _, refl, refl, inr (_, _, refl, refl, inl (refl, inl (refl, inl (refl, inl (refl, inr (_, _, refl, refl, inr (_, _, refl, refl, inl (refl, inr (_, _, refl, refl, inr (_, _, refl, refl, inr (_, _, refl, refl, inr (_, _, refl, refl, inr (_, _, refl, refl, refl))))))))))))))))))))
+returns-clause-replies c = inl (refl, inr (_, _, refl, refl, inl (refl, inr (_, _, refl, refl, inr (_, _, refl, refl, inr (_, _, refl, refl, inr (_, _, refl, refl, inr (_, _, refl, refl, inl (refl, inl (refl, inl (refl, inl (refl, inr (_, _, refl, refl, inr (_, _, refl, refl, inl (refl, inr (_, _, refl, refl, inr (_, _, refl, refl, inr (_, _, refl, refl, refl))))))))))))))))))
 
 pub returns-clause-still_read : goal.returns-clause-still_read
 returns-clause-still_read c = record {

@@ -1,0 +1,135 @@
+"""Runs the program on each row of rows.txt and on the long rows below: rows.py PROGRAM. Prints those that come out otherwise."""
+
+import itertools
+import os
+import re
+import shlex
+import subprocess
+import sys
+import tempfile
+
+
+class Row:
+    """What it shows, configurations and commands of which each is tried with each, the input, and what the program has to say."""
+
+    def __init__(self, shows, lines=(), configurations=(), commands=(), output=(), ends="0", given=None):
+        self.shows = shows
+        self.configurations = configurations or [None]
+        self.commands = commands or [["run"]]
+        self.input = input_of(lines or [("place", "")]) if given is None else given
+        status, _, message = ends.partition(" ")
+        said = [*(reply for _, reply in lines), *output]
+        self.wanted = (int(status), "".join(f"{line}\n" for line in said), message and f"funnel: {message}\n")
+
+    def fails(self, program):
+        """Prints each way of the row that comes out otherwise. Returns how many do."""
+        failed = 0
+        for configuration, command in itertools.product(self.configurations, self.commands):
+            if (got := outcome(program, configuration, command, self.input)) != self.wanted:
+                failed += 1
+                print(f"{self.shows}\n{command} with {configuration}"[:400], f"wanted {self.wanted}"[:400], f"got {got}"[:400], sep="\n")
+        return failed
+
+
+def input_of(lines):
+    """The bytes of lines and their replies, where \\x and two digits are a byte."""
+    text = "".join(f"{line}\n" for line, _ in lines).encode()
+    return re.sub(rb"\\x(..)", lambda byte: bytes.fromhex(byte[1].decode()), text)
+
+
+def outcome(program, configuration, command, lines):
+    """The status, the output, and what is said on standard error."""
+    with tempfile.TemporaryDirectory() as folder:
+        if configuration is not None:
+            with open(f"{folder}/funnel.json", "w", encoding="utf-8") as file:
+                file.write(configuration)
+        run = subprocess.run([program, *command], cwd=folder, input=lines, capture_output=True, timeout=120)
+    return run.returncode, run.stdout.decode(), run.stderr.decode()
+
+
+def rows_of(text):
+    """The rows of rows.txt."""
+    for section in text.split("\n# ")[1:]:
+        shows, *rest = section.strip("\n").split("\n")
+        found = {"configuration": [], "words": [], ">": [], "ends": ["0"]}
+        lines = []
+        for line in rest:
+            given, arrow, reply = line.rpartition(" => ")
+            if arrow:
+                lines.append((given, reply))
+            else:
+                key, _, value = line.partition(" ")
+                found[key].append(value)
+        commands = [shlex.split(words) for words in found["words"]]
+        yield Row(shows, lines, found["configuration"], commands, found[">"], found["ends"][-1])
+
+
+def numbers(word, first, last, sign=""):
+    """A list of the numbers, as a reply tells it."""
+    return " ".join([word, str(last - first + 1), *(f"{sign}{number}" for number in range(first, last + 1))])
+
+
+def adds(first, last):
+    return [(f"add {number} x", f"added {number}") for number in range(first, last + 1)]
+
+
+def listed(last):
+    return [("find x", numbers("found", 1, last)), ("journal 0", numbers("commits", 1, last, "+")), ("journal 7", numbers("commits", 8, last, "+"))]
+
+
+def slice_rows():
+    """Rows of a slice of 64 columns."""
+    emptied = [*adds(1, 64), *((f"del {number}", f"deleted {number + 64}") for number in range(1, 65))]
+    one_slice = ['{"slices":1}']
+    yield Row("a second slice is filled after the first", [*adds(1, 65), ("find x", numbers("found", 1, 65))])
+    yield Row("a slice is full", [*adds(1, 64), ("add 65 x", "refused full"), ("find x", numbers("found", 1, 64))], one_slice)
+    again = [("add 500 y", "added 129"), ("find x", "found 0"), ("find y", "found 1 500"), ("journal 127", "commits 2 -64 +500")]
+    yield Row("a slice of deleted documents is used again", [*emptied, *again], one_slice)
+    recycled = [("recycle", "recycled 0"), ("recycle", "nothing retired"), ("add 1 y", "added 129"), ("find x", "found 0"), ("find y", "found 1 1")]
+    yield Row("a slice of deleted documents is recycled", [*emptied, *recycled], one_slice)
+
+
+def long_rows():
+    """Rows of long lines, lists, configurations and words, and of an input without a newline at its end."""
+    yield Row("no line has no reply", given=b"")
+    yield Row("a line may lack its newline at the end", given=b"place\nfind", output=["place 0", "found 0"])
+    letters = "a" * 65_530
+    long_lines = [
+        (f"add 1 {letters}", "added 1"),
+        (f"add 2 {letters}a", "refused long"),
+        (f"add 3 {letters[1:]}\\x0d", "added 2"),
+        (f"add 4 {letters}\\x0d", "refused long"),
+        ("place", "place 2"),
+    ]
+    yield Row("a line has at most 65,536 bytes", long_lines)
+    many = [*adds(1, 1100), *listed(1100), *adds(1101, 4200), *listed(4200)]
+    yield Row("thousands of numbers are found and told", many, ['{"slices":66,"commits":4200}'])
+
+    spaces = " " * 16_777_214
+    yield Row("a configuration has 16,777,216 bytes", [("place", "place 0")], [spaces + "{}"])
+    yield Row("a configuration has a byte more", (), [spaces + " {}"], ends="2 config 2")
+    yield Row("what is in a long configuration is read", (), [spaces[:2_000_000] + "[1]"], ends="2 config 3")
+    yield Row("what a long configuration asks for is judged", (), [spaces[:2_000_000] + '{"slices":1024,"blocks":64}'], ends="2 config 9")
+    words = [f'"{number}":1' for number in range(65_537)]
+    yield Row("65,536 words are listed", [("place", "place 0")], ['{"words":{' + ",".join(words[1:]) + "}}"])
+    yield Row("a word more is listed", (), ['{"words":{' + ",".join(words) + "}}"], ends="2 config 5")
+    yield Row("an object nests 127 deep", (), ['{"passes":' + "[" * 126 + "]" * 126 + "}"], ends="2 config 5")
+    yield Row("an object nests deeper", (), ['{"passes":' + "[" * 127 + "]" * 127 + "}"], ends="2 config 3")
+
+    queries = ["w0", "w0 w1", "w1", "w1 w2", "w2", "w2 w3", "w3", "w3 w4"]
+    for docs, slices in ((5, 2), (1100, 18), (4200, 66)):
+        commands = [["load", "--docs", f"{docs:0{digits}}", "--words", "0", "--workers", "2"] for digits in (1, 1_002, 4_098)]
+        summary = [f"documents {docs}", f"deleted {docs // 10}", f"live {docs - docs // 10}", "misses 0", *(f"query {query}: 0 0" for query in queries)]
+        yield Row("a number of many digits, and a load of many documents", (), [f'{{"slices":{slices}}}'], commands, summary)
+
+
+def main(program):
+    with open(os.path.join(os.path.dirname(__file__), "rows.txt"), encoding="utf-8") as file:
+        rows = [*rows_of(file.read()), *slice_rows(), *long_rows()]
+    failed = sum(row.fails(program) for row in rows)
+    print(f"{failed} of {len(rows)} rows failed" if failed else "each row has its replies")
+    return 1 if failed else 0
+
+
+if __name__ == "__main__":
+    sys.exit(main(sys.argv[1]))

@@ -1,8 +1,0 @@
-use Rattle.std.proofs.Common.{sym, subst, map}
-use Rattle.std.specs.List.Sorted.{IsStrictlySortedBy}
-use Rattle.funnel_model.specs.Listed.{IsInByteOrder, listed_pair}
-use Rattle.column_writer.proofs.tests.no_words.Goals as goal
-
-pub new-requires-2 : goal.new-requires-2
-unfolding IsStrictlySortedBy
-new-requires-2 c = subst (λ items. IsInByteOrder (map listed_pair items)) (sym c.new.ensures.items) tt

@@ -1,8 +1,0 @@
-use Rattle.std.proofs.Common.{refl}
-use Rattle.caseless.proofs.Computing.{caseless}
-use Rattle.unicode_segmentation.proofs.Computing.{unicode_segmentation}
-use Rattle.document_store.proofs.tests.cat.Goals as goal
-
-pub document-requires : goal.document-requires
-unfolding caseless unicode_segmentation
-document-requires c = refl

@@ -1,0 +1,274 @@
+//! Documents in their columns, and what a find makes of them.
+ghost use Rattle.std.specs.Prelude.{◌≡◌, ◌<◌, ◌≤◌, [], ◌∷◌, IfOk, length};
+
+use document_store::{Column, Doc, Found, Records, resolve, verify};
+use funnel_model::{Candidates, Ids, Text, WordSet};
+use std::alloc::{AllocError, Global};
+use std::marker::Model;
+use std::test::Fail;
+use word_cut::{WordFault, words};
+
+fn document(alloc: Global, id: u64, text: &str) -> Result<Doc, WordFault> {
+    let words = words(alloc, text)?;
+    let copied = text_of(alloc, text)?;
+    Ok(Doc::new(id, copied, words))
+}
+
+fn text_of(alloc: Global, text: &str) -> Result<Text, AllocError>
+    ensures { IfOk result (λ made. made ≡ text.now) }
+{
+    Ok(Text::new(String::from_str(alloc, text)?))
+}
+
+/// Whether the document has every word of the query.
+fn has_words(alloc: Global, doc: &Doc, query: &str) -> Result<bool, WordFault> {
+    Ok(verify(doc, &words(alloc, query)?))
+}
+
+/// The number of the document, whether it has this text, and how many words it has.
+fn parts(doc: &Doc, text: &str) -> (u64, bool, usize) {
+    (doc.id(), doc.text() == text, doc.words().len())
+}
+
+/// The parts of a document, and whether it has the words `cat` and `dog`.
+fn described(alloc: Global, text: &str) -> Result<((u64, bool, usize), bool, bool), Fail> {
+    let doc = document(alloc, 7, text)?;
+    let parts = parts(&doc, text);
+    let cat = has_words(alloc, &doc, "cat")?;
+    Ok((parts, cat, has_words(alloc, &doc, "dog")?))
+}
+
+#[test]
+fn a_document_has_its_words(rt: HostRuntime) -> Result<(), Fail> {
+    assert_eq!(rt; described(rt.alloc(), "cat")?, ((7, true, 1), true, false));
+    Ok(())
+}
+
+/// Records of two slices of three columns. Contracts see nothing of them.
+#[derive(Drop)]
+struct Columns {
+    records: Records,
+}
+
+impl Model for Columns {
+    ghost use Rattle.std.specs.Prelude.{◌≡◌};
+
+    ghost Value = { Unit {0} };
+
+    ghost view = { λ _. tt };
+
+    ghost invariant = { λ c. (c.records.slices ≡ 2) × (c.records.columns ≡ 3) };
+}
+
+impl Columns {
+    fn new(alloc: Global) -> Result<Columns, WordFault> {
+        let records = Records::new(alloc, 2, 3)?;
+        Ok(Columns { records })
+    }
+
+    /// What became of a column, and whether it keeps a document.
+    fn state(&self, slice: u32, column: u32) -> (Column, bool)
+        requires { (slice < 2) × (column < 3) }
+    {
+        let kept = self.records.doc(slice, column).is_some();
+        (self.records.state(slice, column), kept)
+    }
+
+    /// Claims a column for pass 2, where it is free.
+    fn claim(&mut self, slice: u32, column: u32)
+        requires { (slice < 2) × (column < 3) }
+    {
+        if self.records.state(slice, column) == Column::Free {
+            self.records.claim(slice, column, 2);
+        }
+    }
+
+    /// Puts a document into a column that is claimed.
+    fn put(&mut self, slice: u32, column: u32, doc: Doc, place: u64)
+        requires { (slice < 2) × (column < 3) }
+    {
+        if let Column::Pending(_) = self.records.state(slice, column) {
+            self.records.live(slice, column, doc, place);
+        }
+    }
+
+    /// Drops a column that is claimed.
+    fn refuse(&mut self, slice: u32, column: u32)
+        requires { (slice < 2) × (column < 3) }
+    {
+        if let Column::Pending(_) = self.records.state(slice, column) {
+            self.records.drop_column(slice, column);
+        }
+    }
+
+    /// Deletes the document of a column, where it is live.
+    fn delete(&mut self, slice: u32, column: u32, place: u64)
+        requires { (slice < 2) × (column < 3) }
+    {
+        if let Column::Live(_) = self.records.state(slice, column) {
+            self.records.delete(slice, column, place);
+        }
+    }
+
+    /// Frees the columns of the second slice.
+    fn free_second(&mut self) {
+        self.records.free(1);
+    }
+
+    /// The states of two columns: one is claimed, gets a document that is deleted, and is freed; and the other is dropped.
+    fn lead(&mut self, doc: Doc) -> [(Column, bool); 7] {
+        let free = self.state(1, 0);
+        self.claim(1, 0);
+        let pending = self.state(1, 0);
+        self.put(1, 0, doc, 3);
+        let live = self.state(1, 0);
+        self.delete(1, 0, 5);
+        let deleted = self.state(1, 0);
+        self.claim(0, 1);
+        self.refuse(0, 1);
+        let dropped = self.state(0, 1);
+        self.free_second();
+        [
+            free,
+            pending,
+            live,
+            deleted,
+            dropped,
+            self.state(1, 0),
+            self.state(0, 1),
+        ]
+    }
+}
+
+/// The states of the two columns, step by step.
+fn states(alloc: Global) -> Result<[(Column, bool); 7], Fail> {
+    let doc = document(alloc, 7, "cat")?;
+    let mut columns = Columns::new(alloc)?;
+    Ok(columns.lead(doc))
+}
+
+#[test]
+fn a_column_goes_through_its_states(rt: HostRuntime) -> Result<(), Fail> {
+    let wanted = [
+        (Column::Free, false),
+        (Column::Pending(2), false),
+        (Column::Live(3), true),
+        (Column::Deleted(3, 5), true),
+        (Column::Dropped, false),
+        (Column::Free, false),
+        (Column::Dropped, false),
+    ];
+    assert!(rt; states(rt.alloc())? == wanted);
+    Ok(())
+}
+
+/// The slice, the column, the number, the text and the place of each add. Numbers 9, 5, 7, 4 and 8 are added one after
+/// another.
+static ADDED: [(u32, u32, u64, &str, u64); 5] = [
+    (0, 0, 7, "cat", 3),
+    (0, 1, 5, "dog", 2),
+    (0, 2, 9, "cat", 1),
+    (1, 0, 4, "cat", 4),
+    (1, 2, 8, "cat", 5),
+];
+
+/// Puts each document into its column. Number 4 is deleted by the sixth commit, and one column is dropped.
+fn fill(alloc: Global, columns: &mut Columns) -> Result<(), WordFault> {
+    for (slice, column, id, text, place) in &ADDED {
+        let (slice, column) = (*slice, *column);
+        if slice < 2 && column < 3 {
+            columns.claim(slice, column);
+            columns.put(slice, column, document(alloc, *id, text)?, *place);
+        }
+    }
+    columns.delete(1, 0, 6);
+    columns.claim(1, 1);
+    columns.refuse(1, 1);
+    Ok(())
+}
+
+/// Every column as a candidate.
+fn every_column(alloc: Global) -> Result<Candidates, AllocError>
+    ensures { IfOk result (λ all. all ≡ (0, 0) ∷ (0, 1) ∷ (0, 2) ∷ (1, 0) ∷ (1, 1) ∷ (1, 2) ∷ []) }
+{
+    let columns = [(0, 0), (0, 1), (0, 2), (1, 0), (1, 1), (1, 2)];
+    Ok(Candidates::new(columns.to_vec(alloc)?))
+}
+
+/// What a find of these words at a place makes of every column.
+fn found_at(
+    alloc: Global,
+    columns: &Columns,
+    words: &WordSet,
+    place: u64,
+) -> Result<Found, WordFault>
+    ensures { IfOk result (λ out. length out.found ≤ 6) }
+{
+    let candidates = every_column(alloc)?;
+    let mut out = Found::with_room(alloc, 6)?;
+    resolve(&columns.records, &candidates, words, place, &mut out);
+    Ok(out)
+}
+
+/// The places of the adds and the numbers of the documents with the word `cat` that a find at a place finds.
+fn pairs_at(alloc: Global, columns: &Columns, place: u64) -> Result<Vec<(u64, u64)>, Fail> {
+    let found = found_at(alloc, columns, &words(alloc, "cat")?, place)?;
+    Ok(found.as_slice().to_vec(alloc)?)
+}
+
+/// Their numbers.
+fn numbers_at(alloc: Global, columns: &Columns, place: u64) -> Result<Ids, Fail> {
+    let found = found_at(alloc, columns, &words(alloc, "cat")?, place)?;
+    Ok(found.into_ids(Vec::with_capacity(alloc, 6)?))
+}
+
+/// Whether a find at a place finds these numbers in this order.
+fn finds(alloc: Global, columns: &Columns, place: u64, wanted: &[u64]) -> Result<bool, Fail> {
+    let numbers = numbers_at(alloc, columns, place)?;
+    Ok(numbers.as_slice() == wanted)
+}
+
+fn filled(alloc: Global) -> Result<Columns, WordFault> {
+    let mut columns = Columns::new(alloc)?;
+    fill(alloc, &mut columns)?;
+    Ok(columns)
+}
+
+/// What is found at each place.
+static FOUND: [(u64, &[u64]); 5] = [
+    (0, &[]),
+    (1, &[9]),
+    (4, &[9, 7, 4]),
+    (5, &[9, 7, 4, 8]),
+    (6, &[9, 7, 8]),
+];
+
+#[test]
+fn documents_are_found_in_the_order_of_their_adds(rt: HostRuntime) -> Result<(), Fail> {
+    let columns = filled(rt.alloc())?;
+    for (place, wanted) in &FOUND {
+        assert!(rt;
+            finds(rt.alloc(), &columns, *place, wanted)?,
+            "found at {place}"
+        );
+    }
+    let pairs = pairs_at(rt.alloc(), &columns, 5)?;
+    assert_eq!(rt;
+        pairs.as_slice(),
+        [(1, 9), (3, 7), (4, 4), (5, 8)].as_slice()
+    );
+    Ok(())
+}
+
+/// The state of the last column of many, and how many documents were found beside them.
+fn many_columns(alloc: Global) -> Result<(Column, usize), Fail> {
+    let records = Records::new(alloc, 3, 2_000)?;
+    let state = records.state(2, 1_999);
+    Ok((state, Found::with_room(alloc, 6_000)?.len()))
+}
+
+#[test]
+fn thousands_of_columns_find_memory(rt: HostRuntime) -> Result<(), Fail> {
+    assert_eq!(rt; many_columns(rt.alloc())?, (Column::Free, 0));
+    Ok(())
+}

@@ -1,0 +1,284 @@
+//! Scans of slices whose row words are written out, and the reads that they take.
+ghost use Rattle.std.specs.Prelude.{◌≡◌, ◌<◌, ◌≤◌, length, All, IfOk};
+ghost use Rattle.funnel_model.specs.Configuration.{IsBetween};
+
+use crate::setting::{config, layout_of};
+use funnel_model::{Candidates, Listed, Memory};
+use plan_rows::plan;
+use rank_matcher::scan;
+use row_layout::{Layout, Plan};
+use row_read::{Image, Rows};
+use std::alloc::{AllocError, Global};
+use std::marker::Model;
+use std::test::Fail;
+use word_cut::words;
+
+/// One listed word, of which one document in sixteen has it, so that it has a row of rank 1 and two of rank 0.
+fn otter(alloc: Global) -> Result<Listed, AllocError>
+    ensures few { IfOk result (λ words. length words ≤ 65536) }
+    ensures counts { IfOk result (λ words. All (λ entry. IsBetween 1 1000 entry.1) words) }
+{
+    let otter = String::from_str(alloc, "otter")?;
+    Ok(Listed::new(vec![in alloc; (otter, 62)]?))
+}
+
+/// Two slices, with as many rows as this word wants.
+fn layout(alloc: Global, blocks: u32, max_rank: u8) -> Result<Layout, Memory>
+    requires blocks { IsBetween 1 2 blocks }
+    requires max_rank { max_rank ≤ 6 }
+    ensures { IfOk result (λ layout. layout.slices ≡ 2) }
+{
+    let mut config = config(max_rank, 10, 10, 1000, 0, otter(alloc)?);
+    config.blocks = blocks;
+    layout_of(alloc, &config)
+}
+
+/// A plan for slices that are laid out so.
+#[derive(Drop)]
+struct Planned {
+    layout: Layout,
+    plan: Plan,
+}
+
+impl Model for Planned {
+    ghost use Rattle.std.specs.Prelude.{◌≡◌, All};
+    ghost use Rattle.row_layout.specs.Rows.{IsRowOf};
+
+    ghost Value = { Unit {0} };
+
+    ghost view = { λ _. tt };
+
+    ghost invariant = { λ p. (p.layout.slices ≡ 2) × All (IsRowOf p.layout) p.plan };
+}
+
+/// The plan of a query, in so many blocks and with rows up to this rank.
+fn plan_of(alloc: Global, blocks: u32, max_rank: u8, query: &str) -> Result<Planned, Fail>
+    requires blocks { IsBetween 1 2 blocks }
+    requires max_rank { max_rank ≤ 6 }
+{
+    let layout = layout(alloc, blocks, max_rank)?;
+    let plan = plan(alloc, &layout, &words(alloc, query)?)?;
+    Ok(Planned { layout, plan })
+}
+
+/// The columns that were found, and how many words were read.
+type Scanned = (Vec<(u32, u32)>, u64);
+
+/// Scans a slice of these words, where they have the slice.
+fn scan_words(
+    alloc: Global,
+    planned: &Planned,
+    slice: u32,
+    words: &[u64],
+) -> Result<Scanned, Fail> {
+    if slice >= 2 {
+        return Err(Fail::new("there are two slices"));
+    }
+    let (first, count) = planned.layout.slice_range(slice);
+    if (first + count) as usize > words.len() {
+        return Err(Fail::new("the words have the slice"));
+    }
+    let mut image = Image::new(words);
+    let mut candidates = Candidates::new(Vec::new(alloc));
+    scan(
+        &mut image,
+        &planned.layout,
+        &planned.plan,
+        slice,
+        &mut candidates,
+    )?;
+    Ok((candidates.into_inner(), image.reads()))
+}
+
+/// Whether a scan finds these columns by so many reads.
+fn finds(
+    alloc: Global,
+    planned: &Planned,
+    slice: u32,
+    words: &[u64],
+    wanted: &[(u32, u32)],
+    wanted_reads: u64,
+) -> Result<bool, Fail> {
+    let (columns, reads) = scan_words(alloc, planned, slice, words)?;
+    Ok(columns.as_slice() == wanted && reads == wanted_reads)
+}
+
+const ONES: u64 = u64::MAX;
+
+/// A slice, the words of two slices, and what is found by how many reads. In a slice stand two rows of rank 0 and then one of
+/// rank 1, and a word that no row of the plan has.
+static SMALL: [(u32, &[u64], &[(u32, u32)], u64); 4] = [
+    (
+        0,
+        &[1, 4, 1, 3, 5, ONES, ONES, ONES, ONES, ONES, ONES, ONES],
+        &[(0, 0)],
+        5,
+    ),
+    (
+        1,
+        &[ONES, ONES, ONES, ONES, ONES, ONES, 1, 0, 1, 3, 5, ONES],
+        &[(1, 0)],
+        4,
+    ),
+    (
+        1,
+        &[ONES, ONES, ONES, ONES, ONES, ONES, 1, 4, 1, 3, 0, ONES],
+        &[],
+        1,
+    ),
+    (
+        1,
+        &[ONES, ONES, ONES, ONES, ONES, ONES, 1, 4, 1, 7, 5, ONES],
+        &[(1, 0), (1, 66)],
+        5,
+    ),
+];
+
+#[test]
+fn columns_with_a_bit_in_every_row_are_found(rt: HostRuntime) -> Result<(), Fail> {
+    let planned = plan_of(rt.alloc(), 1, 1, "otter")?;
+    for (slice, words, wanted, reads) in &SMALL {
+        assert!(rt; finds(rt.alloc(), &planned, *slice, words, wanted, *reads)?);
+    }
+    Ok(())
+}
+
+static OF_TWO_BLOCKS: [u64; 12] = [3, 3, 3, 3, 3, 3, 3, 3, 1, 2, ONES, ONES];
+
+#[test]
+fn a_word_of_a_higher_rank_covers_the_words_that_follow_one_another(
+    rt: HostRuntime,
+) -> Result<(), Fail> {
+    let planned = plan_of(rt.alloc(), 2, 1, "otter")?;
+    let wanted = [(0, 0), (0, 64), (0, 129), (0, 193)];
+    assert!(rt; finds(rt.alloc(), &planned, 0, &OF_TWO_BLOCKS, &wanted, 10)?);
+    Ok(())
+}
+
+/// The columns 0, 1100, 1164 and 8191 of slice 1 have their bits in two rows of rank 0 and one of rank 1.
+static BITS: [(usize, u64); 12] = [
+    (446, 1),
+    (463, 1 << 12),
+    (464, 1 << 12),
+    (573, 1 << 63),
+    (574, 1),
+    (591, 1 << 12),
+    (592, 1 << 12),
+    (701, 1 << 63),
+    (702, 1),
+    (710, 1 << 12),
+    (711, 1 << 12),
+    (765, 1 << 63),
+];
+
+/// The words of two slices with those bits.
+fn many_words(alloc: Global) -> Result<Vec<u64>, AllocError> {
+    let mut words = vec![in alloc; 0; 892]?;
+    for (word, set) in &BITS {
+        if *word < words.len() {
+            words[*word] = *set;
+        }
+    }
+    Ok(words)
+}
+
+#[test]
+fn a_slice_of_many_words_is_searched(rt: HostRuntime) -> Result<(), Fail> {
+    let planned = plan_of(rt.alloc(), 2, 6, "otter")?;
+    let words = many_words(rt.alloc())?;
+    let wanted = [(1, 0), (1, 1100), (1, 1164), (1, 8191)];
+    assert!(rt; finds(rt.alloc(), &planned, 1, words.as_slice(), &wanted, 76)?);
+    Ok(())
+}
+
+/// Every column of slice 0, of 128.
+fn every_column(alloc: Global) -> Result<Vec<(u32, u32)>, AllocError> {
+    let mut columns = Vec::with_capacity(alloc, 128)?;
+    for column in 0..128 {
+        columns.push((0, column))?;
+    }
+    Ok(columns)
+}
+
+#[test]
+fn a_plan_without_rows_finds_every_column(rt: HostRuntime) -> Result<(), Fail> {
+    let planned = plan_of(rt.alloc(), 1, 1, "")?;
+    let wanted = every_column(rt.alloc())?;
+    assert!(rt; finds(rt.alloc(), &planned, 0, &[0; 6], wanted.as_slice(), 0)?);
+    Ok(())
+}
+
+/// Words in which other threads set their highest bits, so that a read has more bits than it must have.
+#[derive(Drop)]
+struct Changing<'a> {
+    words: &'a [u64],
+    reads: u64,
+}
+
+impl<'a> Rows for Changing<'a> {
+    ghost use Rattle.std.specs.Prelude.{⊤};
+    ghost use Rattle.std.specs.declared.option.Option.TheVariants.{None};
+    ghost use Rattle.funnel_model.specs.RowWords.{IsSetIn};
+
+    ghost Kept = { ⊤ };
+
+    ghost reach = { λ rows word. word < length rows.words.now };
+
+    ghost least = { λ rows bit. IsSetIn rows.words.now bit };
+
+    ghost seen = { λ _ _. ⊤ };
+
+    ghost told = { λ _. None };
+
+    ghost kept = { λ _. tt };
+
+    ghost reads = { λ rows. rows.reads };
+
+    fn read(&mut self, word: u32) -> u64 {
+        self.reads = self.reads.saturating_add(1);
+        self.words[word as usize] | 1 << 63
+    }
+
+    fn reads(&self) -> u64 {
+        self.reads
+    }
+}
+
+/// Scans slice 0 of words that change so. There is a candidate already.
+fn scan_changing(alloc: Global, planned: &Planned, words: &[u64]) -> Result<Scanned, Fail> {
+    let (first, count) = planned.layout.slice_range(0);
+    if (first + count) as usize > words.len() {
+        return Err(Fail::new("the words have the slice"));
+    }
+    let mut rows = Changing { words, reads: 0 };
+    let mut candidates = Candidates::new(vec![in alloc; (7, 7)]?);
+    scan(
+        &mut rows,
+        &planned.layout,
+        &planned.plan,
+        0,
+        &mut candidates,
+    )?;
+    Ok((candidates.into_inner(), rows.reads()))
+}
+
+#[test]
+fn bits_that_other_threads_set_are_found_too(rt: HostRuntime) -> Result<(), Fail> {
+    let planned = plan_of(rt.alloc(), 1, 1, "otter")?;
+    let (columns, reads) = scan_changing(rt.alloc(), &planned, &[1, 4, 1, 3, 5, 0])?;
+    let wanted = [(7, 7), (0, 0), (0, 63), (0, 127)];
+    assert!(rt; columns.as_slice() == wanted.as_slice());
+    assert_eq!(rt; reads, 5);
+    Ok(())
+}
+
+#[test]
+fn reads_are_counted(rt: HostRuntime) {
+    let words = [5, 0, u64::MAX];
+    let mut image = Image::new(&words);
+    assert_eq!(rt; image.reads(), 0);
+    assert_eq!(rt; image.read(2), u64::MAX);
+    assert_eq!(rt; image.read(0), 5);
+    assert_eq!(rt; image.read(0), 5);
+    assert_eq!(rt; image.reads(), 3);
+}

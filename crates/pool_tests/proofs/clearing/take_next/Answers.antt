@@ -1,0 +1,14 @@
+use Rattle.std.proofs.Common.{arith, ◌+◌}
+use Rattle.funnel_model.specs.declared.event.Event.TheVariants as event
+use Rattle.pool_tests.specs.Cleared.{drops}
+use Rattle.pool_tests.proofs.Cleared.{room_for_take, allowed_at, take_next_allowed}
+use Rattle.pool_tests.proofs.clearing.take_next.Goals as goal
+
+pub make_event-requires-clause-allowed : goal.make_event-requires-clause-allowed
+make_event-requires-clause-allowed c =
+    allowed_at c.args.pool.now.limits c.args.home.now.history (drops c.args.k) (event.Take 1 0 (c.args.k + 1)) c.requires.at.sizes c.requires.at.history (take_next_allowed c.args.k c.requires.few)
+
+pub make_event-requires-clause-room : goal.make_event-requires-clause-room
+make_event-requires-clause-room c =
+    let few = c.requires.few in
+    room_for_take c.args.home.now.history c.args.k c.requires.at.history (omega (arith, few))

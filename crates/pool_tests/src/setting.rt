@@ -1,0 +1,83 @@
+//! Configurations and pools of the tests.
+ghost use Rattle.std.specs.Prelude.{◌≡◌, ◌*◌, ◌≤◌, IfOk, []};
+ghost use Rattle.funnel_model.specs.Configuration.{IsBetween, IsInRange};
+ghost use Rattle.funnel_model.specs.Sizes.{columns_of_slice};
+ghost use Rattle.funnel_model.specs.declared.config.TheConstants.{MOST_ROW_WORDS};
+ghost use Rattle.pool_tests.specs.Sizes.{sizes_of};
+ghost use Rattle.slice_rule.specs.Seats.{CanEnd, new_home_state, new_pass_state};
+
+use funnel_model::{Config, Listed};
+use slice_rule::{Ended, Home, PassSeat, Pool};
+use std::alloc::Global;
+use std::test::Fail;
+
+fn no_words(alloc: Global) -> Listed
+    ensures { result ≡ [] }
+{
+    Listed::new(Vec::new(alloc))
+}
+
+/// So many passes and slices of 64 columns, the rest by default but that a word has 26 rows.
+pub(crate) fn config(alloc: Global, passes: u32, slices: u32) -> Config
+    requires passes { IsBetween 1 2 passes }
+    requires slices { IsBetween 1 2 slices }
+    ensures in_range { IsInRange result }
+    ensures passes { result.passes ≡ passes }
+    ensures slices { result.slices ≡ slices }
+    ensures commits { result.commits ≡ 1024 }
+    ensures columns { columns_of_slice result ≡ 64 }
+{
+    Config {
+        passes,
+        slices,
+        blocks: 1,
+        max_rank: 0,
+        commits: 1024,
+        one_in: 2,
+        snr: 1000,
+        documents: 1000,
+        tail: 10,
+        max_rows: 65536,
+        words: no_words(alloc),
+    }
+}
+
+/// A pool of two passes with its home and its seats.
+pub(crate) type Opened = (Pool, Home, PassSeat, PassSeat);
+
+/// Opens a pool of two passes whose slices have so many words.
+pub(crate) fn open_two(alloc: Global, slices: u32, slice_words: u32) -> Result<Opened, Fail>
+    requires slices { IsBetween 1 2 slices }
+    requires words { 1 ≤ slice_words }
+    requires few { slices * slice_words ≤ MOST_ROW_WORDS }
+    ensures sizes { IfOk result (λ made. made.0.limits ≡ sizes_of slices slice_words) }
+    ensures home { IfOk result (λ made. made.1 ≡ new_home_state made.0) }
+    ensures first { IfOk result (λ made. made.2 ≡ new_pass_state made.0 0) }
+    ensures second { IfOk result (λ made. made.3 ≡ new_pass_state made.0 1) }
+{
+    let config = config(alloc, 2, slices);
+    let (pool, home, mut passes) = Pool::new(alloc, &config, slice_words)?;
+    let second = passes.pop().ok_or("two passes")?;
+    let first = passes.pop().ok_or("two passes")?;
+    Ok((pool, home, first, second))
+}
+
+/// Closes a pool of two passes.
+pub(crate) fn close_two(
+    alloc: Global,
+    pool: Pool,
+    home: Home,
+    first: PassSeat,
+    second: PassSeat,
+) -> Result<Ended, Fail>
+    requires passes { pool.limits.passes ≡ 2 }
+    requires home { home.pool ≡ pool }
+    requires first { (first.number ≡ 0) × CanEnd pool first }
+    requires second { (second.number ≡ 1) × CanEnd pool second }
+    ensures { IfOk result (λ ended. ended.history ≡ home.history) }
+{
+    let mut passes = Vec::with_capacity(alloc, 2)?;
+    passes.push(first)?;
+    passes.push(second)?;
+    Ok(pool.close(home, passes))
+}
