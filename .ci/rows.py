@@ -12,20 +12,23 @@ import tempfile
 class Row:
     """What it shows, configurations and commands of which each is tried with each, the input, and what the program has to say."""
 
-    def __init__(self, shows, lines=(), configurations=(), commands=(), output=(), ends="0", given=None):
+    def __init__(self, shows, lines=(), configurations=(), commands=(), output=(), ends="0", says=(), given=None):
         self.shows = shows
         self.configurations = configurations or [None]
         self.commands = commands or [["run"]]
         self.input = input_of(lines or [("place", "")]) if given is None else given
         status, _, message = ends.partition(" ")
         said = [*(reply for _, reply in lines), *output]
-        self.wanted = (int(status), "".join(f"{line}\n" for line in said), message and f"funnel: {message}\n")
+        self.wanted = (int(status), "".join(f"{line}\n" for line in said), [f"funnel: {message}", *says] if message else [])
+        self.is_first_enough = not says
 
     def fails(self, program):
         """Prints each way of the row that comes out otherwise. Returns how many do."""
         failed = 0
         for configuration, command in itertools.product(self.configurations, self.commands):
-            if (got := outcome(program, configuration, command, self.input)) != self.wanted:
+            status, output, said = outcome(program, configuration, command, self.input)
+            got = (status, output, said[: 1 if self.is_first_enough else None])
+            if got != self.wanted:
                 failed += 1
                 print(f"{self.shows}\n{command} with {configuration}"[:400], f"wanted {self.wanted}"[:400], f"got {got}"[:400], sep="\n")
         return failed
@@ -38,20 +41,20 @@ def input_of(lines):
 
 
 def outcome(program, configuration, command, lines):
-    """The status, the output, and what is said on standard error."""
+    """The status, the output, and the lines on standard error."""
     with tempfile.TemporaryDirectory() as folder:
         if configuration is not None:
             with open(f"{folder}/funnel.json", "w", encoding="utf-8") as file:
                 file.write(configuration)
         run = subprocess.run([program, *command], cwd=folder, input=lines, capture_output=True, timeout=120)
-    return run.returncode, run.stdout.decode(), run.stderr.decode()
+    return run.returncode, run.stdout.decode(), run.stderr.decode().splitlines()
 
 
 def rows_of(text):
     """The rows of rows.txt."""
     for section in text.split("\n# ")[1:]:
         shows, *rest = section.strip("\n").split("\n")
-        found = {"configuration": [], "words": [], ">": [], "ends": ["0"]}
+        found = {"configuration": [], "words": [], ">": [], "ends": ["0"], "says": []}
         lines = []
         for line in rest:
             given, arrow, reply = line.rpartition(" => ")
@@ -61,7 +64,7 @@ def rows_of(text):
                 key, _, value = line.partition(" ")
                 found[key].append(value)
         commands = [shlex.split(words) for words in found["words"]]
-        yield Row(shows, lines, found["configuration"], commands, found[">"], found["ends"][-1])
+        yield Row(shows, lines, found["configuration"], commands, found[">"], found["ends"][-1], found["says"])
 
 
 def numbers(word, first, last, sign=""):

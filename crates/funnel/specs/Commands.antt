@@ -37,9 +37,9 @@ port_option = record (number_option (codes "port") (numbers_between 1 MOST_PORT)
 abbrev pub workers_option : Rule
 workers_option = record (number_option (codes "workers") (numbers_between 1 MOST_PASSES)) { required = true }
 
--- how many connections each worker serves, or else 1,000,000
+-- how many connections each worker serves, or else 4,294,967,296
 abbrev pub connections_option : Rule
-connections_option = record (number_option (codes "connections") (vp.Unsigned 1 MOST_CONNECTIONS)) { defaults = codes "1000000" ∷ [] }
+connections_option = record (number_option (codes "connections") (vp.Unsigned 1 MOST_CONNECTIONS)) { defaults = codes "4294967296" ∷ [] }
 
 -- a number of documents, which has to be given
 abbrev pub docs_option : Rule

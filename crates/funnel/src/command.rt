@@ -169,7 +169,7 @@ fn connections_option<'a>(alloc: Global) -> Arg<'a>
     ensures local { result.global ≡ false }
 {
     let numbers = value_parser!(u64).range(1..=MOST_CONNECTIONS as i64);
-    number_option(alloc, "connections", numbers).default_value("1000000")
+    number_option(alloc, "connections", numbers).default_value("4294967296")
 }
 
 fn load_app<'a>(alloc: Global) -> Result<clap::Command<'a>, AllocError>

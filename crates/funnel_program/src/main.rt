@@ -2,6 +2,9 @@
 //! `funnel_main` of the crate `funnel`, and exits with the status that this gives.
 #![tactic(auto)]
 
+mod cause;
+
+use cause::say_cause;
 use funnel::{Command, Why, funnel_main, gates_on, ports, read_command};
 use funnel_io::{FileSource, StdinSource, StdoutSink};
 use std::alloc::Global;
@@ -71,11 +74,12 @@ fn say_what_begins(rt: &HostRuntime, alloc: Global, words: &[&str]) {
     };
 }
 
-/// Says on standard error why the program did not do all that it was to do, and gives its status.
+/// Says on standard error why the program did not do all that it was to do, and then what was wrong, and gives its status.
 fn report(rt: &HostRuntime, why: Why) -> ExitCode {
     if why.status() != 0 {
         // Where nothing can be written there either, the status tells it alone.
         let _ = eprintln!(rt; "funnel: {why}");
+        let _ = say_cause(rt, &why);
     }
     ExitCode::from(why.status())
 }

@@ -32,7 +32,7 @@ static COMMANDS: [(&[&str], Command); 7] = [
         Command::Serve(ServeCommand {
             port: 7_000,
             workers: 2,
-            connections: 1_000_000,
+            connections: 4_294_967_296,
         }),
     ),
     (

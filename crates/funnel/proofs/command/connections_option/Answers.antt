@@ -20,4 +20,4 @@ pub returns-clause-rule : goal.returns-clause-rule
 returns-clause-rule c =
     let numbers : c.range-numbers.result ≡ vp.Unsigned 1 MOST_CONNECTIONS = narrowed _ _ _ c.range-numbers.result c.value_parser.ensures c.new.ensures.start c.new.ensures.end c.range-numbers.ensures in
     ap rule_of c.default_value.ensures
-    ∙ ap (λ (r : Rule). record r { defaults = codes "1000000" ∷ [] }) (c.number_option.ensures.rule ∙ ap (number_option (codes "connections")) numbers)
+    ∙ ap (λ (r : Rule). record r { defaults = codes "4294967296" ∷ [] }) (c.number_option.ensures.rule ∙ ap (number_option (codes "connections")) numbers)
