@@ -126,9 +126,17 @@ def long_rows():
         yield Row("a number of many digits, and a load of many documents", (), [f'{{"slices":{slices}}}'], commands, summary)
 
 
+def text_rows():
+    """Rows of the help, which stands in the source as it is told."""
+    with open(os.path.join(os.path.dirname(__file__), "../crates/funnel/src/text.rt"), encoding="utf-8") as file:
+        text = file.read().partition('HELP: &str = "\\\n')[2].partition('";')[0]
+    lines = text.replace("\\\\", "\\").splitlines()
+    yield Row("help is told, whatever the configuration", (), ["{}", "{"], [["--help"], ["-h"], ["help"]], lines)
+
+
 def main(program):
     with open(os.path.join(os.path.dirname(__file__), "rows.txt"), encoding="utf-8") as file:
-        rows = [*rows_of(file.read()), *slice_rows(), *long_rows()]
+        rows = [*rows_of(file.read()), *text_rows(), *slice_rows(), *long_rows()]
     failed = sum(row.fails(program) for row in rows)
     print(f"{failed} of {len(rows)} rows failed" if failed else "each row has its replies")
     return 1 if failed else 0

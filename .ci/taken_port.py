@@ -1,4 +1,4 @@
-"""Runs the program on a port that is taken: taken_port.py PROGRAM."""
+"""Runs the program on a port that is taken, and prints what it says, with P for the port: taken_port.py PROGRAM."""
 
 import socket
 import subprocess
@@ -7,4 +7,6 @@ import sys
 with socket.create_server(("127.0.0.1", 0)) as taken:
     port = str(taken.getsockname()[1])
     words = [sys.argv[1], "serve", "--port", port, "--workers", "1"]
-    print(f"status {subprocess.run(words, stdin=subprocess.DEVNULL).returncode}", flush=True)
+    run = subprocess.run(words, stdin=subprocess.DEVNULL, stderr=subprocess.PIPE, text=True)
+    print(run.stderr.replace(port, "P"), end="")
+    print(f"status {run.returncode}")

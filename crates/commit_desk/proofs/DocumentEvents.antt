@@ -1,7 +1,8 @@
 -- What the desk keeps, when a document is added, dropped and deleted.
 use Rattle.std.proofs.Common.{◌≡◌, ℕ, ◌+◌, ◌<◌, true, false, List, [], ◌∷◌, ◌++◌, cond, length, All, Option, Some, None, sym, refl, ◌∙◌, subst, arith}
+use Rattle.std.proofs.lemmas.Bool.{false≢true}
+use Rattle.std.specs.List.{list_any}
 use Rattle.std.proofs.lemmas.List.{length-append, length-set}
-use Rattle.std.proofs.lemmas.List.Elements.{All-push}
 use Rattle.std.specs.Prelude.{◌==◌}
 use Rattle.document_store.specs.Documents.{Parts}
 use Rattle.document_store.specs.Entries.{Entries}
@@ -13,15 +14,19 @@ use Rattle.funnel_model.specs.declared.bit_list.Bit.{Bit}
 use Rattle.funnel_model.specs.declared.config.Config.{Config}
 use Rattle.funnel_model.specs.declared.event.Event.{Event}
 use Rattle.funnel_model.specs.declared.event.Event.TheVariants as event
-use Rattle.funnel_model.specs.Events.{finds_or_ends, next_after}
+use Rattle.funnel_model.specs.Events.{deletes_or_drops, finds_or_ends, moves, next_after, tuning_of}
 use Rattle.funnel_model.specs.History.{last_by, place}
 use Rattle.funnel_model.specs.Legal.{IsAllowed, Limits}
+use Rattle.funnel_model.specs.Sizes.{words_of_slice}
 use Rattle.funnel_model.specs.Words.{AreWordsOf, words}
+use Rattle.funnel_model.proofs.CausedMoves.{caused-push}
 use Rattle.funnel_model.proofs.Histories.{legal-push}
 use Rattle.funnel_model.proofs.LiveLemmas.{commits-silent}
 use Rattle.funnel_model.proofs.NextEvents.{awaited-push}
+use Rattle.funnel_model.proofs.TuningLemmas.{treat_untuned}
 use Rattle.row_layout.proofs.BitLemmas.{rows-of_part}
-use Rattle.row_layout.specs.DocumentBits.{AreDocumentBits}
+use Rattle.row_layout.proofs.SoundHistories.{sound-push}
+use Rattle.row_layout.specs.DocumentBits.{AreDocumentBits, AreDocumentBitsIn}
 use Rattle.row_layout.specs.Sound.{HasItsBits}
 use Rattle.slice_rule.specs.Pools.{PoolId}
 use Rattle.slice_stages.specs.Stages.{RetiredBefore, StageTable, after_end, stage_of, with_stage}
@@ -37,6 +42,7 @@ use Rattle.commit_desk.proofs.RecordsKept.{recorded-add, recorded-delete, record
 use Rattle.commit_desk.proofs.StageReadings.{AreAtStages, in_use_stage, live_in_use, retired_before, taken_in_use}
 use Rattle.commit_desk.proofs.StagesKept.{stages-add, stages-delete, stages-drop}
 use Rattle.commit_desk.proofs.TokenEvents.{tokens-same}
+use Rattle.commit_desk.proofs.Untuned.{untuned-push}
 
 -- the bits of a document's words are those of its text's words
 bits_of_text : (config : Config) (set : List (List ℕ)) (text : List ℕ) (s c : ℕ) (bits : List Bit) → AreWordsOf set text → AreDocumentBits config set s c bits → AreDocumentBits config (words text) s c bits
@@ -103,11 +109,11 @@ module _ (pool : PoolId) (most : ℕ) (history : List Event) (books : Books) (is
       (retired_before pool.limits history books.table kept.legal kept.recorded books.stages kept.staged.each kept.staged.count)
 
   -- what is kept with one more event, part by part
-  desk-with : (e : Event) (next : Books) → IsAllowed pool.limits history e → HasItsBits pool.config e → HasFew most pool.limits.passes (history ++ e ∷ []) → next_after e ≡ None →
+  desk-with : (e : Event) (next : Books) → IsAllowed pool.limits history e → HasItsBits pool.config history e → tuning_of e ≡ None → (moves e ≡ true → list_any deletes_or_drops history ≡ true) → HasFew most pool.limits.passes (history ++ e ∷ []) → next_after e ≡ None →
       ((pass : ℕ) → finds_or_ends pass e ≡ false) → next.slices ≡ books.slices → next.columns ≡ books.columns → next.tokens ≡ books.tokens → next.events ≡ length history + 1 →
       IsJournalOf pool.limits.commits (history ++ e ∷ []) next.journal → AreRecorded pool.limits (history ++ e ∷ []) next.table → AreListed next.table next.live →
       AreStages pool.limits (history ++ e ∷ []) next.table books.tokens next.stages → IsDesk pool most (history ++ e ∷ []) next
-  desk-with e next allowed bits few awaits silent slices columns tokens events journal recorded listed staged =
+  desk-with e next allowed bits tunes_none cause few awaits silent slices columns tokens events journal recorded listed staged =
       let kept = is.kept in record {
         in_range = is.in_range;
         sizes = is.sizes;
@@ -117,7 +123,9 @@ module _ (pool : PoolId) (most : ℕ) (history : List Event) (books : Books) (is
         kept = record {
           few = few;
           legal = legal-push pool.limits history e kept.legal allowed;
-          sound = All-push (HasItsBits pool.config) history e kept.sound bits;
+          sound = sound-push pool.config history e kept.sound bits;
+          caused = (caused-push history e).1 (kept.caused, cause);
+          untuned = untuned-push history e kept.untuned tunes_none;
           slices_are = slices ∙ kept.slices_are;
           columns_are = columns ∙ kept.columns_are;
           events_are = events ∙ sym (length-append history (e ∷ []));
@@ -136,7 +144,7 @@ module _ (pool : PoolId) (most : ℕ) (history : List Event) (books : Books) (is
       IsDesk pool most (history ++ event.Add pass doc.id doc.text s c bits ∷ []) (record books {
         events = length history + 1;
         journal = with_commit books.journal (record { add = true; id = doc.id });
-        table = with_slot books.table s c (record { column = became.Live (place history + 1); doc = Some doc });
+        table = with_slot books.table s c (record { column = became.Live (place history + 1) (length history + 1); doc = Some doc });
         live = next;
       })
   desk-add pass s c doc bits next allowed of_text bits_are entries slices columns =
@@ -144,14 +152,15 @@ module _ (pool : PoolId) (most : ℕ) (history : List Event) (books : Books) (is
       let kept = is.kept in
       let rule = allowed.rule in
       let here = taken_column pass s c rule.taken in
-      let y : Slot = record { column = became.Live (place history + 1); doc = Some doc } in
+      let y : Slot = record { column = became.Live (place history + 1) (length history + 1); doc = Some doc } in
       let table = with_slot books.table s c y in
       desk-with e (record books { events = length history + 1; journal = with_commit books.journal (record { add = true; id = doc.id }); table = table; live = next }) allowed
-      (bits_of_text pool.config doc.words doc.text s c bits of_text bits_are)
+      (subst (λ (k : Config). AreDocumentBitsIn (words_of_slice pool.config) k (words doc.text) s c bits) (sym (treat_untuned pool.config s history kept.untuned))
+      (bits_of_text pool.config doc.words doc.text s c bits of_text bits_are)) refl (λ is. absurd (false≢true is))
       (few-next most pool.limits.passes history e (event.Take pass s c) kept.few allowed.pass rule.taken (omega arith)) refl (λ other. refl) refl refl refl refl
       (journal-push pool.limits.commits history e (record { add = true; id = doc.id }) books.journal kept.journal_is refl)
       (recorded-add pool.limits history books.table kept.legal kept.recorded pass s c doc bits allowed of_text here)
-      (listed-add books.table books.live kept.recorded.size kept.listed s c (place history + 1) doc next here
+      (listed-add books.table books.live kept.recorded.size kept.listed s c (place history + 1) (length history + 1) doc next here
       (none_live_in_pending pool.limits history books.table kept.legal kept.recorded pass s c rule.taken here)
       (no_entry pool.limits history books.table kept.legal kept.recorded books.live kept.listed doc.id rule.absent) entries slices columns)
       (staged_by pool.limits history e books.table table books.tokens books.stages books.stages kept.staged refl refl refl
@@ -173,7 +182,7 @@ module _ (pool : PoolId) (most : ℕ) (history : List Event) (books : Books) (is
       let table = with_slot books.table s c y in
       let ended = after_end pool.limits.columns (length history + 1) first over in
       let recorded = recorded-drop pool.limits history books.table kept.legal kept.recorded pass id text s c allowed here in
-      desk-with e (record books { events = length history + 1; table = table; stages = with_stage books.stages s ended }) allowed tt
+      desk-with e (record books { events = length history + 1; table = table; stages = with_stage books.stages s ended }) allowed tt refl (λ is. absurd (false≢true is))
       (few-next most pool.limits.passes history e (event.Take pass s c) kept.few allowed.pass rule.taken (omega arith)) refl (λ other. refl) refl refl refl refl
       (journal-silent pool.limits.commits history (history ++ e ∷ []) books.journal (commits-silent history e refl) kept.journal_is) recorded
       (listed-one books.table books.live kept.recorded.size kept.listed s c y here (λ doc l. cc l.column)
@@ -188,20 +197,20 @@ module _ (pool : PoolId) (most : ℕ) (history : List Event) (books : Books) (is
       IsDesk pool most (history ++ event.Del pass doc.id ∷ []) (record books {
         events = length history + 1;
         journal = with_commit books.journal (record { add = false; id = doc.id });
-        table = with_slot books.table s c (record { column = became.Deleted l.added (place history + 1); doc = Some doc });
+        table = with_slot books.table s c (record { column = became.Over l.added l.since (length history + 1); doc = Some doc });
         live = next;
         stages = with_stage books.stages s (after_end pool.limits.columns (length history + 1) first over);
       })
   desk-delete pass s c first over doc l next allowed below here entries slices columns at_stage =
       let e = event.Del pass doc.id in
       let kept = is.kept in
-      let y : Slot = record { column = became.Deleted l.added (place history + 1); doc = Some doc } in
+      let y : Slot = record { column = became.Over l.added l.since (length history + 1); doc = Some doc } in
       let table = with_slot books.table s c y in
       let ended = after_end pool.limits.columns (length history + 1) first over in
       let recorded = recorded-delete pool.limits history books.table kept.legal kept.recorded pass s c doc l allowed here in
-      desk-with e (record books { events = length history + 1; journal = with_commit books.journal (record { add = false; id = doc.id }); table = table; live = next; stages = with_stage books.stages s ended }) allowed tt
+      desk-with e (record books { events = length history + 1; journal = with_commit books.journal (record { add = false; id = doc.id }); table = table; live = next; stages = with_stage books.stages s ended }) allowed tt refl (λ is. absurd (false≢true is))
       (few-start most pool.limits.passes history e below) refl (λ other. refl) refl refl refl refl
       (journal-push pool.limits.commits history e (record { add = false; id = doc.id }) books.journal kept.journal_is refl) recorded
-      (listed-delete books.table books.live kept.recorded.size kept.listed s c (place history + 1) doc l next here entries slices columns)
+      (listed-delete books.table books.live kept.recorded.size kept.listed s c (length history + 1) doc l next here entries slices columns)
       (staged_by pool.limits history e books.table table books.tokens books.stages (with_stage books.stages s ended) kept.staged (length-set books.stages.stages s ended) refl refl
       (stages-delete pool.limits history books.table books.stages kept.legal kept.recorded kept.staged.count kept.staged.each pass s c first over doc y here l refl allowed recorded at_stage))

@@ -1,12 +1,15 @@
 -- What the call that ends a find finds.
-use Rattle.std.proofs.Common.{◌≡◌, ◌↔◌, ℕ, ◌<◌, List, filter_map, refl, sym, ap, ◌∙◌, subst, arith, Contains, IsSorted, IsPermutation}
+use Rattle.std.proofs.Common.{◌≡◌, ◌↔◌, ℕ, ◌<◌, false, List, filter_map, refl, sym, ap, ◌∙◌, subst, arith, Contains, IsSorted, IsPermutation}
+use Rattle.std.specs.List.{list_any}
+use Rattle.std.specs.Option.{is_some}
 use Rattle.document_store.specs.Finding.{IsFound, found_at, pair_cmp}
 use Rattle.document_store.specs.Slots.{IsColumn, Table}
 use Rattle.funnel_model.specs.declared.claim.Token.{Token}
 use Rattle.funnel_model.specs.declared.config.Config.{Config}
 use Rattle.funnel_model.specs.declared.event.Event.{Event}
 use Rattle.funnel_model.specs.declared.event.Event.TheVariants as event
-use Rattle.funnel_model.specs.History.{IsFrontOf, place}
+use Rattle.funnel_model.specs.Events.{tuning_of}
+use Rattle.funnel_model.specs.History.{IsFrontOf}
 use Rattle.funnel_model.specs.Legal.{IsLegal, Limits}
 use Rattle.funnel_model.specs.Slices.{IsInUse}
 use Rattle.funnel_model.specs.Tokens.{HasToken}
@@ -42,20 +45,19 @@ scanned_in_table limits history table config seat token set candidates recorded 
 
 -- what is found of the candidates of a scan are the documents that were live before the find and have every word
 pub found_by_scan : (config : Config) (limits : Limits) (history : List Event) (table : Table) (seat : PassState) (token : Token) (set : List (List ℕ)) (candidates found : List (ℕ × ℕ)) →
-    IsLegal limits history → IsSound config history → AreRecorded limits history table → seat.pool.limits ≡ limits → IsFrontOf seat.number seat.front history → HoldsToken seat token →
+    IsLegal limits history → IsSound config history → list_any (λ e. is_some (tuning_of e)) history ≡ false → AreRecorded limits history table → seat.pool.limits ≡ limits → IsFrontOf seat.number seat.front history → HoldsToken seat token →
     AreScanned config seat token set candidates →
-    ((added id : ℕ) → Contains found (added, id) ↔ IsFound table candidates set token.place (added, id)) → IsSorted pair_cmp found →
-    IsPermutation (filter_map (found_at table set token.place) candidates) found →
+    ((added id : ℕ) → Contains found (added, id) ↔ IsFound table candidates set token.opened_at (added, id)) → IsSorted pair_cmp found →
+    IsPermutation (filter_map (found_at table set token.opened_at) candidates) found →
     (begun : HasToken seat.front seat.number token.opened_at) → AreWordsOf set begun.query → found ≡ found_of begun.earlier begun.query
-found_by_scan config limits history table seat token set candidates found legal sound recorded same goes holds scanned exactly sorted permuted begun of_query =
+found_by_scan config limits history table seat token set candidates found legal sound untuned recorded same goes holds scanned exactly sorted permuted begun of_query =
     let now = begun_later seat.number token.opened_at seat.front history begun goes in
     let earlier : holds.begun.earlier ≡ begun.earlier = begun_once seat.front seat.number token.opened_at holds.begun begun in
-    let at_place : token.place ≡ place begun.earlier = holds.at_place ∙ ap place earlier in
     let held_are : (slice : ℕ) → Contains token.slices slice ↔ ((slice < limits.slices) × IsInUse limits.columns slice begun.earlier) =
     subst (λ (h : List Event). (slice : ℕ) → Contains token.slices slice ↔ ((slice < limits.slices) × IsInUse limits.columns slice h)) earlier
     (subst (λ (l : Limits). (slice : ℕ) → Contains token.slices slice ↔ ((slice < l.slices) × IsInUse l.columns slice holds.begun.earlier)) same holds.slices) in
-    found_is_met config limits history table legal sound recorded seat.number token.opened_at now candidates set found of_query
+    found_is_met config limits history table legal sound untuned recorded seat.number token.opened_at now candidates set found of_query
+    (λ slice column has. ((held_are slice).0 (scanned.of_token (slice, column) has).slice).1)
     (scanned_in_table limits history table config seat token set candidates recorded same holds scanned) scanned.each_once
-    (is_candidate config limits history table legal sound recorded seat.number token.opened_at now seat token set candidates begun.later goes.later same held_are scanned of_query begun.whole refl)
-    (subst (λ n. (added id : ℕ) → Contains found (added, id) ↔ IsFound table candidates set n (added, id)) at_place exactly) sorted
-    (subst (λ n. IsPermutation (filter_map (found_at table set n) candidates) found) at_place permuted)
+    (is_candidate config limits history table legal sound untuned recorded seat.number token.opened_at now seat token set candidates begun.later goes.later same held_are scanned of_query begun.whole refl)
+    exactly sorted permuted

@@ -1,23 +1,24 @@
 -- What the desk keeps, when a find begins and when it ends.
-use Rattle.std.proofs.Common.{◌≡◌, ◌↔◌, ℕ, ◌+◌, ◌<◌, ◌≤◌, List, [], ◌∷◌, ◌++◌, length, set, Option, Some, None, refl, sym, ap, ◌∙◌, subst, arith, Contains}
+use Rattle.std.proofs.Common.{◌≡◌, false, ◌↔◌, ℕ, ◌+◌, ◌<◌, ◌≤◌, List, [], ◌∷◌, ◌++◌, length, set, Option, Some, None, refl, sym, ap, ◌∙◌, subst, arith, Contains}
 use Rattle.std.specs.Option.{IfSome}
 use Rattle.std.proofs.lemmas.List.{length-append}
-use Rattle.std.proofs.lemmas.List.Elements.{All-push}
 use Rattle.funnel_model.specs.declared.claim.Token.{Token}
 use Rattle.funnel_model.specs.declared.config.Config.{Config}
 use Rattle.token_manager.specs.Guarding.{HasOpened}
 use Rattle.funnel_model.specs.declared.event.Event.{Event}
 use Rattle.funnel_model.specs.declared.event.Event.TheVariants as event
-use Rattle.funnel_model.specs.Events.{commit_of, next_after}
+use Rattle.funnel_model.specs.Events.{commit_of, moves, next_after, tuning_of}
 use Rattle.funnel_model.specs.History.{place}
 use Rattle.funnel_model.specs.Legal.{Limits, IsAllowed, IsIdle, IsLegal, awaited}
 use Rattle.funnel_model.specs.Slices.{ColumnState, IsInUse}
 use Rattle.funnel_model.specs.Tokens.{HasToken}
+use Rattle.funnel_model.proofs.CausedMoves.{caused-still}
 use Rattle.funnel_model.proofs.ColumnStates.{after}
 use Rattle.funnel_model.proofs.Histories.{legal-push}
 use Rattle.funnel_model.proofs.LastEvents.{token_is_last}
 use Rattle.funnel_model.proofs.LiveLemmas.{commits-silent}
 use Rattle.funnel_model.proofs.NextEvents.{awaited-push}
+use Rattle.row_layout.proofs.SoundHistories.{sound-push}
 use Rattle.row_layout.specs.Sound.{HasItsBits}
 use Rattle.slice_rule.specs.Pools.{PoolId}
 use Rattle.slice_rule.specs.Seats.{HoldsToken, PassState}
@@ -28,21 +29,26 @@ use Rattle.commit_desk.proofs.Marks.{mark-end, mark-find, mark-same}
 use Rattle.commit_desk.proofs.RecordsKept.{recorded-same}
 use Rattle.commit_desk.proofs.StagesKept.{LeavesSlice, stages-same}
 use Rattle.commit_desk.proofs.TokenEvents.{tokens-end, tokens-find}
+use Rattle.commit_desk.proofs.Untuned.{untuned-push}
 
 -- an event that changes no document, no column and no slice, after which any other may come
 pub record IsSilent (e : Event) : Type 0 where
   pub commit : commit_of e ≡ None
   pub leaves : (slice : ℕ) → LeavesSlice slice e
-  pub stays : (slice column place : ℕ) (x : ColumnState) → after slice column place x e ≡ x
-  pub bits : (config : Config) → HasItsBits config e
+  pub stays : (slice column : ℕ) (history : List Event) (x : ColumnState) → after slice column history x e ≡ x
+  pub bits : (config : Config) (history : List Event) → HasItsBits config history e
+  pub tunes_none : tuning_of e ≡ None
+  pub moves_none : moves e ≡ false
   pub awaits : next_after e ≡ None
 
 pub silent_find : (pass : ℕ) (query : List ℕ) → IsSilent (event.Find pass query)
 silent_find pass query = record {
   commit = refl;
   leaves = λ slice. record { takes = refl; clears = refl; opens = refl };
-  stays = λ slice column place x. refl;
-  bits = λ config. tt;
+  stays = λ slice column history x. refl;
+  bits = λ config history. tt;
+  tunes_none = refl;
+  moves_none = refl;
   awaits = refl;
 }
 
@@ -50,8 +56,10 @@ pub silent_end : (pass : ℕ) → IsSilent (event.End pass)
 silent_end pass = record {
   commit = refl;
   leaves = λ slice. record { takes = refl; clears = refl; opens = refl };
-  stays = λ slice column place x. refl;
-  bits = λ config. tt;
+  stays = λ slice column history x. refl;
+  bits = λ config history. tt;
+  tunes_none = refl;
+  moves_none = refl;
   awaits = refl;
 }
 
@@ -70,7 +78,9 @@ module _ (pool : PoolId) (most : ℕ) (history : List Event) (books : Books) (is
         kept = record {
           few = few;
           legal = legal-push pool.limits history e kept.legal allowed;
-          sound = All-push (HasItsBits pool.config) history e kept.sound (silent.bits pool.config);
+          sound = sound-push pool.config history e kept.sound (silent.bits pool.config history);
+          caused = caused-still history e kept.caused silent.moves_none;
+          untuned = untuned-push history e kept.untuned silent.tunes_none;
           slices_are = kept.slices_are;
           columns_are = kept.columns_are;
           events_are = sym (length-append history (e ∷ []));

@@ -18,16 +18,16 @@ abbrev pub NoneHeldBelow : List Event → ℕ → ℕ → Type 0
 NoneHeldBelow history slice column = (lower : ℕ) → lower < column → (other : ColumnState) → IsInState history slice lower other → IsHeld other → ⊥
 
 -- a column is recorded as live or pending where its state is that
-held_in : (c : Column) (doc : Option Parts) → FitsColumn c doc → ((added : ℕ) → c ≡ became.Live added → ⊥) → ((pass : ℕ) → c ≡ became.Pending pass → ⊥) → IsHeld (state_in c doc) → ⊥
+held_in : (c : Column) (doc : Option Parts) → FitsColumn c doc → ((added since : ℕ) → c ≡ became.Live added since → ⊥) → ((pass : ℕ) → c ≡ became.Pending pass → ⊥) → IsHeld (state_in c doc) → ⊥
 held_in became.Free doc fits not_live not_pending held = held
 held_in (became.Pending pass) doc fits not_live not_pending held = not_pending pass refl
-held_in (became.Live added) doc fits not_live not_pending held = not_live added refl
-held_in (became.Deleted added deleted) doc fits not_live not_pending held = subst IsHeld (ap (state_in (became.Deleted added deleted)) fits.1) held
+held_in (became.Live added since) doc fits not_live not_pending held = not_live added since refl
+held_in (became.Over added since until) doc fits not_live not_pending held = subst IsHeld (ap (state_in (became.Over added since until)) fits.1) held
 held_in became.Dropped doc fits not_live not_pending held = held
 
 -- one more column that isn't recorded as live or pending
 pub none_held-next : (limits : Limits) (history : List Event) (table : Table) (slice column : ℕ) → IsLegal limits history → AreRecorded limits history table → slice < limits.slices →
-    column < limits.columns → ((added : ℕ) → (slot_at table slice column).column ≡ became.Live added → ⊥) → ((pass : ℕ) → (slot_at table slice column).column ≡ became.Pending pass → ⊥) →
+    column < limits.columns → ((added since : ℕ) → (slot_at table slice column).column ≡ became.Live added since → ⊥) → ((pass : ℕ) → (slot_at table slice column).column ≡ became.Pending pass → ⊥) →
     NoneHeldBelow history slice column → NoneHeldBelow history slice (column + 1)
 none_held-next limits history table slice column legal recorded in' below not_live not_pending before lower low other is held =
     ⊎_elim
@@ -45,14 +45,14 @@ over_unless_held : (history : List Event) (slice column : ℕ) (x : ColumnState)
 over_unless_held history slice column Unclaimed claimed is not_held = absurd (both_ways (is_claimed slice column history) is claimed)
 over_unless_held history slice column (Pending pass) claimed is not_held = absurd (not_held tt)
 over_unless_held history slice column Dropped claimed is not_held = tt
-over_unless_held history slice column (Live d) claimed is not_held = absurd (not_held tt)
-over_unless_held history slice column (Deleted d at) claimed is not_held = tt
+over_unless_held history slice column (Live d since) claimed is not_held = absurd (not_held tt)
+over_unless_held history slice column (Deleted d since until) claimed is not_held = tt
 
 -- a filled slice without a column that is held is retired, unless it is being cleared
-pub retired_unless_held : (columns slice : ℕ) (history : List Event) → IsFilled columns slice history → is_clearing slice history ≡ false → NoneHeldBelow history slice columns →
-    IsRetired columns slice history
-retired_unless_held columns slice history filled not_clearing none = record {
+pub retired_unless_held : (limits : Limits) (columns slice : ℕ) (history : List Event) → IsLegal limits history → IsFilled columns slice history → is_clearing slice history ≡ false →
+    NoneHeldBelow history slice columns → IsRetired columns slice history
+retired_unless_held limits columns slice history legal filled not_clearing none = record {
   over = λ column below.
-      let is = some_state history slice column in (is.0, is.1, over_unless_held history slice column is.0 (filled column below) is.1 (none column below is.0 is.1));
+      let is = some_state limits history slice column legal in (is.0, is.1, over_unless_held history slice column is.0 (filled column below) is.1 (none column below is.0 is.1));
   not_clearing = not_clearing;
 }

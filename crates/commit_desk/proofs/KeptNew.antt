@@ -1,7 +1,6 @@
 -- What is kept beside the empty history.
 use Rattle.std.proofs.Common.{◌≡◌, ℕ, zero, suc, ◌+◌, ◌*◌, ◌-◌, ◌^◌, ◌%◌, ◌<◌, ◌≤◌, List, [], length, take, drop, get_or, count_by, Option, Some, None, sym, refl, ap, ◌∙◌, subst, arith}
 use Rattle.std.proofs.lemmas.List.{drop-replicate, get_or-replicate, length-replicate, take-replicate}
-use Rattle.std.proofs.lemmas.List.Elements.{All-nil}
 use Rattle.std.proofs.lemmas.Nat.{mul-le, pow_below, pow_pos}
 use Rattle.std.specs.Prelude.{replicate}
 use Rattle.document_store.proofs.SlotLemmas.{column_within}
@@ -15,9 +14,10 @@ use Rattle.funnel_model.specs.declared.config.Config.{Config}
 use Rattle.funnel_model.specs.Configuration.{IsInRange}
 use Rattle.funnel_model.specs.Sizes.{columns_of_slice}
 use Rattle.funnel_model.specs.Legal.{Limits}
+use Rattle.funnel_model.proofs.CausedMoves.{caused-start}
 use Rattle.funnel_model.proofs.Columns.{in_state-start}
 use Rattle.funnel_model.proofs.OpenTokens.{no_token_at_start}
-use Rattle.row_layout.specs.Sound.{HasItsBits}
+use Rattle.row_layout.proofs.SoundHistories.{sound-start}
 use Rattle.slice_stages.specs.declared.stage.Stage.{Stage}
 use Rattle.slice_stages.specs.Stages.{StageTable, empty_stage}
 use Rattle.token_manager.specs.Guarding.{HasOpened}
@@ -33,8 +33,8 @@ none_some x is = cc
 none_is_some : (x : ℕ) → None ≡ Some x → ⊥
 none_is_some x is = cc
 
-free_not_live : (added : ℕ) → became.Free ≡ became.Live added → ⊥
-free_not_live added is = cc
+free_not_live : (added since : ℕ) → became.Free ≡ became.Live added since → ⊥
+free_not_live added since is = cc
 
 none_of : (n : ℕ) → count_by is_over (replicate n free_slot) ≡ 0
 none_of zero = refl
@@ -54,7 +54,7 @@ module _ (limits : Limits) (table : Table) (live : Entries) (table_slices : tabl
       (let h = column_within table slice column at size in let k = ap length free in omega (arith, h, k, length-replicate (limits.slices * limits.columns) free_slot))
 
   none_live : (slice column : ℕ) (doc : Parts) → IsColumn table slice column → IsLiveIn (slot_at table slice column) doc → ⊥
-  none_live slice column doc at l = free_not_live l.added (sym (ap (λ (x : Slot). x.column) (slot_free slice column at)) ∙ l.column)
+  none_live slice column doc at l = free_not_live l.added l.since (sym (ap (λ (x : Slot). x.column) (slot_free slice column at)) ∙ l.column)
 
   none_over : (slice : ℕ) → slice < limits.slices → 0 ≡ count_by is_over (slots_of table slice)
   none_over slice in' =
@@ -144,7 +144,9 @@ pub kept-new : (config : Config) (limits : Limits) (most : ℕ) (books : Books) 
 kept-new config limits most books some slices columns events journal ts tc free no_entry ls lc tokens sc stages mark = record {
   few = few-new most limits.passes;
   legal = tt;
-  sound = All-nil (HasItsBits config);
+  sound = sound-start config;
+  caused = caused-start;
+  untuned = refl;
   slices_are = slices;
   columns_are = columns;
   events_are = events;

@@ -30,3 +30,4 @@ pub mod StageReadings
 pub mod StagesKept
 pub mod TokenEvents
 pub mod Turns
+pub mod Untuned

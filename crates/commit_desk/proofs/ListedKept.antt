@@ -23,11 +23,11 @@ none_some x is = cc
 pair_same : (a b c d : ℕ) → (let x : Option (ℕ × ℕ) = Some (a, b) in let y : Option (ℕ × ℕ) = Some (c, d) in x ≡ y) → (a ≡ c) × (b ≡ d)
 pair_same a b c d is = (ap (λ (o : Option (ℕ × ℕ)). option_map_or (λ (p : ℕ × ℕ). p.0) o a) is, ap (λ (o : Option (ℕ × ℕ)). option_map_or (λ (p : ℕ × ℕ). p.1) o b) is)
 
-free_not_live : (added : ℕ) → became.Free ≡ became.Live added → ⊥
-free_not_live added is = cc
+free_not_live : (added since : ℕ) → became.Free ≡ became.Live added since → ⊥
+free_not_live added since is = cc
 
-deleted_not_live : (added deleted other : ℕ) → became.Deleted added deleted ≡ became.Live other → ⊥
-deleted_not_live added deleted other is = cc
+over_not_live : (added since until other after : ℕ) → became.Over added since until ≡ became.Live other after → ⊥
+over_not_live added since until other after is = cc
 
 -- the list stays, where the same columns have the same live documents
 pub listed-same : (table next : Table) (live : Entries) → AreListed table live → next.slices ≡ table.slices → next.columns ≡ table.columns →
@@ -74,7 +74,7 @@ module _ (table : Table) (live : Entries) (size : length table.slots ≡ table.s
       (λ slice column doc at.
       ⊎_elim
       (λ one. (
-        λ new. absurd (free_not_live new.added (let f : became.Free ≡ became.Live new.added = sym (ap (λ (z : Slot). z.column) one.1) ∙ new.column in f)),
+        λ new. absurd (free_not_live new.added new.since (let f : became.Free ≡ became.Live new.added new.since = sym (ap (λ (z : Slot). z.column) one.1) ∙ new.column in f)),
         λ old. absurd (none_live column doc at.column_in_range (subst (λ k. IsLiveIn (slot_at table k column) doc) one.0 old)),
       ))
       (λ other. (
@@ -84,12 +84,12 @@ module _ (table : Table) (live : Entries) (size : length table.slots ≡ table.s
       (free_slice-cases table s slice column in' at size))
 
   -- a document goes live on a column that has none
-  pub listed-add : (s c added : ℕ) (doc : Parts) (next : Entries) → IsColumn table s c → ((d : Parts) → IsLiveIn (slot_at table s c) d → ⊥) → entry_of live doc.id ≡ None →
+  pub listed-add : (s c added since : ℕ) (doc : Parts) (next : Entries) → IsColumn table s c → ((d : Parts) → IsLiveIn (slot_at table s c) d → ⊥) → entry_of live doc.id ≡ None →
       ((other : ℕ) → entry_of next other ≡ cond (other == doc.id) (Some (s, c)) (entry_of live other)) → next.slices ≡ live.slices → next.columns ≡ live.columns →
-      AreListed (with_slot table s c (record { column = became.Live added; doc = Some doc })) next
-  listed-add s c added doc next here not_old absent entries next_slices next_columns =
-      let y : Slot = record { column = became.Live added; doc = Some doc } in
-      let new_live : IsLiveIn y doc = record { added = added; column = refl; doc_is = refl } in
+      AreListed (with_slot table s c (record { column = became.Live added since; doc = Some doc })) next
+  listed-add s c added since doc next here not_old absent entries next_slices next_columns =
+      let y : Slot = record { column = became.Live added since; doc = Some doc } in
+      let new_live : IsLiveIn y doc = record { added = added; since = since; column = refl; doc_is = refl } in
       let cases = λ (slice column : ℕ) (at : IsColumn table slice column). with_slot-cases table s c y slice column here at size in
       record {
         slices_are = next_slices ∙ are.slices_are;
@@ -143,12 +143,12 @@ module _ (table : Table) (live : Entries) (size : length table.slots ≡ table.s
       subst (λ k. (s == k && c == column) ≡ true) both.0 (subst (λ k. (s == s && c == k) ≡ true) both.1 (this_column s c))
 
   -- the live document of a column is deleted
-  pub listed-delete : (s c deleted : ℕ) (doc : Parts) (l : IsLiveIn (slot_at table s c) doc) (next : Entries) → IsColumn table s c →
+  pub listed-delete : (s c until : ℕ) (doc : Parts) (l : IsLiveIn (slot_at table s c) doc) (next : Entries) → IsColumn table s c →
       ((other : ℕ) → entry_of next other ≡ cond (other == doc.id) None (entry_of live other)) → next.slices ≡ live.slices → next.columns ≡ live.columns →
-      AreListed (with_slot table s c (record { column = became.Deleted l.added deleted; doc = Some doc })) next
-  listed-delete s c deleted doc l next here entries next_slices next_columns =
-      let y : Slot = record { column = became.Deleted l.added deleted; doc = Some doc } in
-      let not_new : (d : Parts) → IsLiveIn y d → ⊥ = λ d new. deleted_not_live l.added deleted new.added new.column in
+      AreListed (with_slot table s c (record { column = became.Over l.added l.since until; doc = Some doc })) next
+  listed-delete s c until doc l next here entries next_slices next_columns =
+      let y : Slot = record { column = became.Over l.added l.since until; doc = Some doc } in
+      let not_new : (d : Parts) → IsLiveIn y d → ⊥ = λ d new. over_not_live l.added l.since until new.added new.since new.column in
       let cases = λ (slice column : ℕ) (at : IsColumn table slice column). with_slot-cases table s c y slice column here at size in
       record {
         slices_are = next_slices ∙ are.slices_are;

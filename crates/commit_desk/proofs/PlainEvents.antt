@@ -17,21 +17,28 @@ pub silent_plain : (e : Event) → IsPlain e → IsSilent e
 silent_plain (event.No pass asked) plain = record {
   commit = refl;
   leaves = λ slice. record { takes = refl; clears = refl; opens = refl };
-  stays = λ slice column place x. refl;
-  bits = λ config. tt;
+  stays = λ slice column history x. refl;
+  bits = λ config history. tt;
+  tunes_none = refl;
+  moves_none = refl;
   awaits = refl;
 }
 silent_plain (event.Read pass asked) plain = record {
   commit = refl;
   leaves = λ slice. record { takes = refl; clears = refl; opens = refl };
-  stays = λ slice column place x. refl;
-  bits = λ config. tt;
+  stays = λ slice column history x. refl;
+  bits = λ config history. tt;
+  tunes_none = refl;
+  moves_none = refl;
   awaits = refl;
 }
 silent_plain (event.Take pass slice column) plain = absurd plain
 silent_plain (event.Add pass id text slice column bits) plain = absurd plain
 silent_plain (event.Drop pass id text slice column) plain = absurd plain
 silent_plain (event.Del pass id) plain = absurd plain
+silent_plain (event.Move pass id slice column bits) plain = absurd plain
+silent_plain (event.Void pass slice column) plain = absurd plain
+silent_plain (event.Tune pass config) plain = absurd plain
 silent_plain (event.Find pass query) plain = absurd plain
 silent_plain (event.End pass) plain = absurd plain
 silent_plain (event.Clear pass slice) plain = absurd plain
@@ -44,6 +51,9 @@ finds_none (event.Take by slice column) plain pass = absurd plain
 finds_none (event.Add by id text slice column bits) plain pass = absurd plain
 finds_none (event.Drop by id text slice column) plain pass = absurd plain
 finds_none (event.Del by id) plain pass = absurd plain
+finds_none (event.Move by id slice column bits) plain pass = absurd plain
+finds_none (event.Void by slice column) plain pass = absurd plain
+finds_none (event.Tune by config) plain pass = absurd plain
 finds_none (event.Find by query) plain pass = absurd plain
 finds_none (event.End by) plain pass = absurd plain
 finds_none (event.Clear by slice) plain pass = absurd plain

@@ -41,8 +41,8 @@ place_of_live limits history d legal (k, in', is) =
     ap (option_map (λ (x : Document). x.place))
     (find_first (live history) k d in' is (λ j lt same. live_once limits history legal j k d lt in' (same ∙ ap (λ (x : Document). x.id) (sym is))))
 
-number_of_slot : (slot : Slot) (d : Document) (l : LiveSlot slot d) (id : ℕ) → d.id ≡ id → l.doc.id ≡ id
-number_of_slot slot d l id is = ap (λ (x : Document). x.id) l.is ∙ is
+number_of_slot : (slot : Slot) (d : Document) (since : ℕ) (l : LiveSlot slot d since) (id : ℕ) → d.id ≡ id → l.doc.id ≡ id
+number_of_slot slot d since l id is = ap (λ (x : Document). x.id) l.is ∙ is
 
 none_some : (x : ℕ × ℕ) → Some x ≡ None → ⊥
 none_some x is = cc
@@ -54,11 +54,11 @@ none_place (Some n) is = cc
 some_place : (n : ℕ) → is_some (Some n) ≡ false → ⊥
 some_place n is = cc
 
-pending_not_live : (pass added : ℕ) → became.Pending pass ≡ became.Live added → ⊥
-pending_not_live pass added is = cc
+pending_not_live : (pass added since : ℕ) → became.Pending pass ≡ became.Live added since → ⊥
+pending_not_live pass added since is = cc
 
-free_not_live : (added : ℕ) → became.Free ≡ became.Live added → ⊥
-free_not_live added is = cc
+free_not_live : (added since : ℕ) → became.Free ≡ became.Live added since → ⊥
+free_not_live added since is = cc
 
 module _ (limits : Limits) (history : List Event) (table : Table) (legal : IsLegal limits history) (recorded : AreRecorded limits history table) where
   -- a column of the table
@@ -77,7 +77,7 @@ module _ (limits : Limits) (history : List Event) (table : Table) (legal : IsLeg
 
   -- and has no live document
   pub none_live_in_free : (pass slice column : ℕ) → IsAllowed limits history (event.Take pass slice column) → IsColumn table slice column → (doc : Parts) → IsLiveIn (slot_at table slice column) doc → ⊥
-  none_live_in_free pass slice column allowed at doc l = free_not_live l.added (sym (taken_is_free pass slice column allowed at) ∙ l.column)
+  none_live_in_free pass slice column allowed at doc l = free_not_live l.added l.since (sym (taken_is_free pass slice column allowed at) ∙ l.column)
 
   -- the column of a pass's last take is pending by it
   pub taken_is_pending : (pass slice column : ℕ) → last_by pass history ≡ Some (event.Take pass slice column) → IsColumn table slice column → (slot_at table slice column).column ≡ became.Pending pass
@@ -87,7 +87,7 @@ module _ (limits : Limits) (history : List Event) (table : Table) (legal : IsLeg
 
   -- and has no live document
   pub none_live_in_pending : (pass slice column : ℕ) → last_by pass history ≡ Some (event.Take pass slice column) → IsColumn table slice column → (doc : Parts) → IsLiveIn (slot_at table slice column) doc → ⊥
-  none_live_in_pending pass slice column last at doc l = pending_not_live pass l.added (sym (taken_is_pending pass slice column last at) ∙ l.column)
+  none_live_in_pending pass slice column last at doc l = pending_not_live pass l.added l.since (sym (taken_is_pending pass slice column last at) ∙ l.column)
 
   -- a slice that is being cleared has no live document
   pub none_live_in_cleared : (slice column : ℕ) (doc : Parts) → IsColumn table slice column → is_clearing slice history ≡ true → IsLiveIn (slot_at table slice column) doc → ⊥
@@ -111,9 +111,9 @@ module _ (limits : Limits) (history : List Event) (table : Table) (legal : IsLeg
     live_entry id some =
         let d = (live_number history id).0 some in
         let at = live_has_column limits history d.0 legal d.1 in
-        let column = is_column at.0 at.1 at.2 at.3 in
-        let slot = live_by_state (slot_at table at.0 at.1) d.0 (recorded.each at.0 at.1 column).fits (state_is at.0 at.1 (Live d.0) column at.4) in
-        let same = number_of_slot (slot_at table at.0 at.1) d.0 slot id d.2 in
+        let column = is_column at.0 at.1 at.3 at.4 in
+        let slot = live_by_state (slot_at table at.0 at.1) d.0 at.2 (recorded.each at.0 at.1 column).fits (state_is at.0 at.1 (Live d.0 at.2) column at.5) in
+        let same = number_of_slot (slot_at table at.0 at.1) d.0 at.2 slot id d.2 in
         record {
           slice = at.0;
           column = at.1;
@@ -128,20 +128,22 @@ module _ (limits : Limits) (history : List Event) (table : Table) (legal : IsLeg
     pub record EntryPlace (id slice column : ℕ) : Type 0 where
       pub in_table : IsColumn table slice column
       pub added : ℕ
-      pub column_is : (slot_at table slice column).column ≡ became.Live added
+      pub since : ℕ
+      pub column_is : (slot_at table slice column).column ≡ became.Live added since
       pub place_is : live_place id history ≡ Some added
 
     pub entry_place : (id slice column : ℕ) → entry_of live_list id ≡ Some (slice, column) → EntryPlace id slice column
     entry_place id slice column found =
         let r = listed.listed id slice column found in
         let d = document_added_at r.live.added r.doc in
-        let holds : IsInState history slice column (Live d) =
+        let holds : IsInState history slice column (Live d r.live.since) =
         subst (IsInState history slice column) (state-live (slot_at table slice column) r.doc r.live) (recorded.each slice column r.in_table).state in
         record {
           in_table = r.in_table;
           added = r.live.added;
+          since = r.live.since;
           column_is = r.live.column;
-          place_is = ap (λ k. live_place k history) (sym r.number) ∙ place_of_live limits history d legal (live_column_is_live history slice column d holds);
+          place_is = ap (λ k. live_place k history) (sym r.number) ∙ place_of_live limits history d legal (live_column_is_live history slice column d r.live.since holds);
         }
 
     -- a number without an entry is not live

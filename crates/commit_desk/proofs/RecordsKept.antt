@@ -1,5 +1,5 @@
 -- The records of the columns, after one more event.
-use Rattle.std.proofs.Common.{◌≡◌, ◌≢◌, ℕ, ◌+◌, ◌*◌, ◌<◌, ⊎_elim, Bool, true, false, ◌&&◌, List, [], ◌∷◌, ◌++◌, Some, None, sym, refl, ap, ◌∙◌, subst, arith}
+use Rattle.std.proofs.Common.{◌≡◌, ◌≢◌, ℕ, ◌+◌, ◌*◌, ◌<◌, ⊎_elim, Bool, true, false, ◌&&◌, List, [], ◌∷◌, ◌++◌, length, Some, None, sym, refl, ap, ◌∙◌, subst, arith}
 use Rattle.std.proofs.lemmas.Bool.{both_ways, cond-false, cond-true, eq-eqb, ne_eqb}
 use Rattle.std.proofs.lemmas.List.{length-set}
 use Rattle.std.specs.Prelude.{◌==◌}
@@ -15,7 +15,7 @@ use Rattle.funnel_model.specs.Legal.{IsAllowed, IsLegal, Limits}
 use Rattle.funnel_model.specs.Slices.{ColumnState, Unclaimed, Pending, Dropped, Live, Deleted, IsInState}
 use Rattle.funnel_model.specs.Words.{AreWordsOf}
 use Rattle.funnel_model.proofs.Columns.{in_state-push}
-use Rattle.funnel_model.proofs.ColumnStates.{after, after-add, after-drop, after-take, after_delete, this_column}
+use Rattle.funnel_model.proofs.ColumnStates.{after, after-add, after-drop, after-take, after_taken_off, this_column}
 use Rattle.funnel_model.proofs.LiveColumns.{live_on_one_column}
 use Rattle.commit_desk.specs.Records.{AreRecorded, IsLiveIn, IsRecorded, document_added_at, state_of}
 use Rattle.commit_desk.proofs.Slots.{free_slice-cases, size-free, state-live, with_slot-cases}
@@ -23,18 +23,18 @@ use Rattle.commit_desk.proofs.Slots.{free_slice-cases, size-free, state-live, wi
 some_same : (x y : Parts) → Some x ≡ Some y → x ≡ y
 some_same x y is = cc
 
--- a delete of another number leaves the state of a column
-not_deleted : (id count : ℕ) (x : ColumnState) → ((d : Document) → x ≡ Live d → id ≢ d.id) → after_delete id count x ≡ x
-not_deleted id count Unclaimed other = refl
-not_deleted id count (Pending pass) other = refl
-not_deleted id count Dropped other = refl
-not_deleted id count (Live d) other = cond-false (id == d.id) (Deleted d (count + 1)) (Live d) (ne_eqb id d.id (other d refl))
-not_deleted id count (Deleted d deleted) other = refl
+-- an event that takes another document off leaves the state of a column
+not_taken_off : (id until : ℕ) (x : ColumnState) → ((d : Document) (since : ℕ) → x ≡ Live d since → id ≢ d.id) → after_taken_off id until x ≡ x
+not_taken_off id until Unclaimed other = refl
+not_taken_off id until (Pending pass) other = refl
+not_taken_off id until Dropped other = refl
+not_taken_off id until (Live d since) other = cond-false (id == d.id) (Deleted d since until) (Live d since) (ne_eqb id d.id (other d since refl))
+not_taken_off id until (Deleted d since at) other = refl
 
 module _ (limits : Limits) (history : List Event) (e : Event) (legal : IsLegal limits history) (allowed : IsAllowed limits history e) where
   -- a column that is recorded with the state after the event
   recorded_now : (slice column : ℕ) (x y : Slot) → IsRecorded history slice column x → FitsColumn y.column y.doc →
-      state_of y ≡ after slice column (place history) (state_of x) e → ((doc : Parts) → y.doc ≡ Some doc → AreWordsOf doc.words doc.text) →
+      state_of y ≡ after slice column history (state_of x) e → ((doc : Parts) → y.doc ≡ Some doc → AreWordsOf doc.words doc.text) →
       IsRecorded (history ++ e ∷ []) slice column y
   recorded_now slice column x y was fits is words = record {
     fits = fits;
@@ -43,12 +43,12 @@ module _ (limits : Limits) (history : List Event) (e : Event) (legal : IsLegal l
   }
 
   -- a column that the event leaves
-  recorded_still : (slice column : ℕ) (x : Slot) → IsRecorded history slice column x → after slice column (place history) (state_of x) e ≡ state_of x →
+  recorded_still : (slice column : ℕ) (x : Slot) → IsRecorded history slice column x → after slice column history (state_of x) e ≡ state_of x →
       IsRecorded (history ++ e ∷ []) slice column x
   recorded_still slice column x was same = recorded_now slice column x x was was.fits (sym same) was.words_of_text
 
   -- an event that changes no column leaves the records
-  pub recorded-same : (table : Table) → ((slice column count : ℕ) (x : ColumnState) → after slice column count x e ≡ x) → AreRecorded limits history table →
+  pub recorded-same : (table : Table) → ((slice column : ℕ) (h : List Event) (x : ColumnState) → after slice column h x e ≡ x) → AreRecorded limits history table →
       AreRecorded limits (history ++ e ∷ []) table
   recorded-same table stays are = record {
     slices_are = are.slices_are;
@@ -56,14 +56,14 @@ module _ (limits : Limits) (history : List Event) (e : Event) (legal : IsLegal l
     size = are.size;
     each = λ slice column in'.
         let at : IsColumn table slice column = record { slice_in_range = in'.slice_in_range; column_in_range = in'.column_in_range } in
-        recorded_still slice column (slot_at table slice column) (are.each slice column at) (stays slice column (place history) (state_of (slot_at table slice column)));
+        recorded_still slice column (slot_at table slice column) (are.each slice column at) (stays slice column history (state_of (slot_at table slice column)));
   }
 
   -- an event that changes one column changes its record
   pub recorded-one : (table : Table) (s c : ℕ) (y : Slot) → AreRecorded limits history table → IsColumn table s c → FitsColumn y.column y.doc →
-      state_of y ≡ after s c (place history) (state_of (slot_at table s c)) e → ((doc : Parts) → y.doc ≡ Some doc → AreWordsOf doc.words doc.text) →
+      state_of y ≡ after s c history (state_of (slot_at table s c)) e → ((doc : Parts) → y.doc ≡ Some doc → AreWordsOf doc.words doc.text) →
       ((slice column : ℕ) → IsColumn table slice column → (s == slice && c == column) ≡ false →
-      after slice column (place history) (state_of (slot_at table slice column)) e ≡ state_of (slot_at table slice column)) →
+      after slice column history (state_of (slot_at table slice column)) e ≡ state_of (slot_at table slice column)) →
       AreRecorded limits (history ++ e ∷ []) (with_slot table s c y)
   recorded-one table s c y are here fits is words same =
       let here' : IsColumn table s c = record { slice_in_range = here.slice_in_range; column_in_range = here.column_in_range } in
@@ -88,16 +88,16 @@ module _ (limits : Limits) (history : List Event) (table : Table) (legal : IsLeg
       AreRecorded limits (history ++ event.Take pass s c ∷ []) (with_slot table s c (record { column = became.Pending pass; doc = None }))
   recorded-take pass s c allowed here =
       recorded-one limits history (event.Take pass s c) legal allowed table s c (record { column = became.Pending pass; doc = None }) are here refl
-      (sym (after-take s c (place history) pass (state_of (slot_at table s c)))) (λ doc none. cc)
+      (sym (after-take s c history pass (state_of (slot_at table s c)))) (λ doc none. cc)
       (λ slice column at apart. cond-false (s == slice && c == column) (Pending pass) (state_of (slot_at table slice column)) apart)
 
   -- a document goes live on a column
   pub recorded-add : (pass s c : ℕ) (doc : Parts) (bits : List Bit) → IsAllowed limits history (event.Add pass doc.id doc.text s c bits) → AreWordsOf doc.words doc.text → IsColumn table s c →
-      AreRecorded limits (history ++ event.Add pass doc.id doc.text s c bits ∷ []) (with_slot table s c (record { column = became.Live (place history + 1); doc = Some doc }))
+      AreRecorded limits (history ++ event.Add pass doc.id doc.text s c bits ∷ []) (with_slot table s c (record { column = became.Live (place history + 1) (length history + 1); doc = Some doc }))
   recorded-add pass s c doc bits allowed of_text here =
-      let live = Live (document_added_at (place history + 1) doc) in
-      recorded-one limits history (event.Add pass doc.id doc.text s c bits) legal allowed table s c (record { column = became.Live (place history + 1); doc = Some doc }) are here (doc, refl)
-      (sym (after-add s c (place history) pass doc.id doc.text bits (state_of (slot_at table s c))))
+      let live = Live (document_added_at (place history + 1) doc) (length history + 1) in
+      recorded-one limits history (event.Add pass doc.id doc.text s c bits) legal allowed table s c (record { column = became.Live (place history + 1) (length history + 1); doc = Some doc }) are here (doc, refl)
+      (sym (after-add s c history pass doc.id doc.text bits (state_of (slot_at table s c))))
       (λ d same. subst (λ (p : Parts). AreWordsOf p.words p.text) (some_same doc d same) of_text)
       (λ slice column at apart. cond-false (s == slice && c == column) live (state_of (slot_at table slice column)) apart)
 
@@ -106,29 +106,30 @@ module _ (limits : Limits) (history : List Event) (table : Table) (legal : IsLeg
       AreRecorded limits (history ++ event.Drop pass id text s c ∷ []) (with_slot table s c (record { column = became.Dropped; doc = None }))
   recorded-drop pass id text s c allowed here =
       recorded-one limits history (event.Drop pass id text s c) legal allowed table s c (record { column = became.Dropped; doc = None }) are here refl
-      (sym (after-drop s c (place history) pass id text (state_of (slot_at table s c)))) (λ doc none. cc)
+      (sym (after-drop s c history pass id text (state_of (slot_at table s c)))) (λ doc none. cc)
       (λ slice column at apart. cond-false (s == slice && c == column) Dropped (state_of (slot_at table slice column)) apart)
 
   -- a live document of the same number is on the same column
-  live_apart : (s c slice column : ℕ) (doc : Parts) (d : Document) → IsColumn table s c → IsColumn table slice column → IsLiveIn (slot_at table s c) doc →
-      state_of (slot_at table slice column) ≡ Live d → doc.id ≡ d.id → (s == slice && c == column) ≡ true
-  live_apart s c slice column doc d here at l is same =
-      let first : IsInState history s c (Live (document_added_at l.added doc)) = subst (IsInState history s c) (state-live (slot_at table s c) doc l) (are.each s c here).state in
-      let second : IsInState history slice column (Live d) = subst (IsInState history slice column) is (are.each slice column at).state in
-      let one = live_on_one_column limits history s c slice column (document_added_at l.added doc) d legal first second same in
+  live_apart : (s c slice column : ℕ) (doc : Parts) (d : Document) (since : ℕ) → IsColumn table s c → IsColumn table slice column → IsLiveIn (slot_at table s c) doc →
+      state_of (slot_at table slice column) ≡ Live d since → doc.id ≡ d.id → (s == slice && c == column) ≡ true
+  live_apart s c slice column doc d since here at l is same =
+      let first : IsInState history s c (Live (document_added_at l.added doc) l.since) = subst (IsInState history s c) (state-live (slot_at table s c) doc l) (are.each s c here).state in
+      let second : IsInState history slice column (Live d since) = subst (IsInState history slice column) is (are.each slice column at).state in
+      let one = live_on_one_column limits history s c slice column l.since since (document_added_at l.added doc) d legal first second same in
       subst (λ k. (s == k && c == column) ≡ true) one.0 (subst (λ k. (s == s && c == k) ≡ true) one.1 (this_column s c))
 
   -- the live document of a column is deleted
   pub recorded-delete : (pass s c : ℕ) (doc : Parts) (l : IsLiveIn (slot_at table s c) doc) → IsAllowed limits history (event.Del pass doc.id) → IsColumn table s c →
-      AreRecorded limits (history ++ event.Del pass doc.id ∷ []) (with_slot table s c (record { column = became.Deleted l.added (place history + 1); doc = Some doc }))
+      AreRecorded limits (history ++ event.Del pass doc.id ∷ []) (with_slot table s c (record { column = became.Over l.added l.since (length history + 1); doc = Some doc }))
   recorded-delete pass s c doc l allowed here =
       let d = document_added_at l.added doc in
       let x = slot_at table s c in
-      recorded-one limits history (event.Del pass doc.id) legal allowed table s c (record { column = became.Deleted l.added (place history + 1); doc = Some doc }) are here (doc, refl)
-      (sym (ap (after_delete doc.id (place history)) (state-live x doc l) ∙ cond-true (doc.id == doc.id) (Deleted d (place history + 1)) (Live d) (eq-eqb doc.id doc.id refl)))
+      recorded-one limits history (event.Del pass doc.id) legal allowed table s c (record { column = became.Over l.added l.since (length history + 1); doc = Some doc }) are here (doc, refl)
+      (sym (ap (after_taken_off doc.id (length history + 1)) (state-live x doc l)
+      ∙ cond-true (doc.id == doc.id) (Deleted d l.since (length history + 1)) (Live d l.since) (eq-eqb doc.id doc.id refl)))
       (λ other same. (are.each s c here).words_of_text other (l.doc_is ∙ same))
-      (λ slice column at apart. not_deleted doc.id (place history) (state_of (slot_at table slice column))
-      (λ other is same. both_ways (s == slice && c == column) apart (live_apart s c slice column doc other here at l is same)))
+      (λ slice column at apart. not_taken_off doc.id (length history + 1) (state_of (slot_at table slice column))
+      (λ other since is same. both_ways (s == slice && c == column) apart (live_apart s c slice column doc other since here at l is same)))
 
   -- a slice is opened
   pub recorded-opened : (pass s : ℕ) (alone : Bool) → IsAllowed limits history (event.Opened pass s alone) → s < limits.slices →

@@ -1,20 +1,21 @@
 -- What the desk keeps after a take, after a Clear and after an Opened.
 use Rattle.std.proofs.Common.{◌≡◌, ℕ, ◌+◌, ◌<◌, ◌≤◌, Bool, false, List, [], ◌∷◌, ◌++◌, length, None, refl, sym, ap, ◌∙◌, subst, arith}
 use Rattle.std.proofs.lemmas.List.{length-append, length-set}
-use Rattle.std.proofs.lemmas.List.Elements.{All-push}
 use Rattle.document_store.specs.Slots.{IsColumn, Table, with_free_slice, with_slot}
 use Rattle.document_store.specs.declared.column.Column.TheVariants as became
 use Rattle.document_store.specs.declared.records.Slot.{Slot}
 use Rattle.funnel_model.specs.declared.config.Config.{Config}
 use Rattle.funnel_model.specs.declared.event.Event.{Event}
 use Rattle.funnel_model.specs.declared.event.Event.TheVariants as event
-use Rattle.funnel_model.specs.Events.{commit_of, finds_or_ends, next_after}
+use Rattle.funnel_model.specs.Events.{commit_of, finds_or_ends, moves, next_after, tuning_of}
 use Rattle.funnel_model.specs.Legal.{IsAllowed, Limits, awaited}
+use Rattle.funnel_model.proofs.CausedMoves.{caused-still}
 use Rattle.funnel_model.proofs.Claims.{take_follows, take_within}
 use Rattle.funnel_model.proofs.Histories.{legal-push}
 use Rattle.funnel_model.proofs.LastEvents.{last_is_clearing}
 use Rattle.funnel_model.proofs.LiveLemmas.{commits-silent}
 use Rattle.funnel_model.proofs.NextEvents.{awaited-push, clears_in_range}
+use Rattle.row_layout.proofs.SoundHistories.{sound-push}
 use Rattle.row_layout.specs.Sound.{HasItsBits}
 use Rattle.slice_rule.specs.Pools.{PoolId}
 use Rattle.slice_stages.specs.Stages.{StageTable, empty_stage, stage_of, with_stage}
@@ -30,9 +31,10 @@ use Rattle.commit_desk.proofs.RecordsKept.{recorded-opened, recorded-same, recor
 use Rattle.commit_desk.proofs.StageReadings.{AreAtStages}
 use Rattle.commit_desk.proofs.StagesKept.{stages-clear, stages-opened, stages-take}
 use Rattle.commit_desk.proofs.TokenEvents.{tokens-same}
+use Rattle.commit_desk.proofs.Untuned.{untuned-push}
 
-pending_not_live : (pass added : ℕ) → became.Pending pass ≡ became.Live added → ⊥
-pending_not_live pass added is = cc
+pending_not_live : (pass added since : ℕ) → became.Pending pass ≡ became.Live added since → ⊥
+pending_not_live pass added since is = cc
 
 -- the books after an event that changes no commit and no find
 abbrev pub books_after : Books → ℕ → Table → StageTable → Books
@@ -40,13 +42,15 @@ books_after books events table stages = record books { events = events; table = 
 
 module _ (config : Config) (limits : Limits) (most : ℕ) (history : List Event) (books : Books) (is : AreBooksOf config limits most history books) where
   -- an event that is no commit, and neither begins nor ends a find
-  kept-event : (e : Event) → IsAllowed limits history e → commit_of e ≡ None → ((pass : ℕ) → finds_or_ends pass e ≡ false) → HasItsBits config e → HasFew most limits.passes (history ++ e ∷ []) →
+  kept-event : (e : Event) → IsAllowed limits history e → commit_of e ≡ None → ((pass : ℕ) → finds_or_ends pass e ≡ false) → HasItsBits config history e → tuning_of e ≡ None → moves e ≡ false → HasFew most limits.passes (history ++ e ∷ []) →
       (table : Table) (stages : StageTable) → AreRecorded limits (history ++ e ∷ []) table → AreListed table books.live → length stages.stages ≡ limits.slices → stages.columns ≡ limits.columns →
       stages.mark ≡ books.stages.mark → AreAtStages limits (history ++ e ∷ []) table stages → AreBooksOf config limits most (history ++ e ∷ []) (books_after books (length history + 1) table stages)
-  kept-event e allowed no_commit no_find bits few table stages recorded listed size columns mark each = record {
+  kept-event e allowed no_commit no_find bits tunes_none unmoved few table stages recorded listed size columns mark each = record {
     few = few;
     legal = legal-push limits history e is.legal allowed;
-    sound = All-push (HasItsBits config) history e is.sound bits;
+    sound = sound-push config history e is.sound bits;
+    caused = caused-still history e is.caused unmoved;
+    untuned = untuned-push history e is.untuned tunes_none;
     slices_are = is.slices_are;
     columns_are = is.columns_are;
     events_are = sym (length-append history (e ∷ []));
@@ -78,9 +82,9 @@ module _ (config : Config) (limits : Limits) (most : ℕ) (history : List Event)
       let here = is_column limits history books.table is.legal is.recorded s first (take_follows limits history pass s first is.legal allowed).in_range
       (take_within limits history pass s first is.legal allowed) in
       let at : IsColumn books.table s first = record { slice_in_range = here.slice_in_range; column_in_range = here.column_in_range } in
-      kept-event e allowed refl (λ p. refl) tt few (with_slot books.table s first y) (with_stage books.stages s (stage.InUse (first + 1) over))
+      kept-event e allowed refl (λ p. refl) tt refl refl few (with_slot books.table s first y) (with_stage books.stages s (stage.InUse (first + 1) over))
       (recorded-take limits history books.table is.legal is.recorded pass s first allowed at)
-      (listed-one books.table books.live is.recorded.size is.listed s first y at (λ doc l. pending_not_live pass l.added l.column)
+      (listed-one books.table books.live is.recorded.size is.listed s first y at (λ doc l. pending_not_live pass l.added l.since l.column)
       (none_live_in_free limits history books.table is.legal is.recorded pass s first allowed at))
       (size-with s (stage.InUse (first + 1) over)) is.staged.columns_are refl
       (stages-take limits history books.table books.stages is.legal is.recorded is.staged.count is.staged.each pass s first over y refl allowed at_stage)
@@ -90,8 +94,8 @@ module _ (config : Config) (limits : Limits) (most : ℕ) (history : List Event)
       AreBooksOf config limits most (history ++ event.Clear pass s ∷ []) (books_after books (length history + 1) books.table (with_stage books.stages s (stage.Clearing pass)))
   kept-clear pass s allowed few =
       let e = event.Clear pass s in
-      kept-event e allowed refl (λ p. refl) tt few books.table (with_stage books.stages s (stage.Clearing pass))
-      (recorded-same limits history e is.legal allowed books.table (λ slice column count x. refl) is.recorded)
+      kept-event e allowed refl (λ p. refl) tt refl refl few books.table (with_stage books.stages s (stage.Clearing pass))
+      (recorded-same limits history e is.legal allowed books.table (λ slice column h x. refl) is.recorded)
       is.listed (size-with s (stage.Clearing pass)) is.staged.columns_are refl
       (stages-clear limits history books.table books.stages is.legal is.recorded is.staged.count is.staged.each pass s allowed)
 
@@ -103,7 +107,7 @@ module _ (config : Config) (limits : Limits) (most : ℕ) (history : List Event)
       let in' = clears_in_range limits history is.legal pass s allowed.rule.cleared in
       let within : s < books.table.slices = let h = is.recorded.slices_are in omega arith in
       let clearing = last_is_clearing limits history pass s is.legal allowed.rule.cleared in
-      kept-event e allowed refl (λ p. refl) tt few (with_free_slice books.table s) (with_stage books.stages s empty_stage)
+      kept-event e allowed refl (λ p. refl) tt refl refl few (with_free_slice books.table s) (with_stage books.stages s empty_stage)
       (recorded-opened limits history books.table is.legal is.recorded pass s alone allowed in')
       (listed-opened books.table books.live is.recorded.size is.listed s within
       (λ column doc below l. none_live_in_cleared limits history books.table is.legal is.recorded s column doc (record { slice_in_range = within; column_in_range = below }) clearing l))

@@ -11,15 +11,15 @@ use Rattle.document_store.specs.declared.column.Column.{Column}
 use Rattle.document_store.specs.declared.column.Column.TheVariants as became
 use Rattle.document_store.specs.declared.records.Slot.{Slot}
 use Rattle.funnel_model.specs.History.{Document}
-use Rattle.funnel_model.specs.Slices.{Unclaimed, Pending, Live, IsOver}
+use Rattle.funnel_model.specs.Slices.{ColumnState, Unclaimed, Pending, Live, IsOver}
 use Rattle.commit_desk.specs.Records.{IsLiveIn, document_added_at, is_over, is_over_in, state_in, state_of}
 
 -- a column in the state `Unclaimed` is recorded as free
 free_in : (c : Column) (doc : Option Parts) → FitsColumn c doc → state_in c doc ≡ Unclaimed → c ≡ became.Free
 free_in became.Free doc fits is = refl
 free_in (became.Pending pass) doc fits is = cc
-free_in (became.Live added) doc fits is = cc (ap (state_in (became.Live added)) fits.1)
-free_in (became.Deleted added deleted) doc fits is = cc (ap (state_in (became.Deleted added deleted)) fits.1)
+free_in (became.Live added since) doc fits is = cc (ap (state_in (became.Live added since)) fits.1)
+free_in (became.Over added since until) doc fits is = cc (ap (state_in (became.Over added since until)) fits.1)
 free_in became.Dropped doc fits is = cc
 
 pub free_by_state : (slot : Slot) → FitsColumn slot.column slot.doc → state_of slot ≡ Unclaimed → slot.column ≡ became.Free
@@ -29,44 +29,50 @@ free_by_state slot fits is = free_in slot.column slot.doc fits is
 pending_in : (pass : ℕ) (c : Column) (doc : Option Parts) → FitsColumn c doc → state_in c doc ≡ Pending pass → c ≡ became.Pending pass
 pending_in pass became.Free doc fits is = cc
 pending_in pass (became.Pending other) doc fits is = cc
-pending_in pass (became.Live added) doc fits is = cc (ap (state_in (became.Live added)) fits.1)
-pending_in pass (became.Deleted added deleted) doc fits is = cc (ap (state_in (became.Deleted added deleted)) fits.1)
+pending_in pass (became.Live added since) doc fits is = cc (ap (state_in (became.Live added since)) fits.1)
+pending_in pass (became.Over added since until) doc fits is = cc (ap (state_in (became.Over added since until)) fits.1)
 pending_in pass became.Dropped doc fits is = cc
 
 pub pending_by_state : (slot : Slot) (pass : ℕ) → FitsColumn slot.column slot.doc → state_of slot ≡ Pending pass → slot.column ≡ became.Pending pass
 pending_by_state slot pass fits is = pending_in pass slot.column slot.doc fits is
 
 -- a column with a live document has the state of it
-pub state-live : (slot : Slot) (doc : Parts) (live : IsLiveIn slot doc) → state_of slot ≡ Live (document_added_at live.added doc)
-state-live slot doc live = ap (λ c. state_in c slot.doc) live.column ∙ ap (state_in (became.Live live.added)) live.doc_is
+pub state-live : (slot : Slot) (doc : Parts) (live : IsLiveIn slot doc) → state_of slot ≡ Live (document_added_at live.added doc) live.since
+state-live slot doc live = ap (λ c. state_in c slot.doc) live.column ∙ ap (state_in (became.Live live.added live.since)) live.doc_is
 
 -- and the other way round
-live_in : (d : Document) (c : Column) (doc : Option Parts) → FitsColumn c doc → state_in c doc ≡ Live d →
-    (added : ℕ) × (p : Parts) × (c ≡ became.Live added) × (doc ≡ Some p) × (document_added_at added p ≡ d)
-live_in d became.Free doc fits is = cc
-live_in d (became.Pending pass) doc fits is = cc
-live_in d (became.Live added) doc fits is =
-    let same : Live (document_added_at added fits.0) ≡ Live d = sym (ap (state_in (became.Live added)) fits.1) ∙ is in
-    (added, fits.0, refl, fits.1, cc)
-live_in d (became.Deleted added deleted) doc fits is = cc (ap (state_in (became.Deleted added deleted)) fits.1)
-live_in d became.Dropped doc fits is = cc
+since_of : ColumnState → ℕ → ℕ
+since_of (Live d since) other = since
+since_of x other = other
 
-pub record LiveSlot (slot : Slot) (d : Document) : Type 0 where
+live_in : (d : Document) (at : ℕ) (c : Column) (doc : Option Parts) → FitsColumn c doc → state_in c doc ≡ Live d at →
+    (added : ℕ) × (p : Parts) × (c ≡ became.Live added at) × (doc ≡ Some p) × (document_added_at added p ≡ d)
+unfolding since_of
+live_in d at became.Free doc fits is = cc
+live_in d at (became.Pending pass) doc fits is = cc
+live_in d at (became.Live added since) doc fits is =
+    let same : Live (document_added_at added fits.0) since ≡ Live d at = sym (ap (state_in (became.Live added since)) fits.1) ∙ is in
+    (added, fits.0, ap (became.Live added) (ap (λ x. since_of x 0) same), fits.1, cc)
+live_in d at (became.Over added since until) doc fits is = cc (ap (state_in (became.Over added since until)) fits.1)
+live_in d at became.Dropped doc fits is = cc
+
+pub record LiveSlot (slot : Slot) (d : Document) (at : ℕ) : Type 0 where
   pub doc : Parts
   pub live : IsLiveIn slot doc
   pub is : document_added_at live.added doc ≡ d
+  pub since_is : live.since ≡ at
 
-pub live_by_state : (slot : Slot) (d : Document) → FitsColumn slot.column slot.doc → state_of slot ≡ Live d → LiveSlot slot d
-live_by_state slot d fits is =
-    let r = live_in d slot.column slot.doc fits is in
-    record { doc = r.1; live = record { added = r.0; column = r.2; doc_is = r.3 }; is = r.4 }
+pub live_by_state : (slot : Slot) (d : Document) (at : ℕ) → FitsColumn slot.column slot.doc → state_of slot ≡ Live d at → LiveSlot slot d at
+live_by_state slot d at fits is =
+    let r = live_in d at slot.column slot.doc fits is in
+    record { doc = r.1; live = record { added = r.0; since = at; column = r.2; doc_is = r.3 }; is = r.4; since_is = refl }
 
--- a column is deleted or dropped exactly where its state is over
+-- a column is recorded as over exactly where its state is
 over_in : (c : Column) (doc : Option Parts) → FitsColumn c doc → is_over_in c ≡ true → IsOver (state_in c doc)
 over_in became.Free doc fits is = cc
 over_in (became.Pending pass) doc fits is = cc
-over_in (became.Live added) doc fits is = cc
-over_in (became.Deleted added deleted) doc fits is = subst IsOver (sym (ap (state_in (became.Deleted added deleted)) fits.1)) tt
+over_in (became.Live added since) doc fits is = cc
+over_in (became.Over added since until) doc fits is = subst IsOver (sym (ap (state_in (became.Over added since until)) fits.1)) tt
 over_in became.Dropped doc fits is = tt
 
 pub over_by_column : (slot : Slot) → FitsColumn slot.column slot.doc → is_over slot ≡ true → IsOver (state_of slot)
@@ -75,8 +81,8 @@ over_by_column slot fits is = over_in slot.column slot.doc fits is
 in_over : (c : Column) (doc : Option Parts) → FitsColumn c doc → IsOver (state_in c doc) → is_over_in c ≡ true
 in_over became.Free doc fits over = absurd over
 in_over (became.Pending pass) doc fits over = absurd over
-in_over (became.Live added) doc fits over = absurd (subst IsOver (ap (state_in (became.Live added)) fits.1) over)
-in_over (became.Deleted added deleted) doc fits over = refl
+in_over (became.Live added since) doc fits over = absurd (subst IsOver (ap (state_in (became.Live added since)) fits.1) over)
+in_over (became.Over added since until) doc fits over = refl
 in_over became.Dropped doc fits over = refl
 
 pub column_by_over : (slot : Slot) → FitsColumn slot.column slot.doc → IsOver (state_of slot) → is_over slot ≡ true

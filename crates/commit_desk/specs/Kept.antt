@@ -1,14 +1,15 @@
 -- What the desk keeps of a history.
 use Rattle.std.specs.Prelude.{◌≡◌, ℕ, ◌+◌, ◌*◌, ◌^◌, ◌<◌, ◌≤◌, ◌↔◌, false, true, List, length, count_by, sum_by, Option, None}
-use Rattle.std.specs.List.{range_with_len}
-use Rattle.std.specs.Option.{option_map_or}
+use Rattle.std.specs.List.{list_any, range_with_len}
+use Rattle.std.specs.Option.{is_some, option_map_or}
 use Rattle.document_store.specs.Entries.{Entries}
 use Rattle.document_store.specs.Slots.{Table, slots_of}
 use Rattle.funnel_model.specs.Configuration.{IsInRange}
 use Rattle.funnel_model.specs.declared.config.Config.{Config}
 use Rattle.funnel_model.specs.declared.event.Event.{Event}
 use Rattle.funnel_model.specs.declared.event.Event.TheVariants as event
-use Rattle.funnel_model.specs.History.{last_by}
+use Rattle.funnel_model.specs.Events.{tuning_of}
+use Rattle.funnel_model.specs.History.{MovesAreCaused, last_by}
 use Rattle.funnel_model.specs.Legal.{Limits, IsLegal, awaited}
 use Rattle.funnel_model.specs.Slices.{IsRetiredAt, claimed, is_clearing, is_clearing_by}
 use Rattle.funnel_model.specs.Tokens.{HasToken}
@@ -26,7 +27,7 @@ pub record AreTokens (limits : Limits) (history : List Event) (tokens : List (Op
   pub count : length tokens ≡ limits.passes
   pub each : (pass number : ℕ) → HasOpened tokens pass number ↔ HasToken history pass number
 
--- a slice in use: its claimed columns are its first, and so many of its columns are deleted or dropped, fewer than it has
+-- a slice in use: its claimed columns are its first, and so many of its columns are over, fewer than it has
 pub record IsUsedSlice (columns : ℕ) (history : List Event) (table : Table) (slice first over : ℕ) : Type 0 where
   pub not_clearing : is_clearing slice history ≡ false
   pub claims : claimed slice history ≡ range_with_len 0 first
@@ -87,11 +88,13 @@ pub record Books : Type 0 where
   pub tokens : List (Option ℕ)
   pub stages : StageTable
 
--- a history, and what is kept beside it
+-- a history, in which each move has its cause and nothing was tuned, and what is kept beside it
 pub record AreBooksOf (config : Config) (limits : Limits) (most : ℕ) (history : List Event) (books : Books) : Type 0 where
   pub few : HasFew most limits.passes history
   pub legal : IsLegal limits history
   pub sound : IsSound config history
+  pub caused : MovesAreCaused history
+  pub untuned : list_any (λ e. is_some (tuning_of e)) history ≡ false
   pub slices_are : books.slices ≡ limits.slices
   pub columns_are : books.columns ≡ limits.columns
   pub events_are : books.events ≡ length history

@@ -22,8 +22,8 @@ document_added_at added doc = record { id = doc.id; text = doc.text; place = add
 abbrev pub state_in : Column → Option Parts → ColumnState
 state_in became.Free doc = Unclaimed
 state_in (became.Pending pass) doc = Pending pass
-state_in (became.Live added) doc = option_map_or (λ d. Live (document_added_at added d)) doc Unclaimed
-state_in (became.Deleted added deleted) doc = option_map_or (λ d. Deleted (document_added_at added d) deleted) doc Unclaimed
+state_in (became.Live added since) doc = option_map_or (λ d. Live (document_added_at added d) since) doc Unclaimed
+state_in (became.Over added since until) doc = option_map_or (λ d. Deleted (document_added_at added d) since until) doc Unclaimed
 state_in became.Dropped doc = Dropped
 
 abbrev pub state_of : Slot → ColumnState
@@ -32,7 +32,8 @@ state_of slot = state_in slot.column slot.doc
 -- the document is live in the column that is recorded so
 pub record IsLiveIn (slot : Slot) (doc : Parts) : Type 0 where
   pub added : ℕ
-  pub column : slot.column ≡ became.Live added
+  pub since : ℕ
+  pub column : slot.column ≡ became.Live added since
   pub doc_is : slot.doc ≡ Some doc
 
 -- a column is recorded with its state, and a document with the words of its text
@@ -62,9 +63,9 @@ pub record AreListed (table : Table) (live : Entries) : Type 0 where
   pub listed : (id slice column : ℕ) → entry_of live id ≡ Some (slice, column) → IsEntry table id slice column
   pub every : (slice column : ℕ) (doc : Parts) → IsColumn table slice column → IsLiveIn (slot_at table slice column) doc → entry_of live doc.id ≡ Some (slice, column)
 
--- whether the column that is recorded so is deleted or dropped
+-- whether the column that is recorded so is over: its document was deleted, moved away or dropped
 abbrev pub is_over_in : Column → Bool
-is_over_in (became.Deleted added deleted) = true
+is_over_in (became.Over added since until) = true
 is_over_in became.Dropped = true
 is_over_in _ = false
 

@@ -225,11 +225,12 @@ impl Desk {
             claim: &claim,
             bits: bits.list(),
         };
-        self.events = pool.make_event(&mut self.home, seat, &entry);
+        let number = pool.make_event(&mut self.home, seat, &entry);
         let Claim { slice, column } = claim;
-        self.records.live(slice, column, doc, place);
+        self.records.live(slice, column, doc, place, number);
         self.live.add(id, slice, column);
         self.journal.push(Commit { add: true, id });
+        self.events = number;
         place
     }
 

@@ -79,7 +79,7 @@ impl Desk {
         let Some((slice, column)) = self.live.remove(id) else {
             unreachable!()
         };
-        self.records.delete(slice, column, place);
+        self.records.delete(slice, column, number);
         self.stages.end_column(slice, number);
         self.journal.push(Commit { add: false, id });
         self.events = number;

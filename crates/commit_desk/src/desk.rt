@@ -1,6 +1,6 @@
 ghost use Rattle.std.specs.Prelude.{◌≡◌, ◌≤◌, ◌^◌, [], ◌∷◌, ◌++◌, IfOk, IsTrue, ◌↔◌, length};
 ghost use Rattle.funnel_model.specs.Configuration.{IsInRange};
-ghost use Rattle.funnel_model.specs.History.{base, commits_after, live_place};
+ghost use Rattle.funnel_model.specs.History.{MovesAreCaused, base, commits_after, live_place};
 ghost use Rattle.funnel_model.specs.Legal.{IsLegal};
 ghost use Rattle.row_layout.specs.Sound.{IsSound};
 ghost use Rattle.slice_rule.specs.Pools.{limits_of};
@@ -93,6 +93,7 @@ impl Desk {
         ensures commits { result.2 ≡ commits_after self.history (base self.pool.limits.commits self.history) }
         ensures legal { IsLegal self.pool.limits self.history }
         ensures sound { IsSound self.pool.config self.history }
+        ensures caused { MovesAreCaused self.history }
     {
         let Desk { home, journal, .. } = self;
         let (base, commits) = journal.into_parts();
@@ -114,7 +115,7 @@ impl Desk {
         let _ = &self.home;
         let (slice, column) = self.live.get(id)?;
         match self.records.state(slice, column) {
-            Column::Live(place) => Some(place),
+            Column::Live { place, .. } => Some(place),
             _ => None,
         }
     }

@@ -64,8 +64,8 @@ impl Desk {
         ensures none_outstanding { HasNoneOutstanding seat.new }
     {
         pool.catch_up(&mut self.home, seat);
-        let place = token.place;
-        resolve(&self.records, candidates, words, place, out);
+        let opened_at = token.opened_at;
+        resolve(&self.records, candidates, words, opened_at, out);
         self.make_end(pool, seat, token);
     }
 

@@ -54,7 +54,7 @@ impl Desk {
     {
         for column in 0..self.columns {
             match self.records.state(slice, column) {
-                Column::Live(_) => return Block::Live { column },
+                Column::Live { .. } => return Block::Live { column },
                 Column::Pending(pass) => return Block::Pending { column, pass },
                 _ => {}
             }

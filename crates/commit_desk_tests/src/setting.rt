@@ -64,6 +64,7 @@ fn config(alloc: Global) -> Config
         blocks: 1,
         max_rank: 0,
         commits: 1024,
+        reserve: 0,
         one_in: 10,
         snr: 10,
         documents: 1000,

@@ -1,16 +1,15 @@
 -- What a table of trees says of the column of a number, and what an add and a removal make of it.
-use Rattle.std.proofs.Common.{◌≡◌, ℕ, zero, suc, ◌+◌, ◌-◌, ◌*◌, ◌^◌, ◌<◌, ◌≤◌, ◌⊎◌, Bool, true, false, cond, eqb, ltb, List, [], ◌∷◌, map, length, get_or, set, replicate, Option, Some, None, refl, sym, ap, ◌∙◌, subst, inl, inr, ⊎_elim, arith}
-use Rattle.std.specs.Int.{bit_at}
+use Rattle.std.proofs.Common.{◌≡◌, ℕ, zero, suc, ◌+◌, ◌-◌, ◌*◌, ◌^◌, ◌<◌, ◌≤◌, ◌⊎◌, Bool, true, false, cond, eqb, ltb, List, map, length, get_or, set, replicate, Some, None, refl, sym, ap, ◌∙◌, subst, inl, inr, ⊎_elim, arith}
 use Rattle.std.specs.Option.{option_map}
-use Rattle.std.proofs.lemmas.Bool.{cases_Bool, cases_eq, cases_lt, cond-true, cond-false, false_from_ne_true, lt-ltb, le-ltb}
+use Rattle.std.proofs.lemmas.Bool.{cases_Bool, cases_eq, cases_lt, cond-true, cond-false, lt-ltb, le-ltb}
 use Rattle.std.proofs.lemmas.List.{get_or_default, get_or_past, get_or-replicate, get_or-set_same, get_or-set_other, length-map, length-replicate, length-set, map-set}
 use Rattle.std.proofs.lemmas.Nat.{mul-add-lt}
 use Rattle.std.proofs.Math.ListN.{get_or-map}
 use Rattle.document_store.specs.declared.live_list.Entry.{Entry}
-use Rattle.document_store.specs.Trees.{AreTrees, IsInPlace, IsLive, IsLowestUnder, IsPlaceOf, IsTree, bucket_of, entry_at, id_of, link_at, link_under, looked_from, no_entry, none, number_at, way}
+use Rattle.document_store.specs.Trees.{AreTrees, IsLive, IsPlaceOf, IsTree, bucket_of, entry_at, id_of, link_at, link_under, looked_from, no_entry, none, number_at, way}
 use Rattle.document_store.specs.Entries.{Entries, IsShallow, column_of, has_id, steps}
-use Rattle.document_store.proofs.TreeLemmas.{depth-below, end-before, link-is, not-under, number-lowest, tree-add, tree-put, tree-remove, under-deep, under-deeper, way-kept, way-same, with-depth}
-use Rattle.document_store.proofs.EntryLemmas.{Apart, absent, column_at, column_of-add, column_of-remove, is-free, num, position-at}
+use Rattle.document_store.proofs.TreeLemmas.{depth-below, end-before, number-lowest, tree-add, with-depth}
+use Rattle.document_store.proofs.EntryLemmas.{Apart, absent, column_at, column_of-add, is-free, num, position-at}
 
 -- what contracts see of a table
 abbrev pub view : ℕ → ℕ → List ℕ → List Entry → Entries

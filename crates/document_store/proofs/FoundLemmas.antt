@@ -1,14 +1,14 @@
 -- What a find makes of its candidates: the pairs by the test are those of the documents found.
-use Rattle.std.proofs.Common.{◌≡◌, ◌↔◌, ℕ, zero, suc, ◌+◌, ◌<◌, ◌≤◌, Bool, true, false, cond, ltb, leb, List, [], ◌∷◌, ◌++◌, length, get_or, take, Option, Some, None, refl, sym, ap, ◌∙◌, subst, ⊎_elim, inl, inr, ◌⊎◌, arith, filter_map, Contains}
+use Rattle.std.proofs.Common.{◌≡◌, ◌↔◌, ℕ, zero, suc, ◌+◌, ◌<◌, ◌≤◌, Bool, true, false, cond, ltb, List, [], ◌∷◌, ◌++◌, length, get_or, take, Option, Some, None, refl, sym, ap, ◌∙◌, subst, ⊎_elim, inl, inr, ◌⊎◌, arith, filter_map, Contains}
 use Rattle.std.specs.List.{cons_option}
 use Rattle.std.specs.Option.{option_and_then}
-use Rattle.std.proofs.lemmas.Bool.{cond-true, leb-true, le-leb, ltb-true, lt-ltb, and_parts, and_from}
+use Rattle.std.proofs.lemmas.Bool.{cond-true, ltb-true, lt-ltb, and_parts, and_from}
 use Rattle.std.proofs.lemmas.List.{length-take, take_more}
 use Rattle.std.proofs.lemmas.List.Elements.{filter_map-append}
 use Rattle.std.proofs.lemmas.Option.{option_and_then_some}
 use Rattle.funnel_model.proofs.AnswerLemmas.{Contains-cons}
 use Rattle.document_store.specs.Documents.{HasEvery, Parts}
-use Rattle.document_store.specs.Finding.{AddedAt, IsFound, WasLiveAt, added_if_live, found_at, found_in, has_every}
+use Rattle.document_store.specs.Finding.{AddedAt, IsFound, WasLiveAt, place_if_live, found_at, found_in, has_every}
 use Rattle.document_store.specs.Slots.{Table, slot_at}
 use Rattle.document_store.specs.declared.column.Column.{Column}
 use Rattle.document_store.specs.declared.column.Column.TheVariants as column
@@ -16,60 +16,61 @@ use Rattle.document_store.specs.declared.records.Slot.{Slot}
 use Rattle.document_store.proofs.WordSets.{has_every-decides}
 
 -- by its parts, what the test gives of a column
-pub found_in-parts : (slot : Slot) (words : List (List ℕ)) (place added : ℕ) (doc : Parts) (b : Bool) → added_if_live slot.column place ≡ Some added →
+pub found_in-parts : (slot : Slot) (words : List (List ℕ)) (number place : ℕ) (doc : Parts) (b : Bool) → place_if_live slot.column number ≡ Some place →
     slot.doc ≡ Some doc → has_every doc.words words ≡ b →
-    found_in slot words place ≡ cond b (Some (added, doc.id)) None
-found_in-parts slot words place added doc b live kept every =
-    ap (option_and_then (λ (a : ℕ). option_and_then (λ (d : Parts). cond (has_every d.words words) (Some (a, d.id)) None) slot.doc)) live
-    ∙ ap (option_and_then (λ (d : Parts). cond (has_every d.words words) (Some (added, d.id)) None)) kept
-    ∙ ap (λ t. cond t (Some (added, doc.id)) None) every
+    found_in slot words number ≡ cond b (Some (place, doc.id)) None
+found_in-parts slot words number place doc b live kept every =
+    ap (option_and_then (λ (p : ℕ). option_and_then (λ (d : Parts). cond (has_every d.words words) (Some (p, d.id)) None) slot.doc)) live
+    ∙ ap (option_and_then (λ (d : Parts). cond (has_every d.words words) (Some (place, d.id)) None)) kept
+    ∙ ap (λ t. cond t (Some (place, doc.id)) None) every
 
 -- the place of the add is given exactly where the column was live
-added_if_live-gives : (x : Column) (place added : ℕ) → WasLiveAt x place → AddedAt x added → added_if_live x place ≡ Some added
-added_if_live-gives (column.Live a) place added live is = cond-true (leb a place) (Some a) None (le-leb a place live) ∙ ap Some is
-added_if_live-gives (column.Deleted a b) place added live is = cond-true _ (Some a) None (and_from (leb a place) (ltb place b) (le-leb a place live.0) (lt-ltb place b live.1)) ∙ ap Some is
-added_if_live-gives column.Free place added live is = absurd live
-added_if_live-gives (column.Pending pass) place added live is = absurd live
-added_if_live-gives column.Dropped place added live is = absurd live
+place_if_live-gives : (x : Column) (number place : ℕ) → WasLiveAt x number → AddedAt x place → place_if_live x number ≡ Some place
+place_if_live-gives (column.Live p since) number place live is = cond-true (ltb since number) (Some p) None (lt-ltb since number live) ∙ ap Some is
+place_if_live-gives (column.Over p since until) number place live is =
+    cond-true _ (Some p) None (and_from (ltb since number) (ltb number until) (lt-ltb since number live.0) (lt-ltb number until live.1)) ∙ ap Some is
+place_if_live-gives column.Free number place live is = absurd live
+place_if_live-gives (column.Pending pass) number place live is = absurd live
+place_if_live-gives column.Dropped number place live is = absurd live
 
 chosen_some : {X : Type 0} (b : Bool) (x y : X) → cond b (Some x) None ≡ Some y → (b ≡ true) × (x ≡ y)
 chosen_some true x y e = (refl, cc)
 chosen_some false x y e = cc
 
-added_if_live-tells : (x : Column) (place added : ℕ) → added_if_live x place ≡ Some added → WasLiveAt x place × AddedAt x added
-added_if_live-tells (column.Live a) place added e =
-    let parts = chosen_some (leb a place) a added e in (leb-true a place parts.0, parts.1)
-added_if_live-tells (column.Deleted a b) place added e =
-    let parts = chosen_some _ a added e in
-    let both = and_parts (leb a place) (ltb place b) parts.0 in
-    ((leb-true a place both.0, ltb-true place b both.1), parts.1)
-added_if_live-tells column.Free place added e = cc
-added_if_live-tells (column.Pending pass) place added e = cc
-added_if_live-tells column.Dropped place added e = cc
+place_if_live-tells : (x : Column) (number place : ℕ) → place_if_live x number ≡ Some place → WasLiveAt x number × AddedAt x place
+place_if_live-tells (column.Live p since) number place e =
+    let parts = chosen_some (ltb since number) p place e in (ltb-true since number parts.0, parts.1)
+place_if_live-tells (column.Over p since until) number place e =
+    let parts = chosen_some _ p place e in
+    let both = and_parts (ltb since number) (ltb number until) parts.0 in
+    ((ltb-true since number both.0, ltb-true number until both.1), parts.1)
+place_if_live-tells column.Free number place e = cc
+place_if_live-tells (column.Pending pass) number place e = cc
+place_if_live-tells column.Dropped number place e = cc
 
 -- what a column gives is of its document
-record Gives (slot : Slot) (words : List (List ℕ)) (place : ℕ) (found : ℕ × ℕ) : Type 0 where
+record Gives (slot : Slot) (words : List (List ℕ)) (number : ℕ) (found : ℕ × ℕ) : Type 0 where
   doc : Parts
-  was_live : WasLiveAt slot.column place
+  was_live : WasLiveAt slot.column number
   added : AddedAt slot.column found.0
   kept : slot.doc ≡ Some doc
-  number : doc.id ≡ found.1
+  id_is : doc.id ≡ found.1
   every : HasEvery doc.words words
 
-found_in-tells : (slot : Slot) (words : List (List ℕ)) (place : ℕ) (found : ℕ × ℕ) → found_in slot words place ≡ Some found →
-    Gives slot words place found
-found_in-tells slot words place found e =
-    option_and_then_some (λ (a : ℕ). option_and_then (λ (d : Parts). cond (has_every d.words words) (Some (a, d.id)) None) slot.doc) (added_if_live slot.column place) found e
-    (λ added live given. option_and_then_some (λ (d : Parts). cond (has_every d.words words) (Some (added, d.id)) None) slot.doc found given
+found_in-tells : (slot : Slot) (words : List (List ℕ)) (number : ℕ) (found : ℕ × ℕ) → found_in slot words number ≡ Some found →
+    Gives slot words number found
+found_in-tells slot words number found e =
+    option_and_then_some (λ (p : ℕ). option_and_then (λ (d : Parts). cond (has_every d.words words) (Some (p, d.id)) None) slot.doc) (place_if_live slot.column number) found e
+    (λ place live given. option_and_then_some (λ (d : Parts). cond (has_every d.words words) (Some (place, d.id)) None) slot.doc found given
     (λ doc kept chosen.
-    let parts = chosen_some (has_every doc.words words) (added, doc.id) found chosen in
-    let told = added_if_live-tells slot.column place added live in
+    let parts = chosen_some (has_every doc.words words) (place, doc.id) found chosen in
+    let told = place_if_live-tells slot.column number place live in
     record {
       doc = doc;
       was_live = told.0;
       added = subst (AddedAt slot.column) (ap (λ (p : ℕ × ℕ). p.0) parts.1) told.1;
       kept = kept;
-      number = ap (λ (p : ℕ × ℕ). p.1) parts.1;
+      id_is = ap (λ (p : ℕ × ℕ). p.1) parts.1;
       every = (has_every-decides doc.words words).1 parts.0;
     }))
 
@@ -101,12 +102,12 @@ given_by h (z ∷ xs) y has =
     (first_or_later (h z) (filter_map h xs) y has)
 
 -- the pairs by the test are those of the documents found
-pub found-exactly : (table : Table) (candidates : List (ℕ × ℕ)) (words : List (List ℕ)) (place added id : ℕ) →
-    Contains (filter_map (found_at table words place) candidates) (added, id) ↔ IsFound table candidates words place (added, id)
-found-exactly table candidates words place added id = (
+pub found-exactly : (table : Table) (candidates : List (ℕ × ℕ)) (words : List (List ℕ)) (number place id : ℕ) →
+    Contains (filter_map (found_at table words number) candidates) (place, id) ↔ IsFound table candidates words number (place, id)
+found-exactly table candidates words number place id = (
   λ has.
-      let by = given_by (found_at table words place) candidates (added, id) has in
-      let gives = found_in-tells (slot_at table by.0.0 by.0.1) words place (added, id) by.2 in
+      let by = given_by (found_at table words number) candidates (place, id) has in
+      let gives = found_in-tells (slot_at table by.0.0 by.0.1) words number (place, id) by.2 in
       record {
         slice = by.0.0;
         at = by.0.1;
@@ -115,13 +116,13 @@ found-exactly table candidates words place added id = (
         was_live = gives.was_live;
         added = gives.added;
         kept = gives.kept;
-        number = gives.number;
+        id_is = gives.id_is;
         every_word = gives.every;
       },
-  λ is. Contains-filter_map (found_at table words place) candidates (is.slice, is.at) (added, id) is.candidate
-      (found_in-parts (slot_at table is.slice is.at) words place added is.doc true (added_if_live-gives (slot_at table is.slice is.at).column place added is.was_live is.added) is.kept
+  λ is. Contains-filter_map (found_at table words number) candidates (is.slice, is.at) (place, id) is.candidate
+      (found_in-parts (slot_at table is.slice is.at) words number place is.doc true (place_if_live-gives (slot_at table is.slice is.at).column number place is.was_live is.added) is.kept
       ((has_every-decides is.doc.words words).0 is.every_word)
-      ∙ ap (λ number. Some (added, number)) is.number),
+      ∙ ap (λ n. Some (place, n)) is.id_is),
 )
 
 -- each item gives at most one

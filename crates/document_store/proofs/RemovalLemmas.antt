@@ -1,18 +1,14 @@
 -- What the removal of a number makes of a table of trees.
-use Rattle.std.proofs.Common.{◌≡◌, ℕ, zero, suc, ◌+◌, ◌-◌, ◌*◌, ◌^◌, ◌<◌, ◌≤◌, ◌⊎◌, Bool, true, false, cond, eqb, ltb, List, [], ◌∷◌, map, length, ◌++◌, take, drop, get_or, set, replicate, Option, Some, None, refl, sym, ap, ◌∙◌, subst, inl, inr, ⊎_elim, arith}
-use Rattle.std.specs.Int.{bit_at}
-use Rattle.std.specs.Option.{option_map}
-use Rattle.std.proofs.lemmas.Bool.{cases_Bool, cases_eq, cases_lt, cond-true, cond-false, false_from_ne_true, lt-ltb, le-ltb}
-use Rattle.std.proofs.lemmas.List.{get_or_default, get_or_past, get_or-replicate, get_or-set_same, get_or-set_other, length-map, length-replicate, length-set, map-set}
-use Rattle.std.proofs.lemmas.Nat.{mul-add-lt}
-use Rattle.std.proofs.Math.ListN.{get_or-map}
+use Rattle.std.proofs.Common.{◌≡◌, ℕ, ◌+◌, ◌*◌, ◌^◌, ◌<◌, ◌≤◌, ◌⊎◌, true, false, cond, eqb, List, length, ◌++◌, take, drop, get_or, set, Some, None, refl, sym, ap, ◌∙◌, subst, inl, inr, ⊎_elim, arith}
+use Rattle.std.proofs.lemmas.Bool.{cases_eq, cases_lt}
+use Rattle.std.proofs.lemmas.List.{get_or_default, get_or_past, get_or-set_same, get_or-set_other, length-map, length-set, map-set}
 use Rattle.std.proofs.Math.Seq.{take-append_seam}
 use Rattle.document_store.specs.declared.live_list.Entry.{Entry}
-use Rattle.document_store.specs.Trees.{AreTrees, IsInPlace, IsLive, IsLowestUnder, IsPlaceOf, IsTree, bucket_of, entry_at, id_of, link_at, link_under, looked_from, no_entry, none, number_at, way}
-use Rattle.document_store.specs.Entries.{Entries, IsShallow, column_of, has_id, steps}
-use Rattle.document_store.proofs.TreeLemmas.{depth-below, end-before, link-is, not-under, number-lowest, tree-add, tree-put, tree-remove, under-deep, under-deeper, way-kept, way-same, with-depth}
-use Rattle.document_store.proofs.EntryLemmas.{Apart, absent, column_at, column_of-add, column_of-remove, is-free, num, position-at}
-use Rattle.document_store.proofs.ColumnLemmas.{IsSearch, apart-view, column-found, column-none, found-live, found-number, found-within, id_of-live, past-links, tree-as, view, view-at}
+use Rattle.document_store.specs.Trees.{AreTrees, IsInPlace, IsLive, IsLowestUnder, IsPlaceOf, IsTree, entry_at, id_of, link_at, link_under, no_entry, none, number_at, way}
+use Rattle.document_store.specs.Entries.{column_of}
+use Rattle.document_store.proofs.TreeLemmas.{not-under, tree-put, tree-remove, under-deep, under-deeper, way-kept, way-same, with-depth}
+use Rattle.document_store.proofs.EntryLemmas.{column_of-remove}
+use Rattle.document_store.proofs.ColumnLemmas.{IsSearch, apart-view, found-live, found-number, found-within, id_of-live, past-links, tree-as, view, view-at}
 
 -- the entry, live no more
 abbrev pub unmarked : Entry → Entry

@@ -38,16 +38,16 @@ abbrev pub with_free_slice : Table → ℕ → Table
 with_free_slice table slice =
     record table { slots = take (slice * table.columns) table.slots ++ (replicate table.columns free_slot ++ drop ((slice + 1) * table.columns) table.slots) }
 
--- the columns of which a document is kept: its document is live, or was deleted
+-- the columns of which a document is kept: its document is live, or was deleted or moved away
 abbrev pub KeepsDoc : Column → Type 0
-KeepsDoc (column.Live added) = ⊤
-KeepsDoc (column.Deleted added deleted) = ⊤
+KeepsDoc (column.Live place since) = ⊤
+KeepsDoc (column.Over place since until) = ⊤
 KeepsDoc _ = ⊥
 
 -- a document is there exactly where the column keeps one
 abbrev pub FitsColumn : Column → Option Parts → Type 0
-FitsColumn (column.Live added) doc = (d : Parts) × (doc ≡ Some d)
-FitsColumn (column.Deleted added deleted) doc = (d : Parts) × (doc ≡ Some d)
+FitsColumn (column.Live place since) doc = (d : Parts) × (doc ≡ Some d)
+FitsColumn (column.Over place since until) doc = (d : Parts) × (doc ≡ Some d)
 FitsColumn _ doc = doc ≡ None
 
 -- the column's document fits what became of it

@@ -1,7 +1,7 @@
 -- How a `LiveList` is laid out: the entries of the live numbers of a bucket are a search tree by the bits of the numbers. From the
 -- bucket's link on, a number's way goes to the entry behind the link, and on by the link under it for the number's next bit. Of
 -- public clauses that on the steps of a call alone cites this module.
-use Rattle.std.specs.Prelude.{ℕ, zero, suc, ◌+◌, ◌-◌, ◌*◌, ◌/◌, ◌%◌, ◌^◌, ◌<◌, ◌≤◌, ◌≡◌, ◌==◌, nat_lt, ◌⊎◌, Bool, true, false, if◌then◌else◌, List, length, slice_index_or, bit_and, bit_xor, Option, Some, None}
+use Rattle.std.specs.Prelude.{ℕ, zero, suc, ◌+◌, ◌-◌, ◌*◌, ◌/◌, ◌%◌, ◌^◌, ◌<◌, ◌≤◌, ◌≡◌, nat_lt, ◌⊎◌, Bool, true, false, if◌then◌else◌, List, length, slice_index_or, bit_and, bit_xor, Option, Some, None}
 use Rattle.std.specs.Int.{bit_at}
 use Rattle.document_store.specs.declared.live_list.Entry.{Entry}
 

@@ -1,6 +1,6 @@
 //! What an engine keeps of documents beside their bits: the document in each column and what became of it, and the
-//! column of each live number. A find resolves its candidates here: those that were live at its place and have
-//! every word are the answer, in the order in which they were added.
+//! column of each live number. A find resolves its candidates here: those that were live in their columns as it
+//! began and have every word are the answer, in the order in which they were added.
 #![tactic(auto)]
 
 mod column;

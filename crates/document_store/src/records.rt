@@ -3,7 +3,7 @@ ghost use Rattle.std.specs.declared.option.Option.TheVariants.{Some, None};
 ghost use Rattle.std.specs.Option.{option_map};
 ghost use Rattle.document_store.specs.Documents.{Parts};
 ghost use Rattle.document_store.specs.Slots.{FitsColumn, IsColumn, KeepsDoc, free_slot, slot_at, with_free_slice, with_slot};
-ghost use Rattle.document_store.specs.declared.column.Column.TheVariants.{Deleted, Dropped, Free, Live, Pending};
+ghost use Rattle.document_store.specs.declared.column.Column.TheVariants.{Dropped, Free, Live, Over, Pending};
 
 use crate::column::Column;
 use crate::doc::Doc;
@@ -65,7 +65,7 @@ impl Records {
         self.slot(slice, column).column
     }
 
-    /// The column's document. There is none exactly where the column is neither live nor deleted.
+    /// The column's document. A column that is live or over has one, and no other.
     pub fn doc(&self, slice: u32, column: u32) -> Option<&Doc>
         requires { IsColumn self.now slice column }
         ensures doc { option_map (λ d. d.now) result ≡ (slot_at self.now slice column).doc }
@@ -96,15 +96,15 @@ impl Records {
         self.slots[index].column = Column::Pending(pass);
     }
 
-    /// The document of a pending column goes live at this place.
-    pub fn live(&mut self, slice: u32, column: u32, doc: Doc, place: u64)
+    /// The document of a pending column goes live: it was added at this place, and the event with this number puts it here.
+    pub fn live(&mut self, slice: u32, column: u32, doc: Doc, place: u64, since: u64)
         requires in_range { IsColumn self.old slice column }
         requires pending { (pass : ℕ) × ((slot_at self.old slice column).column ≡ Pending pass) }
-        ensures { self.new ≡ with_slot self.old slice column (record { column = Live place; doc = Some doc }) }
+        ensures { self.new ≡ with_slot self.old slice column (record { column = Live place since; doc = Some doc }) }
     {
         let index = self.index(slice, column);
         self.slots[index] = Slot {
-            column: Column::Live(place),
+            column: Column::Live { place, since },
             doc: Some(doc),
         };
     }
@@ -119,18 +119,22 @@ impl Records {
         self.slots[index].column = Column::Dropped;
     }
 
-    /// The document of a live column is deleted at this place. The column keeps it.
-    pub fn delete(&mut self, slice: u32, column: u32, place: u64)
+    /// The event with this number takes the document off a live column, which keeps it: finds that began before still see it.
+    pub fn delete(&mut self, slice: u32, column: u32, until: u64)
         requires in_range { IsColumn self.old slice column }
-        requires live { (added : ℕ) × ((slot_at self.old slice column).column ≡ Live added) }
-        ensures { (added : ℕ) → (slot_at self.old slice column).column ≡ Live added →
-            self.new ≡ with_slot self.old slice column (record { column = Deleted added place; doc = (slot_at self.old slice column).doc }) }
+        requires live { (place since : ℕ) × ((slot_at self.old slice column).column ≡ Live place since) }
+        ensures { (place since : ℕ) → (slot_at self.old slice column).column ≡ Live place since →
+            self.new ≡ with_slot self.old slice column (record { column = Over place since until; doc = (slot_at self.old slice column).doc }) }
     {
         let index = self.index(slice, column);
-        let Column::Live(added) = self.slots[index].column else {
+        let Column::Live { place, since } = self.slots[index].column else {
             unreachable!()
         };
-        self.slots[index].column = Column::Deleted(added, place);
+        self.slots[index].column = Column::Over {
+            place,
+            since,
+            until,
+        };
     }
 
     /// Makes every column of the slice free, and drops their documents.

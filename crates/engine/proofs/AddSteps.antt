@@ -1,5 +1,5 @@
 -- The step of an add, from its turns.
-use Rattle.std.proofs.Common.{◌≡◌, ℕ, ◌<◌, Bool, true, false, cond, List, [], ◌∷◌, Option, Some, None, Ok, Err, refl, sym, ap, ◌∙◌, ⊎_elim, inl, inr, arith}
+use Rattle.std.proofs.Common.{◌≡◌, ℕ, false, List, [], ◌∷◌, Option, Some, None, Ok, Err, refl, sym, ap, ◌∙◌, ⊎_elim, inl, inr, arith}
 use Rattle.std.specs.Option.{is_some, option_map, option_map_or}
 use Rattle.funnel_model.specs.declared.call.Call.TheVariants as call
 use Rattle.funnel_model.specs.declared.claim.Claim.{Claim}
@@ -10,7 +10,7 @@ use Rattle.funnel_model.specs.declared.reply.Reply.{Reply}
 use Rattle.funnel_model.specs.declared.reply.Reply.TheVariants as reply
 use Rattle.funnel_model.specs.History.{is_live, live, live_place}
 use Rattle.funnel_model.specs.Legal.{IsIdle, IsLegal, Limits}
-use Rattle.funnel_model.specs.Steps.{IsReplyToRefused, Step}
+use Rattle.funnel_model.specs.Steps.{IsReplyToRefused, Step, most_moves}
 use Rattle.funnel_model.proofs.LiveLemmas.{is_live-from_place}
 use Rattle.funnel_model.proofs.StepLemmas.{call_by-own}
 use Rattle.commit_desk.specs.declared.answers.AddFault.{AddFault}
@@ -19,7 +19,7 @@ use Rattle.commit_desk.specs.declared.answers.CommitFault.{CommitFault}
 use Rattle.commit_desk.specs.declared.answers.CommitFault.TheVariants as commit
 use Rattle.commit_desk.specs.declared.answers.Taken.TheVariants as taken
 use Rattle.slice_recycler.specs.Turns.{IsTurn}
-use Rattle.slice_recycler.proofs.Steps.{IsQuiet, own-unanswered, quiet_trans, quiet_turn, step_made_after, step_made_by_turn, step_spent_turn}
+use Rattle.slice_recycler.proofs.Steps.{IsQuiet, own-unanswered, quiet_trans, quiet_turn, quiet_weaker, step_made_after, step_made_by_turn, step_spent_turn}
 use Rattle.engine.specs.Adds.{AddTurns, ClaimTurns, CommitTurns, TakeTurn, fault_of_drop}
 use Rattle.engine.specs.Replies.{reply_of_add}
 
@@ -41,17 +41,20 @@ module _ (history : List Event) (id : ℕ) where
 
 module _ (limits : Limits) (pass id : ℕ) (text : List ℕ) where
   -- to claim a column answers nothing
-  claim_is_quiet : (before middle : List Event) (claim : Claim) → ClaimTurns limits pass id text before middle claim → IsQuiet pass before middle
+  claim_is_quiet : (before middle : List Event) (claim : Claim) → ClaimTurns limits pass id text before middle claim → IsQuiet pass 0 before middle
   claim_is_quiet before middle claim turns =
       ⊎_elim
-      (λ taken. let events = event.Take pass claim.slice claim.column ∷ [] in quiet_turn pass before middle events taken (own-unanswered pass events refl))
+      (λ taken. let events = event.Take pass claim.slice claim.column ∷ [] in quiet_turn pass before middle events taken (own-unanswered pass events refl) refl)
       (λ first.
       let clears = event.Clear pass claim.slice ∷ [] in
       let opens = event.Opened pass claim.slice false ∷ event.Take pass claim.slice 0 ∷ [] in
-      quiet_trans pass before first.middle middle
-      (quiet_turn pass before first.middle clears first.cleared (own-unanswered pass clears refl))
-      (quiet_turn pass first.middle middle opens first.opened (own-unanswered pass opens refl)))
+      quiet_trans pass 0 0 before first.middle middle
+      (quiet_turn pass before first.middle clears first.cleared (own-unanswered pass clears refl) refl)
+      (quiet_turn pass first.middle middle opens first.opened (own-unanswered pass opens refl) refl))
       turns
+
+  claimed_quietly : (before middle : List Event) (claim : Claim) → ClaimTurns limits pass id text before middle claim → IsQuiet pass (most_moves (call.Add id text)) before middle
+  claimed_quietly before middle claim turns = quiet_weaker pass 0 (most_moves (call.Add id text)) before middle (omega arith) (claim_is_quiet before middle claim turns)
 
   module _ (before after : List Event) where
     pub refused_turns : (config : Config) (fault : AddFault) → TakeTurn limits pass id text before after (taken.Refused fault) → AddTurns config limits pass id text before after (Err fault)
@@ -69,7 +72,7 @@ module _ (limits : Limits) (pass id : ℕ) (text : List ℕ) where
           IsReplyToRefused limits turn.earlier (call.Add id text) given → Step limits pass before after (call.Add id text) given
       refused_by given turn replied =
           let e = event.No pass (call.Add id text) in
-          step_made_by_turn limits pass before after e (call.Add id text) given idle turn refl (call_by-own pass e refl) refl replied legal
+          step_made_by_turn limits pass before after e (call.Add id text) given idle turn refl (call_by-own pass e refl) refl refl replied legal
 
       pub refused_step : (fault : AddFault) → TakeTurn limits pass id text before after (taken.Refused fault) → Step limits pass before after (call.Add id text) (reply_of_add (Err fault))
       refused_step (add.Present added) turn =
@@ -83,8 +86,8 @@ module _ (limits : Limits) (pass id : ℕ) (text : List ℕ) where
         added_step added turns =
             let claim = turns.claim in
             let e = event.Add pass id text claim.slice claim.column turns.bits in
-            step_made_after limits pass before turns.middle after e (call.Add id text) (reply.Added added) idle (claim_is_quiet before turns.middle claim turns.claimed) turns.committed refl
-            (call_by-own pass e refl) refl (ap reply.Added turns.committed.answer.1) legal
+            step_made_after limits pass before turns.middle after e (call.Add id text) (reply.Added added) idle (claimed_quietly before turns.middle claim turns.claimed) turns.committed refl
+            (call_by-own pass e refl) refl refl (ap reply.Added turns.committed.answer.1) legal
 
         -- an add whose document was dropped
         dropped_by : {answers : List Event → Type 0} (given : Reply) (middle : List Event) (claim : Claim) → ClaimTurns limits pass id text before middle claim →
@@ -92,7 +95,7 @@ module _ (limits : Limits) (pass id : ℕ) (text : List ℕ) where
             Step limits pass before after (call.Add id text) given
         dropped_by given middle claim claimed turn replied =
             let e = event.Drop pass id text claim.slice claim.column in
-            step_made_after limits pass before middle after e (call.Add id text) given idle (claim_is_quiet before middle claim claimed) turn refl (call_by-own pass e refl) refl replied legal
+            step_made_after limits pass before middle after e (call.Add id text) given idle (claimed_quietly before middle claim claimed) turn refl (call_by-own pass e refl) refl refl replied legal
 
         pub dropped_step : (fault : CommitFault) → CommitTurns config limits pass id text before after (Err fault) → Step limits pass before after (call.Add id text) (reply_of_add (Err (fault_of_drop fault)))
         dropped_step (commit.Present added) turns =

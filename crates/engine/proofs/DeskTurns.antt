@@ -44,32 +44,32 @@ module _ (limits : Limits) (pass : ℕ) (before after : List Event) (idle : IsId
       Step limits pass before after call.Place (reply_of_place answer)
   place_step (Ok count) turn =
       let e = event.Read pass call.Place in
-      step_made_by_turn limits pass before after e call.Place (reply.Place count) idle turn refl (call_by-own pass e refl) refl (ap reply.Place turn.answer.1) legal
+      step_made_by_turn limits pass before after e call.Place (reply.Place count) idle turn refl (call_by-own pass e refl) refl refl (ap reply.Place turn.answer.1) legal
   place_step (Err spent) turn = step_spent_turn limits pass before after call.Place idle turn turn.answer.many legal
 
   journal_step : (from : ℕ) (answer : Result (List Commit) JournalFault) → IsTurn pass before after (λ history. AnswersJournal limits.events limits history from answer) (events_of_journal pass from answer) →
       Step limits pass before after (call.Journal from) (reply_of_journal answer)
   journal_step from (Ok commits) turn =
       let e = event.Read pass (call.Journal from) in
-      step_made_by_turn limits pass before after e (call.Journal from) (reply.Commits commits) idle turn refl (call_by-own pass e refl) refl
+      step_made_by_turn limits pass before after e (call.Journal from) (reply.Commits commits) idle turn refl (call_by-own pass e refl) refl refl
       (journal_read limits turn.earlier from commits turn.answer.1 turn.answer.2) legal
   journal_step from (Err (journal.Trimmed n)) turn =
       let e = event.Read pass (call.Journal from) in
-      step_made_by_turn limits pass before after e (call.Journal from) (reply.Trimmed n) idle turn refl (call_by-own pass e refl) refl
+      step_made_by_turn limits pass before after e (call.Journal from) (reply.Trimmed n) idle turn refl (call_by-own pass e refl) refl refl
       (journal_trimmed limits turn.earlier from n turn.answer.1 turn.answer.2) legal
   journal_step from (Err (journal.Spent events)) turn = step_spent_turn limits pass before after (call.Journal from) idle turn turn.answer.many legal
   journal_step from (Err journal.Memory) turn =
-      step_journal_without_memory limits pass before after idle (quiet_turn pass before after [] turn refl) legal (idle_still pass before after turn idle) from
+      step_journal_without_memory limits pass before after idle legal (idle_still pass before after turn idle) (quiet_turn pass before after [] turn refl refl) from
 
   delete_step : (id : ℕ) (answer : Result ℕ DeleteFault) → IsTurn pass before after (λ history. AnswersDelete limits.events history id answer) (events_of_delete pass id answer) →
       Step limits pass before after (call.Delete id) (reply_of_delete answer)
   delete_step id (Ok deleted) turn =
       let e = event.Del pass id in
-      step_made_by_turn limits pass before after e (call.Delete id) (reply.Deleted deleted) idle turn refl (call_by-own pass e refl) refl (ap reply.Deleted turn.answer.1) legal
+      step_made_by_turn limits pass before after e (call.Delete id) (reply.Deleted deleted) idle turn refl (call_by-own pass e refl) refl refl (ap reply.Deleted turn.answer.1) legal
   delete_step id (Err (delete.Spent events)) turn = step_spent_turn limits pass before after (call.Delete id) idle turn turn.answer.many legal
   delete_step id (Err delete.Absent) turn =
       let e = event.No pass (call.Delete id) in
-      step_made_by_turn limits pass before after e (call.Delete id) reply.Absent idle turn refl (call_by-own pass e refl) refl
+      step_made_by_turn limits pass before after e (call.Delete id) reply.Absent idle turn refl (call_by-own pass e refl) refl refl
       refl legal
 
 -- the first column of a slice that its pass cleared and opened is its to write

@@ -27,7 +27,7 @@ module _ (before after : PassState) (front : List Event) (told : List Fact) (is 
   meets_others = subst (λ n. IsFrontOf n before.front after.front) same_number goes
 
   pub meets_no_call : AddsNone before.number before.front after.front
-  meets_no_call = quiet_adds_none before.number before.front after.front (quiet_front before.number before.front after.front meets_others)
+  meets_no_call = quiet_adds_none before.number 0 before.front after.front (quiet_front before.number before.front after.front meets_others)
 
   pub rests_met : (pool : PoolId) → IsResting pool before → IsPrefix before.front after.front →
       LacksAtMostOne (made_by after.number after.front) after.asked → IsResting pool after
@@ -62,4 +62,4 @@ pub has_calls : (history : List Event) (passes : List PassState) → All (EndsIn
 has_calls history passes ends = All-weaker (EndsIn history) (HasItsCalls history) one passes ends
   where
     one : (pass : PassState) → EndsIn history pass → HasItsCalls history pass
-    one pass end = quiet_adds_none pass.number pass.front history (quiet_front pass.number pass.front history end)
+    one pass end = quiet_adds_none pass.number 0 pass.front history (quiet_front pass.number pass.front history end)

@@ -43,8 +43,8 @@ begun_still seat next is begun = record {
 }
 
 -- the end of a find answers no call
-pub end_is_quiet : (pass : ℕ) (before after : List Event) → FindEnds pass before after → IsQuiet pass before after
-end_is_quiet pass before after turn = quiet_turn pass before after (event.End pass ∷ []) turn (own-unanswered pass (event.End pass ∷ []) refl)
+pub end_is_quiet : (pass : ℕ) (before after : List Event) → FindEnds pass before after → IsQuiet pass 0 before after
+end_is_quiet pass before after turn = quiet_turn pass before after (event.End pass ∷ []) turn (own-unanswered pass (event.End pass ∷ []) refl) refl
 
 -- The turn that begins a find.
 module _ (limits : Limits) (pass : ℕ) (query : List ℕ) (before : List Event) where
@@ -83,7 +83,7 @@ module _ (limits : Limits) (pass : ℕ) (query : List ℕ) (before after : List 
   -- that did not begin
   pub refused_step : IsIdle pass after → (fault : FindFault) → RefusedTurns limits pass before after fault → Step limits pass before after (call.Find query) (reply_of_find_fault fault)
   refused_step idle_end find.Memory same =
-      step_find_without_memory limits pass before after idle (subst (IsQuiet pass before) same (quiet_none pass before)) legal idle_end query
+      step_find_without_memory limits pass before after idle legal idle_end (subst (IsQuiet pass 0 before) same (quiet_none pass before)) query
   refused_step idle_end (find.Spent events) turn = step_spent_turn limits pass before after (call.Find query) idle turn turn.answer.many legal
 
   module _ (idle_end : IsIdle pass after) where
@@ -92,7 +92,7 @@ module _ (limits : Limits) (pass : ℕ) (query : List ℕ) (before after : List 
     found_step ids found =
         let turns = found.turns in
         let e = event.Find pass query in
-        step_made_within limits pass before before turns.middle after e (call.Find query) (reply.Found ids) idle (quiet_none pass before) turns.begun (call_by-own pass e refl)
+        step_made_within limits pass before before turns.middle after e (call.Find query) (reply.Found ids) idle (quiet_none pass before) turns.begun (call_by-own pass e refl) refl
         (ap (λ (answered : List ℕ). reply.Found answered) found.found) (end_is_quiet pass turns.middle after turns.ended) legal idle_end
 
     -- that found no memory

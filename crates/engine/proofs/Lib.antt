@@ -5,6 +5,7 @@ pub mod DeskTurns
 pub mod Ends
 pub mod Finds
 pub mod NewPasses
+pub mod NotTaken
 pub mod OpenFinds
 pub mod Scans
 pub mod Sizes

@@ -2,7 +2,7 @@ ghost use Rattle.std.specs.Prelude.{◌≡◌, ℕ, ◌<◌, length, map, All, C
 ghost use Rattle.std.specs.List.{range_with_len};
 ghost use mathlib.Core.List.{IsPrefix};
 ghost use Rattle.funnel_model.specs.declared.call.Call.TheVariants as call;
-ghost use Rattle.funnel_model.specs.History.{IsFrontOf, base, commits_after};
+ghost use Rattle.funnel_model.specs.History.{IsFrontOf, MovesAreCaused, base, commits_after};
 ghost use Rattle.funnel_model.specs.Legal.{IsLegal};
 ghost use Rattle.funnel_model.specs.Steps.{AddsNone, Step};
 ghost use Rattle.commit_desk.specs.Answers.{AnswersDelete, AnswersJournal, AnswersPlace, events_of_delete, events_of_journal, events_of_place};
@@ -182,6 +182,7 @@ impl<N: PoolName> Engine<N> {
         requires every { (pass : ℕ) → pass < self.limits.passes → Contains (map (λ (seat : PassState). seat.number) passes.items) pass }
         ensures legal { IsLegal self.limits result.history }
         ensures sound { IsSound self.config result.history }
+        ensures caused { MovesAreCaused result.history }
         ensures passes { All (EndsIn result.history) passes.items }
         ensures calls { All (HasItsCalls result.history) passes.items }
         ensures base { result.base ≡ base self.limits.commits result.history }

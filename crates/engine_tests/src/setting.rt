@@ -68,6 +68,7 @@ pub(crate) fn config(alloc: Global, passes: u32, slices: u32, blocks: u32, commi
         blocks,
         max_rank: 0,
         commits,
+        reserve: 0,
         one_in: 10,
         snr: 10,
         documents: 1000,

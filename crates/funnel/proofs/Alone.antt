@@ -5,6 +5,7 @@ use Rattle.std.specs.Prelude.{◌==◌}
 use Rattle.engine.specs.Engines.{EndsIn}
 use Rattle.funnel_model.specs.declared.event.Event.{Event}
 use Rattle.funnel_model.specs.Events.{pass_of}
+use Rattle.funnel_model.specs.History.{MovesAreCaused}
 use Rattle.funnel_model.specs.Legal.{IsLegal, Limits}
 use Rattle.funnel_model.proofs.Invariants.{passes_in_range}
 use Rattle.slice_rule.specs.Seats.{PassState}
@@ -70,13 +71,14 @@ module _ (limits : Limits) (history front : List Event) (passes : List PassState
 -- so what the first pass did was all that the engine did
 have_done : (pool : PoolId) (config : Config) (passes : List PassState) (did : List Event → Type 0) (closed : ClosedState) →
     pool.limits ≡ limits_by config → pool.config ≡ config → 1 ≤ pool.limits.passes → FirstDid pool passes did →
-    IsLegal pool.limits closed.history → IsSound pool.config closed.history → All (EndsIn closed.history) passes →
+    IsLegal pool.limits closed.history → MovesAreCaused closed.history → IsSound pool.config closed.history → All (EndsIn closed.history) passes →
     did closed.history × IsOfFirst config closed
-have_done pool config passes did closed limits_are config_is some first legal sound ends =
+have_done pool config passes did closed limits_are config_is some first legal caused sound ends =
     let saw = first_saw_all pool.limits closed.history first.front passes legal some ends first.used.seen first.used.every in (
       subst did (sym saw) first.done,
       record {
         legal = subst (λ (l : Limits). IsLegal l closed.history) limits_are legal;
+        caused = caused;
         sound = subst (λ (k : Config). IsSound k closed.history) config_is sound;
         alone = all_of_first pool.limits closed.history first.front passes legal some ends first.used.seen first.used.every;
       },
@@ -87,11 +89,11 @@ pub have_run : (pool : PoolId) (config : Config) (passes : List PassState) (inco
     (end : End) (why : Why) (closed : ClosedState) → pool.limits ≡ limits_by config → pool.config ≡ config → 1 ≤ pool.limits.passes →
     FirstDid pool passes (λ front. Serves (first_caller pool.limits) MOST_BYTES (record { front = []; incoming = incoming; outgoing = outgoing })
     (record { front = front; incoming = later_incoming; outgoing = later_outgoing }) end) → why ≡ why_of_end end →
-    IsLegal pool.limits closed.history → IsSound pool.config closed.history → All (EndsIn closed.history) passes →
+    IsLegal pool.limits closed.history → MovesAreCaused closed.history → IsSound pool.config closed.history → All (EndsIn closed.history) passes →
     Ran config incoming later_incoming outgoing later_outgoing why closed
-have_run pool config passes incoming later_incoming outgoing later_outgoing end why closed limits_are config_is some served answered legal sound ends =
+have_run pool config passes incoming later_incoming outgoing later_outgoing end why closed limits_are config_is some served answered legal caused sound ends =
     let done = have_done pool config passes (λ front. Serves (first_caller pool.limits) MOST_BYTES (record { front = []; incoming = incoming; outgoing = outgoing })
-    (record { front = front; incoming = later_incoming; outgoing = later_outgoing }) end) closed limits_are config_is some served legal sound ends in
+    (record { front = front; incoming = later_incoming; outgoing = later_outgoing }) end) closed limits_are config_is some served legal caused sound ends in
     record {
       end = end;
       answered = answered;

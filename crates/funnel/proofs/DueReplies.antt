@@ -19,7 +19,7 @@ use Rattle.funnel_model.proofs.StepCauses.{memory_cause, spent_cause}
 use Rattle.funnel_model.proofs.StepLemmas.{linear-grows}
 use Rattle.line_proto.specs.Forms.{Item, Asks, Malformed, TooLong, item_of, items}
 use Rattle.line_proto.specs.Services.{Caller}
-use Rattle.load_laws.proofs.EventCounts.{four_events_a_call}
+use Rattle.load_laws.proofs.EventCounts.{few_events_of_calls}
 use Rattle.load_laws.specs.LonePass.{IsAlone}
 use Rattle.session.proofs.SessionLaws.{linear}
 use Rattle.session.specs.Ends.{IsWithin}
@@ -79,6 +79,7 @@ takes_memory : (pass : ℕ) (before after : List Event) (asked : Call) → Finds
 takes_memory pass before after (call.Add id text) found = tt
 takes_memory pass before after (call.Find query) found = tt
 takes_memory pass before after (call.Journal from) found = tt
+takes_memory pass before after (call.Tune config) found = tt
 takes_memory pass before after _ none = absurd none
 
 -- a call that leads to fewer events than there may be
@@ -112,7 +113,7 @@ module _ (config : Config) (history : List Event) (alone : IsAlone 0 history) wh
       AreDue asked replies
   due_of_few asked replies few answers =
       let caller = first_caller (limits_by config) in
-      let events = four_events_a_call caller.limits 0 history (calls_of asked) (replies_to_calls asked replies) (linear caller [] history asked replies answers) alone in
+      let events = few_events_of_calls caller.limits 0 history (calls_of asked) (replies_to_calls asked replies) (linear caller [] history asked replies answers) alone in
       due_all caller [] history asked replies answers (omega (arith, events, calls_few asked, few))
 
   due_of_items : (taken : List ℕ) (ended : Bool) (replies : List Reply) → length taken ≤ MOST_BYTES →

@@ -1,4 +1,5 @@
 pub mod Alone
+pub mod AskedTexts
 pub mod DueReplies
 pub mod Endings
 pub mod Faultless

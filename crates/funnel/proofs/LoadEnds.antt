@@ -8,7 +8,7 @@ use Rattle.funnel_model.specs.declared.config.Config.{Config}
 use Rattle.funnel_model.specs.declared.event.Event.{Event}
 use Rattle.funnel_model.specs.declared.memory.Memory.{Memory}
 use Rattle.funnel_model.specs.Events.{pass_of}
-use Rattle.funnel_model.specs.History.{IsFrontOf}
+use Rattle.funnel_model.specs.History.{IsFrontOf, MovesAreCaused}
 use Rattle.funnel_model.specs.Legal.{IsLegal, Limits}
 use Rattle.funnel_model.specs.Sizes.{columns_of_pool}
 use Rattle.funnel_server.proofs.LoadPasses.{ends_along}
@@ -64,6 +64,7 @@ pub record HasClosed (pool : PoolId) (config : Config) (load : LoadCommand) (bef
   pub fits : misfit_of_load load config ≡ None
   pub used : AreUsedBy pool load.workers before after
   pub legal : IsLegal pool.limits closed.history
+  pub caused : MovesAreCaused closed.history
   pub sound : IsSound pool.config closed.history
   pub ends : All (EndsIn closed.history) after
 
@@ -111,26 +112,27 @@ module _ (pool : PoolId) (config : Config) (load : LoadCommand) (before after : 
     loaded = record {
       sound = sound_here;
       replies = replies_to (limits_by config) load.docs load.words load.seed load.workers (front_at after) results closed.history ended.some room legal_here
-          of_workers_alone seen put;
+          ended.caused of_workers_alone seen put;
       loaded = is_loaded (limits_by config) load.docs load.words load.seed load.workers (front_at after) results closed.history ended.some room legal_here
-          of_workers_alone seen put;
+          ended.caused of_workers_alone seen put;
       fronts = fronts (limits_by config) load.docs load.words load.seed load.workers (front_at after) results closed.history ended.some room legal_here
-          of_workers_alone seen put;
+          ended.caused of_workers_alone seen put;
       met = met (limits_by config) load.docs load.words load.seed load.workers (front_at after) results closed.history ended.some room legal_here
-          of_workers_alone seen put;
+          ended.caused of_workers_alone seen put;
       calls = calls_are (limits_by config) load.docs load.words load.seed load.workers (front_at after) results closed.history ended.some room legal_here
-          of_workers_alone seen put;
+          ended.caused of_workers_alone seen put;
       answers = are_answered (limits_by config) load.docs load.words load.seed load.workers (front_at after) results closed.history ended.some room legal_here
-          of_workers_alone seen put;
+          ended.caused of_workers_alone seen put;
     };
     results_are = results_told (limits_by config) load.docs load.words load.seed load.workers (front_at after) results closed.history ended.some room legal_here
-        of_workers_alone seen put;
+        ended.caused of_workers_alone seen put;
   }
 
   -- and one that was cut short is a part of it
   pub part_of_load : IsCutShort (limits_by config) (documents load.docs load.words load.seed) load.workers (λ _. []) (front_at after) → IsPartOfLoad config load closed
   part_of_load cut = record {
     legal = legal_here;
+    caused = ended.caused;
     sound = sound_here;
     no_other = of_workers_alone;
     fronts = front_at after;

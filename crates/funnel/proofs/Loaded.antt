@@ -10,7 +10,7 @@ use Rattle.funnel_model.specs.declared.event.Event.{Event}
 use Rattle.funnel_model.specs.declared.reply.Reply.{Reply}
 use Rattle.funnel_model.specs.declared.reply.Reply.TheVariants as reply
 use Rattle.funnel_model.specs.Events.{pass_of}
-use Rattle.funnel_model.specs.History.{IsFrontOf, own}
+use Rattle.funnel_model.specs.History.{IsFrontOf, MovesAreCaused, moved_by, own}
 use Rattle.funnel_model.specs.Legal.{IsIdle, IsLegal, Limits}
 use Rattle.funnel_model.specs.Steps.{IsMade, IsSpent, LacksMemory, Linear}
 use Rattle.funnel_server.proofs.AskedShares.{asks_share}
@@ -20,8 +20,9 @@ use Rattle.load_gen.specs.Documents.{documents}
 use Rattle.load_gen.specs.Jobs.{adds_of, calls_of_share, deletes_of, jobs, queries_of, share}
 use Rattle.load_gen.specs.Summary.{results_of}
 use Rattle.load_laws.proofs.EventCounts.{ends}
-use Rattle.load_laws.proofs.FrontLemmas.{calls_in_front, front_trans, idle_from_front}
+use Rattle.load_laws.proofs.FrontLemmas.{calls_in_front, front_trans, idle_from_front, moved_in_front}
 use Rattle.load_laws.proofs.Meetings.{parts_of_met}
+use Rattle.load_laws.proofs.Unmoved.{deletes_still, queries_still}
 use Rattle.load_laws.proofs.WorkerEvents.{load_is_unspent, own_of_load}
 use Rattle.load_laws.proofs.WorkersAnswered.{results_are_told, worker_is_answered}
 use Rattle.load_laws.specs.Replies.{result_in}
@@ -71,7 +72,8 @@ same_last first second third other another last same one two =
 -- Workers that had seen nothing put a load to an engine with room for it. The history goes on from what each of them has seen since,
 -- and no other pass has an event in it.
 module _ (limits : Limits) (docs words seed workers : ℕ) (after : ℕ → List Event) (results : List (ℕ × ℕ)) (history : List Event)
-    (some : 1 ≤ workers) (room : HasRoomFor limits docs) (legal : IsLegal limits history) (no_other : All (λ e. pass_of e < workers) history)
+    (some : 1 ≤ workers) (room : HasRoomFor limits docs) (legal : IsLegal limits history) (caused : MovesAreCaused history)
+    (no_other : All (λ e. pass_of e < workers) history)
     (seen : (worker : ℕ) → worker < workers → IsFrontOf worker (after worker) history)
     (put : IsPut limits (documents docs words seed) workers (λ _. []) after results) where
   abbrev texts : List (List ℕ)
@@ -175,10 +177,23 @@ module _ (limits : Limits) (docs words seed workers : ℕ) (after : ℕ → List
         (ends limits worker (fronts worker).met_deleted (fronts worker).queried (queries_of workers worker) (put.to_queries worker)
         (idle_from_front worker (fronts worker).deleted (fronts worker).met_deleted comes.meets_deletes idle_deleted) (put.asked worker below).run).idle
 
+    -- what the worker moved it moved for its adds
+    moved : moved_by worker history ≡ moved_by worker (fronts worker).added
+    moved =
+        moved_in_front worker (after worker) history (seen worker below)
+        ∙ moved_in_front worker (fronts worker).queried (after worker) (put.meets_queries worker below)
+        ∙ queries_still limits worker (fronts worker).met_deleted (fronts worker).queried workers (put.to_queries worker)
+        (idle_from_front worker (fronts worker).deleted (fronts worker).met_deleted comes.meets_deletes idle_deleted) (put.asked worker below).run
+        ∙ moved_in_front worker (fronts worker).deleted (fronts worker).met_deleted comes.meets_deletes
+        ∙ deletes_still limits worker (fronts worker).met_added (fronts worker).deleted texts workers (put.courses worker).to_deletes
+        (idle_from_front worker (fronts worker).added (fronts worker).met_added comes.meets_adds idle_added) comes.deletes.run
+        ∙ moved_in_front worker (fronts worker).added (fronts worker).met_added comes.meets_adds
+
     keeps : KeepsToParts texts workers worker history (fronts worker)
     keeps = record {
       adds = by_added;
       idle_after_adds = idle_added;
+      moved = moved;
       meets_adds = comes.meets_adds;
       goes_on = deleting;
       deletes = by_deleted;
@@ -198,6 +213,7 @@ module _ (limits : Limits) (docs words seed workers : ℕ) (after : ℕ → List
   is_loaded = record {
     some = omega (arith, some);
     legal = legal;
+    caused = caused;
     no_other = no_other;
     parts = parts_of_met texts workers history fronts (omega (arith, some)) met;
     asked = has_asked;

@@ -17,7 +17,7 @@ use Rattle.funnel.specs.declared.command.LoadCommand.{LoadCommand}
 use Rattle.funnel.specs.declared.command.ServeCommand.{ServeCommand}
 use Rattle.funnel_model.specs.declared.config.TheConstants.{MOST_PASSES}
 use Rattle.load_gen.specs.declared.limits.TheConstants.{MOST_DOCS, MOST_WORDS}
-use Rattle.funnel.specs.declared.command.TheConstants.{MOST_CONNECTIONS, MOST_PORT}
+use Rattle.funnel.specs.declared.command.TheConstants.{MOST_CONNECTIONS, MOST_IDLE, MOST_PORT}
 use Rattle.funnel.proofs.FoundValues.{HasValue}
 
 without_minus-cond : (t : List ℕ) → without_minus t ≡ cond (starts_with_minus t) (drop 1 t) t
@@ -92,7 +92,8 @@ serve_in_range found has =
     let port = number_in_range 1 MOST_PORT (codes "port") found has.port in
     let workers = number_in_range 1 MOST_PASSES (codes "workers") found has.workers in
     let connections = number_in_range 1 MOST_CONNECTIONS (codes "connections") found has.connections in
-    record { some_port = port.0; is_port = port.1; some_workers = workers.0; few_workers = workers.1; some_connections = connections.0; few_connections = connections.1 }
+    let idle = number_in_range 0 MOST_IDLE (codes "idle") found has.idle in
+    record { some_port = port.0; is_port = port.1; some_workers = workers.0; few_workers = workers.1; some_connections = connections.0; few_connections = connections.1; few_seconds = idle.1 }
 
 pub load_in_range : (found : List Row) → HasLoadNumbers found → IsLoadInRange (load_of found)
 load_in_range found has =
@@ -102,10 +103,10 @@ load_in_range found has =
     record { some_docs = docs.0; few_docs = docs.1; some_workers = workers.0; few_workers = workers.1; few_words = words.1 }
 
 -- a serve with the numbers of its options is the one that was found
-pub serve_is : (found : List Row) (port workers connections : ℕ) → port ≡ option_number (codes "port") found → workers ≡ option_number (codes "workers") found →
-    connections ≡ option_number (codes "connections") found →
-    ◌≡◌ {A = ServeCommand} (record { port = port; workers = workers; connections = connections }) (serve_of found)
-serve_is found port workers connections p w c = λ i. record { port = p i; workers = w i; connections = c i }
+pub serve_is : (found : List Row) (port workers connections idle : ℕ) → port ≡ option_number (codes "port") found → workers ≡ option_number (codes "workers") found →
+    connections ≡ option_number (codes "connections") found → idle ≡ option_number (codes "idle") found →
+    ◌≡◌ {A = ServeCommand} (record { port = port; workers = workers; connections = connections; idle = idle }) (serve_of found)
+serve_is found port workers connections idle p w c d = λ i. record { port = p i; workers = w i; connections = c i; idle = d i }
 
 -- and so is a load
 pub load_is : (found : List Row) (docs workers words seed : ℕ) → docs ≡ option_number (codes "docs") found → workers ≡ option_number (codes "workers") found →

@@ -8,7 +8,6 @@ use Rattle.funnel_server.specs.Gates.{GateState}
 use Rattle.funnel_server.specs.Workers.{IsStopped, WorkerState}
 use Rattle.funnel.specs.Runs.{limits_by}
 use Rattle.funnel.specs.Served.{AllWork, HaveAllServed, new_workers}
-use Rattle.funnel.specs.declared.ended.Why.{Why}
 use Rattle.funnel.specs.declared.ended.Why.TheVariants as why_of
 
 -- a worker that stopped, and whose gate neither failed nor closed, served as many connections as it may

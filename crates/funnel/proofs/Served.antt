@@ -14,7 +14,7 @@ use Rattle.engine.specs.Engines.{ClosedState, EndsIn}
 use Rattle.funnel_model.specs.declared.config.Config.{Config}
 use Rattle.funnel_model.specs.declared.event.Event.{Event}
 use Rattle.funnel_model.specs.Events.{pass_of}
-use Rattle.funnel_model.specs.History.{IsFrontOf}
+use Rattle.funnel_model.specs.History.{IsFrontOf, MovesAreCaused}
 use Rattle.funnel_model.specs.Legal.{IsLegal, Limits}
 use Rattle.funnel_io.specs.Calls.{Read, Write}
 use Rattle.funnel_io.specs.Streams.{Incoming, Outgoing}
@@ -378,9 +378,9 @@ module _ {G C : Type 0} (next_gives : G → Next C → G → Type 0) (done_gives
       (closed : ClosedState) → pool.limits ≡ limits_by config → pool.config ≡ config → pool.limits.passes ≡ pool.config.passes →
       length (map state gates) ≤ pool.config.passes →
       HaveWorkedInTurns next_gives done_gives read_gives write_gives incoming outgoing state pool connections gates laters why passes →
-      IsLegal pool.limits closed.history → IsSound pool.config closed.history → All (EndsIn closed.history) passes →
+      IsLegal pool.limits closed.history → MovesAreCaused closed.history → IsSound pool.config closed.history → All (EndsIn closed.history) passes →
       EndsServeInTurns next_gives done_gives read_gives write_gives incoming outgoing state config connections gates laters why (Some closed)
-  has_served state pool config connections gates laters why passes closed limits_are config_is counted enough did legal sound ends =
+  has_served state pool config connections gates laters why passes closed limits_are config_is counted enough did legal caused sound ends =
       let before = map state gates in
       let after = map state laters in
       let worked = did.worked in
@@ -390,6 +390,7 @@ module _ {G C : Type 0} (next_gives : G → Next C → G → Type 0) (done_gives
       record {
         ends = record {
           legal = subst (λ (l : Limits). IsLegal l closed.history) limits_are legal;
+          caused = caused;
           sound = subst (λ (k : Config). IsSound k closed.history) config_is sound;
           passes = of_workers pool connections before after why passes worked enough counted closed.history legal ends;
           workers = worked.workers;

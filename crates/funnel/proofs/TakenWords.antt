@@ -1,5 +1,5 @@
 -- What `clap` takes of funnel's own command line.
-use Rattle.std.proofs.Common.{◌≡◌, ◌∙◌, ℕ, Bool, codes, true, false, refl, sym, ap, ap₂, subst, inl, inr, arith, List, [], ◌∷◌, Option, Some, None, IfSome, slice_index, Result, Ok, Err, IfOk, IsErrAnd, IsErrOf}
+use Rattle.std.proofs.Common.{◌≡◌, ◌≢◌, ◌∙◌, ℕ, Bool, codes, true, false, refl, sym, ap, ap₂, subst, inl, inr, arith, List, [], ◌∷◌, Option, Some, None, IfSome, slice_index, Result, Ok, Err, IfOk, IsErrAnd, IsErrOf}
 use Rattle.std.specs.Prelude.{find, option_and_then, option_map}
 use Rattle.std.specs.List.{AllByRecursion, list_all}
 use Rattle.std.specs.Option.{ok_or, option_map_or}
@@ -15,7 +15,7 @@ use Rattle.clap.specs.declared.builder.value_parser.Reading.TheVariants.{AsWritt
 use Rattle.clap.specs.declared.builder.value_parser.ValueParser.TheVariants as vp
 use Rattle.funnel_model.specs.declared.config.TheConstants.{MOST_PASSES}
 use Rattle.load_gen.specs.declared.limits.TheConstants.{MOST_DOCS, MOST_WORDS}
-use Rattle.funnel.specs.declared.command.TheConstants.{MOST_CONNECTIONS, MOST_PORT}
+use Rattle.funnel.specs.declared.command.TheConstants.{MOST_CONNECTIONS, MOST_IDLE, MOST_PORT}
 use Rattle.clap.specs.Words.{App, HasMatchesOf, subcommand_rows_of}
 use Rattle.clap.specs.declared.parser.matches.ArgMatches.{ArgMatches}
 use Rattle.clap.specs.declared.error.kind.ErrorKind.{ErrorKind}
@@ -24,7 +24,7 @@ use Rattle.funnel.specs.declared.command.Command.{Command}
 use Rattle.funnel.specs.declared.command.CommandFault.{CommandFault}
 use Rattle.funnel.specs.declared.command.CommandFault.TheVariants.{Memory, Usage}
 use Rattle.funnel.proofs.NumberLemmas.{IsNumber, number_in, signed_number}
-use Rattle.funnel.specs.Commands.{HasLoadNumbers, HasNumber, HasNumbers, HasServeNumbers, call_words, command_of, connections_option, docs_option, fault_by, funnel_app, load_form, load_workers_option, numbers_between, port_option, run_form, seed_option, serve_form, subcommand_as, words_option, workers_option}
+use Rattle.funnel.specs.Commands.{HasLoadNumbers, HasNumber, HasNumbers, HasServeNumbers, call_words, command_of, connections_option, docs_option, fault_by, funnel_app, idle_option, load_form, load_workers_option, numbers_between, port_option, run_form, seed_option, serve_form, subcommand_as, words_option, workers_option}
 use Rattle.funnel.proofs.Faultless.{all_of_two, both, built_taken, is_open}
 use Rattle.funnel.proofs.FoundValues.{AllFit, Belongs, defaults-fit, defaults-there, found_has, given-there, has_value, settled-fits, walk-fits}
 
@@ -109,6 +109,9 @@ workers = filled workers_option
 abbrev connections : Rule
 connections = filled connections_option
 
+abbrev idle : Rule
+idle = filled idle_option
+
 serve_rules_belong : AllByRecursion (Belongs serve_rules) serve_rules
 serve_rules_belong = (
   record { own = refl; kind = inl (refl, omega arith) },
@@ -116,7 +119,10 @@ serve_rules_belong = (
     record { own = refl; kind = inl (refl, omega arith) },
     (
       record { own = refl; kind = inl (refl, omega arith) },
-      (record { own = refl; kind = inr refl }, tt),
+      (
+        record { own = refl; kind = inl (refl, omega arith) },
+        (record { own = refl; kind = inr refl }, tt),
+      ),
     ),
   ),
 )
@@ -131,11 +137,14 @@ serve_numbers words e =
     let found = are_found (built_form serve_form) words serve_rules_belong e in
     let rows = rows_after serve_rules [] words in
     let given = port_and_workers_are_given rows found.valid in
-    let default = defaults-there (port ∷ workers ∷ []) (filled help_rule ∷ []) connections (rows_given (built_form serve_form) words) (omega arith) in
+    let before = rows_given (built_form serve_form) words in
+    let connections_default = defaults-there (port ∷ workers ∷ []) (idle ∷ filled help_rule ∷ []) connections before (omega arith) in
+    let idle_default = defaults-there (port ∷ workers ∷ connections ∷ []) (filled help_rule ∷ []) idle before (omega arith) in
     record {
       port = signed serve_rules rows found.fit 1 MOST_PORT port (codes "port") refl refl (λ text pass. pass) (given-there (codes "port") rows given.0);
       workers = signed serve_rules rows found.fit 1 MOST_PASSES workers (codes "workers") refl refl (λ text pass. pass) (given-there (codes "workers") rows given.1);
-      connections = unsigned serve_rules rows found.fit 1 MOST_CONNECTIONS connections (codes "connections") refl refl (λ text pass. pass) default;
+      connections = unsigned serve_rules rows found.fit 1 MOST_CONNECTIONS connections (codes "connections") refl refl (λ text pass. pass) connections_default;
+      idle = signed serve_rules rows found.fit 0 MOST_IDLE idle (codes "idle") refl refl (λ text pass. pass) idle_default;
     }
 
 -- ---- the options of `load`
@@ -258,15 +267,20 @@ parsed_is words all app m app_is words_are matches faultless = (
 )
 
 -- a parse that fails for another cause than memory has not taken them
-pub failed_is : (words all : List Text) (app : App) (why : ErrorKind) → app ≡ funnel_app → all ≡ call_words words → (takes app all ≡ true → why ≡ OutOfMemory)
-    → fault_by why ≡ Usage → command_of words ≡ None
-failed_is words all app why app_is words_are passes usage = no_command words (go (takes funnel_app (call_words words)) refl)
+pub refused_is : (words all : List Text) (app : App) (why : ErrorKind) → app ≡ funnel_app → all ≡ call_words words → (takes app all ≡ true → why ≡ OutOfMemory)
+    → why ≢ OutOfMemory → command_of words ≡ None
+refused_is words all app why app_is words_are passes other = no_command words (go (takes funnel_app (call_words words)) refl)
   where
     go : (b : Bool) → takes funnel_app (call_words words) ≡ b → b ≡ false
     go false is = refl
-    go true is =
-        let memory : fault_by why ≡ Memory = ap fault_by (passes (ap₂ takes app_is words_are ∙ is)) in
-        absurd (cc)
+    go true is = absurd (other (passes (ap₂ takes app_is words_are ∙ is)))
+
+-- nor has one whose fault is that they are no command
+pub failed_is : (words all : List Text) (app : App) (why : ErrorKind) → app ≡ funnel_app → all ≡ call_words words → (takes app all ≡ true → why ≡ OutOfMemory)
+    → fault_by why ≡ Usage → command_of words ≡ None
+failed_is words all app why app_is words_are passes usage = refused_is words all app why app_is words_are passes (λ memory.
+    let other : fault_by why ≡ Memory = ap fault_by memory in
+    absurd (cc))
 
 -- what `?` hands up is the fault that the kind of error makes
 pub handed_up : {T : Type 0} (r : Result T CommandFault) (fault : CommandFault) → IsErrAnd r (λ f. f ≡ fault) → IsErrOf r Usage → fault ≡ Usage

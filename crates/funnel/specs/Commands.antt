@@ -13,7 +13,7 @@ use Rattle.funnel.specs.declared.command.Command.{Command}
 use Rattle.funnel.specs.declared.command.Command.TheVariants as command
 use Rattle.funnel.specs.declared.command.LoadCommand.{LoadCommand}
 use Rattle.funnel.specs.declared.command.ServeCommand.{ServeCommand}
-use Rattle.funnel.specs.declared.command.TheConstants.{MOST_CONNECTIONS, MOST_PORT}
+use Rattle.funnel.specs.declared.command.TheConstants.{MOST_CONNECTIONS, MOST_IDLE, MOST_PORT}
 use Rattle.funnel_model.specs.declared.config.TheConstants.{MOST_PASSES}
 use Rattle.load_gen.specs.declared.limits.TheConstants.{MOST_DOCS, MOST_WORDS}
 use Rattle.funnel.specs.declared.command.CommandFault.{CommandFault}
@@ -41,6 +41,10 @@ workers_option = record (number_option (codes "workers") (numbers_between 1 MOST
 abbrev pub connections_option : Rule
 connections_option = record (number_option (codes "connections") (vp.Unsigned 1 MOST_CONNECTIONS)) { defaults = codes "4294967296" ∷ [] }
 
+-- for how many seconds a read or a write of a connection may wait, or else 0
+abbrev pub idle_option : Rule
+idle_option = record (number_option (codes "idle") (numbers_between 0 MOST_IDLE)) { defaults = codes "0" ∷ [] }
+
 -- a number of documents, which has to be given
 abbrev pub docs_option : Rule
 docs_option = record (number_option (codes "docs") (numbers_between 1 MOST_DOCS)) { required = true }
@@ -62,7 +66,7 @@ abbrev pub run_form : Shape
 run_form = new_shape (codes "run")
 
 abbrev pub serve_form : Shape
-serve_form = record (new_shape (codes "serve")) { rules = port_option ∷ workers_option ∷ connections_option ∷ [] }
+serve_form = record (new_shape (codes "serve")) { rules = port_option ∷ workers_option ∷ connections_option ∷ idle_option ∷ [] }
 
 abbrev pub load_form : Shape
 load_form = record (new_shape (codes "load")) { rules = docs_option ∷ load_workers_option ∷ words_option ∷ seed_option ∷ [] }
@@ -84,6 +88,7 @@ pub record HasServeNumbers (found : List Row) : Type 0 where
   pub port : HasNumber 1 MOST_PORT (codes "port") found
   pub workers : HasNumber 1 MOST_PASSES (codes "workers") found
   pub connections : HasNumber 1 MOST_CONNECTIONS (codes "connections") found
+  pub idle : HasNumber 0 MOST_IDLE (codes "idle") found
 
 -- each option of `load` has one
 pub record HasLoadNumbers (found : List Row) : Type 0 where
@@ -106,6 +111,7 @@ serve_of found = record {
   port = option_number (codes "port") found;
   workers = option_number (codes "workers") found;
   connections = option_number (codes "connections") found;
+  idle = option_number (codes "idle") found;
 }
 
 abbrev pub load_of : List Row → LoadCommand
@@ -124,6 +130,7 @@ pub record IsServeInRange (serve : ServeCommand) : Type 0 where
   pub few_workers : serve.workers ≤ MOST_PASSES
   pub some_connections : 1 ≤ serve.connections
   pub few_connections : serve.connections ≤ MOST_CONNECTIONS
+  pub few_seconds : serve.idle ≤ MOST_IDLE
 
 -- the numbers of a load lie in theirs
 pub record IsLoadInRange (load : LoadCommand) : Type 0 where
@@ -164,6 +171,11 @@ is_serve _ = false
 abbrev pub ports_of : Option Command → List ℕ
 ports_of (Some (command.Serve serve)) = range_with_len serve.port serve.workers
 ports_of _ = []
+
+-- for how many seconds the connections of a command may wait
+abbrev pub idle_of : Option Command → ℕ
+idle_of (Some (command.Serve serve)) = serve.idle
+idle_of _ = 0
 
 -- why no command was read, by what `clap` says went wrong
 abbrev pub fault_by : ErrorKind → CommandFault

@@ -72,6 +72,7 @@ abbrev pub TakesMemory : Call → Type 0
 TakesMemory (call.Add id text) = ⊤
 TakesMemory (call.Find query) = ⊤
 TakesMemory (call.Journal from) = ⊤
+TakesMemory (call.Tune config) = ⊤
 TakesMemory _ = ⊥
 
 -- the reply to an item is never that the history is spent, and is a want of memory only where it asks for a call that takes some

@@ -7,5 +7,6 @@ pub mod Programs
 pub mod Runs
 pub mod Served
 pub mod Serving
+pub mod Texts
 pub mod Turns
 pub mod Workers

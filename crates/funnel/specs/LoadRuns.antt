@@ -1,13 +1,12 @@
 -- A load: the calls of its workers, each by a pass of its own of one new engine, and the summary.
-use Rattle.std.specs.Prelude.{◌≡◌, ◌<◌, ℕ, List, [], true, All, Option, Some, None, ◌⊎◌}
+use Rattle.std.specs.Prelude.{◌≡◌, ◌<◌, ℕ, List, [], All, Option, Some, None, ◌⊎◌}
 use Rattle.engine.specs.Engines.{ClosedState}
-use Rattle.funnel_io.specs.Counts.{counted}
-use Rattle.funnel_io.specs.Streams.{Outgoing, Writes, WritesPart}
+use Rattle.funnel_io.specs.Streams.{Outgoing}
 use Rattle.funnel_model.specs.declared.config.Config.{Config}
 use Rattle.funnel_model.specs.declared.event.Event.{Event}
 use Rattle.funnel_model.specs.declared.reply.Reply.{Reply}
 use Rattle.funnel_model.specs.Events.{pass_of}
-use Rattle.funnel_model.specs.History.{IsFrontOf, own}
+use Rattle.funnel_model.specs.History.{IsFrontOf, MovesAreCaused, own}
 use Rattle.funnel_model.specs.Legal.{IsLegal}
 use Rattle.funnel_server.specs.Loads.{IsCutShort}
 use Rattle.load_gen.specs.Documents.{documents}
@@ -19,13 +18,12 @@ use Rattle.funnel.specs.declared.command.LoadCommand.{LoadCommand}
 use Rattle.funnel.specs.declared.ended.Why.{Why}
 use Rattle.funnel.specs.declared.ended.Why.TheVariants as why_of
 use Rattle.funnel.specs.Runs.{limits_by}
+use Rattle.funnel.specs.Texts.{IsWritten}
 
--- the text is written whole, or a write failed before its end, or there was no memory and nothing is written
+-- the text is written, or there was no memory and nothing is written
 abbrev pub Tells : List ℕ → Outgoing → Outgoing → Why → Type 0
-Tells text before after why_of.Done = Writes text before after × (after.faults ≡ before.faults)
-Tells text before after why_of.WriteFault = WritesPart text before after × (after.faults ≡ counted true before.faults)
 Tells text before after why_of.Memory = after ≡ before
-Tells text before after _ = ⊥
+Tells text before after why = IsWritten text before after why
 
 -- the workers put the whole load: each made the calls of its share, each once, and is answered as the load is to be; and after each part
 -- of the load each met what every other had seen. No add and no delete is refused, no document is missed, and the queries have the
@@ -45,6 +43,7 @@ pub record IsWholeLoad (config : Config) (load : LoadCommand) (closed : ClosedSt
 -- of this worker
 pub record IsPartOfLoad (config : Config) (load : LoadCommand) (closed : ClosedState) : Type 0 where
   pub legal : IsLegal (limits_by config) closed.history
+  pub caused : MovesAreCaused closed.history
   pub sound : IsSound config closed.history
   pub no_other : All (λ e. pass_of e < load.workers) closed.history
   pub fronts : ℕ → List Event

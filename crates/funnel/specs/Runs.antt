@@ -5,7 +5,7 @@ use Rattle.funnel_io.specs.Streams.{Incoming, Outgoing}
 use Rattle.funnel_io.specs.declared.end.End.{End}
 use Rattle.funnel_model.specs.declared.config.Config.{Config}
 use Rattle.funnel_model.specs.Events.{pass_of}
-use Rattle.funnel_model.specs.History.{base}
+use Rattle.funnel_model.specs.History.{MovesAreCaused, base}
 use Rattle.funnel_model.specs.Legal.{IsLegal, Limits}
 use Rattle.funnel_model.specs.Sizes.{words_of_slice}
 use Rattle.line_proto.specs.Services.{Caller}
@@ -29,9 +29,10 @@ KeepsLast config closed = closed.base ≡ base config.commits closed.history
 abbrev pub first_caller : Limits → Caller
 first_caller limits = record { limits = limits; pass = 0 }
 
--- the history is legal, each document has exactly its own bits, and all events are the first pass's
+-- the history is legal, each move has its cause, each document has exactly its own bits, and all events are the first pass's
 pub record IsOfFirst (config : Config) (closed : ClosedState) : Type 0 where
   pub legal : IsLegal (limits_by config) closed.history
+  pub caused : MovesAreCaused closed.history
   pub sound : IsSound config closed.history
   pub alone : All (λ e. pass_of e ≡ 0) closed.history
 

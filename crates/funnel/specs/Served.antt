@@ -4,7 +4,7 @@ use Rattle.std.specs.List.{list_any}
 use Rattle.engine.specs.Engines.{ClosedState}
 use Rattle.funnel_model.specs.declared.config.Config.{Config}
 use Rattle.funnel_model.specs.Events.{pass_of}
-use Rattle.funnel_model.specs.History.{IsFrontOf}
+use Rattle.funnel_model.specs.History.{IsFrontOf, MovesAreCaused}
 use Rattle.funnel_model.specs.Legal.{IsLegal, Limits}
 use Rattle.funnel_server.specs.Gates.{GateState}
 use Rattle.funnel_server.specs.Workers.{WorkerState, Works}
@@ -46,6 +46,7 @@ why_of_workers workers =
 -- further event of its pass
 pub record HaveAllServed (config : Config) (connections : ℕ) (before after : List GateState) (why : Why) (closed : ClosedState) : Type 0 where
   pub legal : IsLegal (limits_by config) closed.history
+  pub caused : MovesAreCaused closed.history
   pub sound : IsSound config closed.history
   pub passes : All (λ e. pass_of e < length before) closed.history
   pub workers : List WorkerState

@@ -4,7 +4,7 @@ ghost use Rattle.std.specs.Prelude.{◌≡◌, ◌↔◌, ℕ, List, [], ◌∷�
 ghost use Rattle.clap.specs.Words.{app_of, found_of, kind_of, rows_of, rule_of, subcommand_rows_of, takes};
 ghost use Rattle.clap.specs.declared.builder.command.Command.TheViews.{out-Command as fields_of};
 ghost use Rattle.funnel.specs.Commands.{HasLoadNumbers, HasNumbers, HasNumbersInRange, HasServeNumbers, IsLoadInRange, IsServeInRange, call_words, command_of, fault_by};
-ghost use Rattle.funnel.specs.Commands.{connections_option, docs_option, funnel_app, load_form, load_of, load_workers_option, number_option, port_option, run_form, seed_option, serve_form, serve_of, subcommand_as, words_option, workers_option};
+ghost use Rattle.funnel.specs.Commands.{connections_option, docs_option, funnel_app, idle_option, load_form, load_of, load_workers_option, number_option, port_option, run_form, seed_option, serve_form, serve_of, subcommand_as, words_option, workers_option};
 ghost use Rattle.funnel.specs.declared.command.CommandFault.TheVariants.{Memory};
 
 use clap::builder::ValueParser;
@@ -19,6 +19,9 @@ pub const MOST_PORT: u32 = 65_535;
 
 /// A worker serves at most so many connections.
 pub const MOST_CONNECTIONS: u64 = 1 << 32;
+
+/// A connection waits for at most so many seconds.
+pub const MOST_IDLE: u32 = 86_400;
 
 /// What the program is to do.
 #[derive(Clone, Copy, Debug, PartialEq, Eq)]
@@ -40,6 +43,8 @@ pub struct ServeCommand {
     pub workers: u32,
     /// How many connections each worker serves, from 1 to 4,294,967,296.
     pub connections: u64,
+    /// For how many seconds a read or a write of a connection may wait, from 0 to 86,400. With 0 it waits as long as it takes.
+    pub idle: u32,
 }
 
 /// How a load is made up.
@@ -109,7 +114,7 @@ pub fn words_are_a_command_where_clap_takes_them()
 {}
 
 // The program's name, and the words after it.
-fn call_words<'a>(alloc: Global, words: &[&'a str]) -> Result<Vec<&'a str>, AllocError>
+pub(crate) fn call_words<'a>(alloc: Global, words: &[&'a str]) -> Result<Vec<&'a str>, AllocError>
     ensures { IfOk result (λ all. map (λ word. word.now) all.items ≡ call_words (map (λ word. word.now) words.now)) }
 {
     let mut all = Vec::with_capacity(alloc, words.len() + 1)?;
@@ -118,7 +123,7 @@ fn call_words<'a>(alloc: Global, words: &[&'a str]) -> Result<Vec<&'a str>, Allo
     Ok(all)
 }
 
-fn funnel_app<'a>(alloc: Global) -> Result<clap::Command<'a>, AllocError>
+pub(crate) fn funnel_app<'a>(alloc: Global) -> Result<clap::Command<'a>, AllocError>
     ensures { IfOk result (λ app. app_of app ≡ funnel_app) }
 {
     let load = load_app(alloc)?;
@@ -145,7 +150,8 @@ fn serve_app<'a>(alloc: Global) -> Result<clap::Command<'a>, AllocError>
     clap::Command::new(alloc, "serve")
         .arg(port_option(alloc))?
         .arg(workers_option(alloc))?
-        .arg(connections_option(alloc))
+        .arg(connections_option(alloc))?
+        .arg(idle_option(alloc))
 }
 
 fn port_option<'a>(alloc: Global) -> Arg<'a>
@@ -170,6 +176,14 @@ fn connections_option<'a>(alloc: Global) -> Arg<'a>
 {
     let numbers = value_parser!(u64).range(1..=MOST_CONNECTIONS as i64);
     number_option(alloc, "connections", numbers).default_value("4294967296")
+}
+
+fn idle_option<'a>(alloc: Global) -> Arg<'a>
+    ensures rule { rule_of result ≡ idle_option }
+    ensures local { result.global ≡ false }
+{
+    let numbers = value_parser!(u32).range(0..=i64::from(MOST_IDLE));
+    number_option(alloc, "idle", numbers).default_value("0")
 }
 
 fn load_app<'a>(alloc: Global) -> Result<clap::Command<'a>, AllocError>
@@ -247,6 +261,7 @@ fn serve_in(found: &ArgMatches) -> ServeCommand
         port: found.get_one("port").unwrap(),
         workers: found.get_one("workers").unwrap(),
         connections: found.get_one("connections").unwrap(),
+        idle: found.get_one("idle").unwrap(),
     }
 }
 

@@ -3,8 +3,12 @@
 //! command that the words are. It can be handed real streams, as the crate `funnel_program` does, or streams in memory, as
 //! `program_tests` does.
 //!
-//! [`ports`] tells on which ports a serve listens, and [`gates_on`] makes their gates, before the call. [`Ended`] is what a
+//! [`ports`] and [`idle`] tell on which ports a serve listens and how long its connections may wait, and [`gates_on`] makes
+//! the gates, before the call. [`Ended`] is what a
 //! program gives back: why it ended, which tells its exit status, its gates, and what is left of its engine.
+//!
+//! Words may ask for the help or the version instead, which [`tell_asked`] tells. What is wrong with words that are
+//! neither is a [`UsageFault`].
 #![tactic(auto)]
 
 mod command;
@@ -17,11 +21,13 @@ mod port_list;
 mod program;
 mod running;
 mod serving;
+mod text;
+mod usage;
 mod workload;
 
 pub use command::{
-    Command, CommandFault, LoadCommand, MOST_CONNECTIONS, MOST_PORT, ServeCommand, read_command,
-    words_are_a_command_where_clap_takes_them,
+    Command, CommandFault, LoadCommand, MOST_CONNECTIONS, MOST_IDLE, MOST_PORT, ServeCommand,
+    read_command, words_are_a_command_where_clap_takes_them,
 };
 pub use ended::{Ended, Misfit, Why};
 pub use laws::{
@@ -30,6 +36,8 @@ pub use laws::{
     gates_without_a_fault_are_served, programs_without_a_fault_end_well, runs_take_every_call,
     the_calls_of_a_serve_are_those_of_its_sessions,
 };
-pub use listening::{gates_on, ports};
+pub use listening::{gates_on, idle, ports};
 pub use port_list::Ports;
 pub use program::funnel_main;
+pub use text::{HELP, Text, VERSION, tell_asked, text_asked, words_for_a_text_are_no_command};
+pub use usage::{UsageFault, usage_fault};

@@ -1,7 +1,7 @@
 //! Which ports a serve listens on, and its gates, which are made before the program is run.
 ghost use Rattle.std.specs.Prelude.{◌≡◌, ◌+◌, ◌<◌, map, IfOk};
 ghost use Rattle.std.specs.List.{range_with_len};
-ghost use Rattle.funnel.specs.Commands.{command_of, ports_of};
+ghost use Rattle.funnel.specs.Commands.{command_of, idle_of, ports_of};
 
 use crate::command::{Command, CommandFault, read_command};
 use crate::port_list::Ports;
@@ -9,6 +9,7 @@ use funnel_io::TcpGate;
 use funnel_model::Memory;
 use std::alloc::{AllocError, Global};
 use std::net::{Net, TcpStream};
+use std::time::Clock;
 
 /// The ports that the words ask for: one for each worker of a serve, from the stated one up, also where there is no such
 /// port. All other words ask for none.
@@ -23,6 +24,17 @@ pub fn ports(alloc: Global, words: &[&str]) -> Result<Ports, Memory>
     Ok(Ports::new(ports))
 }
 
+/// For how many seconds the words let the reads and writes of a connection wait: 0 where they ask for no limit, or for no serve.
+pub fn idle(alloc: Global, words: &[&str]) -> Result<u32, Memory>
+    ensures { IfOk result (λ idle. idle ≡ idle_of (command_of (map (λ word. word.now) words.now))) }
+{
+    match read_command(alloc, words) {
+        Ok(Command::Serve(serve)) => Ok(serve.idle),
+        Ok(_) | Err(CommandFault::Usage) => Ok(0),
+        Err(CommandFault::Memory) => Err(Memory),
+    }
+}
+
 // So many numbers, from this one on.
 fn numbers_from(alloc: Global, first: u32, count: u32) -> Result<Vec<u32>, AllocError>
     requires { first + count < 4294967296 }
@@ -31,17 +43,19 @@ fn numbers_from(alloc: Global, first: u32, count: u32) -> Result<Vec<u32>, Alloc
     (first..first + count).collect(alloc)
 }
 
-/// A gate on each of the ports, which doesn't listen yet.
-pub fn gates_on<'a, R: Net<Stream = TcpStream>>(
-    net: &'a R,
+/// A gate on each of the ports, which doesn't listen yet. Each lets the reads and writes of its connections wait for so many
+/// seconds, or as long as it takes where these are 0.
+pub fn gates_on<'a, R: Net<Stream = TcpStream> + Clock>(
+    rt: &'a R,
     alloc: Global,
     ports: &[u32],
+    idle: u32,
 ) -> Result<Vec<TcpGate<'a, R>>, AllocError>
-    ensures { IfOk result (λ gates. gates.items ≡ map (λ port. record { port = port; faults = 0 }) ports.now) }
+    ensures { IfOk result (λ gates. gates.items ≡ map (λ port. record { port = port; idle = idle; faults = 0 }) ports.now) }
 {
     let mut gates = Vec::with_capacity(alloc, ports.len())?;
     for port in ports {
-        gates.push(TcpGate::new(net, *port))?;
+        gates.push(TcpGate::new(rt, *port, idle))?;
     }
     Ok(gates)
 }

@@ -1,6 +1,5 @@
 -- Sources, sinks and gates over std's readers, writers and networks, as contracts see them.
 use Rattle.std.specs.Prelude.{◌≡◌, ℕ, List, [], Option, Some, None}
-use Rattle.funnel_io.specs.declared.duplex.Duplex.{Duplex}
 use Rattle.funnel_io.specs.declared.opened_file.OpenedFile.{OpenedFile}
 use Rattle.funnel_io.specs.declared.opened_file.OpenedFile.TheVariants.{Absent, Open, Refused}
 
@@ -15,11 +14,17 @@ file_remaining remaining Absent = Some []
 file_remaining remaining (Open file) = remaining file
 file_remaining remaining (Refused kind) = None
 
--- no read and no write of the connection failed
-abbrev pub HasNoFault : {R W : Type 0} → Duplex (Counting R) (Counting W) → Type 0
-HasNoFault conn = (conn.source.faults ≡ 0) × (conn.sink.faults ≡ 0)
+-- how many reads and how many writes of a connection failed
+pub record ConnFaults : Type 0 where
+  pub reads : ℕ
+  pub writes : ℕ
 
--- a gate on a port, and how many of its calls failed
+-- none of them failed
+abbrev pub IsUnfailed : ConnFaults → Type 0
+IsUnfailed conn = (conn.reads ≡ 0) × (conn.writes ≡ 0)
+
+-- a gate on a port, for how many seconds a read or a write of its connections waits at most, or 0, and how many of its calls failed
 pub record PortGate : Type 0 where
   pub port : ℕ
+  pub idle : ℕ
   pub faults : ℕ

@@ -2,6 +2,7 @@ ghost use Rattle.std.specs.Prelude.{◌≡◌};
 
 use crate::borrower::Borrower;
 use crate::source::{Got, Source};
+use std::io;
 use std::io::{Read, Stdin};
 use std::marker::Model;
 
@@ -11,6 +12,7 @@ use std::marker::Model;
 pub struct ReaderSource<R> {
     reader: R,
     faults: u64,
+    error: Option<io::Error>,
 }
 
 /// The process's standard input. It tells nothing of its bytes.
@@ -29,7 +31,16 @@ impl<R> ReaderSource<R> {
     pub fn new(reader: R) -> ReaderSource<R>
         ensures { result ≡ record { inner = reader; faults = 0 } }
     {
-        ReaderSource { reader, faults: 0 }
+        ReaderSource {
+            reader,
+            faults: 0,
+            error: None,
+        }
+    }
+
+    /// What the reader said of the last read that failed.
+    pub fn error(&self) -> Option<io::Error> {
+        self.error
     }
 }
 
@@ -47,7 +58,8 @@ impl<R: Read> Source for ReaderSource<R> {
         match self.reader.read(room) {
             Ok(0) => Got::End,
             Ok(n) => Got::Bytes(n),
-            Err(_) => {
+            Err(error) => {
+                self.error = Some(error);
                 self.faults = self.faults.saturating_add(1);
                 Got::Failed
             }

@@ -1,75 +1,92 @@
 ghost use Rattle.std.specs.Prelude.{◌≡◌, ◌<◌, ◌≤◌, ◌^◌, OnOk, IfOk, ⊤};
 ghost use Rattle.funnel_io.specs.Answers.{MatchNext, gate_failed};
 ghost use Rattle.funnel_io.specs.Counts.{counted};
-ghost use Rattle.funnel_io.specs.Std.{HasNoFault};
+ghost use Rattle.funnel_io.specs.Std.{IsUnfailed};
 
-use crate::duplex::Duplex;
 use crate::end::End;
 use crate::gate::{Gate, Next};
-use crate::reader_source::ReaderSource;
-use crate::writer_sink::WriterSink;
+use crate::passing::passes;
+use crate::tcp_conn::TcpConn;
 use std::io;
 use std::io::ErrorKind;
 use std::marker::Model;
-use std::net::{Ipv4Addr, Net, OpenListener, Shutdown, TcpListener, TcpStream};
+use std::net::{Ipv4Addr, Net, OpenListener, TcpListener, TcpStream};
+use std::time::{Clock, Duration};
 
-/// A TCP connection, which reads and writes by two handles of one stream. It tells nothing of its
-/// bytes.
-pub type TcpConn = Duplex<ReaderSource<TcpStream>, WriterSink<TcpStream>>;
-
-/// A gate that listens on a port of 127.0.0.1, from its first `next` on. Each error of the system
-/// is a fault: nothing is tried again. It tells nothing of its connections.
+/// A gate that listens on a port of 127.0.0.1, from its first `next` on. It tells nothing of its
+/// connections.
+///
+/// Where the system refuses a connection for want of descriptors or memory, or because the peer is
+/// gone, the next one is waited for. Each other error of the system is a fault of the gate: nothing
+/// is tried again.
+///
+/// A read or a write of a connection that waits for `idle` seconds is a fault of that connection.
+/// With 0 it waits as long as it takes.
 #[derive(Drop)]
-pub struct TcpGate<'a, R: Net<Stream = TcpStream>> {
-    net: &'a R,
+pub struct TcpGate<'a, R: Net<Stream = TcpStream> + Clock> {
+    rt: &'a R,
     port: u32,
+    idle: u32,
     listener: Option<R::Listener>,
     faults: u64,
+    error: Option<io::Error>,
 }
 
-// A contract sees the port and the count of the calls that failed.
-impl<'a, R: Net<Stream = TcpStream>> Model for TcpGate<'a, R> {
+// A contract sees the port, the seconds and the count of the calls that failed.
+impl<'a, R: Net<Stream = TcpStream> + Clock> Model for TcpGate<'a, R> {
     ghost use Rattle.std.specs.Prelude.{◌<◌, ◌^◌, IfSome};
     ghost use Rattle.funnel_io.specs.Std.{PortGate};
 
     ghost Value = { PortGate };
 
-    ghost view = { λ g. record { port = g.port; faults = g.faults } };
+    ghost view = { λ g. record { port = g.port; idle = g.idle; faults = g.faults } };
 
     ghost invariant = { λ g. IfSome g.listener (λ _. g.port < 2 ^ 16) };
 }
 
-impl<'a, R: Net<Stream = TcpStream>> TcpGate<'a, R> {
+impl<'a, R: Net<Stream = TcpStream> + Clock> TcpGate<'a, R> {
     /// A gate that does not listen yet. It takes no memory.
-    pub fn new(net: &'a R, port: u32) -> TcpGate<'a, R>
-        ensures { result ≡ record { port = port; faults = 0 } }
+    pub fn new(rt: &'a R, port: u32, idle: u32) -> TcpGate<'a, R>
+        ensures { result ≡ record { port = port; idle = idle; faults = 0 } }
     {
         TcpGate {
-            net,
+            rt,
             port,
+            idle,
             listener: None,
             faults: 0,
+            error: None,
         }
+    }
+
+    pub fn port(&self) -> u32
+        ensures { result ≡ self.now.port }
+    {
+        self.port
+    }
+
+    /// What the system said of the last call that failed.
+    pub fn error(&self) -> Option<io::Error> {
+        self.error
     }
 
     /// Waits for the next connection, and listens before where it does not yet.
     fn accept(&mut self) -> io::Result<TcpConn>
         ensures same { self.new ≡ self.old }
         ensures port { OnOk result (self.old.port < 2 ^ 16) }
-        ensures fresh { IfOk result HasNoFault }
+        ensures fresh { IfOk result IsUnfailed }
     {
         let listener = match self.listener.take() {
             Some(listener) => listener,
-            None => listen(self.net, self.port)?,
+            None => listen(self.rt, self.port)?,
         };
-        let accepted = listener.accept();
+        let accepted = next_stream(self.rt, &listener);
         self.listener = Some(listener);
-        let (stream, _) = accepted?;
-        connection(stream)
+        connection(accepted?, self.idle)
     }
 }
 
-impl<R: Net<Stream = TcpStream>> Gate for TcpGate<'_, R> {
+impl<R: Net<Stream = TcpStream> + Clock> Gate for TcpGate<'_, R> {
     type Conn = TcpConn;
 
     ghost use Rattle.std.specs.Prelude.{None, false};
@@ -87,14 +104,16 @@ impl<R: Net<Stream = TcpStream>> Gate for TcpGate<'_, R> {
     /// A port above 65,535 can't be listened on, which is a fault too.
     fn next(&mut self) -> Next<TcpConn>
         ensures port { self.new.port ≡ self.old.port }
+        ensures idle { self.new.idle ≡ self.old.idle }
         ensures faults { self.new.faults ≡ counted (gate_failed result) self.old.faults }
-        ensures fresh { MatchNext result HasNoFault ⊤ ⊤ }
+        ensures fresh { MatchNext result IsUnfailed ⊤ ⊤ }
         ensures listens { MatchNext result (λ _. self.old.port < 2 ^ 16) ⊤ ⊤ }
         ensures never_closed { MatchNext result (λ _. ⊤) ⊥ ⊤ }
     {
         match self.accept() {
             Ok(conn) => Next::Conn(conn),
-            Err(_) => {
+            Err(error) => {
+                self.error = Some(error);
                 self.faults = self.faults.saturating_add(1);
                 Next::Fault
             }
@@ -106,8 +125,7 @@ impl<R: Net<Stream = TcpStream>> Gate for TcpGate<'_, R> {
     fn done(&mut self, conn: TcpConn, _end: End)
         ensures same { self.new ≡ self.old }
     {
-        // A peer that is gone already can't be told.
-        let _ = conn.sink.get_ref().shutdown(Shutdown::Write);
+        conn.end_writing();
     }
 }
 
@@ -121,12 +139,28 @@ fn listen<R: Net>(net: &R, port: u32) -> io::Result<R::Listener>
     }
 }
 
-// The stream as a connection, over which a small reply goes out at once.
-fn connection(stream: TcpStream) -> io::Result<TcpConn>
-    ensures fresh { IfOk result HasNoFault }
+// The stream of the next connection, after those that the system refused for a cause that passes.
+fn next_stream<L: OpenListener>(clock: &impl Clock, listener: &L) -> io::Result<L::Stream> {
+    for accepted in listener.incoming() {
+        match accepted {
+            Err(error) if passes(clock, &error) => {}
+            ended => return ended,
+        }
+    }
+    Err(io::Error::from(ErrorKind::TimedOut))
+}
+
+// The stream as a connection, whose small replies go out at once, and whose reads and writes wait
+// for so many seconds, or as long as it takes where there are none.
+fn connection(stream: TcpStream, idle: u32) -> io::Result<TcpConn>
+    ensures fresh { IfOk result IsUnfailed }
 {
     // Where the system refuses, a reply may wait a while.
     let _ = stream.set_nodelay(true);
-    let source = ReaderSource::new(stream.try_clone()?);
-    Ok(Duplex::new(source, WriterSink::new(stream)))
+    if idle > 0 {
+        let most = Some(Duration::from_secs(u64::from(idle)));
+        stream.set_read_timeout(most)?;
+        stream.set_write_timeout(most)?;
+    }
+    Ok(TcpConn::new(stream))
 }

@@ -1,8 +1,10 @@
-ghost use Rattle.std.specs.Prelude.{◌≡◌};
+ghost use Rattle.std.specs.Prelude.{◌≡◌, true};
+ghost use Rattle.funnel_io.specs.Counts.{counted};
 
 use crate::borrower::Borrower;
 use crate::sink::{Put, Sink};
-use std::io::{Stdout, Write};
+use std::io;
+use std::io::{ErrorKind, Stdout, Write};
 use std::marker::Model;
 
 /// A sink over a writer of std's. It tells its bytes where the writer does. Each error of the
@@ -12,6 +14,7 @@ use std::marker::Model;
 pub struct WriterSink<W> {
     writer: W,
     faults: u64,
+    error: Option<io::Error>,
 }
 
 /// The process's standard output. It tells nothing of its bytes, and those that a write took have
@@ -31,13 +34,27 @@ impl<W> WriterSink<W> {
     pub fn new(writer: W) -> WriterSink<W>
         ensures { result ≡ record { inner = writer; faults = 0 } }
     {
-        WriterSink { writer, faults: 0 }
+        WriterSink {
+            writer,
+            faults: 0,
+            error: None,
+        }
     }
 
-    pub(crate) fn get_ref(&self) -> &W
-        ensures { result.now ≡ self.now.inner }
+    /// What the writer said of the last write that failed.
+    pub fn error(&self) -> Option<io::Error> {
+        self.error
+    }
+
+    // Counts a write that failed so.
+    fn fail(&mut self, error: io::Error) -> Put
+        ensures failed { result ≡ Put.Failed }
+        ensures faults { self.new.faults ≡ counted true self.old.faults }
+        ensures writer { self.new.inner ≡ self.old.inner }
     {
-        &self.writer
+        self.error = Some(error);
+        self.faults = self.faults.saturating_add(1);
+        Put::Failed
     }
 }
 
@@ -52,11 +69,9 @@ impl<W: Write> Sink for WriterSink<W> {
 
     fn write(&mut self, piece: &[u8]) -> Put {
         match self.writer.write(piece) {
-            Ok(0) | Err(_) => {
-                self.faults = self.faults.saturating_add(1);
-                Put::Failed
-            }
+            Ok(0) => self.fail(io::Error::from(ErrorKind::WriteZero)),
             Ok(n) => Put::Bytes(n),
+            Err(error) => self.fail(error),
         }
     }
 }

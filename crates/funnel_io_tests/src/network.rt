@@ -4,12 +4,14 @@ use std::io;
 use std::io::ErrorKind;
 use std::net::{Net, OpenListener, SocketAddr, TcpListener, TcpStream};
 use std::os::fd::{AsRawFd, RawFd};
+use std::time::{Clock, Duration};
 
-/// What a network was asked, and another handle of the connection that it gave.
+/// What a network was asked, another handle of the connection that it gave, and how long was waited on its clock.
 #[derive(Drop)]
 pub(crate) struct Seen {
     pub calls: Cell<u64>,
     pub address: Cell<Option<SocketAddr>>,
+    pub waited: Cell<Duration>,
     stream: OnceCell<TcpStream>,
 }
 
@@ -18,6 +20,7 @@ impl Seen {
         Seen {
             calls: Cell::new(0),
             address: Cell::new(None),
+            waited: Cell::new(Duration::ZERO),
             stream: OnceCell::new(),
         }
     }
@@ -31,10 +34,12 @@ impl Seen {
     }
 }
 
-/// A network that listens by this listener, whichever address it is asked for. Without one it can't be listened on.
+/// A network that listens by this listener, whichever address it is asked for. Without one it can't be listened on. The first
+/// connection is refused with this error of the system.
 #[derive(Drop)]
 pub(crate) struct Network<'a> {
     pub listener: Option<&'a TcpListener>,
+    pub refusal: Option<i32>,
     pub seen: &'a Seen,
 }
 
@@ -48,7 +53,11 @@ impl<'a> Net for Network<'a> {
         seen.calls.set(seen.calls.get().saturating_add(1));
         seen.address.set(Some(addr));
         match self.listener {
-            Some(listener) => Ok(Listener { listener, seen }),
+            Some(listener) => Ok(Listener {
+                listener,
+                refusal: Cell::new(self.refusal),
+                seen,
+            }),
             None => Err(io::Error::from(ErrorKind::Interrupted)),
         }
     }
@@ -58,10 +67,27 @@ impl<'a> Net for Network<'a> {
     }
 }
 
+/// Its clock stands, and nobody waits.
+impl Clock for Network<'_> {
+    fn monotonic(&self) -> io::Result<Duration> {
+        Ok(Duration::ZERO)
+    }
+
+    fn since_1970(&self) -> io::Result<Duration> {
+        Ok(Duration::ZERO)
+    }
+
+    fn sleep(&self, duration: Duration) {
+        let waited = self.seen.waited.get();
+        self.seen.waited.set(waited.saturating_add(duration));
+    }
+}
+
 /// The listener of a network.
 #[derive(Drop)]
 pub(crate) struct Listener<'a> {
     listener: &'a TcpListener,
+    refusal: Cell<Option<i32>>,
     seen: &'a Seen,
 }
 
@@ -69,6 +95,9 @@ impl OpenListener for Listener<'_> {
     type Stream = TcpStream;
 
     fn accept(&self) -> io::Result<(TcpStream, SocketAddr)> {
+        if let Some(code) = self.refusal.take() {
+            return Err(io::Error::from_raw_os_error(code));
+        }
         let (stream, peer) = self.listener.accept()?;
         let _ = self.seen.stream.set(stream.try_clone()?);
         Ok((stream, peer))

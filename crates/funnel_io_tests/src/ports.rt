@@ -1,6 +1,8 @@
 //! A gate on a port.
 use crate::network::{Network, Seen};
-use funnel_io::{Connection, End, Gate, Line, LineReader, Memory, Next, TcpGate, write_all};
+use funnel_io::{
+    Connection, End, Gate, Got, Line, LineReader, Memory, Next, Put, TcpGate, write_all,
+};
 use std::alloc::Global;
 use std::io::{ErrorKind, Read, Write};
 use std::net::{Ipv4Addr, Shutdown, SocketAddr, TcpListener, TcpStream};
@@ -87,7 +89,7 @@ fn echo_twice<G: Gate>(gate: &mut G, alloc: Global) -> Result<bool, Memory> {
 #[test]
 fn lines_are_answered_over_tcp(rt: HostRuntime) -> Result<(), Fail> {
     let port = free_port(&rt)?;
-    let mut gate = TcpGate::new(&rt, u32::from(port));
+    let mut gate = TcpGate::new(&rt, u32::from(port), 0);
     let (rt, alloc, gate) = (&rt, rt.alloc(), &mut gate);
     let done = thread::join(
         rt,
@@ -108,7 +110,7 @@ where
 
 /// Whether a gate on the port fails twice.
 fn fails_on(rt: &HostRuntime, port: u32) -> bool {
-    let mut gate = TcpGate::new(rt, port);
+    let mut gate = TcpGate::new(rt, port, 0);
     fails(&mut gate) && fails(&mut gate)
 }
 
@@ -126,9 +128,10 @@ fn asked_by(calls: u64) -> u64 {
     let seen = Seen::nothing();
     let network = Network {
         listener: None,
+        refusal: None,
         seen: &seen,
     };
-    let mut gate = TcpGate::new(&network, 7000);
+    let mut gate = TcpGate::new(&network, 7000, 0);
     for _ in 0..calls {
         if !fails(&mut gate) {
             return u64::MAX;
@@ -146,7 +149,7 @@ fn a_call_that_failed_is_not_made_again(rt: HostRuntime) {
 
 /// Takes the next connection of a gate on the port 7000 and is done with it. Gives whether a small reply goes out at once.
 fn take_one(network: &Network<'_>) -> io::Result<bool> {
-    let mut gate = TcpGate::new(network, 7000);
+    let mut gate = TcpGate::new(network, 7000, 0);
     let Next::Conn(conn) = gate.next() else {
         return Ok(false);
     };
@@ -167,6 +170,7 @@ fn taken(rt: &HostRuntime, listener: &TcpListener, port: u16) -> io::Result<Take
     let listener = Some(listener);
     let at_once = take_one(&Network {
         listener,
+        refusal: None,
         seen: &seen,
     })?;
     Ok((seen.address.get(), at_once, client.read(&mut [0; 4])?))
@@ -178,5 +182,86 @@ fn a_gate_listens_at_home_and_ends_its_connections(rt: HostRuntime) -> Result<()
     let taken = taken(&rt, &listener, port)?;
     let home = SocketAddr::from((Ipv4Addr::LOCALHOST, 7000));
     assert_eq!(rt; taken, (Some(home), true, 0));
+    Ok(())
+}
+
+/// Whether a gate on a network that refuses the first connection with this error gives the next one, and how long it waited.
+fn taken_after(rt: &HostRuntime, code: i32) -> io::Result<(bool, Duration)> {
+    let (listener, port) = listen_anywhere(rt)?;
+    let _client = connect(rt, port)?;
+    let seen = Seen::nothing();
+    let network = Network {
+        listener: Some(&listener),
+        refusal: Some(code),
+        seen: &seen,
+    };
+    let taken = matches!(TcpGate::new(&network, 7000, 0).next(), Next::Conn(_));
+    Ok((taken, seen.waited.get()))
+}
+
+/// Errors of Linux: no descriptor of the process or of the system, no memory, and no room for buffers.
+static LACKS: [i32; 4] = [24, 23, 12, 105];
+
+/// Errors of Linux: the peer broke the protocol, gave the connection up or reset it, its network or host is out of reach, or it
+/// didn't answer in time.
+static GONE: [i32; 6] = [71, 103, 104, 101, 113, 110];
+
+#[test]
+fn a_refusal_that_passes_is_no_fault(rt: HostRuntime) -> Result<(), Fail> {
+    for code in LACKS {
+        assert_eq!(rt;
+            taken_after(&rt, code)?,
+            (true, Duration::from_millis(50)),
+            "{code}"
+        );
+    }
+    for code in GONE {
+        assert_eq!(rt; taken_after(&rt, code)?, (true, Duration::ZERO), "{code}");
+    }
+    Ok(())
+}
+
+#[test]
+fn a_refusal_for_good_is_a_fault(rt: HostRuntime) -> Result<(), Fail> {
+    for code in [1, 9, 22] {
+        assert_eq!(rt; taken_after(&rt, code)?, (false, Duration::ZERO), "{code}");
+    }
+    Ok(())
+}
+
+/// What a read gives of a client that sends nothing.
+fn read_from_silent<C: Connection>(conn: &mut C) -> Got {
+    conn.read(&mut [0; 4])
+}
+
+/// The last of many writes to a client that reads nothing.
+fn write_to_deaf<C: Connection>(conn: &mut C) -> Put {
+    for _ in 0..10_000 {
+        if conn.write(&[b'x'; 65_536]) == Put::Failed {
+            return Put::Failed;
+        }
+    }
+    Put::Bytes(0)
+}
+
+/// What a connection gives whose client does nothing, by a gate that lets it wait for a second.
+fn idle_answers(rt: &HostRuntime) -> io::Result<(Got, Put)> {
+    let (listener, port) = listen_anywhere(rt)?;
+    let _client = connect(rt, port)?;
+    let seen = Seen::nothing();
+    let network = Network {
+        listener: Some(&listener),
+        refusal: None,
+        seen: &seen,
+    };
+    match TcpGate::new(&network, 7000, 1).next() {
+        Next::Conn(mut conn) => Ok((read_from_silent(&mut conn), write_to_deaf(&mut conn))),
+        Next::Closed | Next::Fault => Err(io::Error::from(ErrorKind::NotConnected)),
+    }
+}
+
+#[test]
+fn an_idle_client_is_a_fault_of_its_connection(rt: HostRuntime) -> Result<(), Fail> {
+    assert_eq!(rt; idle_answers(&rt)?, (Got::Failed, Put::Failed));
     Ok(())
 }

@@ -32,11 +32,11 @@ least_below P known (suc n) =
 
 -- a state is held or not
 held_cases : (x : ColumnState) → IsHeld x ⊎ (IsHeld x → ⊥)
-held_cases (Live d) = inl tt
+held_cases (Live d since) = inl tt
 held_cases (Pending pass) = inl tt
 held_cases Unclaimed = inr (λ h. h)
 held_cases Dropped = inr (λ h. h)
-held_cases (Deleted d at) = inr (λ h. h)
+held_cases (Deleted d since until) = inr (λ h. h)
 
 -- a column of the slice is held
 abbrev HasHeld : List Event → ℕ → ℕ → Type 0
@@ -46,7 +46,7 @@ HasHeld history slice column = (x : ColumnState) × IsInState history slice colu
 held_or_not : (limits : Limits) (history : List Event) (slice : ℕ) → IsLegal limits history → (column : ℕ) →
     HasHeld history slice column ⊎ (HasHeld history slice column → ⊥)
 held_or_not limits history slice legal column =
-    let is = some_state history slice column in
+    let is = some_state limits history slice column legal in
     ⊎_elim
     (λ held. inl (is.0, is.1, held))
     (λ not_held. inr (λ other. not_held (subst IsHeld (one_state limits history slice column other.0 is.0 legal other.1 is.1) other.2)))
@@ -58,15 +58,15 @@ over_unless_held : (history : List Event) (slice column : ℕ) (x : ColumnState)
 over_unless_held history slice column Unclaimed claimed is not_held = absurd (both_ways (is_claimed slice column history) is claimed)
 over_unless_held history slice column (Pending pass) claimed is not_held = not_held tt
 over_unless_held history slice column Dropped claimed is not_held = tt
-over_unless_held history slice column (Live d) claimed is not_held = not_held tt
-over_unless_held history slice column (Deleted d at) claimed is not_held = tt
+over_unless_held history slice column (Live d since) claimed is not_held = not_held tt
+over_unless_held history slice column (Deleted d since until) claimed is not_held = tt
 
 -- the lowest column of a slice that is held keeps documents out of it
 block_of_held : (columns : ℕ) (history : List Event) (slice column : ℕ) (x : ColumnState) → column < columns → IsInState history slice column x → IsHeld x →
     ((lower : ℕ) → lower < column → HasHeld history slice lower → ⊥) → (b : Block) × IsBlock columns history slice b
-block_of_held columns history slice column (Live d) in' is held lowest = (
+block_of_held columns history slice column (Live d since) in' is held lowest = (
   block.Live column,
-  (d, record { in_range = in'; is_in = is; held = held; lowest = λ lower low x is_x held_x. lowest lower low (x, is_x, held_x) }),
+  (d, since, record { in_range = in'; is_in = is; held = held; lowest = λ lower low x is_x held_x. lowest lower low (x, is_x, held_x) }),
 )
 block_of_held columns history slice column (Pending pass) in' is held lowest = (
   block.Pending column pass,
@@ -74,7 +74,7 @@ block_of_held columns history slice column (Pending pass) in' is held lowest = (
 )
 block_of_held columns history slice column Unclaimed in' is held lowest = absurd held
 block_of_held columns history slice column Dropped in' is held lowest = absurd held
-block_of_held columns history slice column (Deleted d at) in' is held lowest = absurd held
+block_of_held columns history slice column (Deleted d since until) in' is held lowest = absurd held
 
 -- a filled slice that is neither retired nor being cleared has a column that is held
 block_of_filled : (limits : Limits) (history : List Event) (slice : ℕ) → IsLegal limits history → IsFilled limits.columns slice history →
@@ -84,7 +84,7 @@ block_of_filled limits history slice legal filled not_retired not_clearing =
     (λ found. block_of_held limits.columns history slice found.0 found.2.0 found.1 found.2.1 found.2.2 found.3)
     (λ none. absurd (not_retired (record {
       over = λ column in'.
-          let is = some_state history slice column in
+          let is = some_state limits history slice column legal in
           (is.0, is.1, over_unless_held history slice column is.0 (filled column in') is.1 (λ held. none column in' (is.0, is.1, held)));
       not_clearing = not_clearing;
     })))
@@ -161,7 +161,7 @@ one_guard columns history slice pass other number also is is_too =
 -- a column that is held isn't over
 not_both : (x : ColumnState) → IsHeld x → IsOver x → ⊥
 not_both Dropped held over = held
-not_both (Deleted d at) held over = held
+not_both (Deleted d since until) held over = held
 not_both _ held over = over
 
 -- the lowest held columns of a slice are one, in one state
@@ -188,7 +188,7 @@ held_not_retired limits history slice column x legal is retired =
     not_retired_by limits history slice column x legal is.in_range is.is_in (not_both x is.held) retired
 
 -- a slice that a pass clears is being cleared
-by_is_clearing : (pass slice : ℕ) (history : List Event) → is_clearing_by pass slice history ≡ true → is_clearing slice history ≡ true
+pub by_is_clearing : (pass slice : ℕ) (history : List Event) → is_clearing_by pass slice history ≡ true → is_clearing slice history ≡ true
 by_is_clearing pass slice history by =
     let found = contained_any (λ e. pass_of e == pass && clears slice e) (span slice history) by in
     any_contained (clears slice) (span slice history) found.0 found.1 (and_parts (pass_of found.0 == pass) (clears slice found.0) found.2).1
@@ -197,15 +197,15 @@ by_is_clearing pass slice history by =
 pub one_block : (limits : Limits) (history : List Event) (slice : ℕ) (a b : Block) → IsLegal limits history →
     IsBlock limits.columns history slice a → IsBlock limits.columns history slice b → a ≡ b
 one_block limits history slice (block.Live column) (block.Live other) legal is also =
-    ap block.Live (one_held limits history slice column other (Live is.0) (Live also.0) legal is.1 also.1).0
+    ap block.Live (one_held limits history slice column other (Live is.0 is.1) (Live also.0 also.1) legal is.2 also.2).0
 one_block limits history slice (block.Live column) (block.Pending other pass) legal is also =
-    let same = (one_held limits history slice column other (Live is.0) (Pending pass) legal is.1 also).1 in cc
+    let same = (one_held limits history slice column other (Live is.0 is.1) (Pending pass) legal is.2 also).1 in cc
 one_block limits history slice (block.Live column) (block.Guarded pass number) legal is also =
-    absurd (held_not_retired limits history slice column (Live is.0) legal is.1 also.guards.retired)
+    absurd (held_not_retired limits history slice column (Live is.0 is.1) legal is.2 also.guards.retired)
 one_block limits history slice (block.Live column) (block.Clearing pass) legal is also =
-    absurd (held_not_clearing limits history slice column (Live is.0) legal is.1 (by_is_clearing pass slice history also))
+    absurd (held_not_clearing limits history slice column (Live is.0 is.1) legal is.2 (by_is_clearing pass slice history also))
 one_block limits history slice (block.Pending column pass) (block.Live other) legal is also =
-    let same = (one_held limits history slice column other (Pending pass) (Live also.0) legal is also.1).1 in cc
+    let same = (one_held limits history slice column other (Pending pass) (Live also.0 also.1) legal is also.2).1 in cc
 one_block limits history slice (block.Pending column pass) (block.Pending other taker) legal is also =
     let same = one_held limits history slice column other (Pending pass) (Pending taker) legal is also in
     let c : column ≡ other = same.0 in
@@ -217,7 +217,7 @@ one_block limits history slice (block.Pending column pass) (block.Guarded guard 
 one_block limits history slice (block.Pending column pass) (block.Clearing clearer) legal is also =
     absurd (held_not_clearing limits history slice column (Pending pass) legal is (by_is_clearing clearer slice history also))
 one_block limits history slice (block.Guarded pass number) (block.Live column) legal is also =
-    absurd (held_not_retired limits history slice column (Live also.0) legal also.1 is.guards.retired)
+    absurd (held_not_retired limits history slice column (Live also.0 also.1) legal also.2 is.guards.retired)
 one_block limits history slice (block.Guarded pass number) (block.Pending column taker) legal is also =
     absurd (held_not_retired limits history slice column (Pending taker) legal also is.guards.retired)
 one_block limits history slice (block.Guarded pass number) (block.Guarded other at) legal is also =
@@ -228,7 +228,7 @@ one_block limits history slice (block.Guarded pass number) (block.Guarded other 
 one_block limits history slice (block.Guarded pass number) (block.Clearing clearer) legal is also =
     absurd (both_ways (is_clearing slice history) is.guards.retired.not_clearing (by_is_clearing clearer slice history also))
 one_block limits history slice (block.Clearing pass) (block.Live column) legal is also =
-    absurd (held_not_clearing limits history slice column (Live also.0) legal also.1 (by_is_clearing pass slice history is))
+    absurd (held_not_clearing limits history slice column (Live also.0 also.1) legal also.2 (by_is_clearing pass slice history is))
 one_block limits history slice (block.Clearing pass) (block.Pending column taker) legal is also =
     absurd (held_not_clearing limits history slice column (Pending taker) legal also (by_is_clearing pass slice history is))
 one_block limits history slice (block.Clearing pass) (block.Guarded guard number) legal is also =

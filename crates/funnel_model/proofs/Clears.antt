@@ -47,7 +47,7 @@ taken_not_clearing : (limits : Limits) (history : List Event) (pass slice column
 taken_not_clearing limits history pass slice column legal last =
     pending_not_clearing limits history slice column pass legal (last_is_pending limits history slice column pass legal last)
 
--- an event that is allowed claims no column in a slice that is being cleared, and adds and drops on none
+-- an event that is allowed claims no column in a slice that is being cleared, and puts no document on one or leaves one without
 pub not_filled_clearing : (limits : Limits) (history : List Event) (e : Event) (slice : ℕ) → IsLegal limits history → IsAllowed limits history e →
     is_clearing slice history ≡ true → fills slice e ≡ false
 not_filled_clearing limits history e slice legal allowed clearing = false_from_ne_true (fills slice e) (by_kind e allowed) where
@@ -62,6 +62,10 @@ not_filled_clearing limits history e slice legal allowed clearing = false_from_n
       elsewhere added (taken_not_clearing limits history pass added column legal is.rule.taken) fills_it
   by_kind (event.Drop pass id text dropped column) is fills_it =
       elsewhere dropped (taken_not_clearing limits history pass dropped column legal is.rule.taken) fills_it
+  by_kind (event.Move pass id moved column bits) is fills_it =
+      elsewhere moved (taken_not_clearing limits history pass moved column legal is.rule.taken) fills_it
+  by_kind (event.Void pass voided column) is fills_it =
+      elsewhere voided (taken_not_clearing limits history pass voided column legal is.rule.taken) fills_it
   by_kind _ is fills_it = false≢true fills_it
 
 -- a slice that is being cleared stays so until it is opened, and nothing fills it until then

@@ -1,19 +1,18 @@
 -- What holds of every legal history.
-use Rattle.std.proofs.Common.{◌≡◌, ℕ, ◌+◌, ◌<◌, ⊎_elim, Bool, true, false, cond, List, [], ◌∷◌, ◌++◌, Some, sym, refl, ap, ◌∙◌, subst, append_assoc, inl, inr}
-use Rattle.std.proofs.lemmas.Bool.{eqb-true}
+use Rattle.std.proofs.Common.{◌≡◌, ℕ, zero, suc, ◌+◌, ◌<◌, ⊎_elim, Bool, true, false, cond, List, [], ◌∷◌, ◌++◌, length, Some, sym, refl, ap, ◌∙◌, subst, append_assoc, arith, inl, inr}
+use Rattle.std.proofs.lemmas.Bool.{cases_lt}
 use Rattle.std.proofs.lemmas.List.Elements.{All-append, All-cons, All-nil}
 use Rattle.std.specs.List.{All}
-use Rattle.std.specs.Prelude.{◌==◌, ◌&&◌, ◌⊎◌}
+use Rattle.std.specs.Prelude.{◌⊎◌}
 use Rattle.funnel_model.specs.declared.event.Event.{Event}
 use Rattle.funnel_model.specs.declared.event.Event.TheVariants as event
-use Rattle.funnel_model.specs.Events.{pass_of}
-use Rattle.funnel_model.specs.History.{place}
-use Rattle.funnel_model.specs.Legal.{Limits, IsLegal}
-use Rattle.funnel_model.specs.Slices.{ColumnState, Unclaimed, Pending, Dropped, Live, IsFilled, IsInState, IsOver, IsRetired, IsRetiredAt, is_clearing, is_clearing_by}
+use Rattle.funnel_model.specs.Events.{drops_on, pass_of, takes_off}
+use Rattle.funnel_model.specs.Legal.{Limits, IsAllowed, IsLegal}
+use Rattle.funnel_model.specs.Slices.{ColumnState, Unclaimed, Pending, Dropped, Live, Deleted, IsFilled, IsInState, IsOver, IsRetired, IsRetiredAt, is_clearing, is_clearing_by}
 use Rattle.funnel_model.proofs.Columns.{clearing_is_over, over_is_claimed, pending_is_last, some_state}
-use Rattle.funnel_model.proofs.ColumnStates.{after, state_of, state_of-push}
+use Rattle.funnel_model.proofs.ColumnStates.{DroppedBy, OpenedBy, PutBy, Silent, TakenBy, Touch, after, after-opened, after-take, state_of, state_of-push, touch, unless_taken_off}
 use Rattle.funnel_model.proofs.ColumnsKept.{kept}
-use Rattle.funnel_model.proofs.Histories.{holds_of_legal, legal_before}
+use Rattle.funnel_model.proofs.Histories.{allowed_within, holds_of_legal, legal_before}
 use Rattle.funnel_model.proofs.LastEvents.{clearer_is_last, one_clearer}
 
 -- each event is of one of the engine's passes
@@ -54,37 +53,52 @@ retired_is_filled limits history slice legal retired column in' =
 pub clearing_is_filled : (limits : Limits) (history : List Event) (slice : ℕ) → IsLegal limits history → is_clearing slice history ≡ true →
     IsFilled limits.columns slice history
 clearing_is_filled limits history slice legal clearing column in' =
-    let is = some_state history slice column in
+    let is = some_state limits history slice column legal in
     over_is_claimed limits history slice column is.0 legal is.1 (clearing_is_over limits history slice column is.0 legal clearing in' is.1)
 
--- the event deletes a document, or drops one in the slice
+-- the event deletes or moves a document, or leaves a column of the slice without one
 abbrev pub EndsIn : ℕ → Event → Type 0
 EndsIn slice e =
-    ((pass : ℕ) × (id : ℕ) × (e ≡ event.Del pass id))
-    ⊎ ((pass : ℕ) × (id : ℕ) × (text : List ℕ) × (column : ℕ) × (e ≡ event.Drop pass id text slice column))
+    ((id : ℕ) × (takes_off id e ≡ true)) ⊎ ((column : ℕ) × (drops_on slice column e ≡ true))
 
--- an event ends a document of the slice, or each column that is over after it was so before
-ends_or_keeps : (slice : ℕ) (e : Event) → EndsIn slice e ⊎ ((column place : ℕ) (x : ColumnState) → IsOver (after slice column place x e) → IsOver x)
-ends_or_keeps slice (event.Take pass taken at) = inr (λ column place x over. by_test (taken == slice && at == column) x over) where
-  by_test : (b : Bool) (x : ColumnState) → IsOver (cond b (Pending pass) x) → IsOver x
-  by_test true x over = absurd over
-  by_test false x over = over
-ends_or_keeps slice (event.Add pass id text added at bits) = inr (λ column place x over. by_test (added == slice && at == column) place x over) where
-  by_test : (b : Bool) (place : ℕ) (x : ColumnState) → IsOver (cond b (Live (record { id = id; text = text; place = place + 1 })) x) → IsOver x
-  by_test true place x over = absurd over
-  by_test false place x over = over
-ends_or_keeps slice (event.Drop pass id text dropped at) = by_slice (dropped == slice) refl where
-  by_slice : (b : Bool) → (dropped == slice) ≡ b →
-      EndsIn slice (event.Drop pass id text dropped at)
-      ⊎ ((column place : ℕ) (x : ColumnState) → IsOver (after slice column place x (event.Drop pass id text dropped at)) → IsOver x)
-  by_slice true same = inl (inr (pass, id, text, at, ap (λ s. event.Drop pass id text s at) (eqb-true dropped slice same)))
-  by_slice false other = inr (λ column place x over. subst (λ b. IsOver (cond (b && at == column) Dropped x)) other over)
-ends_or_keeps slice (event.Del pass id) = inl (inl (pass, id, refl))
-ends_or_keeps slice (event.Opened pass opened alone) = inr (λ column place x over. by_test (opened == slice) x over) where
-  by_test : (b : Bool) (x : ColumnState) → IsOver (cond b Unclaimed x) → IsOver x
-  by_test true x over = absurd over
-  by_test false x over = over
-ends_or_keeps slice _ = inr (λ column place x over. over)
+-- a column that is over after an event that concerns it no more than by taking its document off was over before, or it is taken off
+quiet_over : (until : ℕ) (e : Event) (x : ColumnState) → IsOver (unless_taken_off until e x) → ((id : ℕ) × (takes_off id e ≡ true)) ⊎ IsOver x
+quiet_over until e (Live d since) over = by_test (takes_off d.id e) refl over where
+  by_test : (b : Bool) → takes_off d.id e ≡ b → IsOver (cond b (Deleted d since until) (Live d since)) → ((id : ℕ) × (takes_off id e ≡ true)) ⊎ IsOver (Live d since)
+  by_test true gone over' = inl (d.id, gone)
+  by_test false kept' over' = inr over'
+quiet_over until e Unclaimed over = inr over
+quiet_over until e (Pending pass) over = inr over
+quiet_over until e Dropped over = inr over
+quiet_over until e (Deleted d since at) over = inr over
+
+-- a column that is over after an event was over before, or the event ends a document in its slice
+over_before : (limits : Limits) (history : List Event) (e : Event) (slice column : ℕ) → IsAllowed limits history e →
+    IsOver (after slice column history (state_of slice column history) e) → Touch slice column e → EndsIn slice e ⊎ IsOver (state_of slice column history)
+over_before limits history e slice column allowed over (TakenBy pass same) =
+    let x = state_of slice column history in
+    absurd (subst IsOver (ap (after slice column history x) same ∙ after-take slice column history pass x) over)
+over_before limits history e slice column allowed over (PutBy id puts) =
+    absurd (subst IsOver ((puts.becomes limits history allowed).3 (state_of slice column history)) over)
+over_before limits history e slice column allowed over (DroppedBy drops) = inl (inr (column, drops.drops))
+over_before limits history e slice column allowed over (OpenedBy pass alone same) =
+    let x = state_of slice column history in
+    absurd (subst IsOver (ap (after slice column history x) same ∙ after-opened slice column history pass alone x) over)
+over_before limits history e slice column allowed over (Silent quiet) =
+    ⊎_elim (λ gone. inl (inl gone)) (λ was. inr was)
+    (quiet_over (length history + 1) e (state_of slice column history) (subst IsOver (quiet.leaves history (state_of slice column history)) over))
+
+-- where each number below n has a property or there is an exception, there is one or all have it
+exception_or_all : (E : Type 0) (P : ℕ → Type 0) (n : ℕ) → ((k : ℕ) → k < n → E ⊎ P k) → E ⊎ ((k : ℕ) → k < n → P k)
+exception_or_all E P zero each = inr (λ k below. absurd (omega arith))
+exception_or_all E P (suc n) each =
+    ⊎_elim
+    (λ exception. inl exception)
+    (λ all. ⊎_elim
+    (λ exception. inl exception)
+    (λ last. inr (λ k below. ⊎_elim (λ less. all k less) (λ high. let same : n ≡ k = omega arith in subst P same last) (cases_lt k n)))
+    (each n (omega arith)))
+    (exception_or_all E P n (λ k below. each k (omega arith)))
 
 -- a slice retires by an event that ends a document in it
 pub retires_by : (limits : Limits) (history : List Event) (slice number : ℕ) → IsLegal limits history → (at : IsRetiredAt limits.columns slice history number) →
@@ -95,13 +109,11 @@ retires_by limits history slice number legal at =
     let whole : history ≡ now ++ at.later = at.whole ∙ sym (append_assoc at.earlier (e ∷ []) at.later) in
     let legal_now = legal_before limits now at.later (subst (IsLegal limits) whole legal) in
     let legal_then = legal_before limits at.earlier (e ∷ []) legal_now in
+    let allowed = allowed_within limits history at.earlier e at.later legal at.whole in
     ⊎_elim
     (λ ends. ends)
-    (λ keeps. absurd (at.not_before (λ column in'.
+    (λ were. absurd (at.not_before (λ column in'. (state_of slice column at.earlier, (kept limits at.earlier legal_then).holds slice column, were column in'))))
+    (exception_or_all (EndsIn slice e) (λ column. IsOver (state_of slice column at.earlier)) limits.columns (λ column in'.
     let over = at.over column in' in
-    let same = (kept limits now legal_now).only slice column over.0 over.1 ∙ state_of-push slice column at.earlier e in (
-      state_of slice column at.earlier,
-      (kept limits at.earlier legal_then).holds slice column,
-      keeps column (place at.earlier) (state_of slice column at.earlier) (subst IsOver same over.2),
-    ))))
-    (ends_or_keeps slice e)
+    let same = (kept limits now legal_now).only slice column over.0 over.1 ∙ state_of-push slice column at.earlier e in
+    over_before limits at.earlier e slice column allowed (subst IsOver same over.2) (touch slice column e)))

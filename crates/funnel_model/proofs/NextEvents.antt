@@ -21,20 +21,25 @@ busy pass history last is middle idle =
     let shut : leaves_open last ≡ false = subst (λ o. IfSome o (λ e. leaves_open e ≡ false)) is idle in
     false≢true (sym shut ∙ middle)
 
--- after a take comes an add or a drop on the same column
+-- after a take comes, on the same column, an add, a drop, a move or a void
 pub next_of_take : (limits : Limits) (history : List Event) (e : Event) (pass slice column : ℕ) → IsAllowed limits history e →
     last_by (pass_of e) history ≡ Some (event.Take pass slice column) →
     ((id : ℕ) × (text : List ℕ) × (bits : List Bit) × (e ≡ event.Add pass id text slice column bits))
     ⊎ ((id : ℕ) × (text : List ℕ) × (e ≡ event.Drop pass id text slice column))
+    ⊎ ((id : ℕ) × (bits : List Bit) × (e ≡ event.Move pass id slice column bits))
+    ⊎ (e ≡ event.Void pass slice column)
 next_of_take limits history (event.Take q t a) pass slice column allowed last =
     ⊎_elim (λ r. absurd (busy q history (event.Take pass slice column) last refl r.idle)) (λ r. let h = r.opened in cc) allowed.rule
 next_of_take limits history (event.Add q id text t a bits) pass slice column allowed last = let h = allowed.rule.taken in inl (id, text, bits, cc)
-next_of_take limits history (event.Drop q id text t a) pass slice column allowed last = let h = allowed.rule.taken in inr (id, text, cc)
+next_of_take limits history (event.Drop q id text t a) pass slice column allowed last = let h = allowed.rule.taken in inr (inl (id, text, cc))
+next_of_take limits history (event.Move q id t a bits) pass slice column allowed last = let h = allowed.rule.taken in inr (inr (inl (id, bits, cc)))
+next_of_take limits history (event.Void q t a) pass slice column allowed last = let h = allowed.rule.taken in inr (inr (inr cc))
 next_of_take limits history (event.Del q id) pass slice column allowed last = absurd (busy q history (event.Take pass slice column) last refl allowed.rule.idle)
 next_of_take limits history (event.Find q query) pass slice column allowed last = absurd (busy q history (event.Take pass slice column) last refl allowed.rule)
 next_of_take limits history (event.End q) pass slice column allowed last = let h = allowed.rule.begun in cc
 next_of_take limits history (event.Clear q s) pass slice column allowed last = absurd (busy q history (event.Take pass slice column) last refl allowed.rule.idle)
 next_of_take limits history (event.Opened q s alone) pass slice column allowed last = let h = allowed.rule.cleared in cc
+next_of_take limits history (event.Tune q config) pass slice column allowed last = absurd (busy q history (event.Take pass slice column) last refl allowed.rule)
 next_of_take limits history (event.No q asked) pass slice column allowed last = absurd (busy q history (event.Take pass slice column) last refl allowed.rule.idle)
 next_of_take limits history (event.Read q asked) pass slice column allowed last = absurd (busy q history (event.Take pass slice column) last refl allowed.rule.idle)
 
@@ -45,11 +50,14 @@ next_of_clear limits history (event.Take q t a) pass slice allowed last =
     ⊎_elim (λ r. absurd (busy q history (event.Clear pass slice) last refl r.idle)) (λ r. let h = r.opened in cc) allowed.rule
 next_of_clear limits history (event.Add q id text t a bits) pass slice allowed last = let h = allowed.rule.taken in cc
 next_of_clear limits history (event.Drop q id text t a) pass slice allowed last = let h = allowed.rule.taken in cc
+next_of_clear limits history (event.Move q id t a bits) pass slice allowed last = let h = allowed.rule.taken in cc
+next_of_clear limits history (event.Void q t a) pass slice allowed last = let h = allowed.rule.taken in cc
 next_of_clear limits history (event.Del q id) pass slice allowed last = absurd (busy q history (event.Clear pass slice) last refl allowed.rule.idle)
 next_of_clear limits history (event.Find q query) pass slice allowed last = absurd (busy q history (event.Clear pass slice) last refl allowed.rule)
 next_of_clear limits history (event.End q) pass slice allowed last = let h = allowed.rule.begun in cc
 next_of_clear limits history (event.Clear q s) pass slice allowed last = absurd (busy q history (event.Clear pass slice) last refl allowed.rule.idle)
 next_of_clear limits history (event.Opened q s alone) pass slice allowed last = let h = allowed.rule.cleared in (alone, cc)
+next_of_clear limits history (event.Tune q config) pass slice allowed last = absurd (busy q history (event.Clear pass slice) last refl allowed.rule)
 next_of_clear limits history (event.No q asked) pass slice allowed last = absurd (busy q history (event.Clear pass slice) last refl allowed.rule.idle)
 next_of_clear limits history (event.Read q asked) pass slice allowed last = absurd (busy q history (event.Clear pass slice) last refl allowed.rule.idle)
 
@@ -60,11 +68,14 @@ next_of_find limits history (event.Take q t a) pass query allowed last =
     ⊎_elim (λ r. absurd (busy q history (event.Find pass query) last refl r.idle)) (λ r. let h = r.opened in cc) allowed.rule
 next_of_find limits history (event.Add q id text t a bits) pass query allowed last = let h = allowed.rule.taken in cc
 next_of_find limits history (event.Drop q id text t a) pass query allowed last = let h = allowed.rule.taken in cc
+next_of_find limits history (event.Move q id t a bits) pass query allowed last = let h = allowed.rule.taken in cc
+next_of_find limits history (event.Void q t a) pass query allowed last = let h = allowed.rule.taken in cc
 next_of_find limits history (event.Del q id) pass query allowed last = absurd (busy q history (event.Find pass query) last refl allowed.rule.idle)
 next_of_find limits history (event.Find q other) pass query allowed last = absurd (busy q history (event.Find pass query) last refl allowed.rule)
 next_of_find limits history (event.End q) pass query allowed last = let h = allowed.rule.begun in cc
 next_of_find limits history (event.Clear q s) pass query allowed last = absurd (busy q history (event.Find pass query) last refl allowed.rule.idle)
 next_of_find limits history (event.Opened q s alone) pass query allowed last = let h = allowed.rule.cleared in cc
+next_of_find limits history (event.Tune q config) pass query allowed last = absurd (busy q history (event.Find pass query) last refl allowed.rule)
 next_of_find limits history (event.No q asked) pass query allowed last = absurd (busy q history (event.Find pass query) last refl allowed.rule.idle)
 next_of_find limits history (event.Read q asked) pass query allowed last = absurd (busy q history (event.Find pass query) last refl allowed.rule.idle)
 

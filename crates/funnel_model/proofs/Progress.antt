@@ -1,6 +1,6 @@
 -- An idle pass can begin any call: what may follow a legal history.
-use Rattle.std.proofs.Common.{◌≡◌, ℕ, ◌<◌, ◌≤◌, ⊎_elim, Bool, true, false, List, [], ◌∷◌, ◌++◌, length, None, Some, refl, subst, sym, arith, inl, inr}
-use Rattle.std.proofs.lemmas.Bool.{both_ways, cases_lt, eq-eqb, true_from_ne_false}
+use Rattle.std.proofs.Common.{◌≡◌, ℕ, ◌<◌, ◌≤◌, ⊎_elim, Bool, true, false, List, length, None, Some, refl, subst, sym, arith, inl, inr}
+use Rattle.std.proofs.lemmas.Bool.{both_ways, cases_lt, true_from_ne_false}
 use Rattle.std.specs.List.{All}
 use Rattle.std.specs.Option.{IfSome}
 use Rattle.std.specs.Prelude.{◌⊎◌}
@@ -9,19 +9,18 @@ use Rattle.funnel_model.specs.declared.call.Call.TheVariants as call
 use Rattle.funnel_model.specs.declared.event.Event.{Event}
 use Rattle.funnel_model.specs.declared.event.Event.TheVariants as event
 use Rattle.funnel_model.specs.Events.{pass_of}
-use Rattle.funnel_model.specs.History.{is_live, last_by, place}
+use Rattle.funnel_model.specs.History.{is_live, last_by}
 use Rattle.funnel_model.specs.Legal.{Limits, IsBlocked, CanClear, HasRoom, IsAllowed, IsFull, IsIdle, IsInSlice, IsLegal, MayFollow, NoneCanClear, awaited}
 use Rattle.funnel_model.specs.Slices.{HasUnclaimed, claimed, is_claimed, is_clearing}
 use Rattle.funnel_model.specs.Tokens.{Guards, IsGuarded}
 use Rattle.funnel_model.proofs.Blocks.{guards_or_not, least_below}
 use Rattle.funnel_model.proofs.Claims.{claimed_by_count, unclaimed_by_count}
-use Rattle.funnel_model.proofs.Histories.{allowed_within, holds_of_legal}
-use Rattle.funnel_model.proofs.LiveLemmas.{place-append}
+use Rattle.funnel_model.proofs.Histories.{allowed_within}
 use Rattle.funnel_model.proofs.ReplyLemmas.{retired_cases}
 use Rattle.funnel_model.proofs.Retirement.{retired_at_some}
 
 -- a column of the slice is unclaimed or all are claimed
-unclaimed_cases : (limits : Limits) (history : List Event) → IsLegal limits history → (slice : ℕ) →
+pub unclaimed_cases : (limits : Limits) (history : List Event) → IsLegal limits history → (slice : ℕ) →
     HasUnclaimed limits.columns slice history ⊎ (HasUnclaimed limits.columns slice history → ⊥)
 unclaimed_cases limits history legal slice =
     let n = length (claimed slice history) in
@@ -56,7 +55,7 @@ guard_in_range limits history slice pass number legal guards =
     (allowed_within limits history token.earlier (event.Find pass token.query) token.later legal token.whole).pass
 
 -- a slice is guarded or not
-guarded_cases : (limits : Limits) (history : List Event) → IsLegal limits history → (slice : ℕ) →
+pub guarded_cases : (limits : Limits) (history : List Event) → IsLegal limits history → (slice : ℕ) →
     IsGuarded limits.columns history slice ⊎ (IsGuarded limits.columns history slice → ⊥)
 guarded_cases limits history legal slice =
     ⊎_elim

@@ -30,44 +30,46 @@ first_deleted = finding ++ event.Del 0 9 ∷ []
 -- slice 0 is over from the first delete on, and slice 1 from the second, until they are opened
 pub low_over : (later : List Event) → list_any (opens 0) later ≡ false → AllOver 1 0 (first_deleted ++ later)
 low_over later stays = one_slice _ (
-  Deleted (record { id = 9; text = codes "a cat"; place = 1 }) 3,
+  Deleted (record { id = 9; text = codes "a cat"; place = 1 }) 3 7,
   record {
     between = event.Take 0 1 0 ∷ event.Add 0 7 (codes "Cat") 1 0 (high_bit ∷ []) ∷ event.Find 1 (codes "A") ∷ [];
     event = event.Del 0 9;
     later = later;
-    added = record {
+    put = record {
       earlier = event.No 0 call.Recycle ∷ event.Take 0 0 0 ∷ [];
       event = event.Add 0 9 (codes "a cat") 0 0 (low_bit ∷ []);
       whole = refl;
-      adds = refl;
-      at_place = refl;
+      count = refl;
+      puts = refl;
+      lives = (0, omega arith, refl);
       stays = stays;
     };
     not_before = refl;
-    deletes_it = refl;
-    at_place = refl;
+    takes_it_off = refl;
+    count = refl;
   },
   tt,
 )
 
 pub high_over : (later : List Event) → list_any (opens 1) later ≡ false → AllOver 1 1 (guarded ++ later)
 high_over later stays = one_slice _ (
-  Deleted (record { id = 7; text = codes "Cat"; place = 2 }) 4,
+  Deleted (record { id = 7; text = codes "Cat"; place = 2 }) 5 8,
   record {
     between = event.Find 1 (codes "A") ∷ event.Del 0 9 ∷ [];
     event = event.Del 0 7;
     later = later;
-    added = record {
+    put = record {
       earlier = event.No 0 call.Recycle ∷ event.Take 0 0 0 ∷ event.Add 0 9 (codes "a cat") 0 0 (low_bit ∷ []) ∷ event.Take 0 1 0 ∷ [];
       event = event.Add 0 7 (codes "Cat") 1 0 (high_bit ∷ []);
       whole = refl;
-      adds = refl;
-      at_place = refl;
+      count = refl;
+      puts = refl;
+      lives = (1, omega arith, refl);
       stays = stays;
     };
     not_before = refl;
-    deletes_it = refl;
-    at_place = refl;
+    takes_it_off = refl;
+    count = refl;
   },
   tt,
 )
@@ -127,7 +129,7 @@ low_is_lowest = record {
 }
 
 -- a find that began and ended is not open
-ended : (b : Bool) → cond b false (cond b true false) ≡ false
+pub ended : (b : Bool) → cond b false (cond b true false) ≡ false
 ended true = refl
 ended false = refl
 
@@ -147,10 +149,10 @@ no_room history slice taken room =
     one_slice (λ column. is_claimed slice column history ≡ false → ⊥) (λ free. both_ways (is_claimed slice 0 history) free taken) left.0 left.1 left.2
 
 -- one bit in a slice
-one_bit : (slice : ℕ) (b : Bit) → IsInSlice 4 slice b.word → All (λ (x : Bit). IsInSlice 4 slice x.word) (b ∷ [])
+pub one_bit : (slice : ℕ) (b : Bit) → IsInSlice 4 slice b.word → All (λ (x : Bit). IsInSlice 4 slice x.word) (b ∷ [])
 one_bit slice b in' = All-cons (λ (x : Bit). IsInSlice 4 slice x.word) b [] in' (All-nil (λ (x : Bit). IsInSlice 4 slice x.word))
 
-one_narrow : (b : Bit) → b.bit < 64 → All (λ (x : Bit). x.bit < 64) (b ∷ [])
+pub one_narrow : (b : Bit) → b.bit < 64 → All (λ (x : Bit). x.bit < 64) (b ∷ [])
 one_narrow b in' = All-cons (λ (x : Bit). x.bit < 64) b [] in' (All-nil (λ (x : Bit). x.bit < 64))
 
 -- nothing is retired before the first event

@@ -1,6 +1,8 @@
 -- What events are answered: each call has one reply, and refusals have their cause.
-use Rattle.std.proofs.Common.{◌≡◌, ℕ, ◌+◌, ◌<◌, ◌≤◌, ⊎_elim, Bool, true, false, cond, List, Option, Some, None, sym, refl, ap, ◌∙◌, subst, inl, inr, arith}
+use Rattle.std.proofs.Common.{◌≡◌, ℕ, ◌+◌, ◌<◌, ◌≤◌, ⊎_elim, Bool, true, false, cond, List, [], ◌∷◌, ◌++◌, length, Option, Some, None, sym, refl, ap, ◌∙◌, subst, inl, inr, arith}
 use Rattle.std.proofs.lemmas.Bool.{both_ways, lt-ltb, ltb-true}
+use Rattle.std.proofs.lemmas.List.{length-append}
+use Rattle.std.proofs.lemmas.List.Elements.{filter_map-append}
 use Rattle.std.specs.Option.{is_some, option_map, option_map_or}
 use Rattle.std.specs.Prelude.{◌⊎◌, nat_lt}
 use Rattle.funnel_model.specs.declared.call.Call.{Call}
@@ -11,11 +13,13 @@ use Rattle.funnel_model.specs.declared.event.Event.TheVariants as event
 use Rattle.funnel_model.specs.declared.reply.Reply.{Reply}
 use Rattle.funnel_model.specs.declared.reply.Reply.TheVariants as reply
 use Rattle.funnel_model.specs.Blocks.{IsLowestGuard}
-use Rattle.funnel_model.specs.Events.{call_of}
+use Rattle.funnel_model.specs.declared.config.Config.{Config}
+use Rattle.funnel_model.specs.Events.{call_of, tuning_of}
 use Rattle.funnel_model.specs.History.{answer, base, commits_after, is_live, live, live_place, place}
 use Rattle.funnel_model.specs.Legal.{Limits, IsAllowed, IsFull, IsLegal, IsRefused, NoneCanClear}
 use Rattle.funnel_model.specs.Slices.{IsRetired, is_clearing}
 use Rattle.funnel_model.specs.Steps.{IsLowestGuarded, IsReply, IsReplyToRead, IsReplyToRecycle, IsReplyToRefused, NoneRetired}
+use Rattle.funnel_model.specs.Tunings.{tunings}
 use Rattle.funnel_model.proofs.Blocks.{least_below, lowest_guard, one_guard, one_lowest}
 use Rattle.funnel_model.proofs.LiveLemmas.{is_live-from_place}
 use Rattle.funnel_model.proofs.Retirement.{all_over_cases}
@@ -81,6 +85,7 @@ has_reply limits history (event.Find pass query) asked legal allowed is = (reply
 has_reply limits history (event.Opened pass slice true) asked legal allowed is = (reply.Recycled slice, (refl, refl))
 has_reply limits history (event.Opened pass slice false) asked legal allowed is = cc
 has_reply limits history (event.No pass refused) asked legal allowed is = refused_reply limits history refused legal allowed.rule.refused
+has_reply limits history (event.Tune pass config) asked legal allowed is = (reply.Tuned (length (tunings history) + 1), refl)
 has_reply limits history (event.Read pass call.Place) asked legal allowed is = (reply.Place (place history), refl)
 has_reply limits history (event.Read pass (call.Journal from)) asked legal allowed is = (
   cond (nat_lt from (base limits.commits history)) (reply.Trimmed (base limits.commits history)) (reply.Commits (commits_after history from)),
@@ -128,6 +133,7 @@ one_reply limits history (event.Del pass id) given other is also = is ∙ sym al
 one_reply limits history (event.Find pass query) given other is also = is ∙ sym also
 one_reply limits history (event.Opened pass slice alone) given other is also = is.1 ∙ sym also.1
 one_reply limits history (event.No pass asked) given other is also = one_refused_reply limits history asked given other is also
+one_reply limits history (event.Tune pass config) given other is also = is ∙ sym also
 one_reply limits history (event.Read pass call.Place) given other is also = is ∙ sym also
 one_reply limits history (event.Read pass (call.Journal from)) given other is also = is ∙ sym also
 one_reply limits history (event.Read pass _) given other is also = absurd is
@@ -141,6 +147,7 @@ reply_has_call limits history (event.Del pass id) given is = (call.Delete id, re
 reply_has_call limits history (event.Find pass query) given is = (call.Find query, refl)
 reply_has_call limits history (event.Opened pass slice alone) given is = (call.Recycle, ap (λ b. cond b (Some call.Recycle) None) is.0)
 reply_has_call limits history (event.No pass asked) given is = (asked, refl)
+reply_has_call limits history (event.Tune pass config) given is = (call.Tune config, refl)
 reply_has_call limits history (event.Read pass asked) given is = (asked, refl)
 reply_has_call limits history _ given is = absurd is
 
@@ -184,6 +191,7 @@ present_cause limits history (event.No pass (call.Add id text)) n is = (id, text
 present_cause limits history (event.No pass (call.Delete id)) n is = cc
 present_cause limits history (event.No pass _) n is = absurd is
 present_cause limits history (event.Opened pass slice alone) n is = let same = is.1 in cc
+present_cause limits history (event.Tune pass config) n is = cc
 present_cause limits history (event.Read pass call.Place) n is = cc
 present_cause limits history (event.Read pass (call.Journal from)) n is = absurd (not_journal limits history from (reply.Present n) refl is)
 present_cause limits history (event.Read pass _) n is = absurd is
@@ -215,6 +223,7 @@ trimmed_cause limits history (event.No pass call.Recycle) n is = absurd is
 trimmed_cause limits history (event.No pass _) n is = absurd is
 trimmed_cause limits history (event.Drop pass id text slice column) n is = let other = (dropped_at (live_place id history) (reply.Trimmed n) is).2 in cc
 trimmed_cause limits history (event.Opened pass slice alone) n is = let same = is.1 in cc
+trimmed_cause limits history (event.Tune pass config) n is = cc
 trimmed_cause limits history (event.Add pass id text slice column bits) n is = cc
 trimmed_cause limits history (event.Del pass id) n is = cc
 trimmed_cause limits history (event.Find pass query) n is = cc
@@ -229,6 +238,7 @@ full_cause limits history (event.No pass (call.Delete id)) allowed is = cc
 full_cause limits history (event.No pass _) allowed is = absurd is
 full_cause limits history (event.Drop pass id text slice column) allowed is = let other = (dropped_at (live_place id history) reply.Full is).2 in cc
 full_cause limits history (event.Opened pass slice alone) allowed is = let same = is.1 in cc
+full_cause limits history (event.Tune pass config) allowed is = cc
 full_cause limits history (event.Read pass call.Place) allowed is = cc
 full_cause limits history (event.Read pass (call.Journal from)) allowed is = absurd (not_journal limits history from reply.Full refl is)
 full_cause limits history (event.Read pass _) allowed is = absurd is
@@ -248,6 +258,7 @@ absent_cause limits history (event.No pass (call.Add id text)) allowed is = absu
 absent_cause limits history (event.No pass _) allowed is = absurd is
 absent_cause limits history (event.Drop pass id text slice column) allowed is = let other = (dropped_at (live_place id history) reply.Absent is).2 in cc
 absent_cause limits history (event.Opened pass slice alone) allowed is = let same = is.1 in cc
+absent_cause limits history (event.Tune pass config) allowed is = cc
 absent_cause limits history (event.Read pass call.Place) allowed is = cc
 absent_cause limits history (event.Read pass (call.Journal from)) allowed is = absurd (not_journal limits history from reply.Absent refl is)
 absent_cause limits history (event.Read pass _) allowed is = absurd is
@@ -276,6 +287,7 @@ recycle_cause limits history (event.No pass _) given refuses is = absurd is
 recycle_cause limits history (event.Drop pass id text slice column) given refuses is =
     absurd (both_ways (refuses_recycle given) (ap refuses_recycle (sym (dropped_at (live_place id history) given is).2)) refuses)
 recycle_cause limits history (event.Opened pass slice alone) given refuses is = absurd (both_ways (refuses_recycle given) (ap refuses_recycle is.1) refuses)
+recycle_cause limits history (event.Tune pass config) given refuses is = absurd (both_ways (refuses_recycle given) (ap refuses_recycle is) refuses)
 recycle_cause limits history (event.Read pass call.Place) given refuses is = absurd (both_ways (refuses_recycle given) (ap refuses_recycle is) refuses)
 recycle_cause limits history (event.Read pass (call.Journal from)) given refuses is =
     absurd (not_journal limits history from given (other given refuses) is) where
@@ -313,3 +325,26 @@ pub journal_trimmed : (limits : Limits) (history : List Event) (from n : ℕ) �
 journal_trimmed limits history from n less is =
     ap reply.Trimmed is
     ∙ sym (ap (λ b. cond b (reply.Trimmed (base limits.commits history)) (reply.Commits (commits_after history from))) (lt-ltb from (base limits.commits history) less))
+
+-- Tuned tells how many tunings there were, with this one
+pub tuned_cause : (limits : Limits) (history : List Event) (e : Event) (n : ℕ) → IsReply limits history e (reply.Tuned n) →
+    (pass : ℕ) × (config : Config) × (e ≡ event.Tune pass config) × (n ≡ length (tunings (history ++ e ∷ [])))
+tuned_cause limits history (event.Tune pass config) n is =
+    let same : n ≡ length (tunings history) + 1 = cc in
+    (pass, config, refl, same ∙ sym (ap length (filter_map-append tuning_of history (event.Tune pass config ∷ [])) ∙ length-append (tunings history) (config ∷ [])))
+tuned_cause limits history (event.Read pass (call.Journal from)) n is = absurd (not_journal limits history from (reply.Tuned n) refl is)
+tuned_cause limits history (event.Read pass call.Place) n is = cc
+tuned_cause limits history (event.Read pass _) n is = absurd is
+tuned_cause limits history (event.No pass (call.Add id text)) n is = absurd (not_add (live_place id history) is) where
+  not_add : (o : Option ℕ) → reply.Tuned n ≡ option_map_or reply.Present o reply.Full → ⊥
+  not_add (Some m) same = cc
+  not_add None same = cc
+tuned_cause limits history (event.No pass (call.Delete id)) n is = cc
+tuned_cause limits history (event.No pass call.Recycle) n is = absurd is
+tuned_cause limits history (event.No pass _) n is = absurd is
+tuned_cause limits history (event.Drop pass id text slice column) n is = let other = (dropped_at (live_place id history) (reply.Tuned n) is).2 in cc
+tuned_cause limits history (event.Opened pass slice alone) n is = let same = is.1 in cc
+tuned_cause limits history (event.Add pass id text slice column bits) n is = cc
+tuned_cause limits history (event.Del pass id) n is = cc
+tuned_cause limits history (event.Find pass query) n is = cc
+tuned_cause limits history _ n is = absurd is

@@ -22,10 +22,10 @@ over_state-push : (history : List Event) (slice column : ℕ) (e : Event) (x : C
     IsInState (history ++ e ∷ []) slice column x
 over_state-push history slice column e Dropped stays is over =
     in_span-push (drops_on slice column) slice history e stays ∙ or_left (list_any (drops_on slice column) (span slice history)) (drops_on slice column e) is
-over_state-push history slice column e (Deleted d at) stays is over = deleted-push history slice column d at e is stays
+over_state-push history slice column e (Deleted d since until) stays is over = deleted-push history slice column d since until e is stays
 over_state-push history slice column e Unclaimed stays is over = absurd over
 over_state-push history slice column e (Pending pass) stays is over = absurd over
-over_state-push history slice column e (Live d) stays is over = absurd over
+over_state-push history slice column e (Live d since) stays is over = absurd over
 
 -- a slice that is all over stays so with events that don't open it
 all_over-push : (columns slice : ℕ) (history : List Event) (e : Event) → opens slice e ≡ false → AllOver columns slice history →
@@ -138,10 +138,10 @@ retired_at-push columns slice number history e at stays = record {
 -- whether a state is over
 over_cases : (x : ColumnState) → IsOver x ⊎ (IsOver x → ⊥)
 over_cases Dropped = inl tt
-over_cases (Deleted d at) = inl tt
+over_cases (Deleted d since until) = inl tt
 over_cases Unclaimed = inr (λ h. h)
 over_cases (Pending pass) = inr (λ h. h)
-over_cases (Live d) = inr (λ h. h)
+over_cases (Live d since) = inr (λ h. h)
 
 -- in a legal history a slice is all over or not
 pub all_over_cases : (limits : Limits) (slice : ℕ) (history : List Event) → IsLegal limits history → (columns : ℕ) →
@@ -149,7 +149,7 @@ pub all_over_cases : (limits : Limits) (slice : ℕ) (history : List Event) → 
 all_over_cases limits slice history legal zero = inl (λ column in'. absurd (omega arith))
 all_over_cases limits slice history legal (suc columns) =
     ⊎_elim
-    (λ below. by_last (some_state history slice columns) below)
+    (λ below. by_last (some_state limits history slice columns legal) below)
     (λ not_below. inr (λ all. not_below (λ column in'. all column (omega arith))))
     (all_over_cases limits slice history legal columns) where
       by_last : (x : ColumnState) × IsInState history slice columns x → AllOver columns slice history →
@@ -219,7 +219,7 @@ full_has_no_room limits history slice legal full in' room =
     (λ gone. ⊎_elim
     (λ retired. not_all_over limits history slice column legal within room.2 (retired.0).over)
     (λ clearing.
-    let is = some_state history slice column in
+    let is = some_state limits history slice column legal in
     both_ways (is_claimed slice column history) room.2
     (over_is_claimed limits history slice column is.0 legal is.1 (clearing_is_over limits history slice column is.0 legal clearing within is.1)))
     gone)

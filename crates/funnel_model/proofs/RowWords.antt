@@ -1,6 +1,6 @@
 -- What the row words owe a history, with one more event, and with words that changed.
 use Rattle.std.proofs.Common.{◌≡◌, ℕ, ◌+◌, ◌*◌, ◌<◌, ◌≤◌, ⊎_elim, Bool, true, false, cond, List, [], ◌∷◌, ◌++◌, slice_index, Contains, sym, refl, ap, ◌∙◌, subst, append_assoc, arith, inl, inr}
-use Rattle.std.proofs.lemmas.Bool.{both_ways, cases_eq, cases_lt, eq-eqb, eqb-true, false_from_ne_true, ne_eqb, or_from}
+use Rattle.std.proofs.lemmas.Bool.{both_ways, cases_eq, cases_lt, eqb-true, false_from_ne_true, ne_eqb, or_from}
 use Rattle.std.proofs.lemmas.List.Elements.{All-contains}
 use Rattle.std.proofs.lemmas.Nat.{mul-le}
 use Rattle.std.proofs.lemmas.List.Folds.{list_any-append}
@@ -76,19 +76,58 @@ covers-add words history pass id text slice column bits covers set =
       by_slice other b true added = All-contains (IsSetIn words) bits b set added
       by_slice other b false added = let in' = added.1 in absurd (omega arith)
 
+-- or a move
+pub covers-move : (words : List ℕ) (history : List Event) (pass id slice column : ℕ) (bits : List Bit) → Covers words history →
+    All (IsSetIn words) bits → Covers words (history ++ event.Move pass id slice column bits ∷ [])
+covers-move words history pass id slice column bits covers set =
+    covers-push words history (event.Move pass id slice column bits) covers (λ other b added. by_slice other b (slice == other) added) where
+      by_slice : (other : ℕ) (b : Bit) (same : Bool) → Contains (cond same bits []) b → IsSetIn words b
+      by_slice other b true added = All-contains (IsSetIn words) bits b set added
+      by_slice other b false added = let in' = added.1 in absurd (omega arith)
+
 -- words in which each bit stays set cover the history too
 pub covers-more : (words more : List ℕ) (history : List Event) → ((b : Bit) → IsSetIn words b → IsSetIn more b) → Covers words history → Covers more history
 covers-more words more history kept covers slice b is = kept b (covers slice b is)
 
--- an event that adds bits in the slice is an add there
-adds_in : (slice : ℕ) (e : Event) (b : Bit) → Contains (bits_added_in slice e) b →
-    (pass : ℕ) × (id : ℕ) × (text : List ℕ) × (column : ℕ) × (bits : List Bit) × (e ≡ event.Add pass id text slice column bits) × Contains bits b
-adds_in slice (event.Add pass id text added column bits) b has = by_slice (added == slice) refl has where
-  by_slice : (same : Bool) → (added == slice) ≡ same → Contains (cond same bits []) b →
-      (p : ℕ) × (i : ℕ) × (t : List ℕ) × (c : ℕ) × (bs : List Bit) × (event.Add pass id text added column bits ≡ event.Add p i t slice c bs) × Contains bs b
-  by_slice true same in' = (pass, id, text, column, bits, ap (λ s. event.Add pass id text s column bits) (eqb-true added slice same), in')
-  by_slice false same in' = let none = in'.1 in absurd (omega arith)
-adds_in slice _ b has = let none = has.1 in absurd (omega arith)
+-- bits that are there where a test passes
+in_bits : (same : Bool) (bits : List Bit) (b : Bit) → Contains (cond same bits []) b → (same ≡ true) × Contains bits b
+in_bits true bits b has = (refl, has)
+in_bits false bits b has = let none = has.1 in absurd (omega arith)
+
+-- the bit is one of the 64 of a word of the slice, and the event fills the slice: it neither opens nor clears one
+record AddsBit (limits : Limits) (slice : ℕ) (e : Event) (b : Bit) : Type 0 where
+  inside : IsInSlice limits.slice_words slice b.word
+  in_word : b.bit < 64
+  fills_it : fills slice e ≡ true
+  opens_none : (other : ℕ) → opens other e ≡ false
+  clears_none : (other : ℕ) → clears other e ≡ false
+
+-- an event that is allowed and adds a bit in the slice does so: it adds a document there, or moves one there
+adds_in : (limits : Limits) (history : List Event) (slice : ℕ) (e : Event) (b : Bit) → IsAllowed limits history e → Contains (bits_added_in slice e) b →
+    AddsBit limits slice e b
+adds_in limits history slice (event.Add pass id text added column bits) b allowed has =
+    let here = in_bits (added == slice) bits b has in
+    let same = eqb-true added slice here.0 in
+    record {
+      inside = subst (λ s. IsInSlice limits.slice_words s b.word) same
+          (All-contains (λ (x : Bit). IsInSlice limits.slice_words added x.word) bits b allowed.rule.inside here.1);
+      in_word = All-contains (λ (x : Bit). x.bit < 64) bits b allowed.rule.in_word here.1;
+      fills_it = here.0;
+      opens_none = λ other. refl;
+      clears_none = λ other. refl;
+    }
+adds_in limits history slice (event.Move pass id moved column bits) b allowed has =
+    let here = in_bits (moved == slice) bits b has in
+    let same = eqb-true moved slice here.0 in
+    record {
+      inside = subst (λ s. IsInSlice limits.slice_words s b.word) same
+          (All-contains (λ (x : Bit). IsInSlice limits.slice_words moved x.word) bits b allowed.rule.inside here.1);
+      in_word = All-contains (λ (x : Bit). x.bit < 64) bits b allowed.rule.in_word here.1;
+      fills_it = here.0;
+      opens_none = λ other. refl;
+      clears_none = λ other. refl;
+    }
+adds_in limits history slice _ b allowed has = let none = has.1 in absurd (omega arith)
 
 -- the words of two slices are apart
 pub slices_apart : (slice_words slice other word : ℕ) → IsInSlice slice_words slice word → IsInSlice slice_words other word → slice ≡ other
@@ -106,17 +145,13 @@ slices_apart n slice other word in' also =
 pub committed_in_slice : (limits : Limits) (history : List Event) (slice : ℕ) (b : Bit) → IsLegal limits history → IsCommitted history slice b →
     IsInSlice limits.slice_words slice b.word
 committed_in_slice limits history slice b legal is =
-    let add = adds_in slice is.event b is.added in
-    let allowed = subst (IsAllowed limits is.earlier) add.5 (allowed_within limits history is.earlier is.event is.later legal is.whole) in
-    All-contains (λ (x : Bit). IsInSlice limits.slice_words slice x.word) add.4 b allowed.rule.inside add.6
+    (adds_in limits is.earlier slice is.event b (allowed_within limits history is.earlier is.event is.later legal is.whole) is.added).inside
 
 -- and its place in the word is one of 64
 pub committed_in_word : (limits : Limits) (history : List Event) (slice : ℕ) (b : Bit) → IsLegal limits history → IsCommitted history slice b →
     b.bit < 64
 committed_in_word limits history slice b legal is =
-    let add = adds_in slice is.event b is.added in
-    let allowed = subst (IsAllowed limits is.earlier) add.5 (allowed_within limits history is.earlier is.event is.later legal is.whole) in
-    All-contains (λ (x : Bit). x.bit < 64) add.4 b allowed.rule.in_word add.6
+    (adds_in limits is.earlier slice is.event b (allowed_within limits history is.earlier is.event is.later legal is.whole) is.added).in_word
 
 -- and the slice isn't being cleared
 abbrev CommittedStay : List Event → Type 0
@@ -128,12 +163,11 @@ committed_stay-push : (limits : Limits) (history : List Event) (e : Event) → I
 committed_stay-push limits history e legal before allowed slice b is =
     ⊎_elim
     (λ now.
-    let add = adds_in slice e b now in
-    let here = event.Add add.0 add.1 add.2 slice add.3 add.4 in
+    let add = adds_in limits history slice e b allowed now in
     let open' : is_clearing slice history ≡ false =
     false_from_ne_true (is_clearing slice history) (λ clearing.
-    both_ways (fills slice e) (not_filled_clearing limits history e slice legal allowed clearing) (ap (fills slice) add.5 ∙ eq-eqb slice slice refl)) in
-    not_clearing-push history e slice false (ap (opens slice) add.5) open' (ap (clears slice) add.5))
+    both_ways (fills slice e) (not_filled_clearing limits history e slice legal allowed clearing) add.fills_it) in
+    not_clearing-push history e slice false (add.opens_none slice) open' (add.clears_none slice))
     (λ was. not_clearing-push history e slice (opens slice e) refl (before slice b was.0) was.1)
     (committed_before history e slice b is)
 

@@ -8,7 +8,7 @@ use Rattle.std.specs.List.{list_any, fold}
 use Rattle.std.specs.Option.{option_map_or}
 use Rattle.funnel_model.specs.declared.event.Event.{Event}
 use Rattle.funnel_model.specs.declared.event.Event.TheVariants as event
-use Rattle.funnel_model.specs.Events.{added_on, drops_on, deletes, finds_or_ends}
+use Rattle.funnel_model.specs.Events.{put_on, drops_on, takes_off, finds_or_ends}
 use Rattle.funnel_model.specs.History.{Document}
 use Rattle.funnel_model.specs.Legal.{HasRoom}
 use Rattle.funnel_model.specs.Slices.{ColumnState, Dropped, Deleted, span, is_claimed, is_clearing, AllOver, IsDeletedOn, IsInState, IsOver, IsRetired}
@@ -21,28 +21,28 @@ any_right p xs ys some = list_any-append p xs ys ∙ ap (λ b. list_any p xs || 
 any_head : {A : Type 0} (p : A → Bool) (x : A) (xs : List A) → p x ≡ true → list_any p (x ∷ xs) ≡ true
 any_head p x xs passes = ap (λ b. b || list_any p xs) passes
 
--- whether a document that was added on the column is deleted somewhere in the history
+-- whether a document that was put on the column is taken off one somewhere in the history
 abbrev pub deleted_somewhere : ℕ → ℕ → List Event → Bool
-deleted_somewhere slice column history = list_any (λ e. option_map_or (λ a. list_any (deletes a.0) history) (added_on slice column e) false) history
+deleted_somewhere slice column history = list_any (λ e. option_map_or (λ id. list_any (takes_off id) history) (put_on slice column e) false) history
 
 -- it is where the column is deleted
-pub deleted_is_somewhere : (history : List Event) (slice column : ℕ) (d : Document) (deleted_at : ℕ) → IsDeletedOn history slice column d deleted_at → deleted_somewhere slice column history ≡ true
-deleted_is_somewhere history slice column d deleted_at is =
+pub deleted_is_somewhere : (history : List Event) (slice column : ℕ) (d : Document) (since until : ℕ) → IsDeletedOn history slice column d since until → deleted_somewhere slice column history ≡ true
+deleted_is_somewhere history slice column d since until is =
     let later = is.event ∷ is.later in
-    let found = λ (e : Event). option_map_or (λ a. list_any (deletes a.0) history) (added_on slice column e) false in
-    let gone : list_any (deletes d.id) history ≡ true =
-    ap (list_any (deletes d.id)) is.added.whole
-    ∙ any_right (deletes d.id) is.added.earlier (is.added.event ∷ (is.between ++ later))
-    (any_right (deletes d.id) (is.added.event ∷ is.between) later (any_head (deletes d.id) is.event is.later is.deletes_it)) in
-    ap (list_any found) is.added.whole
-    ∙ any_right found is.added.earlier (is.added.event ∷ (is.between ++ later))
-    (any_head found is.added.event (is.between ++ later) (ap (λ o. option_map_or (λ a. list_any (deletes a.0) history) o false) is.added.adds ∙ gone))
+    let found = λ (e : Event). option_map_or (λ id. list_any (takes_off id) history) (put_on slice column e) false in
+    let gone : list_any (takes_off d.id) history ≡ true =
+    ap (list_any (takes_off d.id)) is.put.whole
+    ∙ any_right (takes_off d.id) is.put.earlier (is.put.event ∷ (is.between ++ later))
+    (any_right (takes_off d.id) (is.put.event ∷ is.between) later (any_head (takes_off d.id) is.event is.later is.takes_it_off)) in
+    ap (list_any found) is.put.whole
+    ∙ any_right found is.put.earlier (is.put.event ∷ (is.between ++ later))
+    (any_head found is.put.event (is.between ++ later) (ap (λ o. option_map_or (λ id. list_any (takes_off id) history) o false) is.put.puts ∙ gone))
 
 -- a state of a column that is over needs a drop or a delete
 over_by : (history : List Event) (slice column : ℕ) (state : ColumnState) → list_any (drops_on slice column) (span slice history) ≡ false →
     deleted_somewhere slice column history ≡ false → IsInState history slice column state → IsOver state → ⊥
 over_by history slice column Dropped not_dropped not_deleted is over = cc
-over_by history slice column (Deleted d at) not_dropped not_deleted is over = let deleted = deleted_is_somewhere history slice column d at is in cc
+over_by history slice column (Deleted d since until) not_dropped not_deleted is over = let deleted = deleted_is_somewhere history slice column d since until is in cc
 over_by history slice column state not_dropped not_deleted is over = absurd over
 
 -- a slice is not over where one of its columns has no drop and no delete

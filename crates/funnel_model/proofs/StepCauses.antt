@@ -24,18 +24,25 @@ abbrev pub is_outside : Reply → Bool
 is_outside reply.Spent = true
 is_outside reply.Memory = true
 is_outside reply.Line = true
+is_outside (reply.Tuning fault) = true
+is_outside (reply.Wide needed room) = true
 is_outside reply.Long = true
 is_outside _ = false
 
--- whether it is the reply to a line without a form, or to one that is too long
+-- whether it is the reply to a line that is no call: one without a form, one that is too long, and a tuning that has a fault or
+-- needs too much room
 abbrev pub is_line : Reply → Bool
 is_line reply.Line = true
+is_line (reply.Tuning fault) = true
+is_line (reply.Wide needed room) = true
 is_line reply.Long = true
 is_line _ = false
 
 line_is_outside : (given : Reply) → is_line given ≡ true → is_outside given ≡ true
 line_is_outside reply.Line is = refl
 line_is_outside reply.Long is = refl
+line_is_outside (reply.Tuning fault) is = refl
+line_is_outside (reply.Wide needed room) is = refl
 line_is_outside _ is = cc
 
 -- no refused recycle is answered so
@@ -62,6 +69,7 @@ reply_inside limits history (event.Del pass id) given is = ap is_outside is
 reply_inside limits history (event.Find pass query) given is = ap is_outside is
 reply_inside limits history (event.Opened pass slice alone) given is = ap is_outside is.1
 reply_inside limits history (event.No pass asked) given is = refused_inside limits history asked given is
+reply_inside limits history (event.Tune pass config) given is = ap is_outside is
 reply_inside limits history (event.Read pass call.Place) given is = ap is_outside is
 reply_inside limits history (event.Read pass (call.Journal from)) given is =
     ap is_outside is ∙ inside (nat_lt from (base limits.commits history)) (base limits.commits history) (commits_after history from) where
@@ -94,7 +102,7 @@ memory_cause limits pass before after asked step =
     (λ rest. ⊎_elim (λ lacks. lacks.call) (λ spent. let other = spent.reply in cc) rest)
     step.outcome
 
--- and no step is answered as a line without a form
+-- and no step is answered as a line that is no call
 pub never_unread : (limits : Limits) (pass : ℕ) (before after : List Event) (asked : Call) (given : Reply) → is_line given ≡ true →
     Step limits pass before after asked given → ⊥
 never_unread limits pass before after asked given unread step =

@@ -2,24 +2,27 @@
 use Rattle.std.proofs.Common.{◌≡◌, ℕ, ◌+◌, ◌≤◌, Bool, true, false, cond, List, [], ◌∷◌, ◌++◌, length, Some, None, sym, refl, ap, ◌∙◌, subst, append_assoc, arith, inl, inr}
 use Rattle.std.proofs.lemmas.List.{append-nil}
 use Rattle.std.proofs.lemmas.List.Elements.{filter_map-append}
-use Rattle.std.specs.List.{cons_option}
+use Rattle.std.specs.List.{cons_option, list_any}
 use Rattle.std.specs.Prelude.{◌==◌}
 use mathlib.Core.List.{IsPrefix}
 use Rattle.funnel_model.specs.declared.call.Call.{Call}
 use Rattle.funnel_model.specs.declared.bit_list.Bit.{Bit}
 use Rattle.funnel_model.specs.declared.call.Call.TheVariants as call
+use Rattle.funnel_model.specs.declared.config.Config.{Config}
 use Rattle.funnel_model.specs.declared.event.Event.{Event}
 use Rattle.funnel_model.specs.declared.event.Event.TheVariants as event
 use Rattle.funnel_model.specs.declared.reply.Reply.{Reply}
 use Rattle.funnel_model.specs.declared.reply.Reply.TheVariants as reply
 use Rattle.std.specs.Option.{IfSome}
-use Rattle.std.proofs.lemmas.Bool.{eq-eqb}
+use Rattle.std.proofs.lemmas.Bool.{eq-eqb, or_from}
+use Rattle.funnel_model.proofs.Moved.{moved_by-append, moved_by-still}
 use Rattle.funnel_model.proofs.LiveLemmas.{place-append}
 use Rattle.funnel_model.proofs.Spans.{last_by-own}
-use Rattle.funnel_model.specs.Events.{call_of, leaves_open, pass_of}
-use Rattle.funnel_model.specs.History.{answer, call_by, own, place}
+use Rattle.funnel_model.specs.Events.{call_of, leaves_open, moves, pass_of}
+use Rattle.funnel_model.specs.History.{answer, call_by, moved_by, own, place}
 use Rattle.funnel_model.specs.Legal.{Limits, IsIdle, IsLegal}
-use Rattle.funnel_model.specs.Steps.{AddsCall, AddsNone, FindsNoMemory, IsReply, IsReplyToRead, IsReplyToRefused, Linear, Step}
+use Rattle.funnel_model.specs.Steps.{AddsNone, FindsNoMemory, IsReply, IsReplyToRefused, Linear, Step, most_moves}
+use Rattle.funnel_model.specs.Tunings.{tunings}
 
 pub own-append : (pass : ℕ) (xs ys : List Event) → own pass (xs ++ ys) ≡ own pass xs ++ own pass ys
 own-append pass xs ys = filter_map-append (call_by pass) xs ys
@@ -33,14 +36,19 @@ prefix_trans xs ys zs p q = (p.0 ++ q.0, sym (append_assoc xs p.0 q.0) ∙ ap (�
 
 -- a call that led to a front without an answer; then come the event that answers it, and some that answer nothing
 pub step_made_from : (limits : Limits) (pass : ℕ) (before middle : List Event) (e : Event) (later : List Event) (asked : Call) (given : Reply) →
-    IsIdle pass before → IsPrefix before middle → AddsNone pass before middle → call_by pass e ≡ Some asked → own pass later ≡ [] →
+    IsIdle pass before → IsPrefix before middle → AddsNone pass before middle → moved_by pass middle ≤ moved_by pass before + most_moves asked →
+    call_by pass e ≡ Some asked → moves e ≡ false → own pass later ≡ [] → moved_by pass later ≡ 0 →
     IsReply limits middle e given → IsLegal limits (middle ++ e ∷ later) → IsIdle pass (middle ++ e ∷ later) →
     Step limits pass before (middle ++ e ∷ later) asked given
-step_made_from limits pass before middle e later asked given idle grows none call last replied legal idle_after = record {
+step_made_from limits pass before middle e later asked given idle grows none few call unmoved last still replied legal idle_after = record {
   grows = prefix_trans before middle (middle ++ e ∷ later) grows (e ∷ later, refl);
   legal = legal;
   idle_before = idle;
   idle_after = idle_after;
+  few_moves =
+      let one = moved_by-still pass (e ∷ []) (or_from (moves e) false unmoved refl) in
+      let events = moved_by-append pass (e ∷ []) later in
+      omega (arith, few, moved_by-append pass middle (e ∷ later), events, one, still);
   outcome = inl (record {
     call = own-append pass middle (e ∷ later)
         ∙ ap (λ cs. cs ++ own pass (e ∷ later)) none
@@ -56,11 +64,12 @@ adds_none pass before more none = own-append pass before more ∙ ap (λ cs. own
 
 -- a call whose events are these: first some that answer nothing, then the one that answers it, then some that answer nothing
 pub step_made : (limits : Limits) (pass : ℕ) (before first : List Event) (e : Event) (later : List Event) (asked : Call) (given : Reply) →
-    IsIdle pass before → own pass first ≡ [] → call_by pass e ≡ Some asked → own pass later ≡ [] → IsReply limits (before ++ first) e given →
-    IsLegal limits ((before ++ first) ++ e ∷ later) → IsIdle pass ((before ++ first) ++ e ∷ later) →
+    IsIdle pass before → own pass first ≡ [] → list_any moves first ≡ false → call_by pass e ≡ Some asked → moves e ≡ false → own pass later ≡ [] → list_any moves later ≡ false →
+    IsReply limits (before ++ first) e given → IsLegal limits ((before ++ first) ++ e ∷ later) → IsIdle pass ((before ++ first) ++ e ∷ later) →
     Step limits pass before ((before ++ first) ++ e ∷ later) asked given
-step_made limits pass before first e later asked given idle none call last replied legal idle_after =
-    step_made_from limits pass before (before ++ first) e later asked given idle (first, refl) (adds_none pass before first none) call last replied legal idle_after
+step_made limits pass before first e later asked given idle none still call unmoved last still_later replied legal idle_after =
+    step_made_from limits pass before (before ++ first) e later asked given idle (first, refl) (adds_none pass before first none)
+    (omega (arith, moved_by-append pass before first, moved_by-still pass first still)) call unmoved last (moved_by-still pass later still_later) replied legal idle_after
 
 -- a call that found no memory and made no event
 pub step_without_memory : (limits : Limits) (pass : ℕ) (history : List Event) (asked : Call) → IsIdle pass history → IsLegal limits history → FindsNoMemory pass history history asked →
@@ -70,6 +79,7 @@ step_without_memory limits pass history asked idle legal found = record {
   legal = legal;
   idle_before = idle;
   idle_after = idle;
+  few_moves = omega arith;
   outcome = inr (inl (record { reply = refl; call = found }));
 }
 
@@ -124,100 +134,46 @@ own-one pass e none = by_pass (pass_of e == pass) where
   by_pass false = refl
 
 -- a call of one event
-step_of_one : (limits : Limits) (pass : ℕ) (before : List Event) (e : Event) (asked : Call) (given : Reply) → IsIdle pass before → call_by pass e ≡ Some asked → IsReply limits before e given →
+step_of_one : (limits : Limits) (pass : ℕ) (before : List Event) (e : Event) (asked : Call) (given : Reply) → IsIdle pass before → call_by pass e ≡ Some asked → moves e ≡ false → IsReply limits before e given →
     IsLegal limits (before ++ e ∷ []) → IsIdle pass (before ++ e ∷ []) → Step limits pass before (before ++ e ∷ []) asked given
-step_of_one limits pass before e asked given idle call replied legal after =
-    step_made_from limits pass before before e [] asked given idle (prefix_refl before) refl call refl replied legal after
+step_of_one limits pass before e asked given idle call unmoved replied legal after =
+    step_made_from limits pass before before e [] asked given idle (prefix_refl before) refl (omega arith) call unmoved refl refl replied legal after
 
 -- a call that was refused before any other event of it
 pub step_refused : (limits : Limits) (pass : ℕ) (before : List Event) (asked : Call) (given : Reply) → IsIdle pass before → IsReplyToRefused limits before asked given → IsLegal limits (before ++ event.No pass asked ∷ []) →
     Step limits pass before (before ++ event.No pass asked ∷ []) asked given
 step_refused limits pass before asked given idle refused legal =
-    step_of_one limits pass before (event.No pass asked) asked given idle (call_by-own pass (event.No pass asked) refl) refused legal (idle_after pass before (event.No pass asked) refl refl)
+    step_of_one limits pass before (event.No pass asked) asked given idle (call_by-own pass (event.No pass asked) refl) refl refused legal (idle_after pass before (event.No pass asked) refl refl)
 
 -- an event that answers nothing adds no call of the pass
 pub adds_none-one : (pass : ℕ) (history : List Event) (e : Event) → call_of e ≡ None → AddsNone pass history (history ++ e ∷ [])
 adds_none-one pass history e none = adds_none pass history (e ∷ []) (own-one pass e none)
-
--- an add that came to a front without an answer and a commit, took a column there and was committed
-pub step_added_from : (limits : Limits) (pass : ℕ) (before middle : List Event) (id : ℕ) (text : List ℕ) (slice column : ℕ) (bits : List Bit) (n : ℕ) →
-    IsIdle pass before → IsPrefix before middle → AddsNone pass before middle → place middle ≡ place before → n ≡ place before + 1 →
-    IsLegal limits ((middle ++ event.Take pass slice column ∷ []) ++ event.Add pass id text slice column bits ∷ []) →
-    Step limits pass before ((middle ++ event.Take pass slice column ∷ []) ++ event.Add pass id text slice column bits ∷ []) (call.Add id text) (reply.Added n)
-step_added_from limits pass before middle id text slice column bits n idle grows none same is legal =
-    let taken = event.Take pass slice column in
-    let added = event.Add pass id text slice column bits in
-    let at : place (middle ++ taken ∷ []) + 1 ≡ n = omega (arith, place-append middle (taken ∷ []), same, is) in
-    step_made_from limits pass before (middle ++ taken ∷ []) added [] (call.Add id text) (reply.Added n) idle
-    (prefix_trans before middle (middle ++ taken ∷ []) grows (taken ∷ [], refl)) (adds_none-one pass middle taken refl ∙ none)
-    (call_by-own pass added refl) refl (ap (λ k. reply.Added k) (sym at)) legal (idle_after pass (middle ++ taken ∷ []) added refl refl)
 
 -- an add that took a column and was committed
 pub step_added : (limits : Limits) (pass : ℕ) (before : List Event) (id : ℕ) (text : List ℕ) (slice column : ℕ) (bits : List Bit) (n : ℕ) → IsIdle pass before → n ≡ place before + 1 →
     IsLegal limits ((before ++ event.Take pass slice column ∷ []) ++ event.Add pass id text slice column bits ∷ []) →
     Step limits pass before ((before ++ event.Take pass slice column ∷ []) ++ event.Add pass id text slice column bits ∷ []) (call.Add id text) (reply.Added n)
 step_added limits pass before id text slice column bits n idle is legal =
-    step_added_from limits pass before before id text slice column bits n idle (prefix_refl before) refl refl is legal
-
--- an add that cleared a slice and opened it first
-pub step_added_cleared : (limits : Limits) (pass : ℕ) (before : List Event) (cleared id : ℕ) (text : List ℕ) (slice column : ℕ) (bits : List Bit) (n : ℕ) → IsIdle pass before → n ≡ place before + 1 →
-    IsLegal limits ((((before ++ event.Clear pass cleared ∷ []) ++ event.Opened pass cleared false ∷ []) ++ event.Take pass slice column ∷ []) ++ event.Add pass id text slice column bits ∷ []) →
-    Step limits pass before ((((before ++ event.Clear pass cleared ∷ []) ++ event.Opened pass cleared false ∷ []) ++ event.Take pass slice column ∷ []) ++ event.Add pass id text slice column bits ∷ [])
-    (call.Add id text) (reply.Added n)
-step_added_cleared limits pass before cleared id text slice column bits n idle is legal =
-    let clear = event.Clear pass cleared in
-    let opened = event.Opened pass cleared false in
-    let same : place ((before ++ clear ∷ []) ++ opened ∷ []) ≡ place before =
-    omega (arith, place-append (before ++ clear ∷ []) (opened ∷ []), place-append before (clear ∷ [])) in
-    step_added_from limits pass before ((before ++ clear ∷ []) ++ opened ∷ []) id text slice column bits n idle
-    (prefix_trans before (before ++ clear ∷ []) ((before ++ clear ∷ []) ++ opened ∷ []) (clear ∷ [], refl) (opened ∷ [], refl))
-    (adds_none-one pass (before ++ clear ∷ []) opened refl ∙ adds_none-one pass before clear refl) same is legal
+    let taken = event.Take pass slice column in
+    let added = event.Add pass id text slice column bits in
+    let at : place (before ++ taken ∷ []) + 1 ≡ n = omega (arith, place-append before (taken ∷ []), is) in
+    step_made limits pass before (taken ∷ []) added [] (call.Add id text) (reply.Added n) idle (own-one pass taken refl) refl
+    (call_by-own pass added refl) refl refl refl (ap (λ k. reply.Added k) (sym at)) legal (idle_after pass (before ++ taken ∷ []) added refl refl)
 
 -- a delete that was committed
 pub step_deleted : (limits : Limits) (pass : ℕ) (before : List Event) (id n : ℕ) → IsIdle pass before → n ≡ place before + 1 →
     IsLegal limits (before ++ event.Del pass id ∷ []) → Step limits pass before (before ++ event.Del pass id ∷ []) (call.Delete id) (reply.Deleted n)
 step_deleted limits pass before id n idle is legal =
-    step_of_one limits pass before (event.Del pass id) (call.Delete id) (reply.Deleted n) idle (call_by-own pass (event.Del pass id) refl)
+    step_of_one limits pass before (event.Del pass id) (call.Delete id) (reply.Deleted n) idle (call_by-own pass (event.Del pass id) refl) refl
     (ap (λ k. reply.Deleted k) is) legal (idle_after pass before (event.Del pass id) refl refl)
 
--- a call that only read
-pub step_read_off : (limits : Limits) (pass : ℕ) (before : List Event) (asked : Call) (given : Reply) → IsIdle pass before → IsReplyToRead limits before asked given →
-    IsLegal limits (before ++ event.Read pass asked ∷ []) → Step limits pass before (before ++ event.Read pass asked ∷ []) asked given
-step_read_off limits pass before asked given idle told legal =
-    step_of_one limits pass before (event.Read pass asked) asked given idle (call_by-own pass (event.Read pass asked) refl)
-    told legal (idle_after pass before (event.Read pass asked) refl refl)
-
--- a call that read the number of commits
-pub step_read : (limits : Limits) (pass : ℕ) (before : List Event) (n : ℕ) → IsIdle pass before → n ≡ place before →
-    IsLegal limits (before ++ event.Read pass call.Place ∷ []) → Step limits pass before (before ++ event.Read pass call.Place ∷ []) call.Place (reply.Place n)
-step_read limits pass before n idle is legal = step_read_off limits pass before call.Place (reply.Place n) idle (ap (λ k. reply.Place k) is) legal
-
--- a journal that found no memory for its commits
-pub step_read_no_memory : (limits : Limits) (pass : ℕ) (before : List Event) (from : ℕ) → IsIdle pass before →
-    IsLegal limits (before ++ event.Read pass (call.Journal from) ∷ []) → Step limits pass before (before ++ event.Read pass (call.Journal from) ∷ []) (call.Journal from) reply.Memory
-step_read_no_memory limits pass before from idle legal =
-    let e = event.Read pass (call.Journal from) in
-    record {
-      grows = (e ∷ [], refl);
-      legal = legal;
-      idle_before = idle;
-      idle_after = idle_after pass before e refl refl;
-      outcome = inr (inl (record {
-        reply = refl;
-        call = inr (own-append pass before (e ∷ []) ∙ ap (λ o. own pass before ++ cons_option o []) (call_by-own pass e refl));
-      }));
-    }
-
--- a recycle that cleared a slice and opened it
-pub step_recycled : (limits : Limits) (pass : ℕ) (before : List Event) (slice : ℕ) → IsIdle pass before →
-    IsLegal limits ((before ++ event.Clear pass slice ∷ []) ++ event.Opened pass slice true ∷ []) →
-    Step limits pass before ((before ++ event.Clear pass slice ∷ []) ++ event.Opened pass slice true ∷ []) call.Recycle (reply.Recycled slice)
-step_recycled limits pass before slice idle legal =
-    let clear = event.Clear pass slice in
-    let opened = event.Opened pass slice true in
-    step_made_from limits pass before (before ++ clear ∷ []) opened [] call.Recycle (reply.Recycled slice) idle (clear ∷ [], refl)
-    (adds_none-one pass before clear refl) (call_by-own pass opened refl) refl (refl, refl) legal
-    (idle_after pass (before ++ clear ∷ []) opened refl refl)
+-- a tuning
+pub step_tuned : (limits : Limits) (pass : ℕ) (before : List Event) (config : Config) (n : ℕ) → IsIdle pass before → n ≡ length (tunings before) + 1 →
+    IsLegal limits (before ++ event.Tune pass config ∷ []) →
+    Step limits pass before (before ++ event.Tune pass config ∷ []) (call.Tune config) (reply.Tuned n)
+step_tuned limits pass before config n idle is legal =
+    step_of_one limits pass before (event.Tune pass config) (call.Tune config) (reply.Tuned n) idle (call_by-own pass (event.Tune pass config) refl) refl
+    (ap (λ k. reply.Tuned k) is) legal (idle_after pass before (event.Tune pass config) refl refl)
 
 -- a call that came after so many events that no call is taken any more
 pub step_spent : (limits : Limits) (pass : ℕ) (history : List Event) (asked : Call) → limits.events ≤ length history → IsLegal limits history → IsIdle pass history →
@@ -227,6 +183,7 @@ step_spent limits pass history asked many legal idle = record {
   legal = legal;
   idle_before = idle;
   idle_after = idle;
+  few_moves = omega arith;
   outcome = inr (inr (record { reply = refl; call = refl; many = many }));
 }
 
@@ -238,19 +195,6 @@ step_found limits pass before query idle legal =
     let found = event.Find pass query in
     let same : before ++ found ∷ (event.End pass ∷ []) ≡ (before ++ found ∷ []) ++ event.End pass ∷ [] = sym (append_assoc before (found ∷ []) (event.End pass ∷ [])) in
     subst (λ (h : List Event). Step limits pass before h (call.Find query) (reply.Found (answer before query))) same
-    (step_made_from limits pass before before found (event.End pass ∷ []) (call.Find query) (reply.Found (answer before query)) idle (prefix_refl before) refl
-    (call_by-own pass found refl) (own-one pass (event.End pass) refl) refl (subst (IsLegal limits) (sym same) legal)
+    (step_made_from limits pass before before found (event.End pass ∷ []) (call.Find query) (reply.Found (answer before query)) idle (prefix_refl before) refl (omega arith)
+    (call_by-own pass found refl) refl (own-one pass (event.End pass) refl) (moved_by-still pass (event.End pass ∷ []) refl) refl (subst (IsLegal limits) (sym same) legal)
     (subst (IsIdle pass) (sym same) (idle_after pass (before ++ found ∷ []) (event.End pass) refl refl)))
-
--- a find that began, found no memory, and ended
-pub step_found_no_memory : (limits : Limits) (pass : ℕ) (before : List Event) (query : List ℕ) → IsIdle pass before →
-    IsLegal limits ((before ++ event.Find pass query ∷ []) ++ event.End pass ∷ []) →
-    Step limits pass before ((before ++ event.Find pass query ∷ []) ++ event.End pass ∷ []) (call.Find query) reply.Memory
-step_found_no_memory limits pass before query idle legal =
-    let step = step_found limits pass before query idle legal in
-    record { grows = step.grows; legal = legal; idle_before = idle; idle_after = step.idle_after; outcome = inr (inl (record { reply = refl; call = inr (own_found pass before query) })) } where
-      own_found : (pass : ℕ) (before : List Event) (query : List ℕ) → AddsCall pass before ((before ++ event.Find pass query ∷ []) ++ event.End pass ∷ []) (call.Find query)
-      own_found pass before query =
-          adds_none-one pass (before ++ event.Find pass query ∷ []) (event.End pass) refl
-          ∙ own-append pass before (event.Find pass query ∷ [])
-          ∙ ap (λ o. own pass before ++ cons_option o []) (call_by-own pass (event.Find pass query) refl)

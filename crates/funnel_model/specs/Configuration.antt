@@ -4,7 +4,7 @@ use Rattle.funnel_model.specs.Words.{words}
 use Rattle.funnel_model.specs.Listed.{IsInByteOrder}
 use Rattle.funnel_model.specs.Sizes.{columns_of_pool, words_of_pool}
 use Rattle.funnel_model.specs.declared.config.Config.{Config}
-use Rattle.funnel_model.specs.declared.config.TheConstants.{MOST_PASSES, MOST_SLICES, MOST_BLOCKS, MOST_RANK, MOST_COMMITS, LEAST_ONE_IN, MOST_ONE_IN, MOST_SNR, MOST_DOCUMENTS, MOST_TAIL, MOST_MAX_ROWS, MOST_WORDS, MOST_COLUMNS, MOST_ROW_WORDS}
+use Rattle.funnel_model.specs.declared.config.TheConstants.{MOST_PASSES, MOST_SLICES, MOST_BLOCKS, MOST_RANK, MOST_COMMITS, MOST_RESERVE, LEAST_ONE_IN, MOST_ONE_IN, MOST_SNR, MOST_DOCUMENTS, MOST_TAIL, MOST_MAX_ROWS, MOST_WORDS, MOST_COLUMNS, MOST_ROW_WORDS}
 
 -- the set of the words of a text is that text alone
 pub record IsWord (text : List ℕ) : Type 0 where
@@ -27,6 +27,7 @@ pub record IsInRange (config : Config) : Type 0 where
   pub blocks : IsBetween 1 MOST_BLOCKS config.blocks
   pub max_rank : config.max_rank ≤ MOST_RANK
   pub commits : IsBetween 1 MOST_COMMITS config.commits
+  pub reserve : config.reserve ≤ MOST_RESERVE
   pub one_in : IsBetween LEAST_ONE_IN MOST_ONE_IN config.one_in
   pub snr : IsBetween 1 MOST_SNR config.snr
   pub documents : IsBetween 1 MOST_DOCUMENTS config.documents
@@ -42,3 +43,22 @@ pub record IsValid (config : Config) : Type 0 where
   pub folded : All (λ entry. IsWord entry.0) config.words
   pub few_columns : columns_of_pool config ≤ MOST_COLUMNS
   pub small_pool : words_of_pool config ≤ MOST_ROW_WORDS
+
+-- the first configuration with the statistics of the second: all that a running engine can be given anew
+abbrev pub with_statistics : Config → Config → Config
+with_statistics opening statistics = record opening {
+  one_in = statistics.one_in;
+  snr = statistics.snr;
+  documents = statistics.documents;
+  tail = statistics.tail;
+  max_rows = statistics.max_rows;
+  words = statistics.words;
+}
+
+-- The configuration tunes an engine that was opened with the first: it has other statistics at most, its numbers are in their
+-- ranges, each listed word is one folded word, and no word is listed twice. Its rows may have any number of words.
+pub record IsTuning (opening config : Config) : Type 0 where
+  pub kept : config ≡ with_statistics opening config
+  pub in_range : IsInRange config
+  pub in_order : IsInByteOrder config.words
+  pub folded : All (λ entry. IsWord entry.0) config.words

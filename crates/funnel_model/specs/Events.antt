@@ -4,6 +4,7 @@ use Rattle.funnel_model.specs.declared.bit_list.Bit.{Bit}
 use Rattle.funnel_model.specs.declared.call.Call.{Call}
 use Rattle.funnel_model.specs.declared.call.Call.TheVariants as call
 use Rattle.funnel_model.specs.declared.commit.Commit.{Commit}
+use Rattle.funnel_model.specs.declared.config.Config.{Config}
 use Rattle.funnel_model.specs.declared.event.Event.{Event}
 use Rattle.funnel_model.specs.declared.event.Event.TheVariants as event
 
@@ -13,10 +14,13 @@ pass_of (event.Take pass slice column) = pass
 pass_of (event.Add pass id text slice column bits) = pass
 pass_of (event.Drop pass id text slice column) = pass
 pass_of (event.Del pass id) = pass
+pass_of (event.Move pass id slice column bits) = pass
+pass_of (event.Void pass slice column) = pass
 pass_of (event.Find pass query) = pass
 pass_of (event.End pass) = pass
 pass_of (event.Clear pass slice) = pass
 pass_of (event.Opened pass slice alone) = pass
+pass_of (event.Tune pass config) = pass
 pass_of (event.No pass asked) = pass
 pass_of (event.Read pass asked) = pass
 
@@ -36,6 +40,29 @@ abbrev pub deletes : ℕ → Event → Bool
 deletes id (event.Del pass deleted) = deleted == id
 deletes id _ = false
 
+-- whether the event takes the document with this number off its column: it deletes the document, or moves it to another column
+abbrev pub takes_off : ℕ → Event → Bool
+takes_off id (event.Del pass deleted) = deleted == id
+takes_off id (event.Move pass moved slice column bits) = moved == id
+takes_off id _ = false
+
+-- whether the event moves a document, or leaves a column without one that was claimed for a move
+abbrev pub moves : Event → Bool
+moves (event.Move pass id slice column bits) = true
+moves (event.Void pass slice column) = true
+moves _ = false
+
+-- whether the event deletes a document, or drops one that was to be added
+abbrev pub deletes_or_drops : Event → Bool
+deletes_or_drops (event.Del pass id) = true
+deletes_or_drops (event.Drop pass id text slice column) = true
+deletes_or_drops _ = false
+
+-- the configuration that the event gives, if it gives one
+abbrev pub tuning_of : Event → Option Config
+tuning_of (event.Tune pass config) = Some config
+tuning_of _ = None
+
 -- the client's call that the event answers, a refused one included; the other events of a call answer none
 abbrev pub call_of : Event → Option Call
 call_of (event.Add pass id text slice column bits) = Some (call.Add id text)
@@ -43,6 +70,7 @@ call_of (event.Drop pass id text slice column) = Some (call.Add id text)
 call_of (event.Del pass id) = Some (call.Delete id)
 call_of (event.Find pass query) = Some (call.Find query)
 call_of (event.Opened pass slice alone) = if alone then Some call.Recycle else None
+call_of (event.Tune pass config) = Some (call.Tune config)
 call_of (event.No pass asked) = Some asked
 call_of (event.Read pass asked) = Some asked
 call_of _ = None
@@ -57,26 +85,37 @@ abbrev pub takes : ℕ → ℕ → ℕ → Event → Bool
 takes pass slice column (event.Take taker taken at) = taker == pass && (taken == slice && at == column)
 takes pass slice column _ = false
 
--- the number and the text of the document that the event adds on the column
-abbrev pub added_on : ℕ → ℕ → Event → Option (ℕ × List ℕ)
-added_on slice column (event.Add pass id text added at bits) = if added == slice && at == column then Some (id, text) else None
-added_on slice column _ = None
+-- the number of the document that the event puts on the column: it adds the document there, or moves it there
+abbrev pub put_on : ℕ → ℕ → Event → Option ℕ
+put_on slice column (event.Add pass id text added at bits) = if added == slice && at == column then Some id else None
+put_on slice column (event.Move pass id moved at bits) = if moved == slice && at == column then Some id else None
+put_on slice column _ = None
 
--- whether the event drops the document of the column
+-- whether the event leaves the column without a document: it drops the one that was to be added there, or voids the column
 abbrev pub drops_on : ℕ → ℕ → Event → Bool
 drops_on slice column (event.Drop pass id text dropped at) = dropped == slice && at == column
+drops_on slice column (event.Void pass voided at) = voided == slice && at == column
 drops_on slice column _ = false
 
 -- the bits that the event adds in the slice
 abbrev pub bits_added_in : ℕ → Event → List Bit
 bits_added_in slice (event.Add pass id text added column bits) = if added == slice then bits else []
+bits_added_in slice (event.Move pass id moved column bits) = if moved == slice then bits else []
 bits_added_in slice _ = []
 
--- whether the event claims a column of the slice, or adds or drops a document on one
+-- the bits of the document that the event puts on the column
+abbrev pub bits_on : ℕ → ℕ → Event → List Bit
+bits_on slice column (event.Add pass id text added at bits) = if added == slice && at == column then bits else []
+bits_on slice column (event.Move pass id moved at bits) = if moved == slice && at == column then bits else []
+bits_on slice column _ = []
+
+-- whether the event claims a column of the slice, puts a document on one, or leaves one without
 abbrev pub fills : ℕ → Event → Bool
 fills slice (event.Take pass taken column) = taken == slice
 fills slice (event.Add pass id text added column bits) = added == slice
 fills slice (event.Drop pass id text dropped column) = dropped == slice
+fills slice (event.Move pass id moved column bits) = moved == slice
+fills slice (event.Void pass voided column) = voided == slice
 fills slice _ = false
 
 -- whether the event begins to clear the slice

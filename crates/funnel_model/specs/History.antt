@@ -1,11 +1,11 @@
 -- What a history says: its commits, its live documents and each pass's calls. A history is the list of its events, oldest first.
-use Rattle.std.specs.Prelude.{ℕ, ◌+◌, ◌-◌, ◌≡◌, ◌==◌, Bool, false, List, [], ◌∷◌, ◌++◌, length, map, filter, drop, Option, Some, None, option_to_list, if◌then◌else◌}
+use Rattle.std.specs.Prelude.{ℕ, ◌+◌, ◌-◌, ◌≡◌, ◌==◌, ◌&&◌, Bool, true, false, List, [], ◌∷◌, ◌++◌, length, map, filter, drop, count_by, Option, Some, None, option_to_list, if◌then◌else◌}
 use Rattle.std.specs.List.{filter_map, list_any, find, fold}
 use Rattle.std.specs.Option.{option_map}
 use Rattle.funnel_model.specs.declared.call.Call.{Call}
 use Rattle.funnel_model.specs.declared.commit.Commit.{Commit}
 use Rattle.funnel_model.specs.declared.event.Event.{Event}
-use Rattle.funnel_model.specs.Events.{pass_of, commit_of, added_by, deletes, call_of}
+use Rattle.funnel_model.specs.Events.{pass_of, commit_of, added_by, deletes, deletes_or_drops, moves, call_of}
 use Rattle.funnel_model.specs.Words.{meets}
 
 -- the commits in order
@@ -74,3 +74,16 @@ pub record IsFrontOf (pass : ℕ) (front history : List Event) : Type 0 where
   pub later : List Event
   pub whole : history ≡ front ++ later
   pub silent : list_any (λ e. pass_of e == pass) later ≡ false
+
+-- how many documents the pass moved in the history; a move that came too late, which leaves its column without a document, counts too
+abbrev pub moved_by : ℕ → List Event → ℕ
+moved_by pass history = count_by (λ e. pass_of e == pass && moves e) history
+
+-- each move has its cause, a delete or a drop before it, by which a slice has a column that is over. An engine keeps to this; a legal
+-- history need not
+abbrev pub MovesAreCaused : List Event → Type 0
+MovesAreCaused history = (earlier : List Event) (e : Event) (later : List Event) → history ≡ earlier ++ e ∷ later → moves e ≡ true → list_any deletes_or_drops earlier ≡ true
+
+-- no document was moved in the history, and no column that was claimed for a move was left without one
+abbrev pub MovesNothing : List Event → Type 0
+MovesNothing history = list_any moves history ≡ false

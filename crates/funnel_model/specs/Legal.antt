@@ -1,5 +1,5 @@
 -- Which histories are legal.
-use Rattle.std.specs.Prelude.{ℕ, ◌+◌, ◌*◌, ◌<◌, ◌≤◌, ◌≡◌, ◌==◌, ◌⊎◌, Bool, true, false, List, [], ◌∷◌, ◌++◌, length, Option, None, Some, IfSome}
+use Rattle.std.specs.Prelude.{ℕ, ◌+◌, ◌*◌, ◌<◌, ◌≤◌, ◌≡◌, ◌⊎◌, true, false, List, [], ◌∷◌, ◌++◌, length, Option, None, Some, IfSome}
 use Rattle.std.specs.List.{All, fold}
 use Rattle.funnel_model.specs.declared.bit_list.Bit.{Bit}
 use Rattle.funnel_model.specs.declared.call.Call.{Call}
@@ -73,6 +73,17 @@ pub record MayDrop (history : List Event) (pass id slice column : ℕ) : Type 0 
   pub taken : last_by pass history ≡ Some (event.Take pass slice column)
   pub present : is_live id history ≡ true
 
+-- a pass may move a live document to the column that it just took: its bits are bits of that slice's words of 64 bits
+pub record MayMove (limits : Limits) (history : List Event) (pass id slice column : ℕ) (bits : List Bit) : Type 0 where
+  pub taken : last_by pass history ≡ Some (event.Take pass slice column)
+  pub present : is_live id history ≡ true
+  pub inside : All (λ b. IsInSlice limits.slice_words slice b.word) bits
+  pub in_word : All (λ b. b.bit < 64) bits
+
+-- a pass may leave the column that it just took without a document
+pub record MayVoid (history : List Event) (pass slice column : ℕ) : Type 0 where
+  pub taken : last_by pass history ≡ Some (event.Take pass slice column)
+
 -- an idle pass may delete a live document
 pub record MayDelete (history : List Event) (pass id : ℕ) : Type 0 where
   pub idle : IsIdle pass history
@@ -134,10 +145,13 @@ MayFollow limits history (event.Take pass slice column) = MayTake limits history
 MayFollow limits history (event.Add pass id text slice column bits) = MayAdd limits history pass id slice column bits
 MayFollow limits history (event.Drop pass id text slice column) = MayDrop history pass id slice column
 MayFollow limits history (event.Del pass id) = MayDelete history pass id
+MayFollow limits history (event.Move pass id slice column bits) = MayMove limits history pass id slice column bits
+MayFollow limits history (event.Void pass slice column) = MayVoid history pass slice column
 MayFollow limits history (event.Find pass query) = IsIdle pass history
 MayFollow limits history (event.End pass) = MayEnd history pass
 MayFollow limits history (event.Clear pass slice) = MayClear limits history pass slice
 MayFollow limits history (event.Opened pass slice alone) = MayOpen history pass slice
+MayFollow limits history (event.Tune pass config) = IsIdle pass history
 MayFollow limits history (event.No pass asked) = MayRefuse limits history pass asked
 MayFollow limits history (event.Read pass asked) = MayReadOff history pass asked
 

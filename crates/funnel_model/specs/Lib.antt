@@ -5,7 +5,9 @@ pub mod Example
 pub mod History
 pub mod Legal
 pub mod Listed
+pub mod MoveExample
 pub mod RecycleExample
+pub mod Reserve
 pub mod RowWords
 pub mod Sizes
 pub mod SliceSets
@@ -14,5 +16,7 @@ pub mod Steps
 pub mod Tokens
 pub mod Treatment
 pub mod TreatmentLaws
+pub mod TuneExample
+pub mod Tunings
 pub mod Words
 pub mod WordSets

@@ -11,8 +11,8 @@ use Rattle.funnel_model.specs.Slices.{claimed}
 abbrev pub IsSetIn : List ℕ → Bit → Type 0
 IsSetIn words b = IsBitSet (slice_index words b.word) b.bit
 
--- the history has committed the bit in the slice: it is one of a document that was added there, deleted since or not, and the
--- slice wasn't cleared since
+-- the history has committed the bit in the slice: it is one of a document that was added or moved there, deleted since or not, and
+-- the slice wasn't cleared since
 pub record IsCommitted (history : List Event) (slice : ℕ) (b : Bit) : Type 0 where
   pub earlier : List Event
   pub event : Event

@@ -1,10 +1,10 @@
 -- The columns of a slice as a history leaves them, and when a slice is filled, cleared and retired.
-use Rattle.std.specs.Prelude.{ℕ, ◌+◌, ◌<◌, ◌≡◌, ◌==◌, ◌&&◌, Bool, true, false, List, [], ◌∷◌, ◌++◌, length, Some, if◌then◌else◌}
+use Rattle.std.specs.Prelude.{ℕ, ◌+◌, ◌<◌, ◌≡◌, ◌==◌, ◌&&◌, Bool, true, false, List, [], ◌∷◌, ◌++◌, length, Some, Contains, if◌then◌else◌}
 use Rattle.std.specs.List.{filter_map, list_any, fold}
 use Rattle.std.specs.Option.{is_some}
 use Rattle.funnel_model.specs.declared.event.Event.{Event}
-use Rattle.funnel_model.specs.Events.{pass_of, column_taken_in, takes, added_on, drops_on, deletes, clears, opens}
-use Rattle.funnel_model.specs.History.{Document, place}
+use Rattle.funnel_model.specs.Events.{pass_of, column_taken_in, takes, put_on, drops_on, takes_off, clears, opens}
+use Rattle.funnel_model.specs.History.{Document, live}
 
 -- the events since the slice was last opened, or all of them
 abbrev pub span : ℕ → List Event → List Event
@@ -26,58 +26,65 @@ HasUnclaimed columns slice history = (column : ℕ) × (column < columns) × (is
 abbrev pub IsFilled : ℕ → ℕ → List Event → Type 0
 IsFilled columns slice history = (column : ℕ) → column < columns → is_claimed slice column history ≡ true
 
--- the pass has claimed the column, and nobody has added or dropped a document on it since
+-- the pass has claimed the column, and no event has put a document on it since, or left it without
 pub record IsPending (history : List Event) (slice column pass : ℕ) : Type 0 where
   pub taken : list_any (takes pass slice column) (span slice history) ≡ true
-  pub not_added : list_any (λ e. is_some (added_on slice column e)) (span slice history) ≡ false
+  pub not_put : list_any (λ e. is_some (put_on slice column e)) (span slice history) ≡ false
   pub not_dropped : list_any (drops_on slice column) (span slice history) ≡ false
 
--- an add of this document on the column, then these events, none of which opens the slice; its place is the one right after the add
-pub record IsAddedOn (history : List Event) (slice column : ℕ) (document : Document) (later : List Event) : Type 0 where
+-- the event with the number `since` puts this document on the column, and the document is live then; after it come these events, none of
+-- which opens the slice
+pub record IsPutOn (history : List Event) (slice column : ℕ) (document : Document) (since : ℕ) (later : List Event) : Type 0 where
   pub earlier : List Event
   pub event : Event
   pub whole : history ≡ earlier ++ event ∷ later
-  pub adds : added_on slice column event ≡ Some (document.id, document.text)
-  pub at_place : document.place ≡ place earlier + 1
+  pub count : since ≡ length earlier + 1
+  pub puts : put_on slice column event ≡ Some document.id
+  pub lives : Contains (live (earlier ++ event ∷ [])) document
   pub stays : list_any (opens slice) later ≡ false
 
--- no later event deletes the document that was added on the column
-pub record IsLiveOn (history : List Event) (slice column : ℕ) (document : Document) : Type 0 where
+-- no later event takes the document off the column on which it was put
+pub record IsLiveOn (history : List Event) (slice column : ℕ) (document : Document) (since : ℕ) : Type 0 where
   pub later : List Event
-  pub added : IsAddedOn history slice column document later
-  pub not_deleted : list_any (deletes document.id) later ≡ false
+  pub put : IsPutOn history slice column document since later
+  pub not_taken_off : list_any (takes_off document.id) later ≡ false
 
--- a later event deletes the document that was added on the column; this is the place right after the first that does
-pub record IsDeletedOn (history : List Event) (slice column : ℕ) (document : Document) (deleted_at : ℕ) : Type 0 where
+-- the home of the live document with this number is the column on which it was put last
+abbrev pub IsHome : List Event → ℕ → ℕ → ℕ → Type 0
+IsHome history id slice column = (document : Document) × (since : ℕ) × (document.id ≡ id) × IsLiveOn history slice column document since
+
+-- a later event takes the document off the column on which it was put; the first that does has the number `until`
+pub record IsDeletedOn (history : List Event) (slice column : ℕ) (document : Document) (since until : ℕ) : Type 0 where
   pub between : List Event
   pub event : Event
   pub later : List Event
-  pub added : IsAddedOn history slice column document (between ++ event ∷ later)
-  pub not_before : list_any (deletes document.id) between ≡ false
-  pub deletes_it : deletes document.id event ≡ true
-  pub at_place : deleted_at ≡ document.place + place between + 1
+  pub put : IsPutOn history slice column document since (between ++ event ∷ later)
+  pub not_before : list_any (takes_off document.id) between ≡ false
+  pub takes_it_off : takes_off document.id event ≡ true
+  pub count : until ≡ since + length between + 1
 
--- the states of a column: a pending one with the pass that claimed it, a live or deleted one with its document, and a deleted one
--- with the place right after the delete
+-- the states of a column: a pending one with the pass that claimed it, a live or deleted one with its document and the number of
+-- the event that put it there, and a deleted one, which is one whose document was deleted or moved since, with the number of the
+-- event that took it off
 pub data ColumnState : Type 0 where
   Unclaimed : ColumnState
   Pending : ℕ → ColumnState
   Dropped : ColumnState
-  Live : Document → ColumnState
-  Deleted : Document → ℕ → ColumnState
+  Live : Document → ℕ → ColumnState
+  Deleted : Document → ℕ → ℕ → ColumnState
 
 -- the column is in this state
 abbrev pub IsInState : List Event → ℕ → ℕ → ColumnState → Type 0
 IsInState history slice column Unclaimed = is_claimed slice column history ≡ false
 IsInState history slice column (Pending pass) = IsPending history slice column pass
 IsInState history slice column Dropped = list_any (drops_on slice column) (span slice history) ≡ true
-IsInState history slice column (Live document) = IsLiveOn history slice column document
-IsInState history slice column (Deleted document deleted_at) = IsDeletedOn history slice column document deleted_at
+IsInState history slice column (Live document since) = IsLiveOn history slice column document since
+IsInState history slice column (Deleted document since until) = IsDeletedOn history slice column document since until
 
 -- the column has no live and no pending document, and gets none until the slice is opened again
 abbrev pub IsOver : ColumnState → Type 0
 IsOver Dropped = Unit {0}
-IsOver (Deleted document deleted_at) = Unit {0}
+IsOver (Deleted document since until) = Unit {0}
 IsOver _ = ⊥
 
 -- each column of the slice is deleted or dropped

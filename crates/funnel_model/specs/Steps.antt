@@ -4,14 +4,16 @@ use Rattle.std.specs.Option.{option_map, option_map_or}
 use mathlib.Core.List.{IsPrefix}
 use Rattle.funnel_model.specs.declared.call.Call.{Call}
 use Rattle.funnel_model.specs.declared.call.Call.TheVariants as call
+use Rattle.funnel_model.specs.declared.call.TheConstants.{MOST_MOVES}
 use Rattle.funnel_model.specs.declared.event.Event.{Event}
 use Rattle.funnel_model.specs.declared.event.Event.TheVariants as event
 use Rattle.funnel_model.specs.declared.reply.Reply.{Reply}
 use Rattle.funnel_model.specs.declared.reply.Reply.TheVariants as reply
 use Rattle.funnel_model.specs.Blocks.{IsLowestGuard}
-use Rattle.funnel_model.specs.History.{base, place, commits_after, answer, live_place, own, call_by}
+use Rattle.funnel_model.specs.History.{base, place, commits_after, answer, live_place, moved_by, own, call_by}
 use Rattle.funnel_model.specs.Legal.{Limits, IsIdle, IsLegal}
 use Rattle.funnel_model.specs.Slices.{IsRetired}
+use Rattle.funnel_model.specs.Tunings.{tunings}
 
 -- no slice is retired
 abbrev pub NoneRetired : Limits → List Event → Type 0
@@ -54,6 +56,7 @@ IsReply limits history (event.Drop pass id text slice column) given = option_map
 IsReply limits history (event.Del pass id) given = given ≡ reply.Deleted (place history + 1)
 IsReply limits history (event.Find pass query) given = given ≡ reply.Found (answer history query)
 IsReply limits history (event.Opened pass slice alone) given = (alone ≡ true) × (given ≡ reply.Recycled slice)
+IsReply limits history (event.Tune pass config) given = given ≡ reply.Tuned (length (tunings history) + 1)
 IsReply limits history (event.No pass asked) given = IsReplyToRefused limits history asked given
 IsReply limits history (event.Read pass asked) given = IsReplyToRead limits history asked given
 IsReply limits history _ given = ⊥
@@ -85,9 +88,10 @@ AddsCall pass before after asked = own pass after ≡ own pass before ++ asked �
 abbrev pub AddsNone : ℕ → List Event → List Event → Type 0
 AddsNone pass before after = own pass after ≡ own pass before
 
--- for want of memory an add makes no call, and a find or a journal makes one or none; no other call wants memory
+-- for want of memory an add or a tuning makes no call, and a find or a journal makes one or none; no other call wants memory
 abbrev pub FindsNoMemory : ℕ → List Event → List Event → Call → Type 0
 FindsNoMemory pass before after (call.Add id text) = AddsNone pass before after
+FindsNoMemory pass before after (call.Tune config) = AddsNone pass before after
 FindsNoMemory pass before after (call.Find query) = AddsNone pass before after ⊎ AddsCall pass before after (call.Find query)
 FindsNoMemory pass before after (call.Journal from) = AddsNone pass before after ⊎ AddsCall pass before after (call.Journal from)
 FindsNoMemory pass before after _ = ⊥
@@ -108,12 +112,18 @@ pub record IsSpent (limits : Limits) (pass : ℕ) (before after : List Event) (g
   pub call : AddsNone pass before after
   pub many : limits.events ≤ length after
 
+-- how many documents a call moves at most: an add may make room so for later ones, and no other call moves any
+abbrev pub most_moves : Call → ℕ
+most_moves (call.Add id text) = MOST_MOVES
+most_moves _ = 0
+
 -- a call of a pass leads from the front before to the front after, and is answered by this reply
 pub record Step (limits : Limits) (pass : ℕ) (before after : List Event) (asked : Call) (given : Reply) : Type 0 where
   pub grows : IsPrefix before after
   pub legal : IsLegal limits after
   pub idle_before : IsIdle pass before
   pub idle_after : IsIdle pass after
+  pub few_moves : moved_by pass after ≤ moved_by pass before + most_moves asked
   pub outcome : IsMade limits pass before after asked given ⊎ LacksMemory pass before after asked given ⊎ IsSpent limits pass before after given
 
 -- calls lead from front to front, one step for each, and are answered by these replies in order

@@ -1,10 +1,11 @@
 -- The tokens of running finds: what they guard, and what they may read.
-use Rattle.std.specs.Prelude.{ℕ, ◌+◌, ◌<◌, ◌≡◌, false, List, ◌∷◌, ◌++◌, length}
+use Rattle.std.specs.Prelude.{ℕ, ◌+◌, ◌<◌, ◌≡◌, ◌&&◌, false, List, ◌∷◌, ◌++◌, length, nat_lt, Option, Some, None, if◌then◌else◌}
 use Rattle.std.specs.List.{list_any}
 use Rattle.funnel_model.specs.declared.event.Event.{Event}
 use Rattle.funnel_model.specs.declared.event.Event.TheVariants as event
 use Rattle.funnel_model.specs.Events.{finds_or_ends}
-use Rattle.funnel_model.specs.Slices.{IsInUse, IsRetired, IsRetiredAt}
+use Rattle.funnel_model.specs.History.{Document}
+use Rattle.funnel_model.specs.Slices.{ColumnState, Live, Deleted, IsInUse, IsRetired, IsRetiredAt}
 
 -- the pass has an open token with this number: that of its last find, which it hasn't ended
 pub record HasToken (history : List Event) (pass number : ℕ) : Type 0 where
@@ -32,3 +33,10 @@ pub record MayRead (columns : ℕ) (history : List Event) (pass slice : ℕ) : T
   pub number : ℕ
   pub token : HasToken history pass number
   pub in_use : IsInUse columns slice token.earlier
+
+-- the document that a find with this number sees in a column: one that was put there before the find began, and wasn't taken off
+-- before it
+abbrev pub seen_by : ℕ → ColumnState → Option Document
+seen_by number (Live document since) = if nat_lt since number then Some document else None
+seen_by number (Deleted document since until) = if nat_lt since number && nat_lt number until then Some document else None
+seen_by number _ = None

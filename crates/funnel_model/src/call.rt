@@ -1,4 +1,8 @@
+use crate::config::Config;
 use crate::text::Text;
+
+/// The most documents that an add moves before it takes a column for its own.
+pub const MOST_MOVES: u32 = 16;
 
 /// What a client asks of the engine.
 #[derive(Debug, Drop)]
@@ -15,4 +19,6 @@ pub enum Call {
     Journal { from: u64 },
     /// Clear and open a slice of which each column is deleted or dropped.
     Recycle,
+    /// Treat slices by this configuration, each from its next clear on.
+    Tune { config: Config },
 }

@@ -15,6 +15,9 @@ pub const MOST_RANK: u8 = 6;
 /// The most commits that a journal keeps.
 pub const MOST_COMMITS: u64 = 16_777_216;
 
+/// The most columns that are kept free.
+pub const MOST_RESERVE: u32 = 4_194_304;
+
 /// The least number of bits of a shared row of which one is set.
 pub const LEAST_ONE_IN: u64 = 2;
 
@@ -55,6 +58,8 @@ pub struct Config {
     pub max_rank: u8,
     /// The commits that the journal keeps, which are the last ones: 1 to [`MOST_COMMITS`].
     pub commits: u64,
+    /// The columns that are kept free: 0 to [`MOST_RESERVE`].
+    pub reserve: u32,
     /// One bit in this many is set in a shared row: [`LEAST_ONE_IN`] to [`MOST_ONE_IN`].
     pub one_in: u64,
     /// The wanted ratio of signal to noise: 1 to [`MOST_SNR`].

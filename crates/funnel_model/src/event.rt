@@ -1,5 +1,6 @@
 use crate::bit_list::BitList;
 use crate::call::Call;
+use crate::config::Config;
 use crate::text::Text;
 
 /// One step of the model, made by a pass. The number of an event is its place in the history, from 1.
@@ -33,6 +34,21 @@ pub enum Event {
         pass: u32,
         id: u64,
     },
+    /// The live document with this number moves from the column that it had to the claimed one. It stays live, with its
+    /// text and its place; a find that is running still sees it in the column that it had, and a later one in the new column.
+    Move {
+        pass: u32,
+        id: u64,
+        slice: u32,
+        column: u32,
+        bits: BitList,
+    },
+    /// The claimed column gets no document after all, and there is no call that would be told so.
+    Void {
+        pass: u32,
+        slice: u32,
+        column: u32,
+    },
     /// A query is answered by the documents that are live here. The pass holds a token until its
     /// `End`: while it is open, no slice is cleared that the find may read.
     Find {
@@ -54,6 +70,11 @@ pub enum Event {
         pass: u32,
         slice: u32,
         alone: bool,
+    },
+    /// New statistics are given. A slice is treated by them from its next `Clear` on, and until then as it was.
+    Tune {
+        pass: u32,
+        config: Config,
     },
     /// A call that was refused before any other event of it.
     No {

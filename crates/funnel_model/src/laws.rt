@@ -14,7 +14,10 @@ pub mod clears;
 pub mod counter_examples;
 pub mod examples;
 pub mod invariants;
+pub mod moves;
 pub mod replies;
+pub mod reserve;
+pub mod tunings;
 
 /// A history is legal exactly where each of its events is allowed after those before it.
 pub fn legal_event_by_event()
@@ -58,11 +61,11 @@ pub fn live_documents_have_columns()
     ensures number { (history : List Event) (id : ℕ) → is_live id history ≡ true ↔
         ((d : Document) × Contains (live history) d × (d.id ≡ id)) }
     ensures column { (limits : Limits) (history : List Event) (d : Document) → IsLegal limits history → Contains (live history) d →
-        (slice : ℕ) × (column : ℕ) × (slice < limits.slices) × (column < limits.columns) × IsInState history slice column (Live d) }
-    ensures document { (limits : Limits) (history : List Event) (slice column : ℕ) (d : Document) → IsLegal limits history →
-        IsInState history slice column (Live d) → Contains (live history) d }
-    ensures once { (limits : Limits) (history : List Event) (slice column other at : ℕ) (d e : Document) → IsLegal limits history →
-        IsInState history slice column (Live d) → IsInState history other at (Live e) → d.id ≡ e.id →
+        (slice : ℕ) × (column : ℕ) × (since : ℕ) × (slice < limits.slices) × (column < limits.columns) × IsInState history slice column (Live d since) }
+    ensures document { (history : List Event) (slice column since : ℕ) (d : Document) →
+        IsInState history slice column (Live d since) → Contains (live history) d }
+    ensures once { (limits : Limits) (history : List Event) (slice column other at since after : ℕ) (d e : Document) → IsLegal limits history →
+        IsInState history slice column (Live d since) → IsInState history other at (Live e after) → d.id ≡ e.id →
         (slice ≡ other) × (column ≡ at) }
 {}
 
@@ -70,8 +73,8 @@ pub fn live_documents_have_columns()
 pub fn retired_slices_are_empty()
     ensures not_pending { (limits : Limits) (history : List Event) (slice column pass : ℕ) → IsLegal limits history →
         IsRetired limits.columns slice history → column < limits.columns → IsInState history slice column (Pending pass) → ⊥ }
-    ensures not_live { (limits : Limits) (history : List Event) (slice column : ℕ) (d : Document) → IsLegal limits history →
-        IsRetired limits.columns slice history → column < limits.columns → IsInState history slice column (Live d) → ⊥ }
+    ensures not_live { (limits : Limits) (history : List Event) (slice column since : ℕ) (d : Document) → IsLegal limits history →
+        IsRetired limits.columns slice history → column < limits.columns → IsInState history slice column (Live d since) → ⊥ }
 {}
 
 /// In a legal history of slices with columns, a slice that is retired has retired at one event: of those since its last opening,

@@ -29,6 +29,12 @@ pub enum Reply {
     /// No slice can be recycled: each that is retired is guarded by a running find. The lowest of these slices, and the
     /// lowest pass that guards it.
     Guarded { slice: u32, pass: u32 },
+    /// The statistics were taken; how many tunings there were, with this one.
+    Tuned(u64),
+    /// The statistics have the fault of this number.
+    Tuning(u8),
+    /// By these statistics a slice would need more row words than it has room for.
+    Wide { needed: u64, room: u64 },
     /// The history has so many events that no call is taken any more.
     Spent,
     /// No memory was found for the call.

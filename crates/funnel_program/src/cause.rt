@@ -1,19 +1,66 @@
-//! What a program was refused for, in words for the person who reads standard error.
-use funnel::{MOST_PORT, Misfit, Why};
+//! What a program was refused for, or what failed, in words for the person who reads standard error.
+use funnel::{Ended, MOST_PORT, Misfit, Why, usage_fault};
+use funnel_io::TcpGate;
 use funnel_model::{MOST_COLUMNS, MOST_ROW_WORDS};
 use funnel_stats::{ConfigFault, Key};
 use std::io;
 
+/// What the system said of the last call on each stream that failed.
+#[derive(Drop)]
+pub(crate) struct Errors {
+    pub(crate) config: Option<io::Error>,
+    pub(crate) input: Option<io::Error>,
+    pub(crate) output: Option<io::Error>,
+}
+
 /// Says on standard error what was wrong, where the end tells it.
-pub(crate) fn say_cause(rt: &HostRuntime, why: &Why) -> io::Result<()> {
-    match why {
-        Why::Usage => eprintln!(rt;
-            "funnel: the commands are `run`, `load --docs D` and `serve --port P --workers W`"
-        ),
+pub(crate) fn say_cause(
+    rt: &HostRuntime,
+    words: &[&str],
+    ended: &Ended<TcpGate<'_, HostRuntime>>,
+    errors: &Errors,
+) -> io::Result<()> {
+    match &ended.why {
+        Why::Usage => say_usage(rt, words),
         Why::Config(fault) => say_fault(rt, fault),
+        Why::ReadFault => {
+            say_error(rt, "reading funnel.json", errors.config)?;
+            say_error(rt, "reading standard input", errors.input)
+        }
+        Why::WriteFault => say_error(rt, "writing standard output", errors.output),
+        Why::GateFault => say_gates(rt, ended.gates.as_slice()),
         Why::Misfit(misfit) => say_misfit(rt, *misfit),
-        _ => Ok(()),
+        Why::Done | Why::Memory | Why::ByteLimit(_) => Ok(()),
     }
+}
+
+/// Says what failed, and what the system said, where it did.
+pub(crate) fn say_error(rt: &HostRuntime, doing: &str, error: Option<io::Error>) -> io::Result<()> {
+    match error {
+        Some(error) => eprintln!(rt; "funnel: {doing}: {error}"),
+        None => Ok(()),
+    }
+}
+
+fn say_usage(rt: &HostRuntime, words: &[&str]) -> io::Result<()> {
+    match usage_fault(rt.alloc(), words) {
+        Ok(Some(fault)) => eprintln!(rt; "funnel: {fault}; see `funnel --help`"),
+        // Without memory for the words they aren't told.
+        Ok(None) | Err(_) => Ok(()),
+    }
+}
+
+/// Says of each worker that its gate ended on which port, and why.
+fn say_gates(rt: &HostRuntime, gates: &[TcpGate<'_, HostRuntime>]) -> io::Result<()> {
+    for (worker, gate) in gates.iter().enumerate() {
+        if let Some(error) = gate.error() {
+            eprintln!(rt;
+                "funnel: worker {worker} ended, on port {}: {error}",
+                gate.port()
+            )?;
+        }
+    }
+    Ok(())
 }
 
 fn say_fault(rt: &HostRuntime, fault: &ConfigFault) -> io::Result<()> {
@@ -47,13 +94,16 @@ fn say_misfit(rt: &HostRuntime, misfit: Misfit) -> io::Result<()> {
             "funnel: {stated} workers need a gate each, and there are {given}"
         ),
         Misfit::Workers { asked, passes } => eprintln!(rt;
-            "funnel: {asked} workers need as many `passes`, and the configuration has {passes}"
+            "funnel: {asked} workers need as many `passes`, and the configuration has {passes}: \
+             raise `passes` in funnel.json, or lower `--workers`"
         ),
         Misfit::Ports { last } => eprintln!(rt;
-            "funnel: the last worker would listen on port {last}, and the last there is is {MOST_PORT}"
+            "funnel: the last worker would listen on port {last}, and the last there is is {MOST_PORT}: \
+             lower `--port` or `--workers`"
         ),
         Misfit::Columns { docs, columns } => eprintln!(rt;
-            "funnel: {docs} documents need a column each, and `slices`, `max_rank` and `blocks` make {columns}"
+            "funnel: {docs} documents need a column each, and `slices`, `max_rank` and `blocks` make {columns}: \
+             raise one of these in funnel.json, or lower `--docs`"
         ),
     }
 }

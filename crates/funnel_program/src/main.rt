@@ -3,9 +3,11 @@
 #![tactic(auto)]
 
 mod cause;
+mod closed;
 
-use cause::say_cause;
-use funnel::{Command, Why, funnel_main, gates_on, ports, read_command};
+use cause::{Errors, say_cause, say_error};
+use closed::hold_closed;
+use funnel::{Command, Why, funnel_main, gates_on, idle, ports, read_command, tell_asked};
 use funnel_io::{FileSource, StdinSource, StdoutSink};
 use std::alloc::Global;
 use std::env;
@@ -16,34 +18,50 @@ use std::process::ExitCode;
 const CONFIG_PATH: &str = "funnel.json";
 
 fn main(rt: HostRuntime) -> ExitCode {
+    let _held = hold_closed(&rt);
     let alloc = rt.alloc();
     let args = match args(&rt) {
         Ok(args) => args,
-        Err(why) => return report(&rt, why),
+        Err(why) => return refuse_args(&rt, &why),
     };
     let Ok(words): Result<Vec<&str>, _> = args.iter().map(|arg| arg.as_str()).collect(alloc) else {
-        return report(&rt, Why::Memory);
+        return report(&rt, &Why::Memory);
     };
-    let Ok(ports) = ports(alloc, words.as_slice()) else {
-        return report(&rt, Why::Memory);
+    let words = words.as_slice();
+    let mut output = StdoutSink::new(rt.stdout());
+    if let Some(why) = tell_asked(words, &mut output) {
+        return report_text(&rt, &why, &output);
+    }
+    let Ok(ports) = ports(alloc, words) else {
+        return report(&rt, &Why::Memory);
     };
-    let Ok(gates) = gates_on(&rt, alloc, ports.as_slice()) else {
-        return report(&rt, Why::Memory);
+    let Ok(idle) = idle(alloc, words) else {
+        return report(&rt, &Why::Memory);
     };
-    say_what_begins(&rt, alloc, words.as_slice());
+    let Ok(gates) = gates_on(&rt, alloc, ports.as_slice(), idle) else {
+        return report(&rt, &Why::Memory);
+    };
+    say_what_begins(&rt, alloc, words);
     let mut config = FileSource::open(&rt, CONFIG_PATH);
     let mut input = StdinSource::new(rt.stdin());
-    let mut output = StdoutSink::new(rt.stdout());
     let ended = funnel_main(
         &rt,
         alloc,
-        words.as_slice(),
+        words,
         &mut config,
         &mut input,
         &mut output,
         gates,
     );
-    report(&rt, ended.why)
+    let status = report(&rt, &ended.why);
+    let errors = Errors {
+        config: config.error(),
+        input: input.error(),
+        output: output.error(),
+    };
+    // Where nothing can be written on standard error, the status tells it alone.
+    let _ = say_cause(&rt, words, &ended, &errors);
+    status
 }
 
 /// The words after the program's name. One that is not UTF-8 is in no command.
@@ -74,12 +92,29 @@ fn say_what_begins(rt: &HostRuntime, alloc: Global, words: &[&str]) {
     };
 }
 
-/// Says on standard error why the program did not do all that it was to do, and then what was wrong, and gives its status.
-fn report(rt: &HostRuntime, why: Why) -> ExitCode {
+/// Says how the text that the words ask for was told.
+fn report_text(rt: &HostRuntime, why: &Why, output: &StdoutSink) -> ExitCode {
+    let status = report(rt, why);
+    // As in `main`.
+    let _ = say_error(rt, "writing standard output", output.error());
+    status
+}
+
+/// Tells that the words after the program's name could not be read.
+fn refuse_args(rt: &HostRuntime, why: &Why) -> ExitCode {
+    let status = report(rt, why);
+    if let Why::Usage = why {
+        // As in `main`.
+        let _ = eprintln!(rt; "funnel: a word is not UTF-8; see `funnel --help`");
+    }
+    status
+}
+
+/// Says on standard error why the program did not do all that it was to do, and gives its status.
+fn report(rt: &HostRuntime, why: &Why) -> ExitCode {
     if why.status() != 0 {
-        // Where nothing can be written there either, the status tells it alone.
+        // As in `main`.
         let _ = eprintln!(rt; "funnel: {why}");
-        let _ = say_cause(rt, &why);
     }
     ExitCode::from(why.status())
 }

@@ -1,5 +1,5 @@
 -- How calls that are made one after another join.
-use Rattle.std.proofs.Common.{◌≡◌, ◌≢◌, ℕ, List, [], ◌∷◌, ◌++◌, refl, sym, ap, ◌∙◌, subst, append_assoc, append-nil, inl, inr, Result, Ok, Err, OnErr}
+use Rattle.std.proofs.Common.{◌≡◌, ◌≢◌, ℕ, List, [], ◌∷◌, ◌++◌, refl, sym, ap, ◌∙◌, subst, arith, append_assoc, append-nil, inl, inr, Result, Ok, Err, OnErr}
 use Rattle.std.proofs.lemmas.List.Elements.{All-append, All-cons, All-nil}
 use Rattle.funnel_model.specs.declared.call.Call.{Call}
 use Rattle.funnel_model.specs.declared.call.Call.TheVariants as call
@@ -88,6 +88,7 @@ stopped-none caller before front asked given query others answered =
           legal = step.legal;
           idle_before = step.idle_after;
           idle_after = step.idle_after;
+          few_moves = omega arith;
           outcome = inr (inl (record { reply = refl; call = inl refl }));
         };
       };

@@ -44,6 +44,7 @@ made_call limits pass before after asked given not_spent not_memory step =
 -- a call without memory was made or not
 without_memory : (pass : ℕ) (before after : List Event) (asked : Call) → FindsNoMemory pass before after asked → OneMade pass before after asked reply.Memory
 without_memory pass before after (call.Add id text) none = record { made = []; is = refl; adds = adds_nothing pass before after none }
+without_memory pass before after (call.Tune config) none = record { made = []; is = refl; adds = adds_nothing pass before after none }
 without_memory pass before after (call.Find query) (inl none) = record { made = []; is = inl refl; adds = adds_nothing pass before after none }
 without_memory pass before after (call.Find query) (inr adds) = record { made = call.Find query ∷ []; is = inr refl; adds = adds }
 without_memory pass before after (call.Journal from) (inl none) = record { made = []; is = inl refl; adds = adds_nothing pass before after none }

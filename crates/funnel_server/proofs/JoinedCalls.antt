@@ -1,5 +1,5 @@
 -- How calls join that a pass makes one after another, where it sees events of other passes in between.
-use Rattle.std.proofs.Common.{◌≡◌, ◌⊎◌, ℕ, false, List, [], ◌∷◌, ◌++◌, sym, ap, ◌∙◌, subst, inl, inr}
+use Rattle.std.proofs.Common.{◌≡◌, ◌⊎◌, ℕ, false, List, [], ◌∷◌, ◌++◌, sym, ap, ◌∙◌, subst, arith, inl, inr}
 use Rattle.std.specs.Prelude.{IfSome}
 use Rattle.funnel_model.proofs.Clears.{last_by-front}
 use Rattle.funnel_model.proofs.StepLemmas.{prefix_trans}
@@ -11,12 +11,13 @@ use Rattle.funnel_model.specs.Events.{leaves_open}
 use Rattle.funnel_model.specs.History.{IsFrontOf, own}
 use Rattle.funnel_model.specs.Legal.{Limits}
 use Rattle.funnel_model.specs.Steps.{FindsNoMemory, IsMade, IsSpent, LacksMemory, Linear, Step}
-use Rattle.load_laws.proofs.FrontLemmas.{calls_in_front}
+use Rattle.load_laws.proofs.FrontLemmas.{calls_in_front, moved_in_front}
 
 -- a want of memory after a history is one after each with the same calls
 memory_from : (pass : ℕ) (front before after : List Event) (asked : Call) → own pass before ≡ own pass front →
     FindsNoMemory pass before after asked → FindsNoMemory pass front after asked
 memory_from pass front before after (call.Add id text) same none = none ∙ same
+memory_from pass front before after (call.Tune config) same none = none ∙ same
 memory_from pass front before after (call.Find query) same (inl none) = inl (none ∙ same)
 memory_from pass front before after (call.Find query) same (inr made) = inr (made ∙ ap (λ cs. cs ++ call.Find query ∷ []) same)
 memory_from pass front before after (call.Journal from) same (inl none) = inl (none ∙ same)
@@ -31,6 +32,7 @@ step_from_front limits pass front before after asked given seen step = record {
   legal = step.legal;
   idle_before = subst (λ o. IfSome o (λ e. leaves_open e ≡ false)) (last_by-front pass front before seen) step.idle_before;
   idle_after = step.idle_after;
+  few_moves = omega (arith, step.few_moves, moved_in_front pass front before seen);
   outcome = outcome step.outcome;
 }
   where

@@ -40,10 +40,11 @@ replies_in caller before after taken written end_of.WriteFault session = session
 replies_in caller before after taken written end_of.Memory session = []
 
 -- of the calls that a pass made, those that come of a call which was answered so: the call itself; but none where it was refused
--- as spent, or an add found no memory; and the call or none where another one found no memory
+-- as spent, or an add or a tuning found no memory; and the call or none where another one found no memory
 abbrev pub IsMadeAs : Reply → Call → List Call → Type 0
 IsMadeAs reply.Spent asked made = made ≡ []
 IsMadeAs reply.Memory (call.Add id text) made = made ≡ []
+IsMadeAs reply.Memory (call.Tune config) made = made ≡ []
 IsMadeAs reply.Memory asked made = (made ≡ []) ⊎ (made ≡ asked ∷ [])
 IsMadeAs given asked made = made ≡ asked ∷ []
 

@@ -4,8 +4,8 @@ use Rattle.std.proofs.lemmas.Bool.{le-ltb, lt-ltb}
 use Rattle.funnel_model.specs.declared.config.Config.{Config}
 use Rattle.serde_json.specs.Data.{Members}
 use Rattle.funnel_stats.specs.Configurations.{config_of, fault_of, unless, object_of, longest, configuration}
-use Rattle.funnel_stats.specs.Reading.{IsFaultOf}
-use Rattle.funnel_stats.specs.Steps.{IsFault, GivesOrFaults, IsNoObject, IsFaultOfBytes, IsTakingFault}
+use Rattle.funnel_stats.specs.Reading.{IsFaultOf, IsFaultOfBytes}
+use Rattle.funnel_stats.specs.Steps.{IsFault, GivesOrFaults, IsNoObject, IsTakingFault}
 use Rattle.funnel_stats.specs.declared.fault.ConfigFault.{ConfigFault}
 use Rattle.funnel_stats.specs.declared.fault.ConfigFault.TheVariants.{ReadFault, TooLong, NotJson, UnknownKey, BadValue, NotWord, WordCount, TooManyColumns, PoolTooLarge, Memory}
 
@@ -21,18 +21,19 @@ pub configuration-object : (bytes : List ℕ) (object : Members) → length byte
 unfolding configuration
 configuration-object bytes object few is = rw (not_longer bytes few, is)
 
--- no object
-pub no_object : (fault : ConfigFault) (bytes : List ℕ) → length bytes ≤ longest → IsNoObject fault (object_of bytes) → IsFaultOfBytes fault (configuration bytes)
-no_object Memory bytes few none = tt
-no_object NotJson bytes few none = configuration-none bytes few none
-no_object ReadFault bytes few none = absurd none
-no_object (TooLong limit) bytes few none = absurd none
-no_object (UnknownKey key) bytes few none = absurd none
-no_object (BadValue key kept) bytes few none = absurd none
-no_object (NotWord text) bytes few none = absurd none
-no_object (WordCount word kept) bytes few none = absurd none
-no_object (TooManyColumns columns) bytes few none = absurd none
-no_object (PoolTooLarge words) bytes few none = absurd none
+-- what is no object
+pub no_object : (fault : ConfigFault) (found : Option Members) (answer : Result Config ConfigFault) → (found ≡ None → answer ≡ Err NotJson) → IsNoObject fault found
+    → IsFaultOfBytes fault answer
+no_object Memory found answer told none = tt
+no_object NotJson found answer told none = told none
+no_object ReadFault found answer told none = absurd none
+no_object (TooLong limit) found answer told none = absurd none
+no_object (UnknownKey key) found answer told none = absurd none
+no_object (BadValue key kept) found answer told none = absurd none
+no_object (NotWord text) found answer told none = absurd none
+no_object (WordCount word kept) found answer told none = absurd none
+no_object (TooManyColumns columns) found answer told none = absurd none
+no_object (PoolTooLarge words) found answer told none = absurd none
 
 -- the fault of an object
 fault_of_object : (fault : ConfigFault) (applies : Option ConfigFault) (config : Config) → IsFault fault applies → IsFaultOfBytes fault (unless applies config)
@@ -47,7 +48,8 @@ fault_of_object (WordCount word kept) applies config is = rw is
 fault_of_object (TooManyColumns columns) applies config is = rw is
 fault_of_object (PoolTooLarge words) applies config is = rw is
 
-answer_of : (answer : Result Config ConfigFault) (applies : Option ConfigFault) (config : Config) → GivesOrFaults answer config applies
+-- what an object with such a fault, or none, is answered
+pub answer_of : (answer : Result Config ConfigFault) (applies : Option ConfigFault) (config : Config) → GivesOrFaults answer config applies
     → MatchResult answer (λ value. unless applies config ≡ Ok value) (λ fault. IsFaultOfBytes fault (unless applies config))
 answer_of (Ok value) applies config gives = rw (gives.0, gives.1)
 answer_of (Err fault) applies config gives = fault_of_object fault applies config gives

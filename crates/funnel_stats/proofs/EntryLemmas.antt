@@ -15,6 +15,7 @@ use Rattle.funnel_stats.specs.Configurations.{word_counts}
 use Rattle.funnel_stats.specs.Faults.{unknown_key, is_word, not_word, is_count, word_count}
 use Rattle.funnel_stats.specs.Keys.{is_name}
 use Rattle.funnel_stats.specs.Values.{entries, whole_number, kept, value_at, listed_at}
+use Rattle.funnel_stats.specs.declared.key.Key.{Key}
 use Rattle.funnel_stats.specs.declared.key.Key.TheVariants.{Words}
 use Rattle.funnel_stats.specs.declared.fault.ConfigFault.TheVariants.{UnknownKey, NotWord, WordCount}
 
@@ -24,19 +25,19 @@ length-entries [] = refl
 length-entries (e ∷ es) = ap suc (length-entries es)
 
 -- a name at the front
-pub unknown_key-none : unknown_key (entries (members_view [])) ≡ None
+pub unknown_key-none : (known : List Key) → unknown_key known (entries (members_view [])) ≡ None
 unfolding unknown_key
-unknown_key-none = refl
+unknown_key-none known = refl
 
-pub unknown_key-known : (e : Entry) (es : List Entry) → is_name (string_bytes e.0) ≡ true
-    → unknown_key (entries (members_view (e ∷ es))) ≡ unknown_key (entries (members_view es))
+pub unknown_key-known : (known : List Key) (e : Entry) (es : List Entry) → is_name known (string_bytes e.0) ≡ true
+    → unknown_key known (entries (members_view (e ∷ es))) ≡ unknown_key known (entries (members_view es))
 unfolding unknown_key
-unknown_key-known e es known = rw known
+unknown_key-known known e es is = rw is
 
-pub unknown_key-unknown : (e : Entry) (es : List Entry) → is_name (string_bytes e.0) ≡ false
-    → unknown_key (entries (members_view (e ∷ es))) ≡ Some (UnknownKey (string_bytes e.0))
+pub unknown_key-unknown : (known : List Key) (e : Entry) (es : List Entry) → is_name known (string_bytes e.0) ≡ false
+    → unknown_key known (entries (members_view (e ∷ es))) ≡ Some (UnknownKey (string_bytes e.0))
 unfolding unknown_key
-unknown_key-unknown e es unknown = rw unknown
+unknown_key-unknown known e es is = rw is
 
 -- a listed text at the front
 pub not_word-none : not_word (entries (members_view [])) ≡ None

@@ -7,4 +7,5 @@ pub mod FaultOrder
 pub mod Validity
 pub mod ConfigurationLemmas
 pub mod Taking
+pub mod TuningLemmas
 pub mod ObjectOrder

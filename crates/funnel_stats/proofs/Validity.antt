@@ -9,7 +9,7 @@ use Rattle.std.specs.List.{All, list_all}
 use Rattle.std.specs.Option.{option_map_or, option_or}
 use Rattle.std.specs.Str.{bytes_eq}
 use Rattle.funnel_model.specs.declared.config.TheConstants.{MOST_WORDS, MOST_COLUMNS, MOST_ROW_WORDS}
-use Rattle.funnel_model.specs.Configuration.{IsBetween, IsWord, CountsWords, IsInRange, IsValid}
+use Rattle.funnel_model.specs.Configuration.{IsBetween, IsWord, CountsWords, IsInRange, IsTuning, IsValid, with_statistics}
 use Rattle.funnel_model.specs.Listed.{IsInByteOrder}
 use Rattle.funnel_model.specs.Sizes.{columns_of_pool, words_of_pool}
 use Rattle.funnel_model.specs.Words.{has_word, words}
@@ -93,6 +93,7 @@ IsInRange-words config words range counts = record {
   blocks = range.blocks;
   max_rank = range.max_rank;
   commits = range.commits;
+  reserve = range.reserve;
   one_in = range.one_in;
   snr = range.snr;
   documents = range.documents;
@@ -123,17 +124,43 @@ within_limit : (limit size : ℕ) (over : Bool) (fault : ConfigFault) → ltb li
 within_limit limit size true fault is none = absurd (let e : Some fault ≡ None = none in cc)
 within_limit limit size false fault is none = ltb-false limit size is
 
+-- each listed word of such a configuration is one folded word
+pub folded : (object : Members) (documents : ℕ) (words : List (List ℕ × ℕ)) → word_fault object documents ≡ None → words ≡ word_counts (listed_at object)
+    → All (λ entry. IsWord entry.0) words
+folded object documents words none listed =
+    let faults = no_faults (not_word (listed_at object)) (word_count documents (listed_at object)) none in
+    subst (λ words. All (λ (entry : List ℕ × ℕ). IsWord entry.0) words) (sym listed) (words-from_not_word (listed_at object) faults.0)
+
 -- and where the sizes are within their limits it is valid
-pub is_valid : (object : Members) (config : Config) (words : List (List ℕ × ℕ)) → IsInRange config → length (listed_at object) ≤ MOST_WORDS
-    → word_fault object config.documents ≡ None → words ≡ word_counts (listed_at object) → IsInByteOrder words
-    → size_fault (record config { words = words }) ≡ None → IsValid (record config { words = words })
-is_valid object config words range few none listed ordered sized =
-    let faults = no_faults (not_word (listed_at object)) (word_count config.documents (listed_at object)) none in
-    let whole = record config { words = words } in
-    let sizes = no_faults (too_many_columns whole) (pool_too_large whole) sized in record {
-      in_range = in_range object config words range few none listed;
+pub is_valid : (config : Config) → IsInRange config → IsInByteOrder config.words → All (λ entry. IsWord entry.0) config.words → size_fault config ≡ None → IsValid config
+is_valid config range ordered words sized =
+    let sizes = no_faults (too_many_columns config) (pool_too_large config) sized in record {
+      in_range = range;
       in_order = ordered;
-      folded = subst (λ words. All (λ (entry : List ℕ × ℕ). IsWord entry.0) words) (sym listed) (words-from_not_word (listed_at object) faults.0);
-      few_columns = within_limit MOST_COLUMNS (columns_of_pool whole) _ _ refl sizes.0;
-      small_pool = within_limit MOST_ROW_WORDS (words_of_pool whole) _ _ refl sizes.1;
+      folded = words;
+      few_columns = within_limit MOST_COLUMNS (columns_of_pool config) _ _ refl sizes.0;
+      small_pool = within_limit MOST_ROW_WORDS (words_of_pool config) _ _ refl sizes.1;
     }
+
+-- Put into another configuration, the statistics of one tune it.
+pub with_statistics-tunes : (opening statistics : Config) → IsInRange opening → IsInRange statistics → IsInByteOrder statistics.words
+    → All (λ entry. IsWord entry.0) statistics.words → IsTuning opening (with_statistics opening statistics)
+with_statistics-tunes opening statistics opened range ordered words = record {
+  kept = refl;
+  in_range = record {
+    passes = opened.passes;
+    slices = opened.slices;
+    blocks = opened.blocks;
+    max_rank = opened.max_rank;
+    commits = opened.commits;
+    reserve = opened.reserve;
+    one_in = range.one_in;
+    snr = range.snr;
+    documents = range.documents;
+    tail = range.tail;
+    max_rows = range.max_rows;
+    words = record { few = range.words.few; counted = range.words.counted };
+  };
+  in_order = ordered;
+  folded = words;
+}

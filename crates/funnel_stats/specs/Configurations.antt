@@ -10,7 +10,7 @@ use Rattle.funnel_stats.specs.Keys.{keys}
 use Rattle.funnel_stats.specs.Values.{entries, whole_number, number_at, listed_at}
 use Rattle.funnel_stats.specs.Faults.{unknown_key, bad_value, not_word, word_count, too_many_columns, pool_too_large}
 use Rattle.funnel_stats.specs.declared.reading.TheConstants.{LONGEST}
-use Rattle.funnel_stats.specs.declared.key.Key.TheVariants.{Passes, Slices, Blocks, MaxRank, Commits, OneIn, Snr, Documents, Tail, MaxRows}
+use Rattle.funnel_stats.specs.declared.key.Key.TheVariants.{Passes, Slices, Blocks, MaxRank, Commits, Reserve, OneIn, Snr, Documents, Tail, MaxRows}
 use Rattle.funnel_stats.specs.declared.fault.ConfigFault.{ConfigFault}
 use Rattle.funnel_stats.specs.declared.fault.ConfigFault.TheVariants.{TooLong, NotJson}
 
@@ -31,6 +31,7 @@ config_of object = record {
   blocks = number_at object Blocks;
   max_rank = number_at object MaxRank;
   commits = number_at object Commits;
+  reserve = number_at object Reserve;
   one_in = number_at object OneIn;
   snr = number_at object Snr;
   documents = number_at object Documents;
@@ -39,12 +40,16 @@ config_of object = record {
   words = word_counts (listed_at object);
 }
 
--- the first fault of an object: of its keys, of its values in the order of the table, of its words, of their counts, and
--- of the sizes that it asks for
+-- the first fault of what an object gives: of its values in the order of the table, of its words, and of their counts
+unfoldable pub value_fault : Members → Option ConfigFault
+value_fault object = first_of (
+    first_of (map (bad_value object) keys)
+    ∷ not_word (listed_at object) ∷ word_count (number_at object Documents) (listed_at object) ∷ [])
+
+-- the first fault of an object: of its keys, of what it gives, and of the sizes that it asks for
 unfoldable pub fault_of : Members → Option ConfigFault
 fault_of object = first_of (
-    unknown_key (entries object) ∷ first_of (map (bad_value object) keys)
-    ∷ not_word (listed_at object) ∷ word_count (number_at object Documents) (listed_at object)
+    unknown_key keys (entries object) ∷ value_fault object
     ∷ too_many_columns (config_of object) ∷ pool_too_large (config_of object) ∷ [])
 
 -- the fault, or else the configuration

@@ -13,9 +13,9 @@ use Rattle.funnel_stats.specs.declared.key.Key.{Key}
 use Rattle.funnel_stats.specs.declared.fault.ConfigFault.{ConfigFault}
 use Rattle.funnel_stats.specs.declared.fault.ConfigFault.TheVariants.{UnknownKey, BadValue, NotWord, WordCount, TooManyColumns, PoolTooLarge}
 
--- the first name, in byte order, that no key has
-unfoldable pub unknown_key : List (List ℕ × Data) → Option ConfigFault
-unknown_key entries = option_map (λ entry. UnknownKey entry.0) (find (λ entry. not (is_name entry.0)) entries)
+-- the first name, in byte order, that none of the keys has
+unfoldable pub unknown_key : List Key → List (List ℕ × Data) → Option ConfigFault
+unknown_key known entries = option_map (λ entry. UnknownKey entry.0) (find (λ entry. not (is_name known entry.0)) entries)
 
 -- the value of a key that is not of its kind or range
 unfoldable pub bad_value : Members → Key → Option ConfigFault

@@ -3,6 +3,7 @@ pub mod Values
 pub mod FaultNumbers
 pub mod Faults
 pub mod Configurations
+pub mod Tunings
 pub mod Reading
 pub mod Steps
 pub mod Laws

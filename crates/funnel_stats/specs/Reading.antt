@@ -17,6 +17,13 @@ IsFaultOf Memory bytes left = ⊤
 IsFaultOf (TooLong limit) bytes left = (configuration bytes ≡ Err (TooLong limit)) × (length bytes ≡ longest + 1)
 IsFaultOf fault bytes left = (configuration bytes ≡ Err fault) × IsAtEnd left
 
+-- The fault is the one that bytes have which were taken as a whole and are not too many. Want of memory says nothing of them.
+abbrev pub IsFaultOfBytes : ConfigFault → Result Config ConfigFault → Type 0
+IsFaultOfBytes Memory answer = ⊤
+IsFaultOfBytes ReadFault answer = ⊥
+IsFaultOfBytes (TooLong limit) answer = ⊥
+IsFaultOfBytes fault answer = answer ≡ Err fault
+
 -- the fault is that of a read that failed
 abbrev pub is_failed_read : ConfigFault → Bool
 is_failed_read ReadFault = true

@@ -1,9 +1,8 @@
 -- What the steps of reading a configuration give, for the clauses of functions that are not public.
-use Rattle.std.specs.Prelude.{◌≡◌, ◌+◌, ◌≤◌, ⊤, ℕ, List, length, Vec, Option, Some, None, Result, Err, MatchResult}
+use Rattle.std.specs.Prelude.{◌≡◌, ◌+◌, ◌≤◌, ⊤, ℕ, List, length, Vec, Option, Some, None, Result, MatchResult}
 use Rattle.std.specs.Global.{Global}
 use Rattle.std.specs.Io.KnownBytes.{IsAtEnd}
 use Rattle.funnel_io.specs.Streams.{Incoming, Takes}
-use Rattle.funnel_model.specs.declared.config.Config.{Config}
 use Rattle.serde_json.specs.Data.{Members}
 use Rattle.funnel_stats.specs.Configurations.{longest}
 use Rattle.funnel_stats.specs.declared.fault.ConfigFault.{ConfigFault}
@@ -23,13 +22,6 @@ GivesOrFaults answer value applies = MatchResult answer (λ x. (applies ≡ None
 -- the answer is the first fault that applies to an object, where one does
 abbrev pub Checks : Result ⊤ ConfigFault → Option ConfigFault → Type 0
 Checks answer applies = MatchResult answer (λ _. applies ≡ None) (λ fault. IsFault fault applies)
-
--- the fault is that of bytes which are not too many
-abbrev pub IsFaultOfBytes : ConfigFault → Result Config ConfigFault → Type 0
-IsFaultOfBytes Memory answer = ⊤
-IsFaultOfBytes ReadFault answer = ⊥
-IsFaultOfBytes (TooLong limit) answer = ⊥
-IsFaultOfBytes fault answer = answer ≡ Err fault
 
 -- the bytes are no object, or no memory was found
 abbrev pub IsNoObject : ConfigFault → Option Members → Type 0

@@ -3,7 +3,7 @@ ghost use Rattle.funnel_stats.specs.Keys.{name_of, range_of, is_name};
 
 use funnel_model::{
     LEAST_ONE_IN, MOST_BLOCKS, MOST_COMMITS, MOST_DOCUMENTS, MOST_MAX_ROWS, MOST_ONE_IN,
-    MOST_PASSES, MOST_RANK, MOST_SLICES, MOST_SNR, MOST_TAIL, MOST_WORDS,
+    MOST_PASSES, MOST_RANK, MOST_RESERVE, MOST_SLICES, MOST_SNR, MOST_TAIL, MOST_WORDS,
 };
 
 /// A key of a configuration. The order of the variants is that of the table of keys.
@@ -19,6 +19,8 @@ pub enum Key {
     MaxRank,
     /// The commits that the journal keeps, which are the last ones.
     Commits,
+    /// The columns that are kept free.
+    Reserve,
     /// One bit in this many is set in a shared row.
     OneIn,
     /// The wanted ratio of signal to noise.
@@ -65,6 +67,8 @@ const MAX_RANK: u64 = 0;
 
 const COMMITS: u64 = 1_024;
 
+const RESERVE: u64 = 0;
+
 const ONE_IN: u64 = 10;
 
 const SNR: u64 = 10;
@@ -76,12 +80,23 @@ const TAIL: u64 = 10;
 const MAX_ROWS: u64 = 65_536;
 
 /// All keys in the order of the table.
-pub const KEYS: [Key; 11] = [
+pub const KEYS: [Key; 12] = [
     Key::Passes,
     Key::Slices,
     Key::Blocks,
     Key::MaxRank,
     Key::Commits,
+    Key::Reserve,
+    Key::OneIn,
+    Key::Snr,
+    Key::Documents,
+    Key::Tail,
+    Key::MaxRows,
+    Key::Words,
+];
+
+/// The keys of the statistics, which a tuning may have.
+pub const STATISTIC_KEYS: [Key; 6] = [
     Key::OneIn,
     Key::Snr,
     Key::Documents,
@@ -101,6 +116,7 @@ impl Key {
             Key::Blocks => "blocks",
             Key::MaxRank => "max_rank",
             Key::Commits => "commits",
+            Key::Reserve => "reserve",
             Key::OneIn => "one_in",
             Key::Snr => "snr",
             Key::Documents => "documents",
@@ -122,6 +138,7 @@ impl Key {
             Key::Blocks => (1, MOST_BLOCKS as u64, BLOCKS),
             Key::MaxRank => (0, MOST_RANK as u64, MAX_RANK),
             Key::Commits => (1, MOST_COMMITS, COMMITS),
+            Key::Reserve => (0, MOST_RESERVE as u64, RESERVE),
             Key::OneIn => (LEAST_ONE_IN, MOST_ONE_IN, ONE_IN),
             Key::Snr => (1, MOST_SNR, SNR),
             Key::Documents => (1, MOST_DOCUMENTS, DOCUMENTS),
@@ -135,11 +152,11 @@ impl Key {
             default,
         }
     }
+}
 
-    /// Whether a key has this name.
-    pub fn is_name(name: &str) -> bool
-        ensures { result ≡ is_name name.now }
-    {
-        KEYS.iter().any(|key| key.name() == name)
-    }
+/// Whether one of the keys has this name.
+pub fn is_name(known: &[Key], name: &str) -> bool
+    ensures { result ≡ is_name known.now name.now }
+{
+    known.iter().any(|key| key.name() == name)
 }

@@ -1,7 +1,8 @@
 //! The configuration of an engine, read from a source: one JSON object, whose keys are whole numbers and the listed
 //! words with their counts. What is read is hostile: a fault says why it is no configuration. The layers above use
 //! that a configuration that was read is valid, with exactly the values of the object and the defaults of the keys that
-//! it leaves out, and that a fault is the first in the order of faults that applies.
+//! it leaves out, and that a fault is the first in the order of faults that applies. The same is said of a text with new
+//! statistics for a running engine, whose other values stay.
 #![tactic(auto)]
 
 mod fault;
@@ -13,9 +14,15 @@ mod numbers;
 mod object;
 mod parsing;
 mod reading;
+mod tuning;
+mod values;
 
 pub use fault::ConfigFault;
 pub use kept::Kept;
-pub use key::{Key, Limits};
-pub use laws::entries_are_in_byte_order;
+pub use key::{KEYS, Key, Limits};
+pub use laws::{
+    entries_are_in_byte_order, texts_are_tuned_by_what_they_give, the_empty_text_gives_defaults,
+    tunings_change_statistics_alone,
+};
 pub use reading::read_config;
+pub use tuning::read_tuning;

@@ -29,6 +29,7 @@ pub fn read_numbers(alloc: Global, object: &Map<String, Value>) -> Result<Config
     let blocks = number_of(object, Key::Blocks)? as u32;
     let max_rank = number_of(object, Key::MaxRank)? as u8;
     let commits = number_of(object, Key::Commits)?;
+    let reserve = number_of(object, Key::Reserve)? as u32;
     let one_in = number_of(object, Key::OneIn)?;
     let snr = number_of(object, Key::Snr)?;
     let documents = number_of(object, Key::Documents)?;
@@ -41,6 +42,7 @@ pub fn read_numbers(alloc: Global, object: &Map<String, Value>) -> Result<Config
         blocks,
         max_rank,
         commits,
+        reserve,
         one_in,
         snr,
         documents,

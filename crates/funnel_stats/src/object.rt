@@ -7,7 +7,7 @@ ghost use Rattle.funnel_stats.specs.Steps.{Checks, IsNoObject};
 ghost use Rattle.funnel_stats.specs.Values.{entries, value_at};
 
 use crate::fault::ConfigFault;
-use crate::key::Key;
+use crate::key::{Key, is_name};
 use funnel_model::Text;
 use serde_json::{Map, Value};
 use std::alloc::Global;
@@ -37,12 +37,16 @@ fn object_in(value: Value) -> Option<Map<String, Value>>
     }
 }
 
-/// Whether each name is that of a key.
-pub fn check_keys(alloc: Global, object: &Map<String, Value>) -> Result<(), ConfigFault>
-    ensures { Checks result (unknown_key (entries (members_view object.now.entries))) }
+/// Whether each name is that of one of the keys.
+pub fn check_keys(
+    alloc: Global,
+    object: &Map<String, Value>,
+    known: &[Key],
+) -> Result<(), ConfigFault>
+    ensures { Checks result (unknown_key known.now (entries (members_view object.now.entries))) }
 {
     for (name, _) in object {
-        if !Key::is_name(name) {
+        if !is_name(known, name) {
             return Err(ConfigFault::UnknownKey(Text::new(name.clone()?)));
         }
     }

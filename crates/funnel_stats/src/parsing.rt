@@ -3,12 +3,13 @@ ghost use Rattle.funnel_model.specs.Configuration.{IsValid, IsInRange};
 ghost use Rattle.serde_json.specs.View.{members_view};
 ghost use Rattle.funnel_stats.specs.Configurations.{configuration, config_of, fault_of, first_of, longest};
 ghost use Rattle.funnel_stats.specs.Faults.{too_many_columns, pool_too_large};
-ghost use Rattle.funnel_stats.specs.Steps.{Checks, GivesOrFaults, IsFaultOfBytes};
+ghost use Rattle.funnel_stats.specs.Reading.{IsFaultOfBytes};
+ghost use Rattle.funnel_stats.specs.Steps.{Checks, GivesOrFaults};
 
 use crate::fault::ConfigFault;
-use crate::listing::list_words;
-use crate::numbers::read_numbers;
+use crate::key::KEYS;
 use crate::object::{check_keys, read_object};
+use crate::values::read_values;
 use funnel_model::{Config, MOST_COLUMNS, MOST_ROW_WORDS};
 use serde_json::{Map, Value};
 use std::alloc::Global;
@@ -30,9 +31,8 @@ fn config_from(alloc: Global, object: &Map<String, Value>) -> Result<Config, Con
     ensures answer { let members = members_view object.now.entries in GivesOrFaults result (config_of members) (fault_of members) }
     ensures valid { IfOk result IsValid }
 {
-    check_keys(alloc, object)?;
-    let mut config = read_numbers(alloc, object)?;
-    config.words = list_words(alloc, object, config.documents)?;
+    check_keys(alloc, object, &KEYS)?;
+    let config = read_values(alloc, object)?;
     check_sizes(&config)?;
     Ok(config)
 }

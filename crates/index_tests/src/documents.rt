@@ -44,7 +44,7 @@ fn a_document_has_its_words(rt: HostRuntime) -> Result<(), Fail> {
     Ok(())
 }
 
-/// Records of two slices of three columns. Contracts see nothing of them.
+/// Records of two slices of four columns. Contracts see nothing of them.
 #[derive(Drop)]
 struct Columns {
     records: Records,
@@ -57,18 +57,18 @@ impl Model for Columns {
 
     ghost view = { λ _. tt };
 
-    ghost invariant = { λ c. (c.records.slices ≡ 2) × (c.records.columns ≡ 3) };
+    ghost invariant = { λ c. (c.records.slices ≡ 2) × (c.records.columns ≡ 4) };
 }
 
 impl Columns {
     fn new(alloc: Global) -> Result<Columns, WordFault> {
-        let records = Records::new(alloc, 2, 3)?;
+        let records = Records::new(alloc, 2, 4)?;
         Ok(Columns { records })
     }
 
     /// What became of a column, and whether it keeps a document.
     fn state(&self, slice: u32, column: u32) -> (Column, bool)
-        requires { (slice < 2) × (column < 3) }
+        requires { (slice < 2) × (column < 4) }
     {
         let kept = self.records.doc(slice, column).is_some();
         (self.records.state(slice, column), kept)
@@ -76,7 +76,7 @@ impl Columns {
 
     /// Claims a column for pass 2, where it is free.
     fn claim(&mut self, slice: u32, column: u32)
-        requires { (slice < 2) × (column < 3) }
+        requires { (slice < 2) × (column < 4) }
     {
         if self.records.state(slice, column) == Column::Free {
             self.records.claim(slice, column, 2);
@@ -84,29 +84,29 @@ impl Columns {
     }
 
     /// Puts a document into a column that is claimed.
-    fn put(&mut self, slice: u32, column: u32, doc: Doc, place: u64)
-        requires { (slice < 2) × (column < 3) }
+    fn put(&mut self, slice: u32, column: u32, doc: Doc, place: u64, since: u64)
+        requires { (slice < 2) × (column < 4) }
     {
         if let Column::Pending(_) = self.records.state(slice, column) {
-            self.records.live(slice, column, doc, place);
+            self.records.live(slice, column, doc, place, since);
         }
     }
 
     /// Drops a column that is claimed.
     fn refuse(&mut self, slice: u32, column: u32)
-        requires { (slice < 2) × (column < 3) }
+        requires { (slice < 2) × (column < 4) }
     {
         if let Column::Pending(_) = self.records.state(slice, column) {
             self.records.drop_column(slice, column);
         }
     }
 
-    /// Deletes the document of a column, where it is live.
-    fn delete(&mut self, slice: u32, column: u32, place: u64)
-        requires { (slice < 2) × (column < 3) }
+    /// Takes the document off a column, where it is live.
+    fn delete(&mut self, slice: u32, column: u32, until: u64)
+        requires { (slice < 2) × (column < 4) }
     {
-        if let Column::Live(_) = self.records.state(slice, column) {
-            self.records.delete(slice, column, place);
+        if let Column::Live { .. } = self.records.state(slice, column) {
+            self.records.delete(slice, column, until);
         }
     }
 
@@ -115,15 +115,15 @@ impl Columns {
         self.records.free(1);
     }
 
-    /// The states of two columns: one is claimed, gets a document that is deleted, and is freed; and the other is dropped.
+    /// The states of two columns: one is claimed, gets a document that is deleted later, and is freed; and the other is dropped.
     fn lead(&mut self, doc: Doc) -> [(Column, bool); 7] {
         let free = self.state(1, 0);
         self.claim(1, 0);
         let pending = self.state(1, 0);
-        self.put(1, 0, doc, 3);
+        self.put(1, 0, doc, 3, 8);
         let live = self.state(1, 0);
-        self.delete(1, 0, 5);
-        let deleted = self.state(1, 0);
+        self.delete(1, 0, 11);
+        let over = self.state(1, 0);
         self.claim(0, 1);
         self.refuse(0, 1);
         let dropped = self.state(0, 1);
@@ -132,7 +132,7 @@ impl Columns {
             free,
             pending,
             live,
-            deleted,
+            over,
             dropped,
             self.state(1, 0),
             self.state(0, 1),
@@ -152,8 +152,15 @@ fn a_column_goes_through_its_states(rt: HostRuntime) -> Result<(), Fail> {
     let wanted = [
         (Column::Free, false),
         (Column::Pending(2), false),
-        (Column::Live(3), true),
-        (Column::Deleted(3, 5), true),
+        (Column::Live { place: 3, since: 8 }, true),
+        (
+            Column::Over {
+                place: 3,
+                since: 8,
+                until: 11,
+            },
+            true,
+        ),
         (Column::Dropped, false),
         (Column::Free, false),
         (Column::Dropped, false),
@@ -162,69 +169,81 @@ fn a_column_goes_through_its_states(rt: HostRuntime) -> Result<(), Fail> {
     Ok(())
 }
 
-/// The slice, the column, the number, the text and the place of each add. Numbers 9, 5, 7, 4 and 8 are added one after
-/// another.
-static ADDED: [(u32, u32, u64, &str, u64); 5] = [
-    (0, 0, 7, "cat", 3),
-    (0, 1, 5, "dog", 2),
-    (0, 2, 9, "cat", 1),
-    (1, 0, 4, "cat", 4),
-    (1, 2, 8, "cat", 5),
+/// The slice, the column, the number, the text and the place of each add, and its event's number. Numbers 9, 5, 7, 4 and 8
+/// are added one after another.
+static ADDED: [(u32, u32, u64, &str, u64, u64); 5] = [
+    (0, 0, 7, "cat", 3, 6),
+    (0, 1, 5, "dog", 2, 4),
+    (0, 2, 9, "cat", 1, 2),
+    (1, 0, 4, "cat", 4, 8),
+    (1, 2, 8, "cat", 5, 10),
 ];
 
-/// Puts each document into its column. Number 4 is deleted by the sixth commit, and one column is dropped.
+/// Puts each document into its column. Event 11 deletes number 4, one column is dropped, and event 14 moves number 7.
 fn fill(alloc: Global, columns: &mut Columns) -> Result<(), WordFault> {
-    for (slice, column, id, text, place) in &ADDED {
+    for (slice, column, id, text, place, since) in &ADDED {
         let (slice, column) = (*slice, *column);
-        if slice < 2 && column < 3 {
+        if slice < 2 && column < 4 {
             columns.claim(slice, column);
-            columns.put(slice, column, document(alloc, *id, text)?, *place);
+            columns.put(slice, column, document(alloc, *id, text)?, *place, *since);
         }
     }
-    columns.delete(1, 0, 6);
+    columns.delete(1, 0, 11);
     columns.claim(1, 1);
     columns.refuse(1, 1);
+    columns.claim(1, 3);
+    columns.put(1, 3, document(alloc, 7, "cat")?, 3, 14);
+    columns.delete(0, 0, 14);
     Ok(())
 }
 
 /// Every column as a candidate.
 fn every_column(alloc: Global) -> Result<Candidates, AllocError>
-    ensures { IfOk result (λ all. all ≡ (0, 0) ∷ (0, 1) ∷ (0, 2) ∷ (1, 0) ∷ (1, 1) ∷ (1, 2) ∷ []) }
+    ensures { IfOk result (λ all. all ≡ (0, 0) ∷ (0, 1) ∷ (0, 2) ∷ (0, 3) ∷ (1, 0) ∷ (1, 1) ∷ (1, 2) ∷ (1, 3) ∷ []) }
 {
-    let columns = [(0, 0), (0, 1), (0, 2), (1, 0), (1, 1), (1, 2)];
+    let columns = [
+        (0, 0),
+        (0, 1),
+        (0, 2),
+        (0, 3),
+        (1, 0),
+        (1, 1),
+        (1, 2),
+        (1, 3),
+    ];
     Ok(Candidates::new(columns.to_vec(alloc)?))
 }
 
-/// What a find of these words at a place makes of every column.
+/// What the find of these words with a number makes of every column.
 fn found_at(
     alloc: Global,
     columns: &Columns,
     words: &WordSet,
-    place: u64,
+    opened_at: u64,
 ) -> Result<Found, WordFault>
-    ensures { IfOk result (λ out. length out.found ≤ 6) }
+    ensures { IfOk result (λ out. length out.found ≤ 8) }
 {
     let candidates = every_column(alloc)?;
-    let mut out = Found::with_room(alloc, 6)?;
-    resolve(&columns.records, &candidates, words, place, &mut out);
+    let mut out = Found::with_room(alloc, 8)?;
+    resolve(&columns.records, &candidates, words, opened_at, &mut out);
     Ok(out)
 }
 
-/// The places of the adds and the numbers of the documents with the word `cat` that a find at a place finds.
-fn pairs_at(alloc: Global, columns: &Columns, place: u64) -> Result<Vec<(u64, u64)>, Fail> {
-    let found = found_at(alloc, columns, &words(alloc, "cat")?, place)?;
+/// The places of the adds and the numbers of the documents with the word `cat` that the find with a number finds.
+fn pairs_at(alloc: Global, columns: &Columns, opened_at: u64) -> Result<Vec<(u64, u64)>, Fail> {
+    let found = found_at(alloc, columns, &words(alloc, "cat")?, opened_at)?;
     Ok(found.as_slice().to_vec(alloc)?)
 }
 
 /// Their numbers.
-fn numbers_at(alloc: Global, columns: &Columns, place: u64) -> Result<Ids, Fail> {
-    let found = found_at(alloc, columns, &words(alloc, "cat")?, place)?;
-    Ok(found.into_ids(Vec::with_capacity(alloc, 6)?))
+fn numbers_at(alloc: Global, columns: &Columns, opened_at: u64) -> Result<Ids, Fail> {
+    let found = found_at(alloc, columns, &words(alloc, "cat")?, opened_at)?;
+    Ok(found.into_ids(Vec::with_capacity(alloc, 8)?))
 }
 
-/// Whether a find at a place finds these numbers in this order.
-fn finds(alloc: Global, columns: &Columns, place: u64, wanted: &[u64]) -> Result<bool, Fail> {
-    let numbers = numbers_at(alloc, columns, place)?;
+/// Whether the find with a number finds these documents in this order.
+fn finds(alloc: Global, columns: &Columns, opened_at: u64, wanted: &[u64]) -> Result<bool, Fail> {
+    let numbers = numbers_at(alloc, columns, opened_at)?;
     Ok(numbers.as_slice() == wanted)
 }
 
@@ -234,29 +253,27 @@ fn filled(alloc: Global) -> Result<Columns, WordFault> {
     Ok(columns)
 }
 
-/// What is found at each place.
-static FOUND: [(u64, &[u64]); 5] = [
-    (0, &[]),
-    (1, &[9]),
-    (4, &[9, 7, 4]),
-    (5, &[9, 7, 4, 8]),
-    (6, &[9, 7, 8]),
+/// What the finds with these numbers find. The one that began before number 7 moves and the one after it find it once each.
+static FOUND: [(u64, &[u64]); 6] = [
+    (1, &[]),
+    (3, &[9]),
+    (9, &[9, 7, 4]),
+    (10, &[9, 7, 4]),
+    (12, &[9, 7, 8]),
+    (15, &[9, 7, 8]),
 ];
 
 #[test]
 fn documents_are_found_in_the_order_of_their_adds(rt: HostRuntime) -> Result<(), Fail> {
     let columns = filled(rt.alloc())?;
-    for (place, wanted) in &FOUND {
+    for (opened_at, wanted) in &FOUND {
         assert!(rt;
-            finds(rt.alloc(), &columns, *place, wanted)?,
-            "found at {place}"
+            finds(rt.alloc(), &columns, *opened_at, wanted)?,
+            "found by {opened_at}"
         );
     }
-    let pairs = pairs_at(rt.alloc(), &columns, 5)?;
-    assert_eq!(rt;
-        pairs.as_slice(),
-        [(1, 9), (3, 7), (4, 4), (5, 8)].as_slice()
-    );
+    let pairs = pairs_at(rt.alloc(), &columns, 15)?;
+    assert_eq!(rt; pairs.as_slice(), [(1, 9), (3, 7), (5, 8)].as_slice());
     Ok(())
 }
 

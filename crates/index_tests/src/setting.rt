@@ -35,6 +35,7 @@ pub(crate) fn config(
         blocks: 1,
         max_rank,
         commits: 1024,
+        reserve: 0,
         one_in,
         snr,
         documents,

@@ -9,7 +9,7 @@ use Rattle.std.proofs.lemmas.List.{take_at}
 use Rattle.std.proofs.lemmas.Slice.Eq.{bytes_eq-Decides, ends_is}
 use Rattle.std.proofs.lemmas.Str.{IsUtf8-append, IsUtf8-from_ascii, IsUtf8-from_is_utf8, IsUtf8-nil}
 use Rattle.funnel_model.specs.declared.call.Call.{Call}
-use Rattle.funnel_model.specs.declared.call.Call.TheVariants.{Add, Delete, Find, Place, Journal, Recycle}
+use Rattle.funnel_model.specs.declared.call.Call.TheVariants.{Add, Delete, Find, Place, Journal, Recycle, Tune}
 use Rattle.funnel_io.specs.declared.line_reader.TheConstants.{MAX_LINE_LEN}
 use Rattle.line_proto.specs.Forms.{without_return, word_of, after_space, number_of, add_of, delete_of, journal_of, call_of_word, call_of_text, form_of}
 use Rattle.line_proto.specs.Grammar.{WritesNumber, EndsWithText, IsForm, DropsReturn, HasForm, IsReadByForms}
@@ -255,6 +255,7 @@ form-is-text bytes Place f = subst IsUtf8 (sym f) place-is-text
 form-is-text bytes (Journal from) f =
     subst IsUtf8 (sym f.1) (IsUtf8-append (codes "journal ") f.0 journal-is-text (IsUtf8-from_ascii f.0 (IsAscii-from_digits f.0 f.2.numeral.1)))
 form-is-text bytes Recycle f = subst IsUtf8 (sym f) recycle-is-text
+form-is-text bytes (Tune config) f = absurd f
 
 -- behind `add` and a space stands what tells the add
 call-of-add : (rest : List ℕ) → call_of_text (codes "add " ++ rest) ≡ add_of rest
@@ -314,6 +315,7 @@ call-of-form bytes (Find query) f = ap call_of_text f.1 ∙ call-of-find f.0 que
 call-of-form bytes Place f = ap call_of_text f ∙ call-of-place
 call-of-form bytes (Journal from) f = ap call_of_text f.1 ∙ call-of-journal f.0 ∙ journal-of-digits f.0 from f.2
 call-of-form bytes Recycle f = ap call_of_text f ∙ call-of-recycle
+call-of-form bytes (Tune config) f = absurd f
 
 -- a line with a form of a call is read as the call
 read-form : (line : List ℕ) (call : Call) → HasForm line call → form_of line ≡ Some call

@@ -1,5 +1,5 @@
 -- A list that finds no memory for its text may be answered as a want of memory.
-use Rattle.std.proofs.Common.{◌≡◌, ⊎_elim, ℕ, ◌+◌, Bool, true, false, cond, List, Option, Some, None, sym, refl, ap, ◌∙◌, subst, inl, inr}
+use Rattle.std.proofs.Common.{◌≡◌, ⊎_elim, ℕ, ◌+◌, Bool, true, false, cond, List, Option, Some, None, length, sym, refl, ap, ◌∙◌, subst, inl, inr}
 use Rattle.std.specs.Option.{option_map_or}
 use Rattle.std.specs.Prelude.{◌==◌}
 use Rattle.funnel_model.specs.declared.call.Call.{Call}
@@ -12,6 +12,7 @@ use Rattle.funnel_model.specs.Events.{call_of, pass_of}
 use Rattle.funnel_model.specs.History.{live_place, place}
 use Rattle.funnel_model.specs.Legal.{Limits}
 use Rattle.funnel_model.specs.Steps.{AddsCall, FindsNoMemory, IsReply, IsReplyToRecycle, IsReplyToRefused, Step}
+use Rattle.funnel_model.specs.Tunings.{tunings}
 use Rattle.funnel_model.proofs.ReplyLemmas.{dropped_at}
 use Rattle.line_proto.specs.Texts.{is_list}
 
@@ -57,6 +58,8 @@ lists_want_memory limits pass history before after (event.Del p id) asked given 
 lists_want_memory limits pass history before after (event.Find p query) asked given is long by made =
     subst (FindsNoMemory pass before after) (the_same (call.Find query) asked by) (inr (at_call asked (call.Find query) (AddsCall pass before after) by made))
 lists_want_memory limits pass history before after (event.Opened p s alone) asked given is long by made = absurd (not_long given (reply.Recycled s) is.1 refl long)
+lists_want_memory limits pass history before after (event.Tune p config) asked given is long by made =
+    absurd (not_long given (reply.Tuned (length (tunings history) + 1)) is refl long)
 lists_want_memory limits pass history before after (event.No p refused) asked given is long by made = absurd (refused_is_short limits history refused given is long)
 lists_want_memory limits pass history before after (event.Read p (call.Journal from)) asked given is long by made =
     subst (FindsNoMemory pass before after) (the_same (call.Journal from) asked by) (inr (at_call asked (call.Journal from) (AddsCall pass before after) by made))
@@ -81,6 +84,7 @@ without_memory limits pass before after asked given long step =
       legal = step.legal;
       idle_before = step.idle_before;
       idle_after = step.idle_after;
+      few_moves = step.few_moves;
       outcome = inr (inl (record { reply = refl; call = lists_want_memory limits pass answered.earlier before after answered.event asked given answered.reply long call made.call }));
     })
     (λ others. ⊎_elim (λ lacks. absurd (not_long given reply.Memory lacks.reply refl long)) (λ spent. absurd (not_long given reply.Spent spent.reply refl long)) others)

@@ -3,7 +3,7 @@ use Rattle.std.specs.Prelude.{◌≡◌, ◌≢◌, ◌⊎◌, ◌↔◌, ℕ, �
 use Rattle.std.specs.Str.{IsUtf8}
 use Rattle.std.specs.Str.Parse.{IsNumeral, digits_value}
 use Rattle.funnel_model.specs.declared.call.Call.{Call}
-use Rattle.funnel_model.specs.declared.call.Call.TheVariants.{Add, Delete, Find, Place, Journal, Recycle}
+use Rattle.funnel_model.specs.declared.call.Call.TheVariants.{Add, Delete, Find, Place, Journal, Recycle, Tune}
 use Rattle.funnel_io.specs.declared.line_reader.TheConstants.{MAX_LINE_LEN}
 use Rattle.line_proto.specs.Forms.{form_of}
 
@@ -18,7 +18,7 @@ pub record WritesNumber (digits : List ℕ) (number : ℕ) : Type 0 where
 abbrev pub EndsWithText : List ℕ → List ℕ → Type 0
 EndsWithText end text = ((end ≡ []) × (text ≡ [])) ⊎ ((end ≡ 32 ∷ text) × IsUtf8 text)
 
--- the bytes are a form of the call
+-- the bytes are a form of the call; no form asks for a tuning
 abbrev pub IsForm : List ℕ → Call → Type 0
 IsForm bytes (Add id text) = (digits : List ℕ) × (end : List ℕ) × (bytes ≡ codes "add " ++ (digits ++ end)) × WritesNumber digits id × EndsWithText end text
 IsForm bytes (Delete id) = (digits : List ℕ) × (bytes ≡ codes "del " ++ digits) × WritesNumber digits id
@@ -26,6 +26,7 @@ IsForm bytes (Find query) = (end : List ℕ) × (bytes ≡ codes "find" ++ end) 
 IsForm bytes Place = bytes ≡ codes "place"
 IsForm bytes (Journal from) = (digits : List ℕ) × (bytes ≡ codes "journal " ++ digits) × WritesNumber digits from
 IsForm bytes Recycle = bytes ≡ codes "recycle"
+IsForm bytes (Tune config) = ⊥
 
 -- the line is these bytes and a carriage return, or it is these bytes and doesn't end with one
 abbrev pub DropsReturn : List ℕ → List ℕ → Type 0

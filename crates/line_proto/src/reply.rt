@@ -49,6 +49,9 @@ fn push_message(out: &mut Vec<u8>, reply: &Reply) -> Result<(), AllocError>
         Reply::Recycled(slice) => push_words_and_number(out, b"recycled ", u64::from(*slice)),
         Reply::NothingRetired => out.extend_from_slice(b"nothing retired"),
         Reply::Guarded { slice, pass } => push_guarded(out, *slice, *pass),
+        Reply::Tuned(count) => push_words_and_number(out, b"tuned ", *count),
+        Reply::Tuning(fault) => push_words_and_number(out, b"refused tuning ", u64::from(*fault)),
+        Reply::Wide { needed, room } => push_wide(out, *needed, *room),
         Reply::Spent => out.extend_from_slice(b"refused spent"),
         Reply::Memory => out.extend_from_slice(b"refused memory"),
         Reply::Line => out.extend_from_slice(b"refused line"),
@@ -65,6 +68,17 @@ fn push_guarded(out: &mut Vec<u8>, slice: u32, pass: u32) -> Result<(), AllocErr
 {
     push_words_and_number(out, b"guarded ", u64::from(slice))?;
     push_words_and_number(out, b" ", u64::from(pass))
+}
+
+/// Appends the words that a slice would need, and those that it has room for.
+fn push_wide(out: &mut Vec<u8>, needed: u64, room: u64) -> Result<(), AllocError>
+    ensures ok { OnOk result (out.new.items ≡ out.old.items ++ message_of (reply.Wide needed room)) }
+    ensures full { OnErr result (vec_capacity out.old < vec_len out.old + length (message_of (reply.Wide needed room))) }
+    ensures short { length (message_of (reply.Wide needed room)) < 64 }
+    ensures capacity { vec_capacity out.old ≤ vec_capacity out.new }
+{
+    push_words_and_number(out, b"refused room ", needed)?;
+    push_words_and_number(out, b" ", room)
 }
 
 fn push_words_and_number(out: &mut Vec<u8>, words: &[u8], number: u64) -> Result<(), AllocError>

@@ -6,13 +6,14 @@ use Rattle.std.proofs.lemmas.List.Elements.{All-head}
 use Rattle.std.specs.List.{cons_option}
 use Rattle.funnel_model.proofs.Histories.{allowed_within, legal_before}
 use Rattle.funnel_model.proofs.LiveLemmas.{place-append}
+use Rattle.funnel_model.proofs.NothingMoved.{moves_nothing-before, moves_nothing-parts}
 use Rattle.funnel_model.proofs.Retirement.{split_front}
 use Rattle.funnel_model.proofs.StepLemmas.{call_by-own, own-append}
 use Rattle.funnel_model.specs.declared.call.Call.{Call}
 use Rattle.funnel_model.specs.declared.event.Event.{Event}
 use Rattle.funnel_model.specs.declared.reply.Reply.{Reply}
 use Rattle.funnel_model.specs.Events.{call_of, pass_of}
-use Rattle.funnel_model.specs.History.{own, place}
+use Rattle.funnel_model.specs.History.{MovesNothing, own, place}
 use Rattle.funnel_model.specs.Legal.{Limits, IsAllowed, IsLegal}
 use Rattle.funnel_model.specs.Steps.{IsMade, IsReply}
 use Rattle.load_laws.specs.LonePass.{IsAlone, LoneStep, count_of_takes}
@@ -52,6 +53,7 @@ pub record Answered (limits : Limits) (pass : ℕ) (before after : List Event) (
   pub allowed : IsAllowed limits earlier event
   pub legal : IsLegal limits earlier
   pub alone : IsAlone pass earlier
+  pub unmoved : MovesNothing earlier
   pub is_own : pass_of event ≡ pass
   pub first : Quiet before earlier
   pub last : Quiet (earlier ++ event ∷ []) after
@@ -113,6 +115,7 @@ answered limits pass before after asked given lone =
     let with_event : after ≡ (is.earlier ++ e ∷ []) ++ is.later = whole ∙ sym (append_assoc is.earlier (e ∷ []) is.later) in
     let alone_between = alone_rest pass before new.0 (subst (IsAlone pass) new.1 alone_earlier) in
     let legal_start = legal_before limits before grows.0 (subst (IsLegal limits) (sym grows.1) legal) in
+    let unmoved_start = moves_nothing-parts before grows.0 (subst MovesNothing (sym grows.1) lone.unmoved) in
     let alone_start = alone_front pass before grows.0 (subst (IsAlone pass) (sym grows.1) lone.alone) in
     record {
       earlier = is.earlier;
@@ -122,13 +125,14 @@ answered limits pass before after asked given lone =
       allowed = allowed_within limits after is.earlier e is.later legal whole;
       legal = legal_before limits is.earlier (e ∷ is.later) (subst (IsLegal limits) whole legal);
       alone = alone_earlier;
+      unmoved = (moves_nothing-before after is.earlier e is.later whole lone.unmoved).0;
       is_own = is_own;
       first = subst (Quiet before) (sym new.1) (quiet_calls pass before new.0 alone_between new.2);
       last = subst (Quiet (is.earlier ++ e ∷ [])) (sym with_event)
           (quiet_calls pass (is.earlier ++ e ∷ []) is.later
           (alone_rest pass (is.earlier ++ e ∷ []) is.later (subst (IsAlone pass) with_event lone.alone)) is.last);
-      filled_before = takes_filled limits pass before legal_start alone_start lone.step.idle_before;
-      filled_after = takes_filled limits pass after legal lone.alone lone.step.idle_after;
+      filled_before = takes_filled limits pass before legal_start unmoved_start.0 alone_start lone.step.idle_before;
+      filled_after = takes_filled limits pass after legal lone.unmoved lone.alone lone.step.idle_after;
     }
 
 -- the commits after a call are those before it and its event's

@@ -1,6 +1,6 @@
 -- What is live, counted: the documents that were added are those that are live and those that were deleted.
 use Rattle.std.proofs.Common.{◌≡◌, ℕ, ◌+◌, ◌≤◌, ◌==◌, Bool, true, false, cond, not, ◌||◌, List, [], ◌∷◌, ◌++◌, filter, refl, sym, ap, ◌∙◌, subst, arith}
-use Rattle.std.proofs.lemmas.Bool.{eqb-true}
+use Rattle.std.proofs.lemmas.Bool.{eq-eqb, eqb-true}
 use Rattle.std.proofs.lemmas.List.Sums.{sum_by-cons, sum_by_push}
 use Rattle.std.specs.List.{list_any, sum_by}
 use Rattle.funnel_model.proofs.Histories.{holds_of_legal}
@@ -29,6 +29,9 @@ by_number g documents = sum_by (λ d. g d.id) documents
 abbrev pub is_number : ℕ → ℕ → ℕ
 is_number id n = cond (n == id) 1 0
 
+pub number_is : (id : ℕ) → is_number id id ≡ 1
+number_is id = ap (λ b. cond b 1 0) (eq-eqb id id refl)
+
 -- no more is left by a test
 no_more_left : (g : ℕ → ℕ) (p : Document → Bool) (ds : List Document) → by_number g (filter p ds) ≤ by_number g ds
 no_more_left g p [] = omega arith
@@ -41,7 +44,7 @@ no_more_left g p (d ∷ ds) = by_test (p d) (no_more_left g p ds) where
   by_test false rest = let all = sum_by-cons (λ x. g x.id) d ds in omega arith
 
 -- a number that is among them counts, and one that isn't counts as nothing
-is_among : (id : ℕ) (ds : List Document) → list_any (λ d. d.id == id) ds ≡ true → 1 ≤ by_number (is_number id) ds
+pub is_among : (id : ℕ) (ds : List Document) → list_any (λ d. d.id == id) ds ≡ true → 1 ≤ by_number (is_number id) ds
 is_among id [] is = cc
 is_among id (d ∷ ds) is = by_test (d.id == id) is (is_among id ds) (sum_by-cons (λ x. is_number id x.id) d ds) where
   by_test : (b : Bool) → (b || list_any (λ x. x.id == id) ds) ≡ true → (list_any (λ x. x.id == id) ds ≡ true → 1 ≤ by_number (is_number id) ds) →
@@ -180,6 +183,10 @@ balanced-push limits history (event.Take pass slice column) before allowed =
     balanced_by history (event.Take pass slice column) (live-silent history (event.Take pass slice column) (λ id. refl) refl) (λ g. refl) (λ g. refl) before
 balanced-push limits history (event.Drop pass id text slice column) before allowed =
     balanced_by history (event.Drop pass id text slice column) (live-silent history (event.Drop pass id text slice column) (λ i. refl) refl) (λ g. refl) (λ g. refl) before
+balanced-push limits history (event.Move pass id slice column bits) before allowed =
+    balanced_by history (event.Move pass id slice column bits) (live-silent history (event.Move pass id slice column bits) (λ i. refl) refl) (λ g. refl) (λ g. refl) before
+balanced-push limits history (event.Void pass slice column) before allowed =
+    balanced_by history (event.Void pass slice column) (live-silent history (event.Void pass slice column) (λ id. refl) refl) (λ g. refl) (λ g. refl) before
 balanced-push limits history (event.Find pass query) before allowed =
     balanced_by history (event.Find pass query) (live-silent history (event.Find pass query) (λ id. refl) refl) (λ g. refl) (λ g. refl) before
 balanced-push limits history (event.End pass) before allowed =
@@ -188,6 +195,8 @@ balanced-push limits history (event.Clear pass slice) before allowed =
     balanced_by history (event.Clear pass slice) (live-silent history (event.Clear pass slice) (λ id. refl) refl) (λ g. refl) (λ g. refl) before
 balanced-push limits history (event.Opened pass slice alone) before allowed =
     balanced_by history (event.Opened pass slice alone) (live-silent history (event.Opened pass slice alone) (λ id. refl) refl) (λ g. refl) (λ g. refl) before
+balanced-push limits history (event.Tune pass config) before allowed =
+    balanced_by history (event.Tune pass config) (live-silent history (event.Tune pass config) (λ id. refl) refl) (λ g. refl) (λ g. refl) before
 balanced-push limits history (event.No pass refused) before allowed =
     balanced_by history (event.No pass refused) (live-silent history (event.No pass refused) (λ id. refl) refl) (λ g. refl) (λ g. refl) before
 balanced-push limits history (event.Read pass read) before allowed =

@@ -1,11 +1,11 @@
 -- In the history of a load each add is committed, and each delete.
-use Rattle.std.proofs.Common.{◌≡◌, ℕ, ◌+◌, ◌*◌, ◌<◌, ◌≤◌, ◌⊎◌, inl, inr, ⊎_elim, cond, List, [], ◌∷◌, ◌++◌, Option, Some, None, refl, sym, ap, ap₂, ◌∙◌, subst, arith, append_assoc}
-use Rattle.std.proofs.lemmas.Bool.{eq-eqb}
+use Rattle.std.proofs.Common.{◌≡◌, ℕ, ◌+◌, ◌*◌, ◌<◌, ◌≤◌, ◌⊎◌, inl, inr, ⊎_elim, List, [], ◌∷◌, ◌++◌, Option, Some, None, refl, sym, ap, ap₂, ◌∙◌, subst, arith, append_assoc}
 use Rattle.std.proofs.lemmas.List.Elements.{All-head}
 use Rattle.std.proofs.lemmas.List.Sums.{sum_by-append, sum_by-cons}
 use Rattle.std.specs.List.{All, sum_by}
 use Rattle.std.specs.Option.{option_map_or}
 use Rattle.funnel_model.proofs.Histories.{allowed_within, legal_before}
+use Rattle.funnel_model.proofs.NothingMoved.{moves_nothing-before}
 use Rattle.funnel_model.specs.declared.bit_list.Bit.{Bit}
 use Rattle.funnel_model.specs.declared.call.Call.{Call}
 use Rattle.funnel_model.specs.declared.call.Call.TheVariants as call
@@ -13,69 +13,22 @@ use Rattle.funnel_model.specs.declared.event.Event.{Event}
 use Rattle.funnel_model.specs.declared.event.Event.TheVariants as event
 use Rattle.funnel_model.specs.declared.reply.Reply.{Reply}
 use Rattle.funnel_model.specs.Events.{call_of, pass_of}
+use Rattle.funnel_model.specs.History.{MovesNothing}
 use Rattle.funnel_model.specs.Legal.{Limits, IsFull, IsIdle, IsLegal}
-use Rattle.load_gen.specs.Documents.{documents}
-use Rattle.load_gen.specs.Jobs.{adds_of, deletes_of, jobs, queries_of}
+use Rattle.load_gen.specs.Jobs.{jobs}
 use Rattle.load_laws.specs.LonePass.{count_of_takes}
 use Rattle.load_laws.specs.Workers.{HasRoomFor, IsLoaded}
-use Rattle.load_laws.proofs.Balance.{added, added_was_asked, balanced, deleted, deleted_was_asked, event_added_was_asked, event_deleted_was_asked, is_number, live_by_count, no_more, not_live_by_count}
+use Rattle.load_laws.proofs.Balance.{added, added_was_asked, balanced, deleted, deleted_was_asked, event_added_was_asked, event_deleted_was_asked, is_number, live_by_count, no_more, not_live_by_count, number_is}
 use Rattle.load_laws.proofs.CallEvents.{add_event, delete_event}
-use Rattle.load_laws.proofs.JobCounts.{add_weight, adds_in_adds, adds_in_deletes, delete_weight, deletes_in_adds, deletes_in_deletes, none_in_queries, over, over-one, where_deleted}
+use Rattle.load_laws.proofs.JobCounts.{add_weight, delete_weight, over-one}
 use Rattle.load_laws.proofs.JobFacts.{IsOfLoad, at_least_once, at_most_once, deleted_at_most_once, jobs_are_of_load}
-use Rattle.load_laws.proofs.PassTotals.{asked, asked-total, total-same_below, total-weigh_by, weigh_by}
-use Rattle.load_laws.proofs.Quiet.{all_first, all_second}
+use Rattle.load_laws.proofs.Parts.{adds_asked, deletes_asked, parts_asked}
+use Rattle.load_laws.proofs.PassTotals.{asked, total-same_below, total-weigh_by, weigh_by}
+use Rattle.load_laws.proofs.Quiet.{all_second}
 use Rattle.load_laws.proofs.Room.{not_full}
 use Rattle.load_laws.proofs.Takes.{before_event, fill_weight, idle_open, pass_takes_filled, take_weight}
+use Rattle.load_laws.proofs.Unmoved.{load_moves_nothing}
 use Rattle.load_laws.proofs.WorkerEvents.{call_in, idle_in, own_of_load}
-
--- what was asked in each of the parts of a load
-pub record AreAsked (docs : ℕ) (adding deleting querying : List Event) : Type 0 where
-  pub adds_first : (g : ℕ → ℕ) → sum_by (asked (add_weight g)) adding ≡ over docs g
-  pub adds_second : (g : ℕ → ℕ) → sum_by (asked (add_weight g)) deleting ≡ 0
-  pub adds_third : (g : ℕ → ℕ) → sum_by (asked (add_weight g)) querying ≡ 0
-  pub deletes_first : (g : ℕ → ℕ) → sum_by (asked (delete_weight g)) adding ≡ 0
-  pub deletes_second : (g : ℕ → ℕ) → sum_by (asked (delete_weight g)) deleting ≡ over docs (where_deleted g)
-  pub deletes_third : (g : ℕ → ℕ) → sum_by (asked (delete_weight g)) querying ≡ 0
-
-pub parts_asked : (limits : Limits) (docs words seed workers : ℕ) (history : List Event) (replies : ℕ → List Reply) →
-    (loaded : IsLoaded limits docs words seed workers history replies) → AreAsked docs loaded.parts.adding loaded.parts.deleting loaded.parts.querying
-parts_asked limits docs words seed workers history replies loaded =
-    let p = loaded.parts in
-    let texts = documents docs words seed in
-    let all = subst (All (λ e. pass_of e < workers)) p.whole loaded.no_other in
-    let both = all_first (λ e. pass_of e < workers) (p.adding ++ p.deleting) p.querying all in
-    let first = all_first (λ e. pass_of e < workers) p.adding p.deleting both in
-    let second = all_second (λ e. pass_of e < workers) p.adding p.deleting both in
-    let third = all_second (λ e. pass_of e < workers) (p.adding ++ p.deleting) p.querying all in
-    record {
-      adds_first = λ g. asked-total (add_weight g) workers p.adding (adds_of texts workers) first p.adds ∙ adds_in_adds g docs words seed workers loaded.some;
-      adds_second = λ g. asked-total (add_weight g) workers p.deleting (deletes_of texts workers) second p.deletes ∙ adds_in_deletes g texts workers;
-      adds_third = λ g. asked-total (add_weight g) workers p.querying (queries_of workers) third p.queries ∙ none_in_queries (add_weight g) (λ query. refl) workers;
-      deletes_first = λ g. asked-total (delete_weight g) workers p.adding (adds_of texts workers) first p.adds ∙ deletes_in_adds g texts workers;
-      deletes_second = λ g. asked-total (delete_weight g) workers p.deleting (deletes_of texts workers) second p.deletes ∙ deletes_in_deletes g docs words seed workers loaded.some;
-      deletes_third = λ g. asked-total (delete_weight g) workers p.querying (queries_of workers) third p.queries ∙ none_in_queries (delete_weight g) (λ query. refl) workers;
-    }
-
--- the whole history has what its parts have
-asked_in_parts : (limits : Limits) (docs words seed workers : ℕ) (history : List Event) (replies : ℕ → List Reply) →
-    (loaded : IsLoaded limits docs words seed workers history replies) → (w : Call → ℕ) →
-    sum_by (asked w) history ≡ sum_by (asked w) loaded.parts.adding + sum_by (asked w) loaded.parts.deleting + sum_by (asked w) loaded.parts.querying
-asked_in_parts limits docs words seed workers history replies loaded w =
-    let p = loaded.parts in
-    ap (sum_by (asked w)) p.whole ∙ sum_by-append (asked w) (p.adding ++ p.deleting) p.querying
-    ∙ ap (λ n. n + sum_by (asked w) p.querying) (sum_by-append (asked w) p.adding p.deleting)
-
-pub adds_asked : (limits : Limits) (docs words seed workers : ℕ) (history : List Event) (replies : ℕ → List Reply) →
-    IsLoaded limits docs words seed workers history replies → (g : ℕ → ℕ) → sum_by (asked (add_weight g)) history ≡ over docs g
-adds_asked limits docs words seed workers history replies loaded g =
-    let is = parts_asked limits docs words seed workers history replies loaded in
-    asked_in_parts limits docs words seed workers history replies loaded (add_weight g) ∙ omega (arith, is.adds_first g, is.adds_second g, is.adds_third g)
-
-pub deletes_asked : (limits : Limits) (docs words seed workers : ℕ) (history : List Event) (replies : ℕ → List Reply) →
-    IsLoaded limits docs words seed workers history replies → (g : ℕ → ℕ) → sum_by (asked (delete_weight g)) history ≡ over docs (where_deleted g)
-deletes_asked limits docs words seed workers history replies loaded g =
-    let is = parts_asked limits docs words seed workers history replies loaded in
-    asked_in_parts limits docs words seed workers history replies loaded (delete_weight g) ∙ omega (arith, is.deletes_first g, is.deletes_second g, is.deletes_third g)
 
 -- a sum over a history with an event between
 pub sum_around : (f : Event → ℕ) (history earlier : List Event) (e : Event) (later : List Event) → history ≡ earlier ++ e ∷ later →
@@ -89,9 +42,12 @@ takes_are_filled : (limits : Limits) (docs words seed workers : ℕ) (history : 
 takes_are_filled limits docs words seed workers history replies loaded =
     sym (total-weigh_by take_weight workers history loaded.no_other)
     ∙ total-same_below (λ worker. weigh_of take_weight worker) (λ worker. weigh_of fill_weight worker) workers
-    (λ worker below. pass_takes_filled limits worker history loaded.legal (idle_in limits history worker (jobs docs words seed workers worker) (replies worker) (loaded.asked worker below)))
+    (λ worker below. pass_takes_filled limits worker history loaded.legal unmoved (idle_in limits history worker (jobs docs words seed workers worker) (replies worker) (loaded.asked worker below)))
     ∙ total-weigh_by fill_weight workers history loaded.no_other
   where
+    unmoved : MovesNothing history
+    unmoved = load_moves_nothing limits docs words seed workers history replies loaded
+
     weigh_of : (Event → ℕ) → ℕ → ℕ
     weigh_of f worker = weigh_by f worker history
 
@@ -118,7 +74,8 @@ room_in_columns limits docs words seed workers history replies loaded room earli
     let filled = takes_are_filled limits docs words seed workers history replies loaded in
     let before = filled_was_asked earlier in
     let after = filled_was_asked later in
-    let fills_none : fill_weight e ≡ 0 = sym (before_event limits earlier e allowed.rule) ∙ idle_open _ idle in
+    let unmoved = moves_nothing-before history earlier e later whole (load_moves_nothing limits docs words seed workers history replies loaded) in
+    let fills_none : fill_weight e ≡ 0 = sym (before_event limits earlier e allowed.rule unmoved.1) ∙ idle_open _ idle in
     let few : count_of_takes earlier < limits.slices * limits.columns =
     omega (arith, columns, adds, adds_around, takes_around, fills_around, filled, before, after, fills_none, one) in
     not_full limits earlier (legal_before limits earlier (e ∷ later) (subst (IsLegal limits) whole loaded.legal)) few full
@@ -126,9 +83,6 @@ room_in_columns limits docs words seed workers history replies loaded room earli
 -- what an event weighs whose call is known
 asked_is : (w : Call → ℕ) (e : Event) (c : Call) → call_of e ≡ Some c → asked w e ≡ w c
 asked_is w e c is = ap (λ o. option_map_or w o 0) is
-
-pub number_is : (id : ℕ) → is_number id id ≡ 1
-number_is id = ap (λ b. cond b 1 0) (eq-eqb id id refl)
 
 -- an event is of a worker's pass
 pub pass_below : (limits : Limits) (docs words seed workers : ℕ) (history : List Event) (replies : ℕ → List Reply) →

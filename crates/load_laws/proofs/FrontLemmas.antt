@@ -1,5 +1,5 @@
 -- A pass in a history and in the fronts of it after which the pass made no event.
-use Rattle.std.proofs.Common.{◌≡◌, ℕ, ◌==◌, false, cond, List, [], ◌∷◌, ◌++◌, None, refl, sym, ap, ◌∙◌, subst, append_assoc}
+use Rattle.std.proofs.Common.{◌≡◌, ℕ, ◌==◌, false, cond, List, [], ◌∷◌, ◌++◌, None, refl, sym, ap, ◌∙◌, subst, arith, append_assoc}
 use Rattle.std.proofs.lemmas.Bool.{or_from, or_parts}
 use Rattle.std.proofs.lemmas.List.{append-nil, append_cancel_left}
 use Rattle.std.proofs.lemmas.List.Folds.{list_any-append}
@@ -7,10 +7,11 @@ use Rattle.std.specs.List.{cons_option, list_any}
 use Rattle.std.specs.Option.{IfSome}
 use mathlib.Core.List.{IsPrefix}
 use Rattle.funnel_model.proofs.Clears.{last_by-front}
+use Rattle.funnel_model.proofs.Moved.{moved_by-append, moved_by-others}
 use Rattle.funnel_model.proofs.StepLemmas.{own-append}
 use Rattle.funnel_model.specs.declared.event.Event.{Event}
 use Rattle.funnel_model.specs.Events.{call_of, leaves_open, pass_of}
-use Rattle.funnel_model.specs.History.{IsFrontOf, own}
+use Rattle.funnel_model.specs.History.{IsFrontOf, moved_by, own}
 use Rattle.funnel_model.specs.Legal.{IsIdle}
 
 -- events of other passes make no call of this one
@@ -25,6 +26,12 @@ pub calls_in_front : (pass : ℕ) (front history : List Event) → IsFrontOf pas
 calls_in_front pass front history seen =
     ap (own pass) seen.whole ∙ own-append pass front seen.later
     ∙ ap (λ cs. own pass front ++ cs) (no_call pass seen.later seen.silent) ∙ append-nil (own pass front)
+
+-- and so are its moves
+pub moved_in_front : (pass : ℕ) (front history : List Event) → IsFrontOf pass front history → moved_by pass history ≡ moved_by pass front
+moved_in_front pass front history seen =
+    ap (moved_by pass) seen.whole
+    ∙ omega (arith, moved_by-append pass front seen.later, moved_by-others pass seen.later seen.silent)
 
 -- and it is idle if it was
 pub idle_from_front : (pass : ℕ) (front history : List Event) → IsFrontOf pass front history → IsIdle pass front → IsIdle pass history

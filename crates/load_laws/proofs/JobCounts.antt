@@ -4,6 +4,7 @@ use Rattle.std.proofs.lemmas.List.Sums.{sum_by-append, sum_by-cons}
 use Rattle.std.specs.List.{enumerate_from, range_with_len, sum_by}
 use Rattle.funnel_model.specs.declared.call.Call.{Call}
 use Rattle.funnel_model.specs.declared.call.Call.TheVariants as call
+use Rattle.funnel_model.specs.Steps.{most_moves}
 use Rattle.load_gen.specs.declared.limits.TheConstants.{CHECKED_ONE_IN}
 use Rattle.load_gen.specs.Documents.{documents, name_of_document}
 use Rattle.load_gen.specs.Jobs.{add_and_check, adds_of, deletes_of, is_deleted, nth_add, queries_of, share}
@@ -55,6 +56,16 @@ queries_weigh w none (item ∷ items) =
     let first = none item.1 in
     let later = queries_weigh w none items in
     sum_by-cons w (call.Find item.1) (map (λ x. call.Find x.1) items) ∙ omega arith
+
+-- deletes and queries move nothing
+pub deletes_move_nothing : (texts : List (List ℕ)) (workers worker : ℕ) → sum_by most_moves (deletes_of texts workers worker) ≡ 0
+deletes_move_nothing texts workers worker = of_numbers (filter is_deleted (map (λ item. item.0 + 1) (share texts workers worker))) where
+  of_numbers : (ids : List ℕ) → sum_by most_moves (map call.Delete ids) ≡ 0
+  of_numbers [] = refl
+  of_numbers (id ∷ ids) = omega (arith, sum_by-cons most_moves (call.Delete id) (map call.Delete ids), of_numbers ids)
+
+pub queries_move_nothing : (workers worker : ℕ) → sum_by most_moves (queries_of workers worker) ≡ 0
+queries_move_nothing workers worker = queries_weigh most_moves (λ query. refl) (share queries workers worker)
 
 -- the documents weigh what their numbers do
 weigh-numbers : (g : ℕ → ℕ) (n : ℕ) (texts : List (List ℕ)) → weigh (λ item. g (item.0 + 1)) (enumerate_from n texts) ≡ sum_by g (range_with_len (n + 1) (length texts))

@@ -14,8 +14,7 @@ use Rattle.funnel_model.specs.Legal.{Limits}
 use Rattle.load_gen.specs.Documents.{document}
 use Rattle.load_gen.specs.Jobs.{is_deleted}
 use Rattle.load_laws.specs.Workers.{AreLeft, HasRoomFor, IsLoaded}
-use Rattle.load_laws.proofs.Balance.{by_number, is_number}
-use Rattle.load_laws.proofs.Committed.{number_is}
+use Rattle.load_laws.proofs.Balance.{by_number, is_number, number_is}
 use Rattle.load_laws.proofs.FoundLive.{IsOfDocuments}
 use Rattle.load_laws.proofs.JobCounts.{where_deleted}
 use Rattle.load_laws.proofs.WorkersAnswered.{left_by_then, live_of_load}

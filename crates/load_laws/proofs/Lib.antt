@@ -21,6 +21,8 @@ pub mod Balance
 pub mod FrontLemmas
 pub mod WorkerEvents
 pub mod JobFacts
+pub mod Parts
+pub mod Unmoved
 pub mod Committed
 pub mod RunEvents
 pub mod FoundLive

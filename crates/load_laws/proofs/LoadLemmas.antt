@@ -5,13 +5,14 @@ use Rattle.std.proofs.lemmas.List.Elements.{All-head, All-tail}
 use Rattle.std.proofs.lemmas.List.Sums.{sum_by-cons}
 use Rattle.std.specs.List.{All, list_any}
 use Rattle.std.specs.Prelude.{◌==◌}
+use Rattle.funnel_model.proofs.NothingMoved.{moves_nothing-parts}
 use Rattle.funnel_model.proofs.StepLemmas.{linear-grows}
 use Rattle.funnel_model.specs.declared.call.Call.{Call}
 use Rattle.funnel_model.specs.declared.call.Call.TheVariants as call
 use Rattle.funnel_model.specs.declared.event.Event.{Event}
 use Rattle.funnel_model.specs.declared.reply.Reply.{Reply}
 use Rattle.funnel_model.specs.declared.reply.Reply.TheVariants as reply
-use Rattle.funnel_model.specs.History.{Document, live, place}
+use Rattle.funnel_model.specs.History.{Document, MovesNothing, live, place}
 use Rattle.funnel_model.specs.Legal.{Limits}
 use Rattle.funnel_model.specs.Steps.{Linear}
 use Rattle.funnel_model.specs.Words.{meets}
@@ -48,10 +49,11 @@ found_pairs (d ∷ ds) query = by_test (meets d.text query) (found_pairs ds quer
   by_test true rest = ap (λ ns. d.id ∷ ns) rest
   by_test false rest = rest
 
--- the calls are made by a pass that is alone, which numbers_meeting memory, before the events were spent
+-- the calls are made by a pass that is alone, which found memory, before the events were spent, and nothing is moved
 record Made (limits : Limits) (pass : ℕ) (before after : List Event) (calls : List Call) (replies : List Reply) : Type 0 where
   run : Linear limits pass before after calls replies
   alone : IsAlone pass after
+  unmoved : MovesNothing after
   unspent : length after < limits.events
   memory : All (λ r. r ≢ reply.Memory) replies
 
@@ -74,12 +76,14 @@ made_first limits pass before after asked calls given replies made =
       first = record {
         step = made.run.1;
         alone = alone_front pass middle grows.0 (subst (IsAlone pass) (sym grows.1) made.alone);
+        unmoved = (moves_nothing-parts middle grows.0 (subst MovesNothing (sym grows.1) made.unmoved)).0;
         unspent = omega arith;
         memory = All-head (λ r. r ≢ reply.Memory) given replies made.memory;
       };
       others = record {
         run = made.run.2;
         alone = made.alone;
+        unmoved = made.unmoved;
         unspent = few;
         memory = All-tail (λ r. r ≢ reply.Memory) given replies made.memory;
       };
@@ -193,14 +197,15 @@ from_nothing limits pass after calls replies made fits =
     answered_by_list limits pass [] after calls replies made (record { in_turn = fits.in_turn; columns = omega arith })
 
 pub load_is_answered : (limits : Limits) (pass : ℕ) (after : List Event) (calls : List Call) (replies : List Reply) → Linear limits pass [] after calls replies →
-    IsAlone pass after → length after < limits.events → All (λ r. r ≢ reply.Memory) replies → FitsEmptyEngine limits calls → replies ≡ answers_of [] calls
-load_is_answered limits pass after calls replies run alone unspent memory fits =
-    (from_nothing limits pass after calls replies (record { run = run; alone = alone; unspent = unspent; memory = memory }) fits).replies_are
+    IsAlone pass after → MovesNothing after → length after < limits.events → All (λ r. r ≢ reply.Memory) replies → FitsEmptyEngine limits calls →
+    replies ≡ answers_of [] calls
+load_is_answered limits pass after calls replies run alone unmoved unspent memory fits =
+    (from_nothing limits pass after calls replies (record { run = run; alone = alone; unmoved = unmoved; unspent = unspent; memory = memory }) fits).replies_are
 
 pub load_is_held : (limits : Limits) (pass : ℕ) (after : List Event) (calls : List Call) (replies : List Reply) → Linear limits pass [] after calls replies →
-    IsAlone pass after → length after < limits.events → All (λ r. r ≢ reply.Memory) replies → FitsEmptyEngine limits calls →
+    IsAlone pass after → MovesNothing after → length after < limits.events → All (λ r. r ≢ reply.Memory) replies → FitsEmptyEngine limits calls →
     HasDocuments after (held_after [] calls) (commits_in calls)
-load_is_held limits pass after calls replies run alone unspent memory fits =
-    let answers = from_nothing limits pass after calls replies (record { run = run; alone = alone; unspent = unspent; memory = memory }) fits in
+load_is_held limits pass after calls replies run alone unmoved unspent memory fits =
+    let answers = from_nothing limits pass after calls replies (record { run = run; alone = alone; unmoved = unmoved; unspent = unspent; memory = memory }) fits in
     let at = answers.at_place in
     record { held = answers.held; at_place = omega arith }

@@ -77,7 +77,7 @@ deletes_it limits pass before after id given lone present =
 room_left : (limits : Limits) (pass : ℕ) (before after : List Event) (asked : Call) (given : Reply) → (is : Answered limits pass before after asked given) →
     count_of_takes before < limits.slices * limits.columns → IsIdle (pass_of is.event) is.earlier → IsFull limits is.earlier → ⊥
 room_left limits pass before after asked given is few idle full =
-    let takes = takes_filled limits pass is.earlier is.legal is.alone (subst (λ p. IsIdle p is.earlier) is.is_own idle) in
+    let takes = takes_filled limits pass is.earlier is.legal is.unmoved is.alone (subst (λ p. IsIdle p is.earlier) is.is_own idle) in
     let first = is.first.filled_same in
     let filled_before = is.filled_before in
     let same : count_of_takes is.earlier ≡ count_of_takes before = omega arith in

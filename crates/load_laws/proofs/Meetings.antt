@@ -15,7 +15,7 @@ use Rattle.funnel_model.specs.Legal.{IsIdle}
 use Rattle.load_gen.specs.Jobs.{adds_of, deletes_of, queries_of}
 use Rattle.load_laws.specs.Workers.{Fronts, HasParts, HaveMet}
 use Rattle.load_laws.proofs.Answering.{shorter_begins}
-use Rattle.load_laws.proofs.FrontLemmas.{calls_in_front, front_between, front_trans, idle_from_front}
+use Rattle.load_laws.proofs.FrontLemmas.{calls_in_front, front_between, front_trans, idle_from_front, moved_in_front}
 
 -- of two fronts of a history the shorter one begins the other
 begins : (front longer history : List Event) → IsPrefix front history → IsPrefix longer history → length front ≤ length longer → IsPrefix front longer
@@ -135,6 +135,7 @@ module _ (texts : List (List ℕ)) (workers : ℕ) (history : List Event) (front
       adds = adds_there;
       idle_after_adds = λ worker below. idle_from_front worker (fronts worker).added all_added (adds_seen worker below)
           (met.keeps worker below).idle_after_adds;
+      moved = λ worker below. (met.keeps worker below).moved ∙ sym (moved_in_front worker (fronts worker).added all_added (adds_seen worker below));
       deletes = λ worker below. made_after worker all_added between.0 all_deleted (adds_of texts workers worker) (deletes_of texts workers worker)
           between.1 (adds_there worker below) (deletes_there worker below);
       idle_after_deletes = λ worker below. subst (IsIdle worker) (sym between.1)

@@ -11,6 +11,7 @@ use Rattle.funnel_model.specs.declared.call.Call.TheVariants as call
 use Rattle.funnel_model.specs.declared.event.Event.{Event}
 use Rattle.funnel_model.specs.declared.reply.Reply.{Reply}
 use Rattle.funnel_model.specs.declared.reply.Reply.TheVariants as reply
+use Rattle.funnel_model.specs.History.{MovesAreCaused}
 use Rattle.funnel_model.specs.Legal.{Limits}
 use Rattle.funnel_model.specs.Steps.{Linear}
 use Rattle.funnel_model.specs.Words.{meets}
@@ -25,11 +26,12 @@ use Rattle.load_laws.specs.Loads.{AreInTurn, FitsEmptyEngine, adds_in, answers_f
 use Rattle.load_laws.specs.Replies.{lone_add, replies_to_adds, replies_to_deletes, replies_to_jobs, replies_to_queries, result_in}
 use Rattle.load_laws.proofs.AddsPart.{AddsAnswered, IsBelow, IsNamed, adds_answered}
 use Rattle.load_laws.proofs.DeletesPart.{deletes_answered, deletes_in_turn, deletes_leave}
-use Rattle.load_laws.proofs.EventCounts.{four_events_a_call}
+use Rattle.load_laws.proofs.EventCounts.{few_events_of_calls}
 use Rattle.load_laws.proofs.ListLemmas.{answers-append, in_turn-append}
 use Rattle.load_laws.proofs.LoadLemmas.{load_is_answered}
 use Rattle.load_laws.proofs.OneWorker.{adds-one, deletes-one, length-documents, queries-one}
 use Rattle.load_laws.proofs.PlainQueries.{meets-document}
+use Rattle.load_laws.proofs.Unmoved.{lone_load_moves_nothing}
 use Rattle.load_laws.proofs.WorkerEvents.{calls_are_few}
 use Rattle.load_laws.specs.Workers.{calls_of_load}
 
@@ -180,7 +182,7 @@ load_answers docs words seed few =
     ∙ sym (append_assoc (replies_to_adds docs) (replies_to_deletes docs) (replies_to_queries texts))
 
 -- a load is far too short to spend the events
-pub load_is_short : (docs words seed : ℕ) → docs ≤ MOST_DOCS → 4 * length (jobs docs words seed 1 0) < 2 ^ 62
+pub load_is_short : (docs words seed : ℕ) → docs ≤ MOST_DOCS → 68 * length (jobs docs words seed 1 0) < 2 ^ 62
 load_is_short docs words seed few =
     let calls = calls_are_few docs words seed 1 (omega arith) in
     let one : calls_of_load docs words seed 1 ≡ 0 + length (jobs docs words seed 1 0) = refl in
@@ -189,12 +191,13 @@ load_is_short docs words seed few =
 -- a pass that is alone and finds memory is answered so
 pub load_is_replied : (limits : Limits) (pass docs words seed : ℕ) (after : List Event) (replies : List Reply) → docs ≤ MOST_DOCS →
     docs ≤ limits.slices * limits.columns → 2 ^ 62 ≤ limits.events →
-    Linear limits pass [] after (jobs docs words seed 1 0) replies → IsAlone pass after → All (λ r. r ≢ reply.Memory) replies →
-    replies ≡ replies_to_jobs docs words seed
-load_is_replied limits pass docs words seed after replies few columns many run alone memory =
+    Linear limits pass [] after (jobs docs words seed 1 0) replies → IsAlone pass after → MovesAreCaused after →
+    All (λ r. r ≢ reply.Memory) replies → replies ≡ replies_to_jobs docs words seed
+load_is_replied limits pass docs words seed after replies few columns many run alone caused memory =
     let short = load_is_short docs words seed few in
-    let events = four_events_a_call limits pass after (jobs docs words seed 1 0) replies run alone in
-    load_is_answered limits pass after (jobs docs words seed 1 0) replies run alone (omega (arith, short, events, many)) memory
+    let events = few_events_of_calls limits pass after (jobs docs words seed 1 0) replies run alone in
+    load_is_answered limits pass after (jobs docs words seed 1 0) replies run alone
+    (lone_load_moves_nothing limits pass docs words seed after replies run alone caused) (omega (arith, short, events, many)) memory
     (load_fits limits docs words seed few columns)
     ∙ load_answers docs words seed few
 

@@ -55,6 +55,8 @@ quiet_by history e deletes_none adds_none commits_none fills_none = record {
 -- an event that answers no call is such
 pub quiet_event : (history : List Event) (e : Event) → call_of e ≡ None → Quiet history (history ++ e ∷ [])
 quiet_event history (event.Take pass slice column) none = quiet_by history (event.Take pass slice column) (λ id. refl) refl refl refl
+quiet_event history (event.Move pass id slice column bits) none = quiet_by history (event.Move pass id slice column bits) (λ i. refl) refl refl refl
+quiet_event history (event.Void pass slice column) none = quiet_by history (event.Void pass slice column) (λ id. refl) refl refl refl
 quiet_event history (event.End pass) none = quiet_by history (event.End pass) (λ id. refl) refl refl refl
 quiet_event history (event.Clear pass slice) none = quiet_by history (event.Clear pass slice) (λ id. refl) refl refl refl
 quiet_event history (event.Opened pass slice alone) none = quiet_by history (event.Opened pass slice alone) (λ id. refl) refl refl refl
@@ -62,6 +64,7 @@ quiet_event history (event.Add pass id text slice column bits) none = cc
 quiet_event history (event.Drop pass id text slice column) none = cc
 quiet_event history (event.Del pass id) none = cc
 quiet_event history (event.Find pass query) none = cc
+quiet_event history (event.Tune pass config) none = cc
 quiet_event history (event.No pass asked) none = cc
 quiet_event history (event.Read pass asked) none = cc
 

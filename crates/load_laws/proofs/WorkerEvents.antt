@@ -18,8 +18,8 @@ use Rattle.load_gen.specs.Queries.{queries}
 use Rattle.load_gen.proofs.Shares.{deletes-total, share-total}
 use Rattle.load_gen.proofs.Totals.{sum_by-total, total, total-plus, total-same}
 use Rattle.load_laws.specs.Workers.{HasAsked, IsLoaded, calls_of_load}
-use Rattle.load_laws.proofs.EventCounts.{ends, events_of, few_events}
-use Rattle.load_laws.proofs.FrontLemmas.{calls_in_front, idle_from_front}
+use Rattle.load_laws.proofs.EventCounts.{Ends, ends, events_of, few_events_a_call}
+use Rattle.load_laws.proofs.FrontLemmas.{calls_in_front, idle_from_front, moved_in_front}
 use Rattle.load_laws.proofs.OneWorker.{length-documents}
 use Rattle.load_laws.proofs.Quiet.{all_second}
 use Rattle.load_laws.proofs.PassTotals.{length_is_sum, total-below, total-weigh_by}
@@ -33,38 +33,38 @@ own_of_load limits docs words seed workers history replies loaded worker below =
     ∙ ap₂ (λ (xs ys : List Call). xs ++ ys)
     (own-append worker p.adding p.deleting ∙ ap₂ (λ (xs ys : List Call). xs ++ ys) (p.adds worker below) (p.deletes worker below)) (p.queries worker below)
 
--- a pass is idle in a history once its calls are made
+-- how a pass ends in a history once its calls are made
+ends_in : (limits : Limits) (history : List Event) (pass : ℕ) (calls : List Call) (replies : List Reply) → HasAsked limits history pass calls replies →
+    Ends pass [] history calls
+ends_in limits history pass calls replies asked =
+    let end = ends limits pass [] asked.front calls replies tt asked.run in
+    record {
+      idle = idle_from_front pass asked.front history asked.seen end.idle;
+      few = λ w. omega (arith, end.few w, ap (sum_by w) (calls_in_front pass asked.front history asked.seen));
+      moves_few = omega (arith, end.moves_few, moved_in_front pass asked.front history asked.seen);
+    }
+
 pub idle_in : (limits : Limits) (history : List Event) (pass : ℕ) (calls : List Call) (replies : List Reply) → HasAsked limits history pass calls replies →
     IsIdle pass history
-idle_in limits history pass calls replies asked =
-    idle_from_front pass asked.front history asked.seen (ends limits pass [] asked.front calls replies tt asked.run).idle
+idle_in limits history pass calls replies asked = (ends_in limits history pass calls replies asked).idle
 
-total-four : (f : ℕ → ℕ) (n : ℕ) → total (λ k. 4 * f k) n ≡ 4 * total f n
-total-four f zero = refl
-total-four f (suc n) = let lower = total-four f n in omega arith
+total-times : (f : ℕ → ℕ) (n : ℕ) → total (λ k. 68 * f k) n ≡ 68 * total f n
+total-times f zero = refl
+total-times f (suc n) = let lower = total-times f n in omega arith
 
--- a pass has at most four events a call that it asked
-four_events_by : (limits : Limits) (history : List Event) (pass : ℕ) (calls : List Call) (replies : List Reply) → IsLegal limits history →
-    HasAsked limits history pass calls replies → events_of pass history ≤ 4 * length calls
-four_events_by limits history pass calls replies legal asked =
-    let events = few_events limits pass history legal (idle_in limits history pass calls replies asked) in
-    let made = (ends limits pass [] asked.front calls replies tt asked.run).few in
-    let seen = ap length (calls_in_front pass asked.front history asked.seen) in
-    omega (arith, events, made, seen)
-
--- so the history has at most four events a call where no other pass has one
-pub four_events_a_call_of_all : (limits : Limits) (workers : ℕ) (history : List Event) (calls : ℕ → List Call) (replies : ℕ → List Reply) →
+-- the history has few events a call where no pass but those that asked has one
+pub few_events_of_all : (limits : Limits) (workers : ℕ) (history : List Event) (calls : ℕ → List Call) (replies : ℕ → List Reply) →
     IsLegal limits history → All (λ e. pass_of e < workers) history →
     ((worker : ℕ) → worker < workers → HasAsked limits history worker (calls worker) (replies worker)) →
-    length history ≤ 4 * sum_by (λ worker. length (calls worker)) (range_with_len 0 workers)
-four_events_a_call_of_all limits workers history calls replies legal no_other asked =
+    length history ≤ 68 * sum_by (λ worker. length (calls worker)) (range_with_len 0 workers)
+few_events_of_all limits workers history calls replies legal no_other asked =
     let all : length history ≡ total (λ worker. events_of worker history) workers =
     length_is_sum history ∙ sym (total-weigh_by (λ e. 1) workers history no_other) in
-    let each = total-below (λ worker. events_of worker history) (λ worker. 4 * length (calls worker)) workers
-    (λ worker below. four_events_by limits history worker (calls worker) (replies worker) legal (asked worker below)) in
-    let four = total-four (λ worker. length (calls worker)) workers in
+    let each = total-below (λ worker. events_of worker history) (λ worker. 68 * length (calls worker)) workers
+    (λ worker below. few_events_a_call limits worker history (calls worker) legal (ends_in limits history worker (calls worker) (replies worker) (asked worker below))) in
+    let times = total-times (λ worker. length (calls worker)) workers in
     let counted = sum_by-total (λ worker. length (calls worker)) workers in
-    omega (arith, all, each, four, counted)
+    omega (arith, all, each, times, counted)
 
 -- a worker's adds and the finds between them are at most two for a document
 two_a_document : (n : ℕ) (items : List (ℕ × List ℕ)) → length (flat_map nth_add (enumerate_from n items)) ≤ 2 * length items
@@ -108,8 +108,8 @@ pub load_is_unspent : (limits : Limits) (docs words seed workers : ℕ) (history
     IsLegal limits history → All (λ e. pass_of e < workers) history →
     ((worker : ℕ) → worker < workers → HasAsked limits history worker (jobs docs words seed workers worker) (replies worker)) → length history < 2 ^ 62
 load_is_unspent limits docs words seed workers history replies some few legal no_other asked =
-    let events : length history ≤ 4 * calls_of_load docs words seed workers =
-    four_events_a_call_of_all limits workers history (λ worker. jobs docs words seed workers worker) replies legal no_other asked in
+    let events : length history ≤ 68 * calls_of_load docs words seed workers =
+    few_events_of_all limits workers history (λ worker. jobs docs words seed workers worker) replies legal no_other asked in
     let calls = calls_are_few docs words seed workers some in
     omega (arith, few, events, calls)
 

@@ -27,12 +27,13 @@ use Rattle.load_gen.specs.Queries.{queries}
 use Rattle.load_gen.specs.Summary.{found, result_of, results_of}
 use Rattle.load_laws.specs.Replies.{result_in}
 use Rattle.load_laws.specs.Workers.{AreAnswered, HasRoomFor, IsAnswered, IsAnsweredAsTold, IsLoaded, TellsNumbers}
-use Rattle.load_laws.proofs.Balance.{added, balanced, by_number, deleted, deleted_was_asked, is_number, no_more}
+use Rattle.load_laws.proofs.Balance.{added, balanced, by_number, deleted, deleted_was_asked, is_number, no_more, number_is}
 use Rattle.load_laws.proofs.CallEvents.{find_event}
-use Rattle.load_laws.proofs.Committed.{add_is_committed, added_as_asked, adds_asked, after_or_in, call_of_load, delete_is_committed, deleted_as_asked, deletes_asked, number_is, parts_asked, same_stretch, sum_around}
+use Rattle.load_laws.proofs.Committed.{add_is_committed, added_as_asked, after_or_in, call_of_load, delete_is_committed, deleted_as_asked, same_stretch, sum_around}
 use Rattle.load_laws.proofs.FoundLive.{IsOfDocuments, found_over, met, met_weighs, one_named, same_result, where_met}
 use Rattle.load_laws.proofs.JobCounts.{add_weight, delete_weight, over, where_deleted}
 use Rattle.load_laws.proofs.JobFacts.{IsItem, share_items}
+use Rattle.load_laws.proofs.Parts.{adds_asked, deletes_asked, parts_asked}
 use Rattle.load_laws.proofs.PassTotals.{asked, weigh_by, weigh_by-calls}
 use Rattle.load_laws.proofs.RunEvents.{EventOf, HaveEvents, events_of_run, two_parts}
 use Rattle.load_laws.proofs.WorkerEvents.{load_is_unspent}

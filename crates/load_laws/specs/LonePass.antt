@@ -7,7 +7,7 @@ use Rattle.funnel_model.specs.declared.event.Event.TheVariants as event
 use Rattle.funnel_model.specs.declared.reply.Reply.{Reply}
 use Rattle.funnel_model.specs.declared.reply.Reply.TheVariants as reply
 use Rattle.funnel_model.specs.Events.{pass_of}
-use Rattle.funnel_model.specs.History.{answer, live, place}
+use Rattle.funnel_model.specs.History.{MovesNothing, answer, live, place}
 use Rattle.funnel_model.specs.Legal.{Limits}
 use Rattle.funnel_model.specs.Steps.{Step}
 
@@ -24,10 +24,11 @@ count_of_takes history = count_by is_take history
 abbrev pub IsAlone : ℕ → List Event → Type 0
 IsAlone pass history = All (λ e. pass_of e ≡ pass) history
 
--- a call of a pass that is alone, which found memory and came before the events were spent
+-- a call of a pass that is alone, which found memory and came before the events were spent; nothing was moved up to its end
 pub record LoneStep (limits : Limits) (pass : ℕ) (before after : List Event) (asked : Call) (given : Reply) : Type 0 where
   pub step : Step limits pass before after asked given
   pub alone : IsAlone pass after
+  pub unmoved : MovesNothing after
   pub unspent : length after < limits.events
   pub memory : given ≢ reply.Memory
 

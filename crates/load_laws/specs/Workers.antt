@@ -9,7 +9,7 @@ use Rattle.funnel_model.specs.declared.event.Event.{Event}
 use Rattle.funnel_model.specs.declared.reply.Reply.{Reply}
 use Rattle.funnel_model.specs.declared.reply.Reply.TheVariants as reply
 use Rattle.funnel_model.specs.Events.{pass_of}
-use Rattle.funnel_model.specs.History.{IsFrontOf, live, own}
+use Rattle.funnel_model.specs.History.{IsFrontOf, MovesAreCaused, live, moved_by, own}
 use Rattle.funnel_model.specs.Legal.{Limits, IsIdle, IsLegal}
 use Rattle.funnel_model.specs.Steps.{Linear}
 use Rattle.load_gen.specs.declared.limits.TheConstants.{MOST_DOCS}
@@ -27,7 +27,8 @@ abbrev pub AreIdle : ℕ → List Event → Type 0
 AreIdle workers history = (worker : ℕ) → worker < workers → IsIdle worker history
 
 -- The parts of a load follow each other: every worker has added its documents before one deletes, and every worker has deleted before
--- one runs its queries. No worker is in the middle of a call where a part ends, so all events of a part come before those of the next
+-- one runs its queries. No worker is in the middle of a call where a part ends, and what a worker moves for its adds it moves in the first
+-- part, so all events of a part come before those of the next
 pub record HasParts (texts : List (List ℕ)) (workers : ℕ) (history : List Event) : Type 0 where
   pub adding : List Event
   pub deleting : List Event
@@ -35,6 +36,7 @@ pub record HasParts (texts : List (List ℕ)) (workers : ℕ) (history : List Ev
   pub whole : history ≡ adding ++ deleting ++ querying
   pub adds : IsPart workers (adds_of texts workers) adding
   pub idle_after_adds : AreIdle workers adding
+  pub moved : (worker : ℕ) → worker < workers → moved_by worker history ≡ moved_by worker adding
   pub deletes : IsPart workers (deletes_of texts workers) deleting
   pub idle_after_deletes : AreIdle workers (adding ++ deleting)
   pub queries : IsPart workers (queries_of workers) querying
@@ -49,10 +51,12 @@ pub record Fronts : Type 0 where
   pub queried : List Event
   pub met_queried : List Event
 
--- by these fronts the worker had ended its adds, its deletes and its queries, and did nothing while it met the others and after that
+-- by these fronts the worker had ended its adds, its deletes and its queries, and did nothing while it met the others and after that;
+-- for its deletes and its queries it moved nothing
 pub record KeepsToParts (texts : List (List ℕ)) (workers worker : ℕ) (history : List Event) (fronts : Fronts) : Type 0 where
   pub adds : own worker fronts.added ≡ adds_of texts workers worker
   pub idle_after_adds : IsIdle worker fronts.added
+  pub moved : moved_by worker history ≡ moved_by worker fronts.added
   pub meets_adds : IsFrontOf worker fronts.added fronts.met_added
   pub goes_on : IsPrefix fronts.met_added fronts.deleted
   pub deletes : own worker fronts.deleted ≡ adds_of texts workers worker ++ deletes_of texts workers worker
@@ -79,11 +83,13 @@ pub record HasAsked (limits : Limits) (history : List Event) (worker : ℕ) (cal
   pub run : Linear limits worker [] front calls replies
   pub memory : All (λ r. r ≢ reply.Memory) replies
 
--- the history of an engine to which so many workers put a load, each by the pass of its number: it is legal, no other pass has an
--- event in it, the parts of the load follow each other, and each worker asked all its calls and found memory for them
+-- the history of an engine to which so many workers put a load, each by the pass of its number: it is legal, each move in it has its
+-- cause, no other pass has an event in it, the parts of the load follow each other, and each worker asked all its calls and found memory
+-- for them
 pub record IsLoaded (limits : Limits) (docs words seed workers : ℕ) (history : List Event) (replies : ℕ → List Reply) : Type 0 where
   pub some : 0 < workers
   pub legal : IsLegal limits history
+  pub caused : MovesAreCaused history
   pub no_other : All (λ e. pass_of e < workers) history
   pub parts : HasParts (documents docs words seed) workers history
   pub asked : (worker : ℕ) → worker < workers → HasAsked limits history worker (jobs docs words seed workers worker) (replies worker)

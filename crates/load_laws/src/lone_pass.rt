@@ -3,12 +3,13 @@ ghost use Rattle.std.specs.Prelude.{◌≡◌, ◌≢◌, ◌+◌, ◌*◌, ◌<
 ghost use Rattle.std.specs.List.{All};
 ghost use Rattle.funnel_model.specs.declared.call.Call.{Call};
 ghost use Rattle.funnel_model.specs.declared.call.Call.TheVariants as call;
+ghost use Rattle.funnel_model.specs.declared.call.TheConstants.{MOST_MOVES};
 ghost use Rattle.funnel_model.specs.declared.event.Event.{Event};
 ghost use Rattle.funnel_model.specs.declared.reply.Reply.{Reply};
 ghost use Rattle.funnel_model.specs.declared.reply.Reply.TheVariants as reply;
 ghost use Rattle.funnel_model.specs.Example.{small};
-ghost use Rattle.funnel_model.specs.History.{IsFrontOf, is_live};
-ghost use Rattle.funnel_model.specs.Legal.{IsLegal, Limits};
+ghost use Rattle.funnel_model.specs.History.{IsFrontOf, MovesNothing, is_live, moved_by, own};
+ghost use Rattle.funnel_model.specs.Legal.{IsIdle, IsLegal, Limits};
 ghost use Rattle.funnel_model.specs.Steps.{Linear};
 ghost use Rattle.funnel_model.specs.Words.{meets};
 ghost use Rattle.load_laws.specs.LonePass.{IsAlone, LoneStep, Adds, Deletes, Finds, count_of_takes};
@@ -35,13 +36,13 @@ pub fn deletes_are_committed()
         Deletes before after id given }
 {}
 
-/// A load that fits an empty engine is answered as a plain list of documents tells, and leaves live what that list holds.
+/// Where nothing is moved a load that fits an empty engine is answered as a plain list of documents tells, and leaves live what that list holds.
 pub fn loads_are_answered_as_by_a_list()
     ensures replies { (limits : Limits) (pass : ℕ) (after : List Event) (calls : List Call) (replies : List Reply) →
-        Linear limits pass [] after calls replies → IsAlone pass after → length after < limits.events →
+        Linear limits pass [] after calls replies → IsAlone pass after → MovesNothing after → length after < limits.events →
         All (λ r. r ≢ reply.Memory) replies → FitsEmptyEngine limits calls → replies ≡ answers_of [] calls }
     ensures loaded { (limits : Limits) (pass : ℕ) (after : List Event) (calls : List Call) (replies : List Reply) →
-        Linear limits pass [] after calls replies → IsAlone pass after → length after < limits.events →
+        Linear limits pass [] after calls replies → IsAlone pass after → MovesNothing after → length after < limits.events →
         All (λ r. r ≢ reply.Memory) replies → FitsEmptyEngine limits calls → HasDocuments after (held_after [] calls) (commits_in calls) }
 {}
 
@@ -70,10 +71,13 @@ pub fn a_pass_is_alone_where_no_other_has_events()
     ensures seen { (pass : ℕ) (front history : List Event) → IsAlone pass history → IsFrontOf pass front history → front ≡ history }
 {}
 
-/// The calls of a pass that is alone make at most four events each, so that a short load can't spend the history.
-pub fn a_call_makes_at_most_four_events()
-    ensures { (limits : Limits) (pass : ℕ) (after : List Event) (calls : List Call) (replies : List Reply) →
-        Linear limits pass [] after calls replies → IsAlone pass after → length after ≤ 4 * length calls }
+/// A pass that is alone and idle has made at most four events for each call and four for each move. Since a call makes few moves, it
+/// makes few events, so a short load can't spend the history.
+pub fn calls_and_moves_make_at_most_four_events()
+    ensures each { (limits : Limits) (pass : ℕ) (history : List Event) → IsLegal limits history → IsAlone pass history → IsIdle pass history →
+        length history ≤ 4 * length (own pass history) + 4 * moved_by pass history }
+    ensures calls { (limits : Limits) (pass : ℕ) (after : List Event) (calls : List Call) (replies : List Reply) →
+        Linear limits pass [] after calls replies → IsAlone pass after → length after ≤ (4 + 4 * MOST_MOVES) * length calls }
 {}
 
 /// There are loads that fit, and a pass can make them alone: this one fits an engine of one slice of two columns.
@@ -81,6 +85,7 @@ pub fn a_small_load_is_made()
     ensures fits { FitsEmptyEngine small small_load }
     ensures run { Linear small 0 [] small_load_events small_load small_load_replies }
     ensures alone { IsAlone 0 small_load_events }
+    ensures unmoved { MovesNothing small_load_events }
     ensures unspent { length small_load_events < small.events }
     ensures answers { answers_of [] small_load ≡ small_load_replies }
 {}

@@ -2,9 +2,11 @@
 ghost use Rattle.std.specs.Prelude.{◌≡◌, ◌≢◌, ◌+◌, ◌*◌, ◌/◌, ◌^◌, ◌<◌, ◌≤◌, ℕ, List, [], ◌∷◌, ◌++◌, Some, length, map, flat_map, drop, take, slice_get};
 ghost use Rattle.std.specs.List.{All, enumerate_from, range_with_len};
 ghost use Rattle.funnel_model.specs.declared.call.Call.TheVariants as call;
+ghost use Rattle.funnel_model.specs.declared.call.TheConstants.{MOST_MOVES};
 ghost use Rattle.funnel_model.specs.declared.event.Event.{Event};
 ghost use Rattle.funnel_model.specs.declared.reply.Reply.{Reply};
 ghost use Rattle.funnel_model.specs.declared.reply.Reply.TheVariants as reply;
+ghost use Rattle.funnel_model.specs.History.{MovesAreCaused, MovesNothing};
 ghost use Rattle.funnel_model.specs.Legal.{Limits};
 ghost use Rattle.funnel_model.specs.Steps.{Linear};
 ghost use Rattle.load_gen.specs.declared.limits.TheConstants.{DELETED_ONE_IN, MOST_DOCS};
@@ -49,15 +51,22 @@ pub fn loads_miss_nothing()
 
 /// A load makes far too few events to spend the history.
 pub fn loads_are_short()
-    ensures { (docs words seed : ℕ) → docs ≤ MOST_DOCS → 4 * length (jobs docs words seed 1 0) < 2 ^ 62 }
+    ensures { (docs words seed : ℕ) → docs ≤ MOST_DOCS → (4 + 4 * MOST_MOVES) * length (jobs docs words seed 1 0) < 2 ^ 62 }
 {}
 
-/// A pass that is alone and always finds memory is answered so: no add and no delete is refused, no find misses, and the last
-/// eight replies have the results that the summary tells.
+/// Where each move has its cause, a pass that is alone moves nothing for a load: documents are moved only once one was deleted or
+/// dropped, no add of a load is dropped, since its numbers differ, and once it has deleted it adds none.
+pub fn loads_move_nothing()
+    ensures { (limits : Limits) (pass docs words seed : ℕ) (after : List Event) (replies : List Reply) →
+        Linear limits pass [] after (jobs docs words seed 1 0) replies → IsAlone pass after → MovesAreCaused after → MovesNothing after }
+{}
+
+/// Where each move has its cause, a pass that is alone and always finds memory is answered so: no add and no delete is refused, no
+/// find misses, and the last eight replies have the results that the summary tells.
 pub fn loads_are_answered_as_told()
     ensures replies { (limits : Limits) (pass docs words seed : ℕ) (after : List Event) (replies : List Reply) → docs ≤ MOST_DOCS →
         docs ≤ limits.slices * limits.columns → 2 ^ 62 ≤ limits.events →
-        Linear limits pass [] after (jobs docs words seed 1 0) replies → IsAlone pass after → All (λ r. r ≢ reply.Memory) replies →
+        Linear limits pass [] after (jobs docs words seed 1 0) replies → IsAlone pass after → MovesAreCaused after → All (λ r. r ≢ reply.Memory) replies →
         replies ≡ replies_to_jobs docs words seed }
     ensures results { (docs words seed : ℕ) (earlier last : List Reply) → earlier ++ last ≡ replies_to_jobs docs words seed → length last ≡ 8 →
         map result_in last ≡ results_of (documents docs words seed) }

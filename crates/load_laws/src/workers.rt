@@ -3,13 +3,16 @@
 ghost use Rattle.std.specs.Prelude.{◌≡◌, ◌+◌, ◌*◌, ◌/◌, ◌^◌, ◌<◌, ◌≤◌, ℕ, List, ◌++◌, length, map};
 ghost use Rattle.std.specs.List.{All, range_with_len, sum_by};
 ghost use Rattle.funnel_model.specs.declared.call.Call.{Call};
+ghost use Rattle.funnel_model.specs.declared.call.TheConstants.{MOST_MOVES};
 ghost use Rattle.funnel_model.specs.declared.event.Event.{Event};
 ghost use Rattle.funnel_model.specs.declared.reply.Reply.{Reply};
 ghost use Rattle.funnel_model.specs.Events.{pass_of};
-ghost use Rattle.funnel_model.specs.Legal.{IsLegal, Limits};
+ghost use Rattle.funnel_model.specs.History.{MovesNothing, moved_by};
+ghost use Rattle.funnel_model.specs.Legal.{IsIdle, IsLegal, Limits};
+ghost use Rattle.funnel_model.specs.Steps.{Linear};
 ghost use Rattle.load_gen.specs.declared.limits.TheConstants.{DELETED_ONE_IN, MOST_DOCS};
 ghost use Rattle.load_gen.specs.Documents.{documents};
-ghost use Rattle.load_gen.specs.Jobs.{jobs, share};
+ghost use Rattle.load_gen.specs.Jobs.{deletes_of, jobs, queries_of, share};
 ghost use Rattle.load_gen.specs.Summary.{results_of};
 ghost use Rattle.load_laws.specs.Workers.{AreLeft, Fronts, HasAsked, HasParts, HasRoomFor, HaveMet, IsAnsweredAsTold, IsLoaded, calls_of_load};
 ghost use Rattle.load_laws.specs.WorkersExample.{both_added, both_queried, replies_to, two_passes};
@@ -29,18 +32,35 @@ pub fn workers_that_meet_at_last_have_seen_all()
 {}
 
 /// All workers together make at most two calls a document, one for each that is deleted and one for each of the eight queries.
-/// Whatever calls workers ask, and whether or not they wait for each other, they make at most four events a call; so a load makes
-/// far too few to spend the history.
+/// Whatever calls workers ask, and whether or not they wait for each other, they make few events a call, as a call moves few
+/// documents; so a load makes far too few to spend the history.
 pub fn loads_of_workers_are_short()
     ensures calls { (docs words seed workers : ℕ) → 0 < workers → calls_of_load docs words seed workers ≤ 2 * docs + docs / DELETED_ONE_IN + 8 }
     ensures events { (limits : Limits) (workers : ℕ) (history : List Event) (calls : ℕ → List Call) (replies : ℕ → List Reply) →
         IsLegal limits history → All (λ e. pass_of e < workers) history →
         ((worker : ℕ) → worker < workers → HasAsked limits history worker (calls worker) (replies worker)) →
-        length history ≤ 4 * sum_by (λ worker. length (calls worker)) (range_with_len 0 workers) }
+        length history ≤ (4 + 4 * MOST_MOVES) * sum_by (λ worker. length (calls worker)) (range_with_len 0 workers) }
     ensures unspent { (limits : Limits) (docs words seed workers : ℕ) (history : List Event) (replies : ℕ → List Reply) → 0 < workers → docs ≤ MOST_DOCS →
         IsLegal limits history → All (λ e. pass_of e < workers) history →
         ((worker : ℕ) → worker < workers → HasAsked limits history worker (jobs docs words seed workers worker) (replies worker)) →
         length history < 2 ^ 62 }
+{}
+
+/// A worker moves nothing for its deletes, nor for its queries, since no step of theirs does.
+pub fn deletes_and_queries_move_nothing()
+    ensures deletes { (limits : Limits) (worker : ℕ) (before after : List Event) (texts : List (List ℕ)) (workers : ℕ) (replies : List Reply) →
+        IsIdle worker before → Linear limits worker before after (deletes_of texts workers worker) replies →
+        moved_by worker after ≡ moved_by worker before }
+    ensures queries { (limits : Limits) (worker : ℕ) (before after : List Event) (workers : ℕ) (replies : List Reply) →
+        IsIdle worker before → Linear limits worker before after (queries_of workers worker) replies →
+        moved_by worker after ≡ moved_by worker before }
+{}
+
+/// So nothing is moved for a load of several workers either: up to the end of the first part none has deleted, and no add is
+/// dropped, since the numbers of all workers differ.
+pub fn loads_of_workers_move_nothing()
+    ensures { (limits : Limits) (docs words seed workers : ℕ) (history : List Event) (replies : ℕ → List Reply) →
+        IsLoaded limits docs words seed workers history replies → MovesNothing history }
 {}
 
 /// Once every worker has deleted, the live documents are those that are not to be deleted, whatever the order in which they came.

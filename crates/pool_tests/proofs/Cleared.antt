@@ -162,20 +162,20 @@ unfolding drops all_below
 each_dropped = each_below (λ column. list_any (drops_on 0 (column + 1)) (span 0 deleted)) 63 refl
 
 -- the first one is deleted
-first_deleted : IsDeletedOn deleted 0 0 (record { id = 4; text = []; place = 1 }) 3
+first_deleted : IsDeletedOn deleted 0 0 (record { id = 4; text = []; place = 1 }) 2 131
 unfolding drops
 first_deleted = record {
   between = drop 2 added;
   event = event.Del 1 4;
   later = [];
-  added = record { earlier = event.Take 1 0 0 ∷ []; event = event.Add 1 4 [] 0 0 []; whole = refl; adds = refl; at_place = refl; stays = refl };
+  put = record { earlier = event.Take 1 0 0 ∷ []; event = event.Add 1 4 [] 0 0 []; whole = refl; count = refl; puts = refl; lives = (0, omega arith, refl); stays = refl };
   not_before = refl;
-  deletes_it = refl;
-  at_place = refl;
+  takes_it_off = refl;
+  count = refl;
 }
 
 each_over : AllOver 64 0 deleted
-each_over zero less = (Deleted (record { id = 4; text = []; place = 1 }) 3, first_deleted, tt)
+each_over zero less = (Deleted (record { id = 4; text = []; place = 1 }) 2 131, first_deleted, tt)
 each_over (suc column) less =
     let next : column + 1 ≡ suc column = omega arith in
     (Dropped, subst (λ (c : ℕ). list_any (drops_on 0 c) (span 0 deleted) ≡ true) next (each_dropped column (omega (arith, less))), tt)

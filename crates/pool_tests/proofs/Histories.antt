@@ -72,11 +72,11 @@ module _ (t u query : List ℕ) (bs cs : List Bit) where
   -- the only slice is in use then
   first_in_use : (limits : Limits) → IsLegal limits (two_adds t bs u cs) → 0 < limits.columns → IsInUse limits.columns 0 (two_adds t bs u cs)
   first_in_use limits legal columns = record {
-    not_retired = not_retired_by limits (two_adds t bs u cs) 0 0 (Live (record { id = 4; text = t; place = 1 })) legal columns
+    not_retired = not_retired_by limits (two_adds t bs u cs) 0 0 (Live (record { id = 4; text = t; place = 1 }) 3) legal columns
         (record {
           later = event.Add 1 5 u 0 1 cs ∷ [];
-          added = record { earlier = event.Take 0 0 0 ∷ event.Take 1 0 1 ∷ []; event = event.Add 0 4 t 0 0 bs; whole = refl; adds = refl; at_place = refl; stays = refl };
-          not_deleted = refl;
+          put = record { earlier = event.Take 0 0 0 ∷ event.Take 1 0 1 ∷ []; event = event.Add 0 4 t 0 0 bs; whole = refl; count = refl; puts = refl; lives = (0, omega arith, refl); stays = refl };
+          not_taken_off = refl;
         })
         (λ over. over);
     not_clearing = refl;

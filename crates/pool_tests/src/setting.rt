@@ -33,6 +33,7 @@ pub(crate) fn config(alloc: Global, passes: u32, slices: u32) -> Config
         blocks: 1,
         max_rank: 0,
         commits: 1024,
+        reserve: 0,
         one_in: 2,
         snr: 1000,
         documents: 1000,

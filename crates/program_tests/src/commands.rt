@@ -33,6 +33,7 @@ static COMMANDS: [(&[&str], Command); 7] = [
             port: 7_000,
             workers: 2,
             connections: 4_294_967_296,
+            idle: 0,
         }),
     ),
     (
@@ -41,6 +42,7 @@ static COMMANDS: [(&[&str], Command); 7] = [
             port: 1,
             workers: 1,
             connections: 1,
+            idle: 0,
         }),
     ),
     (
@@ -57,6 +59,7 @@ static COMMANDS: [(&[&str], Command); 7] = [
             port: 65_535,
             workers: 64,
             connections: 4_294_967_296,
+            idle: 0,
         }),
     ),
     (
@@ -68,11 +71,13 @@ static COMMANDS: [(&[&str], Command); 7] = [
             "+5",
             "--connections",
             "+9",
+            "--idle=86400",
         ],
         Command::Serve(ServeCommand {
             port: 7,
             workers: 5,
             connections: 9,
+            idle: 86_400,
         }),
     ),
 ];

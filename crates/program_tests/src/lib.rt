@@ -15,3 +15,5 @@ mod meetings;
 mod serving;
 #[cfg(test)]
 mod setting;
+#[cfg(test)]
+mod texts;

@@ -10,7 +10,12 @@ use std::process::Abort;
 use std::test::Fail;
 
 /// A source of the bytes, cut into pieces of this many, whose reads of these numbers fail.
-fn source(alloc: Global, bytes: &[u8], piece: usize, fails: &[u64]) -> Result<MemSource, AllocError>
+pub fn source(
+    alloc: Global,
+    bytes: &[u8],
+    piece: usize,
+    fails: &[u64],
+) -> Result<MemSource, AllocError>
     requires { 0 < piece }
 {
     let mut pieces = Vec::new(alloc);
@@ -20,17 +25,18 @@ fn source(alloc: Global, bytes: &[u8], piece: usize, fails: &[u64]) -> Result<Me
     Ok(MemSource::new(pieces, Vec::from_slice(alloc, fails)?))
 }
 
-/// What the bytes are read as, in words.
-fn told(alloc: Global, answer: &Result<Config, ConfigFault>) -> Result<String, AllocError> {
+/// What was read, in words: the values in the order of the keys, or the number of the fault and what it says.
+pub fn told(alloc: Global, answer: &Result<Config, ConfigFault>) -> Result<String, AllocError> {
     match answer {
         Ok(config) => {
             let mut text = format!(in alloc;
-                "{} {} {} {} {} {} {} {} {} {}",
+                "{} {} {} {} {} {} {} {} {} {} {}",
                 config.passes,
                 config.slices,
                 config.blocks,
                 config.max_rank,
                 config.commits,
+                config.reserve,
                 config.one_in,
                 config.snr,
                 config.documents,
@@ -55,49 +61,49 @@ fn read(alloc: Global, bytes: &[u8], piece: usize, fails: &[u64]) -> Result<Stri
     told(alloc, &read_config(alloc, &mut source))
 }
 
-const DEFAULTS: &str = "2 2 1 0 1024 10 10 1000 10 65536";
+const DEFAULTS: &str = "2 2 1 0 1024 0 10 10 1000 10 65536";
 
 /// Bytes, and what they are read as.
-static ROWS: [(&[u8], &str); 45] = [
+static ROWS: [(&[u8], &str); 47] = [
     (b"", DEFAULTS),
     (b"{}", DEFAULTS),
     (b" \t\r\n{ }\n", DEFAULTS),
     (
         br#"{"slices":1,"max_rank":1}"#,
-        "2 1 1 1 1024 10 10 1000 10 65536",
+        "2 1 1 1 1024 0 10 10 1000 10 65536",
     ),
     (
-        br#"{"passes":64,"slices":1,"blocks":64,"max_rank":6,"commits":16777216,"one_in":20,"snr":1000,"documents":4294967296,"tail":0,"max_rows":1,"words":{}}"#,
-        "64 1 64 6 16777216 20 1000 4294967296 0 1",
+        br#"{"passes":64,"slices":1,"blocks":64,"max_rank":6,"commits":16777216,"reserve":4194304,"one_in":20,"snr":1000,"documents":4294967296,"tail":0,"max_rows":1,"words":{}}"#,
+        "64 1 64 6 16777216 4194304 20 1000 4294967296 0 1",
     ),
     (
-        br#"{"passes":1,"slices":1,"blocks":1,"max_rank":0,"commits":1,"one_in":2,"snr":1,"documents":1,"tail":100000,"max_rows":1048576,"words":{"a":1}}"#,
-        "1 1 1 0 1 2 1 1 100000 1048576 a:1",
+        br#"{"passes":1,"slices":1,"blocks":1,"max_rank":0,"commits":1,"reserve":0,"one_in":2,"snr":1,"documents":1,"tail":100000,"max_rows":1048576,"words":{"a":1}}"#,
+        "1 1 1 0 1 0 2 1 1 100000 1048576 a:1",
     ),
     (
         br#"{"words":{"the":1000,"cat":100,"axolotl":1}}"#,
-        "2 2 1 0 1024 10 10 1000 10 65536 axolotl:1 cat:100 the:1000",
+        "2 2 1 0 1024 0 10 10 1000 10 65536 axolotl:1 cat:100 the:1000",
     ),
     (
         br#"{"words":{"don't":7,"3.14":8}}"#,
-        "2 2 1 0 1024 10 10 1000 10 65536 3.14:8 don't:7",
+        "2 2 1 0 1024 0 10 10 1000 10 65536 3.14:8 don't:7",
     ),
     (
         br#"{"passes":4,"slices":8,"max_rank":6,"commits":65536,"documents":20000,"tail":80}"#,
-        "4 8 1 6 65536 10 10 20000 80 65536",
+        "4 8 1 6 65536 0 10 10 20000 80 65536",
     ),
     // The last value of a key stands, and escapes in a key are read first.
     (
         br#"{"passes":0,"passes":3}"#,
-        "3 2 1 0 1024 10 10 1000 10 65536",
+        "3 2 1 0 1024 0 10 10 1000 10 65536",
     ),
     (
         br#"{"passes":3,"p\u0061sses":4}"#,
-        "4 2 1 0 1024 10 10 1000 10 65536",
+        "4 2 1 0 1024 0 10 10 1000 10 65536",
     ),
     (
         br#"{"words":{"cat":0,"cat":5}}"#,
-        "2 2 1 0 1024 10 10 1000 10 65536 cat:5",
+        "2 2 1 0 1024 0 10 10 1000 10 65536 cat:5",
     ),
     (br#"{"words":{"Cat":5},"words":{}}"#, DEFAULTS),
     // no object
@@ -131,6 +137,8 @@ static ROWS: [(&[u8], &str); 45] = [
         br#"{"commits":18446744073709551615}"#,
         "5: commits is 18446744073709551615",
     ),
+    (br#"{"reserve":4194305}"#, "5: reserve is 4194305"),
+    (br#"{"reserve":-1}"#, "5: reserve is another value"),
     (br#"{"documents":4294967297}"#, "5: documents is 4294967297"),
     (br#"{"one_in":1}"#, "5: one_in is 1"),
     (br#"{"snr":"10"}"#, "5: snr is another value"),

@@ -1,5 +1,5 @@
-//! Tests of the crates of the protocol that stand by themselves: lines and replies, configurations, the documents of a load,
-//! and sessions. What the program shows of them from outside is in the rows that the gate tries (`.ci/rows.txt`).
+//! Tests of the crates of the protocol that stand by themselves: lines and replies, configurations and tunings, the documents
+//! of a load, and sessions. What the program shows of them from outside is in the rows that the gate tries (`.ci/rows.txt`).
 #![tactic(auto)]
 
 #[cfg(test)]
@@ -10,3 +10,5 @@ mod documents;
 mod lines;
 #[cfg(test)]
 mod sessions;
+#[cfg(test)]
+mod tunings;

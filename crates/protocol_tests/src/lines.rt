@@ -72,6 +72,22 @@ fn expect_texts(rt: &impl Abort, out: &mut Vec<u8>) {
         "guarded 0 1\n",
         out,
     );
+    expect_text(
+        rt,
+        Reply::Tuned(u64::MAX),
+        "tuned 18446744073709551615\n",
+        out,
+    );
+    expect_text(rt, Reply::Tuning(4), "refused tuning 4\n", out);
+    expect_text(
+        rt,
+        Reply::Wide {
+            needed: u64::MAX,
+            room: u64::MAX,
+        },
+        "refused room 18446744073709551615 18446744073709551615\n",
+        out,
+    );
     expect_text(rt, Reply::Spent, "refused spent\n", out);
     expect_text(rt, Reply::Memory, "refused memory\n", out);
 }

@@ -1,20 +1,21 @@
 -- A column that has all bits of a document is a hit of each query that the document meets.
-use Rattle.std.proofs.Common.{◌≡◌, ℕ, ◌<◌, true, List, [], ◌∷◌, Bool, ◌&&◌, Contains, ap, ◌∙◌, refl}
+use Rattle.std.proofs.Common.{◌≡◌, ℕ, ◌<◌, true, List, [], ◌∷◌, Bool, ◌&&◌, Contains, ap, ◌∙◌, refl, subst}
 use Rattle.std.specs.Prelude.{slice_index}
 use Rattle.std.specs.List.{All, list_all}
 use Rattle.std.proofs.lemmas.List.Elements.{All-contains, All-contains_itself, All-head, All-tail, All-weaker}
 use Rattle.funnel_model.specs.Sizes.{columns_of_slice, words_of_slice}
+use Rattle.funnel_model.specs.Events.{bits_on}
 use Rattle.funnel_model.specs.Words.{words}
 use Rattle.funnel_model.specs.declared.bit_list.Bit.{Bit}
 use Rattle.funnel_model.specs.declared.config.Config.{Config}
 use Rattle.funnel_model.specs.declared.event.Event.TheVariants as event
 use Rattle.rank_matcher.proofs.Bits.{test-from_set}
 use Rattle.rank_matcher.specs.Hits.{hits, is_hit}
-use Rattle.rank_matcher.specs.Laws.{DocumentsWithAllBitsAreHits, HasAllBits, TextsWithAllBitsAreHits, WrittenAddsAreHits, WrittenBitsAreRowBits}
+use Rattle.rank_matcher.specs.Laws.{DocumentsWithAllBitsAreHits, HasAllBits, TextsWithAllBitsAreHits, WrittenAddsAreHits, WrittenBitsAreRowBits, WrittenDocumentsAreHits}
 use Rattle.rank_matcher.proofs.Ranges.{passing-contains}
 use Rattle.row_layout.proofs.BitLemmas.{bits-of_part, bits-of_query}
-use Rattle.row_layout.specs.DocumentBits.{AreDocumentBits, IsDocumentBit, bit_of_row}
-use Rattle.row_layout.specs.Sound.{HasItsBits}
+use Rattle.row_layout.proofs.Owners.{put_bits}
+use Rattle.row_layout.specs.DocumentBits.{AreDocumentBits, AreDocumentBitsIn, IsDocumentBit, bit_of_row}
 use Rattle.row_layout.specs.Orders.{HasRowsOf}
 use Rattle.row_layout.specs.declared.row.Row.{Row}
 use Rattle.funnel_model.specs.RowWords.{IsSetIn}
@@ -59,6 +60,16 @@ written-rows config document slice column bits are row_words set row has =
     written config document slice column bits are row_words set (bit_of_row (words_of_slice config) slice column row) (row, has, refl)
 
 pub written-adds : WrittenAddsAreHits
-written-adds config history sound pass id text slice column bits has low row_words set query meets =
+written-adds config earlier later pass id text slice column bits sound treated low row_words set query meets =
     text-hits config text query meets row_words slice column low
-    (written config (words text) slice column bits (All-contains (HasItsBits config) history (event.Add pass id text slice column bits) sound has) row_words set)
+    (written config (words text) slice column bits
+    (subst (λ (k : Config). AreDocumentBitsIn (words_of_slice config) k (words text) slice column bits) treated (sound earlier (event.Add pass id text slice column bits) later refl))
+    row_words set)
+
+pub written-documents : WrittenDocumentsAreHits
+written-documents limits config earlier later e slice column document legal sound treated low puts lives row_words set query meets =
+    text-hits config document.text query meets row_words slice column low
+    (written config (words document.text) slice column (bits_on slice column e)
+    (subst (λ (k : Config). AreDocumentBitsIn (words_of_slice config) k (words document.text) slice column (bits_on slice column e)) treated
+    (put_bits limits config earlier e slice column document legal (sound earlier e later refl) puts lives))
+    row_words set)

@@ -1,6 +1,10 @@
 -- Which documents a scan must find.
-use Rattle.std.specs.Prelude.{◌≡◌, ℕ, ◌<◌, true, List, All, Contains}
+use Rattle.std.specs.Prelude.{◌≡◌, ℕ, ◌<◌, true, List, [], ◌∷◌, ◌++◌, All, Contains, Some}
+use Rattle.funnel_model.specs.Events.{bits_on, put_on}
+use Rattle.funnel_model.specs.History.{Document, live}
+use Rattle.funnel_model.specs.Legal.{IsLegal, Limits}
 use Rattle.funnel_model.specs.Sizes.{columns_of_slice, words_of_slice}
+use Rattle.funnel_model.specs.Tunings.{treat}
 use Rattle.funnel_model.specs.Words.{words, meets}
 use Rattle.funnel_model.specs.declared.bit_list.Bit.{Bit}
 use Rattle.funnel_model.specs.declared.config.Config.{Config}
@@ -40,10 +44,20 @@ WrittenBitsAreRowBits =
     → (row_words : List ℕ) → All (IsSetIn row_words) bits
     → (row : Row) → Contains (rows_of_words config document) row → IsSetIn row_words (bit_of_row (words_of_slice config) slice column row)
 
--- where all bits of an add are set, its column is a hit for each query that its text meets
+-- where all bits of an add are set, its column is a hit for each query that its text meets; its slice has the opening treatment then
 abbrev pub WrittenAddsAreHits : Type 0
 WrittenAddsAreHits =
-    (config : Config) (history : List Event) → IsSound config history
-    → (pass id : ℕ) (text : List ℕ) (slice column : ℕ) (bits : List Bit) → Contains history (event.Add pass id text slice column bits) → column < columns_of_slice config
+    (config : Config) (earlier later : List Event) (pass id : ℕ) (text : List ℕ) (slice column : ℕ) (bits : List Bit)
+    → IsSound config (earlier ++ event.Add pass id text slice column bits ∷ later) → treat config slice earlier ≡ config → column < columns_of_slice config
     → (row_words : List ℕ) → All (IsSetIn row_words) bits
     → (query : List ℕ) → meets text query ≡ true → (plan : List Row) → HasRowsOf config (words query) plan → Contains (hits config row_words plan slice) column
+
+-- and so is the column on which an event puts a document, which is an add or a move, where all bits of the event are set
+abbrev pub WrittenDocumentsAreHits : Type 0
+WrittenDocumentsAreHits =
+    (limits : Limits) (config : Config) (earlier later : List Event) (e : Event) (slice column : ℕ) (document : Document)
+    → IsLegal limits (earlier ++ e ∷ []) → IsSound config (earlier ++ e ∷ later) → treat config slice earlier ≡ config → column < columns_of_slice config
+    → put_on slice column e ≡ Some document.id → Contains (live (earlier ++ e ∷ [])) document
+    → (row_words : List ℕ) → All (IsSetIn row_words) (bits_on slice column e)
+    → (query : List ℕ) → meets document.text query ≡ true → (plan : List Row) → HasRowsOf config (words query) plan
+    → Contains (hits config row_words plan slice) column

@@ -1,6 +1,6 @@
 //! What holds of the hits of a plan.
 
-ghost use Rattle.rank_matcher.specs.Laws.{DocumentsWithAllBitsAreHits, TextsWithAllBitsAreHits, WrittenAddsAreHits, WrittenBitsAreRowBits};
+ghost use Rattle.rank_matcher.specs.Laws.{DocumentsWithAllBitsAreHits, TextsWithAllBitsAreHits, WrittenAddsAreHits, WrittenBitsAreRowBits, WrittenDocumentsAreHits};
 
 /// A column that has all bits of a document is a hit of the plan of each query that the document meets.
 pub fn documents_with_all_bits_are_hits()
@@ -12,4 +12,5 @@ pub fn documents_with_all_bits_are_hits()
 pub fn written_bits_are_found()
     ensures rows { WrittenBitsAreRowBits }
     ensures adds { WrittenAddsAreHits }
+    ensures documents { WrittenDocumentsAreHits }
 {}

@@ -5,3 +5,5 @@ pub mod WordRows
 pub mod Listing
 pub mod Sorting
 pub mod Ranked
+pub mod Owners
+pub mod SoundHistories

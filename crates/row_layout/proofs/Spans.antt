@@ -13,7 +13,7 @@ use Rattle.row_layout.specs.Rows.{private_row, shared_row, IsPrivateRow, IsShare
 use Rattle.row_layout.specs.declared.row.Row.{Row}
 
 -- one more row of a width
-rows_more : (x y w : ℕ) → x < y → x * w + w ≤ y * w
+pub rows_more : (x y w : ℕ) → x < y → x * w + w ≤ y * w
 rows_more x y w less = omega (arith, mul-le (x + 1) w y w (let h : x + 1 ≤ y = omega arith in h) (omega arith))
 
 -- two rows of a width are the same or stand apart

@@ -22,19 +22,28 @@ bit_from first column row = record { word = first + row.start + column / (64 * 2
 abbrev pub bit_of_row : ℕ → ℕ → ℕ → Row → Bit
 bit_of_row slice_words slice column row = bit_from (slice_start slice_words slice) column row
 
--- the bit is one that a document with these words sets at the column of the slice
+-- the bit is one that a document with these words sets at the column of the slice, where each slice has room for this many words
+abbrev pub IsDocumentBitIn : ℕ → Config → List (List ℕ) → ℕ → ℕ → Bit → Type 0
+IsDocumentBitIn room config words slice column bit =
+    (row : Row) × Contains (rows_of_words config words) row × (bit ≡ bit_of_row room slice column row)
+
+-- the same where each slice has as many words as the configuration gives it
 abbrev pub IsDocumentBit : Config → List (List ℕ) → ℕ → ℕ → Bit → Type 0
-IsDocumentBit config words slice column bit =
-    (row : Row) × Contains (rows_of_words config words) row × (bit ≡ bit_of_row (words_of_slice config) slice column row)
+IsDocumentBit config words slice column bit = IsDocumentBitIn (words_of_slice config) config words slice column bit
 
 -- by word, and then by bit
 abbrev pub bit_cmp : Bit → Bit → Ordering
 bit_cmp a b = ordering_then (nat_cmp a.word b.word) (nat_cmp a.bit b.bit)
 
--- exactly the bits that a document with these words sets at the column of the slice, in rising order, each once
-pub record AreDocumentBits (config : Config) (words : List (List ℕ)) (slice column : ℕ) (bits : List Bit) : Type 0 where
+-- exactly the bits that a document with these words sets at the column of the slice, in rising order, each once, where each slice has
+-- room for this many words
+pub record AreDocumentBitsIn (room : ℕ) (config : Config) (words : List (List ℕ)) (slice column : ℕ) (bits : List Bit) : Type 0 where
   pub rising : IsStrictlySortedBy bit_cmp bits
-  pub exactly : (bit : Bit) → Contains bits bit ↔ IsDocumentBit config words slice column bit
+  pub exactly : (bit : Bit) → Contains bits bit ↔ IsDocumentBitIn room config words slice column bit
+
+-- the same where each slice has as many words as the configuration gives it
+abbrev pub AreDocumentBits : Config → List (List ℕ) → ℕ → ℕ → List Bit → Type 0
+AreDocumentBits config words slice column bits = AreDocumentBitsIn (words_of_slice config) config words slice column bits
 
 -- What `Bits` is seen as: rows of which it has the bits, and those bits.
 pub record RowBits : Type 0 where

@@ -1,5 +1,6 @@
 pub mod Rows
 pub mod Orders
+pub mod Owners
 pub mod DocumentBits
 pub mod Sound
 pub mod Layouts

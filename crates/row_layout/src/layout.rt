@@ -5,6 +5,7 @@ ghost use Rattle.funnel_model.specs.Sizes.{columns_of_slice, private_words, word
 ghost use Rattle.funnel_model.specs.Treatment.{row_count_of_class};
 ghost use Rattle.row_layout.specs.DocumentBits.{slice_start};
 ghost use Rattle.row_layout.specs.Layouts.{word_rows};
+ghost use Rattle.row_layout.specs.Owners.{is_exact};
 ghost use Rattle.term_hash.specs.Hash.{fnv_1a};
 ghost use Rattle.row_layout.specs.Rows.{IsRowOf, IsSharedRow, hashed_row, hashed_rows, private_row, row_count_of_word, row_of_word, rows_of_word, rows_of_words};
 
@@ -111,6 +112,16 @@ impl Layout {
         match self.look_up(word) {
             WordRows::Private(_) => 1,
             WordRows::Shared(class) => self.classes.counts[class as usize],
+        }
+    }
+
+    /// Whether a folded word is exact: it has a row of its own, so that a bit of that row tells it.
+    pub fn is_exact(&self, word: &[u8]) -> bool
+        ensures { result ≡ is_exact self.now word.now }
+    {
+        match self.look_up(word) {
+            WordRows::Private(_) => true,
+            WordRows::Shared(_) => false,
         }
     }
 

@@ -16,7 +16,10 @@ mod rows;
 mod word_rows;
 
 pub use bits::{Bits, bits_of};
-pub use laws::{documents_have_bits_of_parts, each_row_has_its_bit};
+pub use laws::{
+    documents_have_bits_of_parts, each_row_has_its_bit, histories_are_sound_event_by_event,
+    owned_bits_have_one_owner, owned_bits_tell_words,
+};
 pub use layout::Layout;
 pub use plan::Plan;
 pub use row::Row;

@@ -22,6 +22,7 @@ pub(crate) fn copy_of(alloc: Global, config: &Config) -> Result<Config, Memory>
         blocks: config.blocks,
         max_rank: config.max_rank,
         commits: config.commits,
+        reserve: config.reserve,
         one_in: config.one_in,
         snr: config.snr,
         documents: config.documents,

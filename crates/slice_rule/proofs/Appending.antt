@@ -17,7 +17,7 @@ use Rattle.funnel_model.specs.Events.{clears, fills, pass_of}
 use Rattle.funnel_model.specs.History.{last_by}
 use Rattle.funnel_model.specs.Legal.{Limits, IsAllowed, IsLegal}
 use Rattle.funnel_model.specs.RowWords.{AreFresh, Covers, IsSetIn}
-use Rattle.funnel_model.proofs.RowWords.{covers-add, covers-silent, fresh-opened, fresh-push}
+use Rattle.funnel_model.proofs.RowWords.{covers-add, covers-move, covers-silent, fresh-opened, fresh-push}
 use Rattle.funnel_model.proofs.Histories.{legal-push}
 use Rattle.slice_rule.specs.declared.view.Role.{Role}
 use Rattle.slice_rule.specs.declared.view.Role.TheVariants as role
@@ -97,13 +97,19 @@ module _ (limits : Limits) (history : List Event) (rows : List ℕ) (legal : IsL
         covers-add rows history pass id text slice column bits covers
         (All-weaker (λ b. Contains told (fact.BitSet (last_number pass history) b)) (IsSetIn rows)
         (λ b has. known_is_set pass slice column b allowed.rule.taken (known_set (last_number pass history) b has)) bits backed)
+    covers_next (event.Move pass id slice column bits) allowed backed covers =
+        covers-move rows history pass id slice column bits covers
+        (All-weaker (λ b. Contains told (fact.BitSet (last_number pass history) b)) (IsSetIn rows)
+        (λ b has. known_is_set pass slice column b allowed.rule.taken (known_set (last_number pass history) b has)) bits backed)
     covers_next (event.Take p t c) allowed backed covers = covers-silent rows history (event.Take p t c) covers (λ s. refl)
     covers_next (event.Drop p id text t c) allowed backed covers = covers-silent rows history (event.Drop p id text t c) covers (λ s. refl)
     covers_next (event.Del p id) allowed backed covers = covers-silent rows history (event.Del p id) covers (λ s. refl)
+    covers_next (event.Void p t c) allowed backed covers = covers-silent rows history (event.Void p t c) covers (λ s. refl)
     covers_next (event.Find p query) allowed backed covers = covers-silent rows history (event.Find p query) covers (λ s. refl)
     covers_next (event.End p) allowed backed covers = covers-silent rows history (event.End p) covers (λ s. refl)
     covers_next (event.Clear p t) allowed backed covers = covers-silent rows history (event.Clear p t) covers (λ s. refl)
     covers_next (event.Opened p t alone) allowed backed covers = covers-silent rows history (event.Opened p t alone) covers (λ s. refl)
+    covers_next (event.Tune p config) allowed backed covers = covers-silent rows history (event.Tune p config) covers (λ s. refl)
     covers_next (event.No p asked) allowed backed covers = covers-silent rows history (event.No p asked) covers (λ s. refl)
     covers_next (event.Read p asked) allowed backed covers = covers-silent rows history (event.Read p asked) covers (λ s. refl)
 
@@ -116,9 +122,12 @@ module _ (limits : Limits) (history : List Event) (rows : List ℕ) (legal : IsL
     fresh_next (event.Take p t c) allowed backed fresh = fresh-push limits rows history (event.Take p t c) (λ s. refl) fresh
     fresh_next (event.Drop p id text t c) allowed backed fresh = fresh-push limits rows history (event.Drop p id text t c) (λ s. refl) fresh
     fresh_next (event.Del p id) allowed backed fresh = fresh-push limits rows history (event.Del p id) (λ s. refl) fresh
+    fresh_next (event.Move p id t c bits) allowed backed fresh = fresh-push limits rows history (event.Move p id t c bits) (λ s. refl) fresh
+    fresh_next (event.Void p t c) allowed backed fresh = fresh-push limits rows history (event.Void p t c) (λ s. refl) fresh
     fresh_next (event.Find p query) allowed backed fresh = fresh-push limits rows history (event.Find p query) (λ s. refl) fresh
     fresh_next (event.End p) allowed backed fresh = fresh-push limits rows history (event.End p) (λ s. refl) fresh
     fresh_next (event.Clear p t) allowed backed fresh = fresh-push limits rows history (event.Clear p t) (λ s. refl) fresh
+    fresh_next (event.Tune p config) allowed backed fresh = fresh-push limits rows history (event.Tune p config) (λ s. refl) fresh
     fresh_next (event.No p asked) allowed backed fresh = fresh-push limits rows history (event.No p asked) (λ s. refl) fresh
     fresh_next (event.Read p asked) allowed backed fresh = fresh-push limits rows history (event.Read p asked) (λ s. refl) fresh
 

@@ -22,27 +22,36 @@ ready_backs limits pass told history (event.Add p id text slice column bits) sam
     let b = get_or bits k d in
     subst (λ (h : List Event). Contains (facts_of_pass pass ++ told) (fact.BitSet (last_number p h) b)) same
     (own_told pass told (fact.BitSet (last_number p pass.front) b) ((ready b).0 (Contains-get_or bits k d small)))
+ready_backs limits pass told history (event.Move p id slice column bits) same ready = λ k d small.
+    let b = get_or bits k d in
+    subst (λ (h : List Event). Contains (facts_of_pass pass ++ told) (fact.BitSet (last_number p h) b)) same
+    (own_told pass told (fact.BitSet (last_number p pass.front) b) ((ready b).0 (Contains-get_or bits k d small)))
 ready_backs limits pass told history (event.Opened p slice alone) same ready = λ word inside.
     subst (λ (h : List Event). Contains (facts_of_pass pass ++ told) (fact.WordZero (last_number p h) word)) same
     (own_told pass told (fact.WordZero (last_number p pass.front) word) (ready word inside))
 ready_backs limits pass told history (event.Take p t c) same ready = tt
 ready_backs limits pass told history (event.Drop p id text t c) same ready = tt
 ready_backs limits pass told history (event.Del p id) same ready = tt
+ready_backs limits pass told history (event.Void p t c) same ready = tt
 ready_backs limits pass told history (event.Find p query) same ready = tt
 ready_backs limits pass told history (event.End p) same ready = tt
 ready_backs limits pass told history (event.Clear p t) same ready = tt
+ready_backs limits pass told history (event.Tune p config) same ready = tt
 ready_backs limits pass told history (event.No p asked) same ready = tt
 ready_backs limits pass told history (event.Read p asked) same ready = tt
 
 -- asking changes nothing that an event is ready by
 pub ready_same : (limits : Limits) (pass other : PassState) (e : Event) → other.front ≡ pass.front → other.own ≡ pass.own → IsReady limits pass e → IsReady limits other e
 ready_same limits pass other (event.Add p id text slice column bits) front own ready = λ b. rw (front, own) (ready b)
+ready_same limits pass other (event.Move p id slice column bits) front own ready = λ b. rw (front, own) (ready b)
 ready_same limits pass other (event.Opened p slice alone) front own ready = λ word inside. rw (front, own) (ready word inside)
 ready_same limits pass other (event.Take p t c) front own ready = tt
 ready_same limits pass other (event.Drop p id text t c) front own ready = tt
 ready_same limits pass other (event.Del p id) front own ready = tt
+ready_same limits pass other (event.Void p t c) front own ready = tt
 ready_same limits pass other (event.Find p query) front own ready = tt
 ready_same limits pass other (event.End p) front own ready = tt
 ready_same limits pass other (event.Clear p t) front own ready = tt
+ready_same limits pass other (event.Tune p config) front own ready = tt
 ready_same limits pass other (event.No p asked) front own ready = tt
 ready_same limits pass other (event.Read p asked) front own ready = tt

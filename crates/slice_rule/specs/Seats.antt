@@ -134,18 +134,20 @@ pub record HoldsToken (pass : PassState) (token : Token) : Type 0 where
   pub at_place : token.place ≡ place begun.earlier
   pub slices : (slice : ℕ) → Contains token.slices slice ↔ ((slice < pass.pool.limits.slices) × IsInUse pass.pool.limits.columns slice begun.earlier)
 
--- a pass may ask the event: an add has the bits that the pass set under its last Take and no others, and all words of a slice that is
--- opened were made zero under its last Clear
+-- a pass may ask the event: an add or a move has the bits that the pass set under its last Take and no others, and all words of a slice
+-- that is opened were made zero under its last Clear
 abbrev pub IsReady : Limits → PassState → Event → Type 0
 IsReady limits pass (event.Add p id text slice column bits) = (b : Bit) → Contains bits b ↔ Contains pass.own (fact.BitSet (last_number p pass.front) b)
+IsReady limits pass (event.Move p id slice column bits) = (b : Bit) → Contains bits b ↔ Contains pass.own (fact.BitSet (last_number p pass.front) b)
 IsReady limits pass (event.Opened p slice alone) =
     (word : ℕ) → IsInSlice limits.slice_words slice word → Contains pass.own (fact.WordZero (last_number p pass.front) word)
 IsReady limits pass _ = Unit {0}
 
--- the home knows what an event claims of the row words: all bits of an add were set under its pass's last Take, and all words of a
--- slice that is opened were made zero under its pass's last Clear
+-- the home knows what an event claims of the row words: all bits of an add or a move were set under its pass's last Take, and all words
+-- of a slice that is opened were made zero under its pass's last Clear
 abbrev pub IsBacked : Limits → List Fact → List Event → Event → Type 0
 IsBacked limits told history (event.Add pass id text slice column bits) = All (λ b. Contains told (fact.BitSet (last_number pass history) b)) bits
+IsBacked limits told history (event.Move pass id slice column bits) = All (λ b. Contains told (fact.BitSet (last_number pass history) b)) bits
 IsBacked limits told history (event.Opened pass slice alone) =
     (word : ℕ) → IsInSlice limits.slice_words slice word → Contains told (fact.WordZero (last_number pass history) word)
 IsBacked limits told history _ = Unit {0}

@@ -36,7 +36,8 @@ pub fn readable_slices_are_guarded()
         Guards limits.columns history slice reader read.number }
 {}
 
-/// In a legal history nothing is claimed, added or dropped in a slice from its clear until it is opened.
+/// In a legal history no column of a slice is claimed, and none gets a document or is left without one, from its clear until it is
+/// opened.
 pub fn slices_being_cleared_are_left_alone()
     ensures { (limits : Limits) (before between later : List Event) (pass slice : ℕ) →
         IsLegal limits (before ++ event.Clear pass slice ∷ (between ++ later)) → list_any (opens slice) between ≡ false →

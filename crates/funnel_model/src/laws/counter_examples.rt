@@ -3,12 +3,15 @@ ghost use Rattle.std.specs.Prelude.{◌≡◌, ◌<◌, ◌≤◌, ◌⊎◌, �
 ghost use Rattle.funnel_model.specs.declared.bit_list.Bit.{Bit};
 ghost use Rattle.funnel_model.specs.declared.call.Call.{Call};
 ghost use Rattle.funnel_model.specs.declared.call.Call.TheVariants as call;
+ghost use Rattle.funnel_model.specs.declared.config.Config.{Config};
 ghost use Rattle.funnel_model.specs.declared.event.Event.{Event};
 ghost use Rattle.funnel_model.specs.declared.event.Event.TheVariants as event;
 ghost use Rattle.funnel_model.specs.declared.reply.Reply.{Reply};
 ghost use Rattle.funnel_model.specs.declared.reply.Reply.TheVariants as reply;
 ghost use Rattle.funnel_model.specs.Example.{first_added, small};
 ghost use Rattle.funnel_model.specs.Legal.{IsIdle, IsLegal, Limits};
+ghost use Rattle.funnel_model.specs.MoveExample.{first_of_two, moved};
+ghost use Rattle.funnel_model.specs.History.{MovesAreCaused};
 ghost use Rattle.funnel_model.specs.RecycleExample.{guarded, paired, slices_filled, unguarded};
 ghost use Rattle.funnel_model.specs.Steps.{AddsNone, AnswersLast, FindsNoMemory, IsReply, Step};
 ghost use Rattle.funnel_model.specs.Tokens.{MayRead};
@@ -50,6 +53,29 @@ pub fn adds_out_of_place()
     ensures absent { IsLegal paired (event.Take 0 0 0 ∷ event.Add 0 9 [] 0 0 [] ∷ event.Del 0 7 ∷ []) → ⊥ }
 {}
 
+/// Not legal are a move of a document that isn't live, or not any more, one without a take, after the take of another pass or of
+/// another column, one with bits outside its new slice or past the 64 of a word, and a void
+/// without a take. A move and a void have no reply.
+pub fn moves_out_of_place()
+    ensures absent { IsLegal paired (event.Take 0 0 0 ∷ event.Move 0 9 0 0 [] ∷ []) → ⊥ }
+    ensures deleted { IsLegal paired (event.Take 0 0 0 ∷ event.Add 0 9 [] 0 0 [] ∷ event.Del 0 9 ∷ event.Take 0 1 0 ∷ event.Move 0 9 1 0 [] ∷ []) → ⊥ }
+    ensures untaken { IsLegal paired (first_of_two ++ event.Move 0 9 1 0 [] ∷ []) → ⊥ }
+    ensures other_pass { IsLegal paired (first_of_two ++ event.Take 1 1 0 ∷ event.Move 0 9 1 0 [] ∷ []) → ⊥ }
+    ensures other_column { IsLegal paired (first_of_two ++ event.Take 0 1 0 ∷ event.Move 0 9 0 0 [] ∷ []) → ⊥ }
+    ensures below { IsLegal paired (first_of_two ++ event.Take 0 1 0 ∷ event.Move 0 9 1 0 (record { word = 3; bit = 0 } ∷ []) ∷ []) → ⊥ }
+    ensures wide { IsLegal paired (first_of_two ++ event.Take 0 1 0 ∷ event.Move 0 9 1 0 (record { word = 4; bit = 64 } ∷ []) ∷ []) → ⊥ }
+    ensures void { IsLegal paired (first_of_two ++ event.Void 0 1 0 ∷ []) → ⊥ }
+    ensures no_reply { (limits : Limits) (history : List Event) (pass id slice column : ℕ) (bits : List Bit) (given : Reply) →
+        IsReply limits history (event.Move pass id slice column bits) given ⊎ IsReply limits history (event.Void pass slice column) given → ⊥ }
+{}
+
+/// A move without a delete or a drop before it has no cause. Either is one.
+pub fn moves_without_a_cause()
+    ensures deleted { MovesAreCaused (event.Del 0 5 ∷ event.Void 0 0 0 ∷ []) }
+    ensures dropped { MovesAreCaused (event.Drop 0 5 [] 0 0 ∷ event.Void 0 0 0 ∷ []) }
+    ensures moved { MovesAreCaused moved → ⊥ }
+{}
+
 /// Not legal are a refusal of an add that has room, of a delete of a live number, and of a call that only reads, and the reading
 /// of a call that doesn't.
 pub fn calls_refused_for_no_cause()
@@ -57,6 +83,13 @@ pub fn calls_refused_for_no_cause()
     ensures delete { IsLegal paired (event.Take 0 0 0 ∷ event.Add 0 9 [] 0 0 [] ∷ event.No 0 (call.Delete 9) ∷ []) → ⊥ }
     ensures place { IsLegal paired (event.No 0 call.Place ∷ []) → ⊥ }
     ensures read { IsLegal paired (event.Read 0 (call.Delete 9) ∷ []) → ⊥ }
+{}
+
+/// Not legal are a tuning in the middle of a call and a tuning that is refused or only read.
+pub fn tunings_out_of_turn()
+    ensures taken { (config : Config) → IsLegal paired (event.Take 0 0 0 ∷ event.Tune 0 config ∷ []) → ⊥ }
+    ensures refused { (config : Config) → IsLegal paired (event.No 0 (call.Tune config) ∷ []) → ⊥ }
+    ensures read { (config : Config) → IsLegal paired (event.Read 0 (call.Tune config) ∷ []) → ⊥ }
 {}
 
 /// A find may not read a slice that was being cleared when it began.
@@ -79,8 +112,8 @@ pub fn steps_answer_their_call()
 {}
 
 /// A step is made between calls of the pass. Only a history with so many events is answered Spent, and then the call isn't made;
-/// and only an add, which isn't made then, a find and a journal are answered by want of memory. No step is answered as a
-/// malformed or a too long line, and no place that is read by Spent. The second add of a number is not answered by the reply to the first,
+/// and only an add and a tuning, which aren't made then, a find and a journal are answered by want of memory. No step is answered as
+/// a malformed or a too long line, or as a tuning that has a fault or is too wide, and no place that is read by Spent. The second add of a number is not answered by the reply to the first,
 /// and no step makes both adds.
 pub fn steps_have_their_cause()
     ensures spent { (limits : Limits) (pass : ℕ) (before after : List Event) (asked : Call) → Step limits pass before after asked reply.Spent →
@@ -91,10 +124,14 @@ pub fn steps_have_their_cause()
         IsIdle pass before × IsIdle pass after }
     ensures add { (limits : Limits) (pass id : ℕ) (text : List ℕ) (before after : List Event) → Step limits pass before after (call.Add id text) reply.Memory →
         AddsNone pass before after }
+    ensures tune { (limits : Limits) (pass : ℕ) (config : Config) (before after : List Event) → Step limits pass before after (call.Tune config) reply.Memory →
+        AddsNone pass before after }
     ensures delete { (limits : Limits) (pass id : ℕ) (before after : List Event) → Step limits pass before after (call.Delete id) reply.Memory → ⊥ }
     ensures place { (limits : Limits) (pass : ℕ) (before after : List Event) → Step limits pass before after call.Place reply.Memory → ⊥ }
     ensures recycle { (limits : Limits) (pass : ℕ) (before after : List Event) → Step limits pass before after call.Recycle reply.Memory → ⊥ }
     ensures unread { (limits : Limits) (pass : ℕ) (before after : List Event) (asked : Call) → Step limits pass before after asked reply.Line ⊎ Step limits pass before after asked reply.Long → ⊥ }
+    ensures untuned { (limits : Limits) (pass fault needed room : ℕ) (before after : List Event) (asked : Call) →
+        Step limits pass before after asked (reply.Tuning fault) ⊎ Step limits pass before after asked (reply.Wide needed room) → ⊥ }
     ensures read { (before : List Event) → IsReply paired before (event.Read 0 call.Place) reply.Spent → ⊥ }
     ensures older { Step small 0 first_added (first_added ++ event.No 0 (call.Add 9 []) ∷ []) (call.Add 9 []) (reply.Added 1) → ⊥ }
     ensures twice { Step small 0 [] (first_added ++ event.No 0 (call.Add 9 []) ∷ []) (call.Add 9 []) (reply.Present 1) → ⊥ }

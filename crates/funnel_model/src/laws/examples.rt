@@ -1,18 +1,24 @@
 //! Histories, most of them shown to be legal, with their replies, steps and blocks, and what row words owe them. What is not
 //! legal, no reply and no step stands in `counter_examples`.
-ghost use Rattle.std.specs.Prelude.{◌≡◌, true, false, [], ◌∷◌, ◌++◌};
+ghost use Rattle.std.specs.Prelude.{◌≡◌, ℕ, true, false, [], ◌∷◌, ◌++◌, Some, None};
 ghost use Rattle.funnel_model.specs.Blocks.{AreBlocks};
 ghost use Rattle.funnel_model.specs.declared.block.Block.TheVariants as block;
 ghost use Rattle.funnel_model.specs.declared.call.Call.TheVariants as call;
+ghost use Rattle.funnel_model.specs.declared.config.Config.{Config};
 ghost use Rattle.funnel_model.specs.declared.event.Event.TheVariants as event;
-ghost use Rattle.funnel_model.specs.Example.{AreReplies, episode, episode_calls, episode_replies, filling_and_deleting, forgetful, later_added, reuse, reuse_replies, same_number, same_number_replies, shared, small, trimmed, trimmed_replies};
+ghost use Rattle.funnel_model.specs.Example.{AreReplies, episode, episode_calls, episode_replies, filling_and_deleting, first_added, forgetful, later_added, reuse, reuse_replies, same_number, same_number_replies, shared, small, trimmed, trimmed_replies};
 ghost use Rattle.funnel_model.specs.History.{own};
 ghost use Rattle.funnel_model.specs.Legal.{IsFull, IsLegal};
-ghost use Rattle.funnel_model.specs.RecycleExample.{both_clearing, covering, first_set, guarded, held, low_bit, not_covering, paired, recycled, second_set, together, together_replies, unguarded};
+ghost use Rattle.funnel_model.specs.MoveExample.{cat, found_again, half_deleted, moved, moved_again, moved_again_replies, new_cat, voided};
+ghost use Rattle.funnel_model.specs.RecycleExample.{both_clearing, covering, first_set, guarded, held, high_bit, low_bit, not_covering, paired, recycled, second_set, together, together_replies, unguarded};
+ghost use Rattle.funnel_model.specs.Reserve.{HasReadyColumns, IsSource, HasSpareColumns};
 ghost use Rattle.funnel_model.specs.RowWords.{AreFresh, Covers, IsCommitted};
+ghost use Rattle.funnel_model.specs.Slices.{Deleted, Dropped, Live, IsInState, IsRetiredAt};
 ghost use Rattle.funnel_model.specs.declared.reply.Reply.TheVariants as reply;
 ghost use Rattle.funnel_model.specs.Steps.{Linear, Step};
-ghost use Rattle.funnel_model.specs.Tokens.{MayRead};
+ghost use Rattle.funnel_model.specs.Tokens.{Guards, MayRead, seen_by};
+ghost use Rattle.funnel_model.specs.TuneExample.{tuned_once, tuned_replies, tuned_twice};
+ghost use Rattle.funnel_model.specs.Tunings.{current, treat};
 
 /// There is a legal history with two adds, a find, a refused add of a number that is live and a refused add where no column is
 /// left, and these are its replies. The calls lead to it from the empty history, one step for each.
@@ -90,4 +96,46 @@ pub fn row_words_example()
 pub fn deleted_bits_stay_committed()
     ensures deleted { IsCommitted guarded 0 low_bit }
     ensures cleared { IsCommitted (unguarded ++ event.Clear 0 0 ∷ []) 0 low_bit → ⊥ }
+{}
+
+/// There is a legal history in which a document moves under an open find, moves again after its number was deleted and added anew,
+/// and a column is left void between; moves and voids have no replies. The find still sees the document in the column that it had,
+/// and not in the new one, and may read both slices; a find that begins later sees it in the new column alone. The old slice retires
+/// by the move, and the find guards it; it retires by the void too. The new document has left its first column at the end.
+pub fn move_example()
+    ensures legal { IsLegal paired moved_again }
+    ensures replies { AreReplies paired moved_again moved_again_replies }
+    ensures old { IsInState moved 0 0 (Deleted cat 2 5) × (seen_by 3 (Deleted cat 2 5) ≡ Some cat) × (seen_by 8 (Deleted cat 2 5) ≡ None) }
+    ensures new { IsInState moved 1 0 (Live cat 5) × (seen_by 3 (Live cat 5) ≡ None) × (seen_by 8 (Live cat 5) ≡ Some cat) }
+    ensures read { MayRead paired.columns moved 1 0 × MayRead paired.columns moved 1 1 }
+    ensures retired { IsRetiredAt paired.columns 0 moved 5 × Guards paired.columns moved 0 1 3 }
+    ensures voided { IsInState voided 0 0 Dropped × IsRetiredAt paired.columns 0 voided 13 }
+    ensures again { IsInState moved_again 1 0 (Live new_cat 22) × IsInState moved_again 0 0 (Deleted new_cat 18 22) }
+    ensures committed { IsCommitted moved 0 low_bit × IsCommitted moved 1 high_bit }
+{}
+
+/// A slice that retired under a find has a spare column, which is ready once the find has ended. Documents are moved out of a filled
+/// slice of two columns, one of which is live and one deleted, and out of none that has an unclaimed column, which is spare and ready.
+pub fn reserve_example()
+    ensures spare { HasSpareColumns paired moved 1 × HasReadyColumns paired moved 0 }
+    ensures ready { HasSpareColumns paired found_again 1 × HasReadyColumns paired found_again 1 }
+    ensures source { IsSource shared half_deleted 0 1 }
+    ensures no_source { (slice held : ℕ) → IsSource paired moved slice held → ⊥ }
+    ensures unfilled { (slice held : ℕ) → IsSource shared first_added slice held → ⊥ }
+    ensures unclaimed { HasSpareColumns shared first_added 1 × HasReadyColumns shared first_added 1 }
+    ensures new { HasSpareColumns shared [] 2 × HasReadyColumns shared [] 2 }
+{}
+
+/// There is a legal history with two tunings, whatever they give, the second of them while a slice is being cleared. A tuning changes
+/// the treatment of no slice: each has the opening one until it is cleared, and then the one that was current at its clear. So both
+/// slices are treated differently at the end, and no slice yet by the configuration that was given last.
+pub fn tune_example()
+    ensures legal { (second third : Config) → IsLegal paired (tuned_twice second third) }
+    ensures replies { (second third : Config) → AreReplies paired (tuned_twice second third) tuned_replies }
+    ensures before { (opening second : Config) → (treat opening 0 (tuned_once second) ≡ opening) × (current opening (tuned_once second) ≡ second) }
+    ensures cleared { (opening second third : Config) → treat opening 0 (tuned_twice second third) ≡ second }
+    ensures other { (opening second third : Config) → treat opening 1 (tuned_twice second third) ≡ opening }
+    ensures last { (opening second third : Config) → current opening (tuned_twice second third) ≡ third }
+    ensures step { (config : Config) → Step paired 1 [] (event.Tune 1 config ∷ []) (call.Tune config) (reply.Tuned 1) }
+    ensures memory { (config : Config) → Step paired 1 [] [] (call.Tune config) reply.Memory }
 {}

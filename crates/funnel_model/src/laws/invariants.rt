@@ -4,10 +4,11 @@ ghost use Rattle.std.specs.List.{All, list_any, range_with_len};
 ghost use Rattle.funnel_model.specs.declared.bit_list.Bit.{Bit};
 ghost use Rattle.funnel_model.specs.declared.call.Call.{Call};
 ghost use Rattle.funnel_model.specs.declared.call.Call.TheVariants as call;
+ghost use Rattle.funnel_model.specs.declared.config.Config.{Config};
 ghost use Rattle.funnel_model.specs.declared.event.Event.{Event};
 ghost use Rattle.funnel_model.specs.declared.event.Event.TheVariants as event;
-ghost use Rattle.funnel_model.specs.Events.{pass_of};
-ghost use Rattle.funnel_model.specs.History.{last_by};
+ghost use Rattle.funnel_model.specs.Events.{drops_on, pass_of, takes_off};
+ghost use Rattle.funnel_model.specs.History.{is_live, last_by};
 ghost use Rattle.funnel_model.specs.Legal.{IsAllowed, IsIdle, IsInSlice, IsLegal, Limits, OnlyReads, awaited};
 ghost use Rattle.funnel_model.specs.Slices.{Pending, IsFilled, IsInState, IsRetired, IsRetiredAt, claimed, is_claimed, is_clearing, is_clearing_by};
 ghost use Rattle.funnel_model.specs.Steps.{IsLowestGuarded};
@@ -51,13 +52,14 @@ pub fn passes_hold_one_thing()
         number ≡ other }
 {}
 
-/// What a pass does next in the middle of a call: after a take it adds or drops there, after a clear it opens the slice, and
+/// What a pass does next in the middle of a call: after a take it adds, drops, moves or voids there, after a clear it opens the slice, and
 /// after a find it ends it. After an opening for an add its take is the next event of all.
 pub fn calls_go_on()
     ensures take { (limits : Limits) (history : List Event) (e : Event) (pass slice column : ℕ) → IsAllowed limits history e →
         last_by (pass_of e) history ≡ Some (event.Take pass slice column) →
         ((id : ℕ) × (text : List ℕ) × (bits : List Bit) × (e ≡ event.Add pass id text slice column bits))
-        ⊎ ((id : ℕ) × (text : List ℕ) × (e ≡ event.Drop pass id text slice column)) }
+        ⊎ ((id : ℕ) × (text : List ℕ) × (e ≡ event.Drop pass id text slice column))
+        ⊎ ((id : ℕ) × (bits : List Bit) × (e ≡ event.Move pass id slice column bits)) ⊎ (e ≡ event.Void pass slice column) }
     ensures clear { (limits : Limits) (history : List Event) (e : Event) (pass slice : ℕ) → IsAllowed limits history e →
         last_by (pass_of e) history ≡ Some (event.Clear pass slice) → (alone : Bool) × (e ≡ event.Opened pass slice alone) }
     ensures find { (limits : Limits) (history : List Event) (e : Event) (pass : ℕ) (query : List ℕ) → IsAllowed limits history e →
@@ -79,12 +81,11 @@ pub fn slices_fill_from_the_first_column()
         is_clearing slice history ≡ true → IsFilled limits.columns slice history }
 {}
 
-/// In a legal history a slice retires by a delete, or by a drop in it.
-pub fn slices_retire_by_a_delete_or_a_drop()
+/// In a legal history a slice retires by an event that deletes or moves a document, or that leaves one of its columns without one.
+pub fn slices_retire_by_a_delete_a_move_a_drop_or_a_void()
     ensures { (limits : Limits) (history : List Event) (slice number : ℕ) → IsLegal limits history →
         (at : IsRetiredAt limits.columns slice history number) →
-        ((pass : ℕ) × (id : ℕ) × (at.event ≡ event.Del pass id))
-        ⊎ ((pass : ℕ) × (id : ℕ) × (text : List ℕ) × (column : ℕ) × (at.event ≡ event.Drop pass id text slice column)) }
+        ((id : ℕ) × (takes_off id at.event ≡ true)) ⊎ ((column : ℕ) × (drops_on slice column at.event ≡ true)) }
 {}
 
 /// A find guards a slice that is retired exactly where it is open and began before the slice retired, whatever it may read. So one
@@ -99,10 +100,10 @@ pub fn finds_guard_what_retires_after_them()
 {}
 
 /// In a legal history in which nothing is awaited, each call of an idle pass can begin: its add takes a column, clears a slice or
-/// is refused, its delete commits or is refused, its recycle clears a slice or is refused, its find begins, and a place or a
-/// journal is read. Each call that began can go on: after a take the pass adds its document, with any bits of the slice, or
-/// drops it, after a clear it opens the slice for an add or by itself, and after a find it ends. The take that an opening
-/// awaits can follow, where slices have columns.
+/// is refused, its delete commits or is refused, its recycle clears a slice or is refused, its find begins, a place or a
+/// journal is read, and a tuning is taken. Each call that began can go on: after a take the pass adds its document, with any bits of the slice, or
+/// drops it, and it may void the column or move a live document there, after a clear it opens the slice for an add or by itself,
+/// and after a find it ends. The take that an opening awaits can follow, where slices have columns.
 pub fn calls_can_go_on()
     ensures add { (limits : Limits) (history : List Event) (pass id : ℕ) (text : List ℕ) → IsLegal limits history →
         pass < limits.passes → awaited history ≡ None → IsIdle pass history →
@@ -119,10 +120,18 @@ pub fn calls_can_go_on()
         IsLegal limits history → pass < limits.passes → awaited history ≡ None →
         last_by pass history ≡ Some (event.Take pass slice column) → All (λ b. IsInSlice limits.slice_words slice b.word) bits →
         All (λ (b : Bit). b.bit < 64) bits → IsAllowed limits history (event.Add pass id text slice column bits) ⊎ IsAllowed limits history (event.Drop pass id text slice column) }
+    ensures voided { (limits : Limits) (history : List Event) (pass slice column : ℕ) → pass < limits.passes → awaited history ≡ None →
+        last_by pass history ≡ Some (event.Take pass slice column) → IsAllowed limits history (event.Void pass slice column) }
+    ensures moved { (limits : Limits) (history : List Event) (pass slice column id : ℕ) (bits : List Bit) → pass < limits.passes →
+        awaited history ≡ None → last_by pass history ≡ Some (event.Take pass slice column) → is_live id history ≡ true →
+        All (λ b. IsInSlice limits.slice_words slice b.word) bits → All (λ (b : Bit). b.bit < 64) bits →
+        IsAllowed limits history (event.Move pass id slice column bits) }
     ensures find { (limits : Limits) (history : List Event) (pass : ℕ) (query : List ℕ) → pass < limits.passes → awaited history ≡ None →
         IsIdle pass history → IsAllowed limits history (event.Find pass query) }
     ensures read { (limits : Limits) (history : List Event) (pass : ℕ) (asked : Call) → pass < limits.passes → awaited history ≡ None →
         IsIdle pass history → OnlyReads asked → IsAllowed limits history (event.Read pass asked) }
+    ensures tuned { (limits : Limits) (history : List Event) (pass : ℕ) (config : Config) → pass < limits.passes → awaited history ≡ None →
+        IsIdle pass history → IsAllowed limits history (event.Tune pass config) }
     ensures cleared { (limits : Limits) (history : List Event) (pass slice : ℕ) (alone : Bool) → pass < limits.passes → awaited history ≡ None →
         last_by pass history ≡ Some (event.Clear pass slice) → IsAllowed limits history (event.Opened pass slice alone) }
     ensures opened { (limits : Limits) (history : List Event) (pass slice : ℕ) → pass < limits.passes → 0 < limits.columns →

@@ -5,6 +5,7 @@ ghost use Rattle.funnel_model.specs.Blocks.{AreBlocks, IsBlock};
 ghost use Rattle.funnel_model.specs.declared.block.Block.{Block};
 ghost use Rattle.funnel_model.specs.declared.call.Call.{Call};
 ghost use Rattle.funnel_model.specs.declared.call.Call.TheVariants as call;
+ghost use Rattle.funnel_model.specs.declared.config.Config.{Config};
 ghost use Rattle.funnel_model.specs.declared.event.Event.{Event};
 ghost use Rattle.funnel_model.specs.declared.event.Event.TheVariants as event;
 ghost use Rattle.funnel_model.specs.declared.reply.Reply.{Reply};
@@ -15,6 +16,7 @@ ghost use Rattle.funnel_model.specs.Legal.{IsFull, IsLegal, Limits};
 ghost use Rattle.funnel_model.specs.Slices.{IsRetired};
 ghost use Rattle.funnel_model.specs.Steps.{IsLowestGuarded, IsReply, IsReplyAt, Linear, NoneRetired};
 ghost use Rattle.funnel_model.specs.Tokens.{IsGuarded};
+ghost use Rattle.funnel_model.specs.Tunings.{tunings};
 
 /// The reply that the event with a number gives is its reply after the events before it. No event has number 0.
 pub fn replies_by_number()
@@ -51,6 +53,12 @@ pub fn refusals_have_their_cause()
     ensures guarded { (limits : Limits) (before later : List Event) (e : Event) (slice pass : ℕ) → IsLegal limits (before ++ e ∷ later) →
         IsReply limits before e (reply.Guarded slice pass) → IsLowestGuarded limits before slice pass
         × ((other : ℕ) → other < limits.slices → IsRetired limits.columns other before → IsGuarded limits.columns before other) }
+{}
+
+/// A tuning is answered by how many there were, with it, and no other event is.
+pub fn tunings_are_counted()
+    ensures { (limits : Limits) (before : List Event) (e : Event) (n : ℕ) → IsReply limits before e (reply.Tuned n) →
+        (pass : ℕ) × (config : Config) × (e ≡ event.Tune pass config) × (n ≡ length (tunings (before ++ e ∷ []))) }
 {}
 
 /// The commits that a journal keeps are the last ones: with those before them they are all, they are no more than it keeps, and

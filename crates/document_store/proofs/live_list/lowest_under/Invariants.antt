@@ -1,4 +1,4 @@
-use Rattle.std.proofs.Common.{◌≡◌, ℕ, ◌<◌, length}
+use Rattle.std.proofs.Common.{◌<◌, length}
 use Rattle.document_store.specs.Trees.{IsUnder, link_at}
 use Rattle.document_store.proofs.live_list.lowest_under.Given as goal
 

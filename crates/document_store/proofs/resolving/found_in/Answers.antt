@@ -9,8 +9,8 @@ pub returns-then-verify : goal.returns-then-verify
 returns-then-verify c =
     let doc = c.in_ok-doc.doc.now in
     let every = (has_every-decides doc.words c.args.words.now).0 (c.verify.ensures.0 c.if-verify.true) in
-    ap (λ number. Some (c.in_ok-added.added, number)) c.id.ensures
-    ∙ sym (found_in-parts c.args.slot.now c.args.words.now c.args.place c.in_ok-added.added doc true (sym c.added_if_live.ensures ∙ c.in_ok-added.was) (search rules) every)
+    ap (λ number. Some (c.in_ok-place.place, number)) c.id.ensures
+    ∙ sym (found_in-parts c.args.slot.now c.args.words.now c.args.opened_at c.in_ok-place.place doc true (sym c.place_if_live.ensures ∙ c.in_ok-place.was) (search rules) every)
 
 pub returns-else-verify : goal.returns-else-verify
 returns-else-verify c =
@@ -18,4 +18,4 @@ returns-else-verify c =
     let none =
     false_from_ne_true (has_every doc.words c.args.words.now)
     (λ every. iff_false c.verify.ensures c.if-verify.false ((has_every-decides doc.words c.args.words.now).1 every)) in
-    sym (found_in-parts c.args.slot.now c.args.words.now c.args.place c.in_ok-added.added doc false (sym c.added_if_live.ensures ∙ c.in_ok-added.was) (search rules) none)
+    sym (found_in-parts c.args.slot.now c.args.words.now c.args.opened_at c.in_ok-place.place doc false (sym c.place_if_live.ensures ∙ c.in_ok-place.was) (search rules) none)

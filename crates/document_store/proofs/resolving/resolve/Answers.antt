@@ -17,7 +17,7 @@ slot-requires c =
 
 pub push-requires : goal.push-requires
 push-requires c =
-    let few = length-filter_map-take (found_at c.args.records.now c.args.words.now c.args.place) c.as_slice-slice-items.result.now c.loop-slice.slice-index in
+    let few = length-filter_map-take (found_at c.args.records.now c.args.words.now c.args.opened_at) c.as_slice-slice-items.result.now c.loop-slice.slice-index in
     omega (arith, few, ap length c.loop-slice.invariant.pairs, ap length c.as_slice-slice-items.ensures, c.requires.room)
 
 -- one more takes a place of those that are left
@@ -28,16 +28,16 @@ room_stays old new now pair room is found one before =
 
 pub loop-slice-preserved : goal.loop-slice-preserved
 loop-slice-preserved c =
-    let find = found_at c.args.records.now c.args.words.now c.args.place in
+    let find = found_at c.args.records.now c.args.words.now c.args.opened_at in
     let items = c.as_slice-slice-items.result.now in
     let found : find (get_or items c.loop-slice.slice-index (0, 0)) ≡ c.found_in.result =
-    sym (c.found_in.ensures ∙ ap (λ (s : Slot). found_in s c.args.words.now c.args.place) c.slot.ensures.slot) in
+    sym (c.found_in.ensures ∙ ap (λ (s : Slot). found_in s c.args.words.now c.args.opened_at) c.slot.ensures.slot) in
     elim c.match-found_in.branch [
       | in-Some w ↦
           let more = filter_map-more find items c.loop-slice.slice-index (0, 0) _ c.loop-slice-test.true (found ∙ w.in-Some.is) in
           record {
             pairs = ap (λ (f : FoundState). f.found) w.out-is ∙ w.push.ensures.found
-                ∙ ap (λ (xs : List (ℕ × ℕ)). xs ++ (w.in-Some.added, w.in-Some.id) ∷ []) c.loop-slice.invariant.pairs ∙ sym more;
+                ∙ ap (λ (xs : List (ℕ × ℕ)). xs ++ (w.in-Some.place, w.in-Some.id) ∷ []) c.loop-slice.invariant.pairs ∙ sym more;
             room = room_stays _ _ _ _ _ w.out-is w.push.ensures.found w.push.ensures.room c.loop-slice.invariant.room;
           }
       | in_default w ↦
@@ -49,24 +49,24 @@ loop-slice-preserved c =
     ]
 
 -- the loop ends with the pairs of all candidates
-at_end : (c : goal.After-sort) → c.loop-slice.out.found ≡ filter_map (found_at c.args.records.now c.args.words.now c.args.place) c.args.candidates.now
+at_end : (c : goal.After-sort) → c.loop-slice.out.found ≡ filter_map (found_at c.args.records.now c.args.words.now c.args.opened_at) c.args.candidates.now
 at_end c =
-    let find = found_at c.args.records.now c.args.words.now c.args.place in
+    let find = found_at c.args.records.now c.args.words.now c.args.opened_at in
     c.loop-slice.invariant.pairs
     ∙ ap (filter_map find) (take_all c.loop-slice.slice-index c.as_slice-slice-items.result.now c.loop-slice-test.false ∙ c.as_slice-slice-items.ensures)
 
 pub returns-clause-exactly : goal.returns-clause-exactly
-returns-clause-exactly c added id =
-    let exactly = found-exactly c.args.records.now c.args.candidates.now c.args.words.now c.args.place added id in
+returns-clause-exactly c place id =
+    let exactly = found-exactly c.args.records.now c.args.candidates.now c.args.words.now c.args.opened_at place id in
     let old = c.loop-slice.out.found in
     let new = c.sort.new.self.found in (
-      λ has. exactly.0 (subst (λ xs. Contains xs (added, id)) (at_end c) (Contains-permutation new old (added, id) (IsPermutation-sym old new c.sort.ensures.same) has)),
-      λ is. Contains-permutation old new (added, id) c.sort.ensures.same (subst (λ xs. Contains xs (added, id)) (sym (at_end c)) (exactly.1 is)),
+      λ has. exactly.0 (subst (λ xs. Contains xs (place, id)) (at_end c) (Contains-permutation new old (place, id) (IsPermutation-sym old new c.sort.ensures.same) has)),
+      λ is. Contains-permutation old new (place, id) c.sort.ensures.same (subst (λ xs. Contains xs (place, id)) (sym (at_end c)) (exactly.1 is)),
     )
 
 pub returns-clause-few : goal.returns-clause-few
 returns-clause-few c =
-    let few = length-filter_map (found_at c.args.records.now c.args.words.now c.args.place) c.args.candidates.now in
+    let few = length-filter_map (found_at c.args.records.now c.args.words.now c.args.opened_at) c.args.candidates.now in
     omega (arith, few, ap length (at_end c), length_permutation c.loop-slice.out.found c.sort.new.self.found c.sort.ensures.same)
 
 pub returns-clause-room : goal.returns-clause-room

@@ -1,7 +1,7 @@
 use Rattle.std.proofs.Common.{◌≡◌, arith, subst, ◌∙◌, ap, sym, codes, is_some}
 use Rattle.std.specs.Str.Parse.{ParsesUnsigned, ExplainsUnsignedError, HasUnsignedDigitsIfOk}
 use Rattle.funnel_model.specs.declared.config.TheConstants.{MOST_PASSES}
-use Rattle.funnel.specs.declared.command.TheConstants.{MOST_CONNECTIONS, MOST_PORT}
+use Rattle.funnel.specs.declared.command.TheConstants.{MOST_CONNECTIONS, MOST_IDLE, MOST_PORT}
 use Rattle.clap.specs.Words.{found_of, rows_of}
 use Rattle.funnel.specs.Commands.{IsServeInRange, serve_of}
 use Rattle.funnel.specs.declared.command.ServeCommand.{ServeCommand}
@@ -24,13 +24,20 @@ unwrap-requires-3 c =
     let connections = option_read (λ bs r. ParsesUnsigned 64 10 bs r × ExplainsUnsignedError 10 bs r × HasUnsignedDigitsIfOk bs r) 64 1 MOST_CONNECTIONS (codes "connections") (found_of c.args.found.now) c.get_one-3.result (omega arith) c.requires.connections c.get_one-3.ensures.value (λ u x g. g.0) in
     ap is_some connections
 
-serve_read : (c : goal.After-unwrap-3) → ◌≡◌ {A = ServeCommand} (record { port = c.unwrap.result; workers = c.unwrap-2.result; connections = c.unwrap-3.result }) (serve_of (rows_of (found_of c.args.found.now)))
+pub unwrap-requires-4 : goal.unwrap-requires-4
+unwrap-requires-4 c =
+    let idle = option_read (λ bs r. ParsesUnsigned 32 10 bs r × ExplainsUnsignedError 10 bs r × HasUnsignedDigitsIfOk bs r) 32 0 MOST_IDLE (codes "idle") (found_of c.args.found.now) c.get_one-4.result (omega arith) c.requires.idle c.get_one-4.ensures.value (λ u x g. g.0) in
+    ap is_some idle
+
+serve_read : (c : goal.After-unwrap-4) → ◌≡◌ {A = ServeCommand} (record { port = c.unwrap.result; workers = c.unwrap-2.result; connections = c.unwrap-3.result; idle = c.unwrap-4.result }) (serve_of (rows_of (found_of c.args.found.now)))
 serve_read c =
     let found = found_of c.args.found.now in
     let port = option_read (λ bs r. ParsesUnsigned 32 10 bs r × ExplainsUnsignedError 10 bs r × HasUnsignedDigitsIfOk bs r) 32 1 MOST_PORT (codes "port") found c.get_one.result (omega arith) c.requires.port c.get_one.ensures.value (λ u x g. g.0) in
     let workers = option_read (λ bs r. ParsesUnsigned 32 10 bs r × ExplainsUnsignedError 10 bs r × HasUnsignedDigitsIfOk bs r) 32 1 MOST_PASSES (codes "workers") found c.get_one-2.result (omega arith) c.requires.workers c.get_one-2.ensures.value (λ u x g. g.0) in
     let connections = option_read (λ bs r. ParsesUnsigned 64 10 bs r × ExplainsUnsignedError 10 bs r × HasUnsignedDigitsIfOk bs r) 64 1 MOST_CONNECTIONS (codes "connections") found c.get_one-3.result (omega arith) c.requires.connections c.get_one-3.ensures.value (λ u x g. g.0) in
-    serve_is (rows_of found) _ _ _ (some_is (sym c.unwrap.ensures ∙ port)) (some_is (sym c.unwrap-2.ensures ∙ workers)) (some_is (sym c.unwrap-3.ensures ∙ connections))
+    let idle = option_read (λ bs r. ParsesUnsigned 32 10 bs r × ExplainsUnsignedError 10 bs r × HasUnsignedDigitsIfOk bs r) 32 0 MOST_IDLE (codes "idle") found c.get_one-4.result (omega arith) c.requires.idle c.get_one-4.ensures.value (λ u x g. g.0) in
+    serve_is (rows_of found) _ _ _ _ (some_is (sym c.unwrap.ensures ∙ port)) (some_is (sym c.unwrap-2.ensures ∙ workers)) (some_is (sym c.unwrap-3.ensures ∙ connections))
+    (some_is (sym c.unwrap-4.ensures ∙ idle))
 
 pub returns-clause-serve : goal.returns-clause-serve
 returns-clause-serve c = serve_read c

@@ -1,9 +1,8 @@
-use Rattle.std.proofs.Common.{◌≡◌, ◌≤◌, refl, rules}
+use Rattle.std.proofs.Common.{◌≤◌, refl, rules}
 use Rattle.funnel.proofs.Alone.{have_run}
 use Rattle.funnel.proofs.Endings.{keeps_last}
 use Rattle.funnel.proofs.Opened.{opened_config, opened_limits}
 use Rattle.funnel.proofs.Turns.{runs_by, runs_nowhere}
-use Rattle.funnel.specs.Runs.{limits_by}
 use Rattle.funnel.specs.declared.ended.Why.TheVariants as why_of
 use Rattle.funnel.proofs.running.run.Goals as goal
 
@@ -20,7 +19,7 @@ returns-clause-ran g c =
     let config_is = opened_config pool c.args.blank c.args.config.now c.in-Ok.ensures.engine c.requires.made_with in
     let some : 1 ≤ pool.limits.passes = search rules in
     have_run pool c.args.config.now c.serve-end.result.1.items _ _ _ _ c.serve-end.result.0 c.from.result c.close.result
-    limits_are config_is some c.serve-end.ensures.served c.from.ensures c.close.ensures.legal c.close.ensures.sound c.close.ensures.passes
+    limits_are config_is some c.serve-end.ensures.served c.from.ensures c.close.ensures.legal c.close.ensures.caused c.close.ensures.sound c.close.ensures.passes
 
 pub returns-clause-kept : goal.returns-clause-kept
 returns-clause-kept g c =

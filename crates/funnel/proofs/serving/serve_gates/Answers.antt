@@ -5,7 +5,6 @@ use Rattle.funnel_server.specs.Gates.{gate_state}
 use Rattle.funnel.proofs.Endings.{keeps_last}
 use Rattle.funnel.proofs.Opened.{opened_config, opened_counted, opened_limits}
 use Rattle.funnel.proofs.Served.{back_every, back_rest, has_served, worked_count}
-use Rattle.funnel.specs.Runs.{limits_by}
 use Rattle.funnel.proofs.serving.serve_gates.Goals as goal
 
 pub close-requires-clause-rest : goal.close-requires-clause-rest
@@ -38,7 +37,7 @@ returns-clause-ends g c =
     pool c.args.config.now c.args.connections c.args.gates.items c.answer_all-why.result.1.items c.answer_all-why.result.0 c.answer_all-why.result.2.items
     c.close.result limits_are config_is counted
     (omega (arith, enough, length-map c.args.gates.items (gate_state g.G.Gate.is_closed g.G.Gate.gate_faults g.G.Gate.waiting g.G.Conn.Source.incoming g.G.Conn.Sink.outgoing g.G.Gate.served)))
-    c.answer_all-why.ensures c.close.ensures.legal c.close.ensures.sound c.close.ensures.passes
+    c.answer_all-why.ensures c.close.ensures.legal c.close.ensures.caused c.close.ensures.sound c.close.ensures.passes
 
 pub returns-clause-kept : goal.returns-clause-kept
 returns-clause-kept g c =

@@ -1,4 +1,4 @@
-use Rattle.std.proofs.Common.{◌≡◌, [], length, rules, refl, subst, inl, arith, sym, ap, ◌∙◌}
+use Rattle.std.proofs.Common.{[], length, refl, subst, inl, arith, sym, ap, ◌∙◌}
 use Rattle.std.proofs.lemmas.List.FromFn.{length-map-range_with_len}
 use Rattle.std.specs.List.{All, range_with_len}
 use Rattle.std.specs.Prelude.{map}
@@ -13,7 +13,6 @@ use Rattle.funnel.proofs.LoadPasses.{AreUsedBy, every_pass}
 use Rattle.funnel.proofs.Opened.{opened_config, opened_counted, opened_limits, opened_passes}
 use Rattle.funnel.proofs.Passes.{number_of}
 use Rattle.funnel.specs.Runs.{limits_by}
-use Rattle.funnel.specs.Serving.{new_passes}
 use Rattle.funnel.proofs.workload.make_load.Goals as goal
 
 pub run_load-passes-requires-clause-enough : goal.run_load-passes-requires-clause-enough
@@ -68,6 +67,7 @@ returns-in-Ok-results-clause-ends g c =
       fits = c.requires.fits;
       used = used;
       legal = c.close-closed.ensures.legal;
+      caused = c.close-closed.ensures.caused;
       sound = c.close-closed.ensures.sound;
       ends = c.close-closed.ensures.passes;
     } in
@@ -100,6 +100,7 @@ returns-clause-ends g c =
       fits = c.requires.fits;
       used = used;
       legal = c.close-closed.ensures.legal;
+      caused = c.close-closed.ensures.caused;
       sound = c.close-closed.ensures.sound;
       ends = c.close-closed.ensures.passes;
     } in

@@ -8,7 +8,7 @@ pub returns-clause-column : goal.returns-clause-column
 returns-clause-column c limits history d legal contained = live_has_column limits history d legal contained
 
 pub returns-clause-document : goal.returns-clause-document
-returns-clause-document c limits history slice column d legal is = live_column_is_live history slice column d is
+returns-clause-document c history slice column since d is = live_column_is_live history slice column d since is
 
 pub returns-clause-once : goal.returns-clause-once
 returns-clause-once c = live_on_one_column

@@ -7,5 +7,5 @@ returns-clause-not_pending c limits history slice column pass legal retired in' 
     not_retired_by limits history slice column (Pending pass) legal in' is (λ h. h) retired
 
 pub returns-clause-not_live : goal.returns-clause-not_live
-returns-clause-not_live c limits history slice column d legal retired in' is =
-    not_retired_by limits history slice column (Live d) legal in' is (λ h. h) retired
+returns-clause-not_live c limits history slice column since d legal retired in' is =
+    not_retired_by limits history slice column (Live d since) legal in' is (λ h. h) retired

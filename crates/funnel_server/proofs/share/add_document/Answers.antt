@@ -1,5 +1,5 @@
 -- The add, and the find where it is made.
-use Rattle.std.proofs.Common.{[], ◌∷◌, ◌∙◌, refl, subst, sym}
+use Rattle.std.proofs.Common.{[], ◌∷◌, ◌∙◌, subst, sym}
 use Rattle.funnel_model.specs.declared.call.Call.TheVariants as call
 use Rattle.load_gen.specs.Documents.{name_of_document}
 use Rattle.funnel_server.specs.Loads.{AreAsked}

@@ -1,5 +1,5 @@
 -- Each worker did its work.
-use Rattle.std.proofs.Common.{rules, ◌≡◌, ◌<◌, ◌++◌, ℕ, List, length, take, drop, slice_index_or, sym, ap, ◌∙◌, subst, arith, append-nil, take_all}
+use Rattle.std.proofs.Common.{rules, ◌≡◌, ◌++◌, ℕ, List, length, take, drop, slice_index_or, sym, ap, ◌∙◌, subst, arith, append-nil, take_all}
 use Rattle.std.proofs.lemmas.List.{drop_all}
 use Rattle.funnel_server.specs.GateTurns.{WorksInTurns}
 use Rattle.funnel_server.specs.Workers.{WorkerWithGate}

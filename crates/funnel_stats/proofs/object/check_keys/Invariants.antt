@@ -6,4 +6,4 @@ use Rattle.funnel_stats.specs.Values.{entries}
 use Rattle.funnel_stats.proofs.object.check_keys.Given as goal
 
 abbrev pub invariant-loop-name : goal.invariant-loop-name
-invariant-loop-name l = unknown_key (entries (members_view l.object.entries)) ≡ unknown_key (entries (members_view l.name-iterator))
+invariant-loop-name l = unknown_key l.known (entries (members_view l.object.entries)) ≡ unknown_key l.known (entries (members_view l.name-iterator))

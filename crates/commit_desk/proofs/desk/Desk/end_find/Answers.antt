@@ -38,6 +38,6 @@ returns-clause-found c begun =
     subst (λ h. IsFrontOf seat.number seat.front h) (up.front ∙ up.home.history) (subst (λ n. IsFrontOf n seat.front next.front) up.seat.number up.none_since) in
     let scanned : AreScanned i.home.pool.config seat token c.args.words.now c.args.candidates.now =
     subst (λ (d : DeskState). AreScanned d.pool.config seat token c.args.words.now c.args.candidates.now) (sym c.self.view_is) c.requires.scanned in
-    found_by_scan i.home.pool.config i.home.pool.limits i.home.history i.records seat token c.args.words.now c.args.candidates.now c.resolve.new.out.found kept.legal kept.sound kept.recorded
+    found_by_scan i.home.pool.config i.home.pool.limits i.home.history i.records seat token c.args.words.now c.args.candidates.now c.resolve.new.out.found kept.legal kept.sound kept.untuned kept.recorded
     (same_limits desk c.args.self.now seat.pool c.self.view_is c.requires.seat.pool) goes c.requires.token scanned c.resolve.ensures.exactly c.resolve.ensures.rising c.resolve.ensures.each_once
     begun (c.requires.words begun)

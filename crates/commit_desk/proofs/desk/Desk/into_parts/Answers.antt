@@ -1,5 +1,5 @@
 use Rattle.std.proofs.Common.{◌≡◌, ◌∙◌, subst}
-use Rattle.funnel_model.specs.History.{base}
+use Rattle.funnel_model.specs.History.{MovesAreCaused, base}
 use Rattle.row_layout.specs.Sound.{IsSound}
 use Rattle.commit_desk.specs.Desks.{DeskState}
 use Rattle.commit_desk.proofs.Journals.{base-journal}
@@ -7,6 +7,9 @@ use Rattle.commit_desk.proofs.desk.Desk.into_parts.Goals as goal
 
 pub returns-clause-sound : goal.returns-clause-sound
 returns-clause-sound c = subst (λ (d : DeskState). IsSound d.pool.config d.history) c.self.view_is c.self.invariant.kept.sound
+
+pub returns-clause-caused : goal.returns-clause-caused
+returns-clause-caused c = subst (λ (d : DeskState). MovesAreCaused d.history) c.self.view_is c.self.invariant.kept.caused
 
 pub returns-clause-base : goal.returns-clause-base
 returns-clause-base c =

@@ -1,4 +1,5 @@
 use Rattle.std.proofs.Common.{◌≡◌, ◌+◌, ◌<◌, sym, ap, ◌∙◌, subst, arith}
+use Rattle.funnel_model.specs.Legal.{IsLegal}
 use Rattle.commit_desk.specs.Desks.{DeskState}
 use Rattle.commit_desk.proofs.HeldColumns.{NoneHeldBelow, none_held-next, retired_unless_held}
 use Rattle.commit_desk.proofs.desk.Desk.lowest_held.Goals as goal
@@ -14,7 +15,7 @@ loop-column-preserved c =
     subst (λ (d : DeskState). NoneHeldBelow d.history slice (column + 1)) c.self.view_is
     (none_held-next i.home.pool.limits i.home.history i.records slice column kept.legal kept.recorded
     (subst (λ (d : DeskState). slice < d.pool.limits.slices) (sym c.self.view_is) c.requires.in_range) (omega arith)
-    (λ added is. c.in_default.not-Live added (c.state.ensures.state ∙ is))
+    (λ added since is. c.in_default.not-Live added since (c.state.ensures.state ∙ is))
     (λ pass is. c.in_default.not-Pending pass (c.state.ensures.state ∙ is))
     (subst (λ (d : DeskState). NoneHeldBelow d.history slice column) (sym c.self.view_is) c.loop-column.invariant))
 
@@ -29,5 +30,6 @@ unreachable-requires c =
     let done = c.loop-column-test.false in
     let same : column ≡ c.args.self.now.pool.limits.columns = omega arith in
     c.requires.not_retired
-    (retired_unless_held c.args.self.now.pool.limits.columns slice c.args.self.now.history c.requires.filled c.requires.not_clearing
+    (retired_unless_held c.args.self.now.pool.limits c.args.self.now.pool.limits.columns slice c.args.self.now.history
+    (subst (λ (d : DeskState). IsLegal d.pool.limits d.history) c.self.view_is kept.legal) c.requires.filled c.requires.not_clearing
     (subst (NoneHeldBelow c.args.self.now.history slice) same c.loop-column.invariant))

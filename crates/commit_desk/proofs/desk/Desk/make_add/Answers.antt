@@ -24,8 +24,8 @@ use Rattle.commit_desk.proofs.RecordFacts.{no_entry, none_live_in_pending, taken
 use Rattle.commit_desk.proofs.Turns.{makes_one}
 use Rattle.commit_desk.proofs.desk.Desk.make_add.Goals as goal
 
-pub make_event-self-inside-requires-clause-ready : goal.make_event-self-inside-requires-clause-ready
-make_event-self-inside-requires-clause-ready c =
+pub make_event-number-requires-clause-ready : goal.make_event-number-requires-clause-ready
+make_event-number-requires-clause-ready c =
     subst (λ n. (b : Bit) → Contains c.list.result.now b ↔ Contains c.args.seat.now.own (fact.BitSet (last_number n c.args.seat.now.front) b)) (sym c.number-pass.ensures.number)
     (subst (λ (bits : List Bit). (b : Bit) → Contains bits b ↔ Contains c.args.seat.now.own (fact.BitSet (last_number c.args.seat.now.number c.args.seat.now.front) b)) (sym c.list.ensures) c.requires.set)
 
@@ -102,6 +102,12 @@ allowed_now c =
       in_word = c.requires.of_words;
     })
 
+number_now : (c : goal.After-live-arg-1) → c.make_event-number.result ≡ length c.self.inside.home.history + 1
+number_now c =
+    let made = c.make_event-number.ensures in
+    made.number ∙ ap length made.home.history
+    ∙ length-append c.self.inside.home.history (event.Add c.number-pass.result c.args.doc.id c.args.doc.text c.args.claim.slice c.args.claim.column c.list.result.now ∷ [])
+
 place_now : (c : goal.After-live-arg-1) → c.place-place.result + 1 ≡ place c.self.inside.home.history + 1
 place_now c = ap (λ n. n + 1) (c.place-place.ensures ∙ c.self.invariant.kept.journal_is.place_is)
 
@@ -117,14 +123,14 @@ overflow_add-place c =
 pub invariant_of-self : goal.invariant_of-self
 invariant_of-self c =
     let i = c.self.inside in
-    let made = c.make_event-self-inside.ensures in
-    let home = c.make_event-self-inside.new.home in
+    let made = c.make_event-number.ensures in
+    let home = c.make_event-number.new.home in
     let pass = c.number-pass.result in
     let doc = c.args.doc in
     let s = c.args.claim.slice in
     let k = c.args.claim.column in
     let bits = c.args.bits.now.bits in
-    let earlier = c.before.before.before.before.before in
+    let earlier = c.before.before.before.before.before.before in
     let id : c.id-id.result ≡ doc.id = c.id-id.ensures in
     desk-as i.home.pool home.pool i.events_limit (i.home.history ++ event.Add pass doc.id doc.text s k bits ∷ []) home.history
     (record {
@@ -132,28 +138,29 @@ invariant_of-self c =
       columns = i.columns;
       events = length i.home.history + 1;
       journal = with_commit i.journal (record { add = true; id = doc.id });
-      table = with_slot i.records s k (record { column = became.Live (place i.home.history + 1); doc = Some doc });
+      table = with_slot i.records s k (record { column = became.Live (place i.home.history + 1) (length i.home.history + 1); doc = Some doc });
       live = c.add.new.self;
       tokens = i.tokens;
       stages = i.stages;
     })
-    c.make_event-self-inside.result c.push.new.self c.live.new.self c.add.new.self i.stages
+    c.make_event-number.result c.push.new.self c.live.new.self c.add.new.self i.stages
     (desk-add i.home.pool i.events_limit i.home.history (books earlier) c.self.invariant pass s k doc bits c.add.new.self (allowed_now earlier) c.words.ensures.of_text
     (subst (λ (d : DeskState). AreDocumentBits d.pool.config doc.words s k bits) (sym c.self.view_is) c.requires.bits)
     (λ other. c.add.ensures.columns other ∙ ap (λ n. cond (other == n) (Some (s, k)) (column_of i.live other)) id)
     c.add.ensures.slices c.add.ensures.slice_columns)
     made.home.pool (made.home.history ∙ ap (λ (bs : List Bit). i.home.history ++ event.Add pass doc.id doc.text s k bs ∷ []) c.list.ensures)
-    (made.number ∙ ap length made.home.history ∙ length-append i.home.history (event.Add pass doc.id doc.text s k c.list.result.now ∷ []))
+    (number_now earlier)
     (c.push.ensures ∙ ap (λ n. with_commit i.journal (record { add = true; id = n })) id)
-    (c.live.ensures ∙ ap (λ n. with_slot i.records s k (record { column = became.Live n; doc = Some doc })) (place_now earlier))
+    (c.live.ensures ∙ ap (λ n. with_slot i.records s k (record { column = became.Live n c.make_event-number.result; doc = Some doc })) (place_now earlier)
+    ∙ ap (λ n. with_slot i.records s k (record { column = became.Live (place i.home.history + 1) n; doc = Some doc })) (number_now earlier))
     refl refl
 
 pub returns-clause-made : goal.returns-clause-made
 returns-clause-made c =
     let i = c.self.inside in
-    let made = c.make_event-self-inside.ensures in
-    let home = c.make_event-self-inside.new.home in
-    let seat = c.make_event-self-inside.new.seat in
+    let made = c.make_event-number.ensures in
+    let home = c.make_event-number.new.home in
+    let seat = c.make_event-number.new.seat in
     let doc = c.args.doc in
     let s = c.args.claim.slice in
     let k = c.args.claim.column in

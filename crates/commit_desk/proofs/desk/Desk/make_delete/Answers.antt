@@ -5,7 +5,6 @@ use Rattle.document_store.specs.Entries.{column_of}
 use Rattle.document_store.specs.Slots.{slot_at, with_slot}
 use Rattle.document_store.specs.declared.column.Column.TheVariants as became
 use Rattle.funnel_model.specs.declared.event.Event.TheVariants as event
-use Rattle.funnel_model.specs.History.{place}
 use Rattle.funnel_model.specs.Legal.{IsAllowed, IsIdle}
 use Rattle.funnel_model.proofs.Progress.{allowed_by}
 use Rattle.slice_rule.specs.Pools.{PoolId}
@@ -67,7 +66,7 @@ pub delete-requires-clause-in_range : goal.delete-requires-clause-in_range
 delete-requires-clause-in_range c = (entry_now c).in_table
 
 pub delete-requires-clause-live : goal.delete-requires-clause-live
-delete-requires-clause-live c = let e = entry_now c in (e.live.added, e.live.column)
+delete-requires-clause-live c = let e = entry_now c in (e.live.added, e.live.since, e.live.column)
 
 pub end_column-requires-clause-in_range : goal.end_column-requires-clause-in_range
 end_column-requires-clause-in_range c =
@@ -98,9 +97,6 @@ allowed_now c =
       idle = subst (λ n. IsIdle n i.home.history) (sym c.number-pass.ensures.number) (subst (λ (d : DeskState). IsIdle c.args.seat.now.number d.history) (sym c.self.view_is) c.requires.idle);
       present = may.live;
     })
-
-place_now : (c : goal.After-delete-arg-1) → c.place-place.result + 1 ≡ place c.self.inside.home.history + 1
-place_now c = ap (λ n. n + 1) (c.place-place.ensures ∙ c.self.invariant.kept.journal_is.place_is)
 
 -- one more commit can be counted
 pub push-requires : goal.push-requires
@@ -133,7 +129,7 @@ invariant_of-self c =
       columns = i.columns;
       events = length i.home.history + 1;
       journal = with_commit i.journal (record { add = false; id = doc.id });
-      table = with_slot i.records s k (record { column = became.Deleted e.live.added (place i.home.history + 1); doc = Some doc });
+      table = with_slot i.records s k (record { column = became.Over e.live.added e.live.since (length i.home.history + 1); doc = Some doc });
       live = c.remove.new.self;
       tokens = i.tokens;
       stages = with_stage i.stages s ended;
@@ -145,9 +141,9 @@ invariant_of-self c =
     c.in-Some.ensures.slices c.in-Some.ensures.slice_columns at.2)
     made.home.pool (made.home.history ∙ ap (λ n. i.home.history ++ event.Del pass n ∷ []) (sym e.number)) (number_now earlier)
     (c.push.ensures ∙ ap (λ n. with_commit i.journal (record { add = false; id = n })) (sym e.number))
-    (c.delete.ensures e.live.added e.live.column
-    ∙ ap (λ n. with_slot i.records s k (record { column = became.Deleted e.live.added n; doc = (slot_at i.records s k).doc })) (place_now earlier)
-    ∙ ap (λ d. with_slot i.records s k (record { column = became.Deleted e.live.added (place i.home.history + 1); doc = d })) e.live.doc_is)
+    (c.delete.ensures e.live.added e.live.since e.live.column
+    ∙ ap (λ n. with_slot i.records s k (record { column = became.Over e.live.added e.live.since n; doc = (slot_at i.records s k).doc })) (number_now earlier)
+    ∙ ap (λ d. with_slot i.records s k (record { column = became.Over e.live.added e.live.since (length i.home.history + 1); doc = d })) e.live.doc_is)
     refl
     (c.end_column.ensures at.0 at.1 at.2 ∙ ap (λ n. with_stage i.stages s (after_end n c.make_event-number.result at.0 at.1)) c.self.invariant.kept.staged.columns_are
     ∙ ap (λ n. with_stage i.stages s (after_end i.home.pool.limits.columns n at.0 at.1)) (number_now earlier))

@@ -1,4 +1,5 @@
 use Rattle.std.proofs.Common.{◌≡◌, ℕ, Some, sym, ap, ◌∙◌}
+use Rattle.document_store.specs.declared.column.Column.{Column}
 use Rattle.document_store.specs.declared.column.Column.TheVariants as became
 use Rattle.funnel_model.specs.History.{live_place}
 use Rattle.commit_desk.specs.Desks.{DeskState}
@@ -23,15 +24,20 @@ entry_at c =
 pub state-requires : goal.state-requires
 state-requires c = (entry_at c).in_table
 
-same_place : (n m : ℕ) → became.Live n ≡ became.Live m → n ≡ m
-same_place n m is = cc
+added_of : Column → ℕ → ℕ
+added_of (became.Live added since) other = added
+added_of c other = other
+
+same_place : (n m since after : ℕ) → became.Live n since ≡ became.Live m after → n ≡ m
+unfolding added_of
+same_place n m since after is = ap (λ c. added_of c 0) is
 
 pub returns-in-Live : goal.returns-in-Live
 returns-in-Live c =
     let e = entry_at c.before.before in
-    ap (λ n. Some n) (same_place c.in-Live.place e.added (c.in-Live.ensures.state ∙ e.column_is)) ∙ sym e.place_is ∙ ap (λ (d : DeskState). live_place c.args.id d.history) c.self.view_is
+    ap (λ n. Some n) (same_place c.in-Live.place e.added c.in-Live.since e.since (c.in-Live.ensures.state ∙ e.column_is)) ∙ sym e.place_is ∙ ap (λ (d : DeskState). live_place c.args.id d.history) c.self.view_is
 
 pub returns-in_default : goal.returns-in_default
 returns-in_default c =
     let e = entry_at c.before.before in
-    absurd (c.in_default.not-Live e.added (c.state.ensures.state ∙ e.column_is))
+    absurd (c.in_default.not-Live e.added e.since (c.state.ensures.state ∙ e.column_is))

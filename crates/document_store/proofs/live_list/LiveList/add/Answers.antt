@@ -1,6 +1,5 @@
-use Rattle.std.proofs.Common.{◌≡◌, ◌*◌, ◌+◌, ◌<◌, cond, eqb, length, get_or, set, Some, refl, sym, ap, ◌∙◌, subst}
+use Rattle.std.proofs.Common.{◌<◌, cond, eqb, Some, sym, ap, ◌∙◌, subst}
 use Rattle.document_store.specs.Entries.{IsShallow, column_of}
-use Rattle.document_store.specs.Trees.{IsPlaceOf, link_at, none}
 use Rattle.document_store.proofs.ColumnLemmas.{IsSearch, add-columns, add-keeps, search-is, shallow-view}
 use Rattle.document_store.proofs.live_list.LiveList.add.Goals as goal
 

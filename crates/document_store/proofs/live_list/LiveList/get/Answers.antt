@@ -1,6 +1,5 @@
-use Rattle.std.proofs.Common.{◌≡◌, ◌<◌, Some, None, sym, ap, ◌∙◌, subst}
+use Rattle.std.proofs.Common.{◌<◌, Some, sym, ap, ◌∙◌, subst}
 use Rattle.document_store.specs.Entries.{IsShallow, column_of}
-use Rattle.document_store.specs.Trees.{none}
 use Rattle.document_store.proofs.ColumnLemmas.{IsSearch, column-found, column-none, search-is, shallow-view, some-columns}
 use Rattle.document_store.proofs.EntryLemmas.{column_at}
 use Rattle.document_store.proofs.live_list.LiveList.get.Goals as goal

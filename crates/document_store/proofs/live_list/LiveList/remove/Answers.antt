@@ -2,7 +2,7 @@ use Rattle.std.proofs.Common.{◌≡◌, ℕ, ◌<◌, ◌/◌, ◌%◌, false, 
 use Rattle.document_store.specs.declared.live_list.LiveList.TheInside.{Inside}
 use Rattle.document_store.specs.declared.live_list.Entry.{Entry}
 use Rattle.document_store.specs.Entries.{Entries, IsShallow, column_of}
-use Rattle.document_store.specs.Trees.{AreTrees, IsInPlace, entry_at, link_at, link_under, no_entry, none}
+use Rattle.document_store.specs.Trees.{AreTrees, IsInPlace, entry_at, link_at, link_under, none}
 use Rattle.std.proofs.lemmas.List.{length-set}
 use Rattle.document_store.proofs.EntryLemmas.{column_at, column_of-without}
 use Rattle.document_store.proofs.ColumnLemmas.{IsSearch, column-found, column-none, search-is, shallow-view, some-columns, view}

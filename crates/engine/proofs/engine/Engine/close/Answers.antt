@@ -1,6 +1,7 @@
 use Rattle.std.proofs.Common.{ℕ, ◌<◌, List, map, sym, ◌∙◌, subst}
 use Rattle.std.specs.List.{Contains}
 use Rattle.funnel_model.specs.declared.event.Event.{Event}
+use Rattle.funnel_model.specs.History.{MovesAreCaused}
 use Rattle.row_layout.specs.Sound.{IsSound}
 use Rattle.slice_rule.specs.Pools.{PoolId}
 use Rattle.slice_rule.specs.Seats.{PassState}
@@ -20,6 +21,10 @@ returns-clause-sound g c =
     let parts = c.into_parts-home.ensures in
     subst (λ (h : List Event). IsSound c.args.self.config h) (sym (c.close-ended.ensures.history ∙ parts.history))
     (subst (λ (p : PoolId). IsSound p.config named.desk.history) (named.of_pool ∙ sym c.self.invariant.of_name ∙ c.self.view_is) parts.sound)
+
+pub returns-clause-caused : goal.returns-clause-caused
+returns-clause-caused g c =
+    subst (λ (h : List Event). MovesAreCaused h) (sym (c.close-ended.ensures.history ∙ c.into_parts-home.ensures.history)) c.into_parts-home.ensures.caused
 
 pub returns-clause-passes : goal.returns-clause-passes
 returns-clause-passes g c = ends_in c.args.self c.close-ended.result.history c.args.passes.items c.requires.rest c.close-ended.ensures.passes

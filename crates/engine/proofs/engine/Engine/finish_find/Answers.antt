@@ -10,4 +10,4 @@ returns-clause-calls g c =
     let pass = c.find.inside.pass in
     let after = c.finish-answer.new.pass.front in
     subst (λ (s : PassState). AddsNone s.number s.front after) c.find.view_is
-    (quiet_adds_none pass.number pass.front after (end_is_quiet pass.number pass.front after c.finish-answer.ensures.ended))
+    (quiet_adds_none pass.number 0 pass.front after (end_is_quiet pass.number pass.front after c.finish-answer.ensures.ended))

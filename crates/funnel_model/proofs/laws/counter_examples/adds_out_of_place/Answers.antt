@@ -1,4 +1,4 @@
-use Rattle.std.proofs.Common.{◌<◌, [], ◌∷◌, ◌++◌, ⊎_elim, refl, arith}
+use Rattle.std.proofs.Common.{◌<◌, [], ◌∷◌, ◌++◌, refl, arith}
 use Rattle.std.proofs.lemmas.Bool.{both_ways}
 use Rattle.std.proofs.lemmas.List.Elements.{All-head}
 use Rattle.funnel_model.specs.declared.bit_list.Bit.{Bit}

@@ -20,6 +20,9 @@ returns-clause-idle c limits pass before after asked given step = (step.idle_bef
 pub returns-clause-add : goal.returns-clause-add
 returns-clause-add c limits pass id text before after step = memory_cause limits pass before after _ step
 
+pub returns-clause-tune : goal.returns-clause-tune
+returns-clause-tune c limits pass config before after step = memory_cause limits pass before after _ step
+
 pub returns-clause-delete : goal.returns-clause-delete
 returns-clause-delete c limits pass id before after step = memory_cause limits pass before after _ step
 
@@ -32,6 +35,13 @@ returns-clause-recycle c limits pass before after step = memory_cause limits pas
 pub returns-clause-unread : goal.returns-clause-unread
 returns-clause-unread c limits pass before after asked step =
     ⊎_elim (λ line. never_unread limits pass before after asked reply.Line refl line) (λ long. never_unread limits pass before after asked reply.Long refl long) step
+
+pub returns-clause-untuned : goal.returns-clause-untuned
+returns-clause-untuned c limits pass fault needed room before after asked step =
+    ⊎_elim
+    (λ tuning. never_unread limits pass before after asked (reply.Tuning fault) refl tuning)
+    (λ wide. never_unread limits pass before after asked (reply.Wide needed room) refl wide)
+    step
 
 pub returns-clause-read : goal.returns-clause-read
 returns-clause-read c before is = cc

@@ -7,7 +7,7 @@ use Rattle.funnel_model.specs.declared.call.Call.TheVariants as call
 use Rattle.funnel_model.specs.declared.event.Event.{Event}
 use Rattle.funnel_model.specs.declared.event.Event.TheVariants as event
 use Rattle.funnel_model.specs.Blocks.{AreBlocks, IsBlock}
-use Rattle.funnel_model.specs.Events.{deletes, opens}
+use Rattle.funnel_model.specs.Events.{opens, takes_off}
 use Rattle.funnel_model.specs.Example.{episode, first_added, later_added}
 use Rattle.funnel_model.specs.RecycleExample.{both_clearing, guarded, held, paired}
 use Rattle.funnel_model.proofs.ExampleLemmas.{one_slice, two_columns}
@@ -23,16 +23,17 @@ two_blocks history low high is_low is_high = record {
 }
 
 -- the document that was added first is the lowest of its slice, while it isn't deleted and the slice isn't opened
-first : (columns : ℕ) (later : List Event) → 0 < columns → list_any (opens 0) later ≡ false → list_any (deletes 9) later ≡ false →
+first : (columns : ℕ) (later : List Event) → 0 < columns → list_any (opens 0) later ≡ false → list_any (takes_off 9) later ≡ false →
     IsBlock columns (first_added ++ later) 0 (block.Live 0)
 first columns later some stays kept = (
   record { id = 9; text = []; place = 1 },
+  2,
   record {
     in_range = some;
     is_in = record {
       later = later;
-      added = record { earlier = event.Take 0 0 0 ∷ []; event = event.Add 0 9 [] 0 0 []; whole = refl; adds = refl; at_place = refl; stays = stays };
-      not_deleted = kept;
+      put = record { earlier = event.Take 0 0 0 ∷ []; event = event.Add 0 9 [] 0 0 []; whole = refl; count = refl; puts = refl; lives = (0, omega arith, refl); stays = stays };
+      not_taken_off = kept;
     };
     held = tt;
     lowest = λ lower in'. absurd (omega arith);
@@ -44,7 +45,7 @@ returns-clause-held c = (
   two_columns _ (inl (one_slice _ refl, not_retired 1 0 0 held (omega arith) refl refl)) (inl (one_slice _ refl, not_retired 1 1 0 held (omega arith) refl refl)),
   two_blocks held (block.Live 0) (block.Pending 0 1) (first 1 (event.Take 1 1 0 ∷ []) (omega arith) refl refl) (record {
     in_range = omega arith;
-    is_in = record { taken = refl; not_added = refl; not_dropped = refl };
+    is_in = record { taken = refl; not_put = refl; not_dropped = refl };
     held = tt;
     lowest = λ lower in'. absurd (omega arith);
   }),
@@ -57,7 +58,7 @@ returns-clause-mixed c = (
     count = refl;
     each = λ slice d. one_slice (λ s. IsBlock 2 later_added s (slice_index_or (block.Pending 0 0 ∷ []) s d)) (record {
       in_range = omega arith;
-      is_in = record { taken = refl; not_added = refl; not_dropped = refl };
+      is_in = record { taken = refl; not_put = refl; not_dropped = refl };
       held = tt;
       lowest = λ lower in'. absurd (omega arith);
     }) slice;

@@ -40,27 +40,27 @@ telling =
 -- both columns are deleted, and stay so while the slice isn't opened
 both_over : (later : List Event) → list_any (opens 0) later ≡ false → AllOver 2 0 (filling ++ (deleting ++ later))
 both_over later stays = two_columns _ (
-  Deleted (record { id = 9; text = []; place = 1 }) 3,
+  Deleted (record { id = 9; text = []; place = 1 }) 2 6,
   record {
     between = event.Take 0 0 1 ∷ event.Add 0 7 [] 0 1 [] ∷ event.Find 1 [] ∷ [];
     event = event.Del 0 9;
     later = event.Del 0 7 ∷ later;
-    added = record { earlier = event.Take 0 0 0 ∷ []; event = event.Add 0 9 [] 0 0 []; whole = refl; adds = refl; at_place = refl; stays = stays };
+    put = record { earlier = event.Take 0 0 0 ∷ []; event = event.Add 0 9 [] 0 0 []; whole = refl; count = refl; puts = refl; lives = (0, omega arith, refl); stays = stays };
     not_before = refl;
-    deletes_it = refl;
-    at_place = refl;
+    takes_it_off = refl;
+    count = refl;
   },
   tt,
 ) (
-  Deleted (record { id = 7; text = []; place = 2 }) 4,
+  Deleted (record { id = 7; text = []; place = 2 }) 4 7,
   record {
     between = event.Find 1 [] ∷ event.Del 0 9 ∷ [];
     event = event.Del 0 7;
     later = later;
-    added = record { earlier = event.Take 0 0 0 ∷ event.Add 0 9 [] 0 0 [] ∷ event.Take 0 0 1 ∷ []; event = event.Add 0 7 [] 0 1 []; whole = refl; adds = refl; at_place = refl; stays = stays };
+    put = record { earlier = event.Take 0 0 0 ∷ event.Add 0 9 [] 0 0 [] ∷ event.Take 0 0 1 ∷ []; event = event.Add 0 7 [] 0 1 []; whole = refl; count = refl; puts = refl; lives = (1, omega arith, refl); stays = stays };
     not_before = refl;
-    deletes_it = refl;
-    at_place = refl;
+    takes_it_off = refl;
+    count = refl;
   },
   tt,
 )

@@ -1,0 +1,74 @@
+use Rattle.std.proofs.Common.{ℕ, [], ◌∷◌, codes, refl, arith, inl, inr}
+use Rattle.caseless.proofs.Computing.{caseless}
+use Rattle.unicode_segmentation.proofs.Computing.{unicode_segmentation}
+use Rattle.funnel_model.specs.declared.event.Event.TheVariants as event
+use Rattle.funnel_model.specs.MoveExample.{moved}
+use Rattle.funnel_model.specs.RecycleExample.{high_bit, low_bit}
+use Rattle.funnel_model.specs.Slices.{IsInUse}
+use Rattle.funnel_model.specs.Tokens.{MayRead}
+use Rattle.funnel_model.proofs.MoveFacts.{left_old, move_guarded, move_lowest, moved_again_is_legal, moved_new, new_column, old_column, retired_by_move, retired_by_void}
+use Rattle.funnel_model.proofs.SpareLemmas.{not_retired}
+use Rattle.funnel_model.proofs.laws.examples.move_example.Goals as goal
+
+pub returns-clause-legal : goal.returns-clause-legal
+returns-clause-legal c = moved_again_is_legal
+
+pub returns-clause-replies : goal.returns-clause-replies
+unfolding unicode_segmentation caseless
+returns-clause-replies c = inl (refl, inr (_, _, refl, refl, inr (_, _, refl, refl, inl (refl, inl (refl, inr (_, _, refl, move_lowest, inl (refl, inr (_, _, refl, refl, inl (refl, inl (refl, inr (_, _, refl, (refl, refl), inl (refl, inl (refl, inl (refl, inr (_, _, refl, (refl, refl), inr (_, _, refl, refl, inl (refl, inr (_, _, refl, refl, inl (refl, inr (_, _, refl, (refl, refl), inl (refl, inl (refl, refl))))))))))))))))))))))
+
+pub returns-clause-old : goal.returns-clause-old
+returns-clause-old c = (old_column [] refl, refl, refl)
+
+pub returns-clause-new : goal.returns-clause-new
+returns-clause-new c = (new_column [] refl refl, refl, refl)
+
+-- the find may read a slice that was in use before it
+may_read : (slice : ℕ) → IsInUse 1 slice (event.Take 0 0 0 ∷ event.Add 0 9 (codes "a cat") 0 0 (low_bit ∷ []) ∷ []) → MayRead 1 moved 1 slice
+may_read slice in_use = record {
+  number = 3;
+  token = record {
+    earlier = event.Take 0 0 0 ∷ event.Add 0 9 (codes "a cat") 0 0 (low_bit ∷ []) ∷ [];
+    query = codes "A";
+    later = event.Take 0 1 0 ∷ event.Move 0 9 1 0 (high_bit ∷ []) ∷ [];
+    whole = refl;
+    count = refl;
+    stays = refl;
+  };
+  in_use = in_use;
+}
+
+pub returns-clause-read : goal.returns-clause-read
+returns-clause-read c = (
+  may_read 0 (record { not_retired = not_retired 1 0 0 _ (omega arith) refl refl; not_clearing = refl }),
+  may_read 1 (record { not_retired = not_retired 1 1 0 _ (omega arith) refl refl; not_clearing = refl }),
+)
+
+pub returns-clause-retired : goal.returns-clause-retired
+returns-clause-retired c = (retired_by_move, move_guarded)
+
+pub returns-clause-voided : goal.returns-clause-voided
+returns-clause-voided c = (refl, retired_by_void)
+
+pub returns-clause-again : goal.returns-clause-again
+returns-clause-again c = (moved_new, left_old)
+
+pub returns-clause-committed : goal.returns-clause-committed
+returns-clause-committed c = (
+  record {
+    earlier = event.Take 0 0 0 ∷ [];
+    event = event.Add 0 9 (codes "a cat") 0 0 (low_bit ∷ []);
+    later = event.Find 1 (codes "A") ∷ event.Take 0 1 0 ∷ event.Move 0 9 1 0 (high_bit ∷ []) ∷ [];
+    whole = refl;
+    added = (0, omega arith, refl);
+    stays = refl;
+  },
+  record {
+    earlier = event.Take 0 0 0 ∷ event.Add 0 9 (codes "a cat") 0 0 (low_bit ∷ []) ∷ event.Find 1 (codes "A") ∷ event.Take 0 1 0 ∷ [];
+    event = event.Move 0 9 1 0 (high_bit ∷ []);
+    later = [];
+    whole = refl;
+    added = (0, omega arith, refl);
+    stays = refl;
+  },
+)

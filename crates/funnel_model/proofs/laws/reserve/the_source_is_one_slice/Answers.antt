@@ -1,0 +1,8 @@
+use Rattle.funnel_model.proofs.ReserveLemmas.{one_source, some_source}
+use Rattle.funnel_model.proofs.laws.reserve.the_source_is_one_slice.Goals as goal
+
+pub returns-clause-some : goal.returns-clause-some
+returns-clause-some c = some_source
+
+pub returns-clause-one : goal.returns-clause-one
+returns-clause-one c = one_source

@@ -1,0 +1,196 @@
+-- Private rows: whose bits theirs are, and that they tell their word.
+use Rattle.std.proofs.Common.{◌≡◌, ℕ, ◌+◌, ◌*◌, ◌/◌, ◌%◌, ◌^◌, ◌<◌, ◌≤◌, ⊎_elim, Bool, true, false, cond, List, [], ◌∷◌, ◌++◌, get_or, filter, Contains, Option, Some, None, sym, refl, ap, ◌∙◌, subst, append_assoc, arith}
+use Rattle.std.proofs.lemmas.Bool.{and_parts, cases_lt, eqb-true, ltb-true, or_from}
+use Rattle.std.proofs.lemmas.List.Elements.{Contains-append_right}
+use Rattle.std.proofs.lemmas.List.Sums.{passes_at_first}
+use Rattle.std.proofs.lemmas.Slice.Eq.{bytes_eq-Decides}
+use Rattle.std.specs.List.{list_any, range_with_len}
+use Rattle.std.specs.Prelude.{◌==◌, ◌&&◌}
+use Rattle.std.specs.Str.{bytes_eq}
+use Rattle.funnel_model.proofs.AnswerLemmas.{contains_first}
+use Rattle.funnel_model.proofs.Histories.{legal_before}
+use Rattle.funnel_model.proofs.LiveColumns.{put_number}
+use Rattle.funnel_model.proofs.LiveLemmas.{added_at, live-push, live-silent, survives}
+use Rattle.funnel_model.proofs.LivesOn.{one_live}
+use Rattle.funnel_model.proofs.TuningLemmas.{treat-later}
+use Rattle.funnel_model.specs.Configuration.{IsInRange}
+use Rattle.funnel_model.specs.Events.{bits_on, clears, put_on}
+use Rattle.funnel_model.specs.History.{Document, live, place}
+use Rattle.funnel_model.specs.Legal.{Limits, IsLegal}
+use Rattle.funnel_model.specs.Sizes.{class_of_word, columns_of_slice, private_words, base_of_rank, width_of_rank, words_of_slice}
+use Rattle.funnel_model.specs.Tunings.{treat}
+use Rattle.funnel_model.specs.Words.{words}
+use Rattle.funnel_model.specs.declared.bit_list.Bit.{Bit}
+use Rattle.funnel_model.specs.declared.config.Config.{Config}
+use Rattle.funnel_model.specs.declared.event.Event.{Event}
+use Rattle.funnel_model.specs.declared.event.Event.TheVariants as event
+use Rattle.row_layout.specs.DocumentBits.{AreDocumentBitsIn, bit_of_row}
+use Rattle.row_layout.specs.Laws.{BitsHaveOneOwner, ExactWordsHaveOwnedBits, OwnedBitsTellWords, OwnedBitsTellWordsOfDocuments}
+use Rattle.row_layout.specs.Owners.{is_exact}
+use Rattle.row_layout.specs.Rows.{private_number, private_row, rank_in_class, row_count_of_word, row_of_word, rows_of_word}
+use Rattle.row_layout.specs.Sound.{HasItsBits}
+use Rattle.row_layout.specs.declared.row.Row.{Row}
+use Rattle.row_layout.proofs.Listing.{private_number-below}
+use Rattle.row_layout.proofs.Lists.{Contains-from_flat_map, Contains-from_map}
+use Rattle.row_layout.proofs.Spans.{base-below, offset-below, private-ends, rows_more, width-positive}
+use Rattle.row_layout.proofs.WordRows.{row_of_word-private, row_of_word-shared}
+
+-- the only row of an exact word is its private row
+exact_row : (config : Config) (word : List ℕ) (row : Row) → class_of_word config word < 3 → Contains (rows_of_word config word) row →
+    row ≡ private_row config (private_number config word)
+exact_row config word row less has =
+    let from = Contains-from_map (row_of_word config word) (range_with_len 0 (row_count_of_word config word)) row has in
+    from.2 ∙ row_of_word-private config word from.0 less
+
+-- so its column owns its bit
+pub exact-owned : ExactWordsHaveOwnedBits
+exact-owned room config slice column word row exact has =
+    let less = ltb-true (class_of_word config word) 3 exact in
+    (row, (private_number config word, private_number-below config word less, exact_row config word row less has), refl)
+
+-- two private rows have one number where they start together
+one_number : (w i k : ℕ) → 1 ≤ w → i * w ≡ k * w → i ≡ k
+one_number w i k wide same =
+    ⊎_elim
+    (λ (less : i < k). absurd (omega (arith, rows_more i k w less)))
+    (λ (more : k ≤ i). ⊎_elim
+    (λ (below : k < i). absurd (omega (arith, rows_more k i w below)))
+    (λ (high : i ≤ k). let h : i ≡ k = omega arith in h)
+    (cases_lt k i))
+    (cases_lt i k)
+
+-- where places in rows of a width are one place, so are the rows
+one_place : (w i k x y : ℕ) → x < w → y < w → i * w + x ≡ k * w + y → (i ≡ k) × (x ≡ y)
+one_place w i k x y within inside same =
+    let number : i ≡ k =
+    ⊎_elim
+    (λ (less : i < k). absurd (omega (arith, rows_more i k w less)))
+    (λ (more : k ≤ i). ⊎_elim
+    (λ (below : k < i). absurd (omega (arith, rows_more k i w below)))
+    (λ (high : i ≤ k). let h : i ≡ k = omega arith in h)
+    (cases_lt k i))
+    (cases_lt i k) in
+    let rows : i * w ≡ k * w = ap (λ n. n * w) number in
+    (number, omega (arith, same, rows))
+
+-- a bit of a private row has one owner
+pub one_owner : BitsHaveOneOwner
+one_owner room config slice other column at bit range fits in_slice in_other owns also =
+    let i = owns.1.0 in
+    let k = also.1.0 in
+    let w = width_of_rank config 0 in
+    let first : bit ≡ bit_of_row room slice column (private_row config i) = owns.2 ∙ ap (bit_of_row room slice column) owns.1.2 in
+    let second : bit ≡ bit_of_row room other at (private_row config k) = also.2 ∙ ap (bit_of_row room other at) also.1.2 in
+    let word : slice * room + i * w + column / (64 * 2 ^ 0) ≡ other * room + k * w + at / (64 * 2 ^ 0) = ap (λ (b : Bit). b.word) (sym first ∙ second) in
+    let place : column % 64 ≡ at % 64 = ap (λ (b : Bit). b.bit) (sym first ∙ second) in
+    let x_in = offset-below config 0 column (omega arith) in_slice in
+    let y_in = offset-below config 0 at (omega arith) in_other in
+    let i_ends = private-ends config i owns.1.1 in
+    let k_ends = private-ends config k also.1.1 in
+    let all = base-below config 0 (config.max_rank + 1) (omega arith) in
+    let places = one_place room slice other (i * w + column / (64 * 2 ^ 0)) (k * w + at / (64 * 2 ^ 0)) (omega arith) (omega arith) (omega (arith, word)) in
+    let rows = one_place w i k (column / (64 * 2 ^ 0)) (at / (64 * 2 ^ 0)) x_in y_in places.1 in
+    (places.0, same_column column at rows.1 place) where
+      same_column : (c d : ℕ) → c / 64 ≡ d / 64 → c % 64 ≡ d % 64 → c ≡ d
+      same_column c d whole rest = omega arith
+
+-- the word at the place of a private row is that word
+word_there : (config : Config) (word : List ℕ) (d : List ℕ × ℕ) → class_of_word config word < 3 →
+    (get_or (private_words config) (private_number config word) d).0 ≡ word
+unfolding private_number
+word_there config word d less =
+    let test = λ (entry : List ℕ × ℕ). bytes_eq entry.0 word in
+    (bytes_eq-Decides (get_or (private_words config) (private_number config word) d).0 word).0
+    (passes_at_first test (private_words config) d (private_number-below config word less))
+
+-- so two exact words with one number are one word
+one_word : (config : Config) (word other : List ℕ) → class_of_word config word < 3 → class_of_word config other < 3 →
+    private_number config word ≡ private_number config other → word ≡ other
+one_word config word other less also same =
+    sym (word_there config word (word, 0) less)
+    ∙ ap (λ k. (get_or (private_words config) k (word, 0)).0) same
+    ∙ word_there config other (word, 0) also
+
+-- a document that has the bit of an exact word's row has the word
+pub owned-tells : OwnedBitsTellWords
+owned-tells room config set slice column bits word row range in_slice are exact has bit =
+    let less = ltb-true (class_of_word config word) 3 exact in
+    let from = (are.exactly (bit_of_row room slice column row)).0 bit in
+    let of_word = Contains-from_flat_map (rows_of_word config) set from.0 from.1 in
+    let mine = exact_row config word row less has in
+    let n = private_number config word in
+    let w = width_of_rank config 0 in
+    let same : bit_of_row room slice column (private_row config n) ≡ bit_of_row room slice column from.0 =
+    ap (bit_of_row room slice column) (sym mine) ∙ from.2 in
+    let ends = private-ends config n (private_number-below config word less) in
+    let x_in = offset-below config 0 column (omega arith) in_slice in
+    ⊎_elim
+    (λ (low' : class_of_word config of_word.0 < 3).
+    let theirs = exact_row config of_word.0 from.0 low' of_word.2 in
+    let k = private_number config of_word.0 in
+    let word_same : slice * room + n * w + column / (64 * 2 ^ 0) ≡ slice * room + k * w + column / (64 * 2 ^ 0) =
+    ap (λ (b : Bit). b.word) (same ∙ ap (bit_of_row room slice column) theirs) in
+    let number = one_number w n k (width-positive config range 0) (omega (arith, word_same)) in
+    subst (Contains set) (sym (one_word config word of_word.0 less low' number)) of_word.1)
+    (λ (high : 3 ≤ class_of_word config of_word.0).
+    let listed = Contains-from_map (row_of_word config of_word.0) (range_with_len 0 (row_count_of_word config of_word.0)) from.0 of_word.2 in
+    let theirs = listed.2 ∙ row_of_word-shared config of_word.0 listed.0 high in
+    let rank = rank_in_class config (class_of_word config of_word.0) listed.0 in
+    let word_same : slice * room + n * w + column / (64 * 2 ^ 0) ≡ (bit_of_row room slice column from.0).word = ap (λ (b : Bit). b.word) same in
+    let start : base_of_rank config rank ≤ (from.0).start = subst (λ (r : Row). base_of_rank config rank ≤ r.start) (sym theirs) (omega arith) in
+    let base = base-below config 0 rank (omega arith) in
+    absurd (omega (arith, word_same, start, base, ends, x_in)))
+    (cases_lt (class_of_word config of_word.0) 3)
+
+-- an event that puts a document on a column clears no slice
+puts_no_clear : (slice column id other : ℕ) (e : Event) → put_on slice column e ≡ Some id → clears other e ≡ false
+puts_no_clear slice column id other (event.Add pass number text s c bits) puts = refl
+puts_no_clear slice column id other (event.Move pass number s c bits) puts = refl
+puts_no_clear slice column id other _ puts = cc
+
+-- in a sound history an event that puts a document on a column has exactly the bits of the document's text there
+pub put_bits : (limits : Limits) (opening : Config) (earlier : List Event) (e : Event) (slice column : ℕ) (document : Document) → IsLegal limits (earlier ++ e ∷ []) →
+    HasItsBits opening earlier e → put_on slice column e ≡ Some document.id → Contains (live (earlier ++ e ∷ [])) document →
+    AreDocumentBitsIn (words_of_slice opening) (treat opening slice earlier) (words document.text) slice column (bits_on slice column e)
+put_bits limits opening earlier (event.Add pass id text s c bits) slice column document legal its puts lives = by_test (s == slice && c == column) refl puts where
+  by_test : (b : Bool) → (s == slice && c == column) ≡ b → cond {A = Option ℕ} b (Some id) None ≡ Some document.id →
+      AreDocumentBitsIn (words_of_slice opening) (treat opening slice earlier) (words document.text) slice column (cond b bits [])
+  by_test true is put =
+      let both = and_parts (s == slice) (c == column) is in
+      let new : Document = record { id = id; text = text; place = place earlier + 1 } in
+      let here : Contains (live (earlier ++ event.Add pass id text s c bits ∷ [])) new =
+      subst (λ (ds : List Document). Contains ds new) (sym (live-push earlier (event.Add pass id text s c bits)))
+      (Contains-append_right (filter (survives (event.Add pass id text s c bits)) (live earlier)) (added_at (place earlier) (event.Add pass id text s c bits)) new (contains_first new [])) in
+      let same = one_live limits (earlier ++ event.Add pass id text s c bits ∷ []) new document legal here lives (put_number true id document.id put) in
+      subst (λ k. AreDocumentBitsIn (words_of_slice opening) (treat opening slice earlier) (words document.text) slice k bits) (eqb-true c column both.1)
+      (subst (λ k. AreDocumentBitsIn (words_of_slice opening) (treat opening k earlier) (words document.text) k c bits) (eqb-true s slice both.0)
+      (subst (λ (t : List ℕ). AreDocumentBitsIn (words_of_slice opening) (treat opening s earlier) (words t) s c bits) (ap (λ (d : Document). d.text) same) its))
+  by_test false is put = cc
+put_bits limits opening earlier (event.Move pass id s c bits) slice column document legal its puts lives = by_test (s == slice && c == column) refl puts where
+  by_test : (b : Bool) → (s == slice && c == column) ≡ b → cond {A = Option ℕ} b (Some id) None ≡ Some document.id →
+      AreDocumentBitsIn (words_of_slice opening) (treat opening slice earlier) (words document.text) slice column (cond b bits [])
+  by_test true is put =
+      let both = and_parts (s == slice) (c == column) is in
+      let move = event.Move pass id s c bits in
+      let here : Contains (live earlier) document = subst (λ (ds : List Document). Contains ds document) (live-silent earlier move (λ i. refl) refl) lives in
+      let same = one_live limits earlier its.0 document (legal_before limits earlier (move ∷ []) legal) its.1 here (its.2 ∙ put_number true id document.id put) in
+      subst (λ k. AreDocumentBitsIn (words_of_slice opening) (treat opening slice earlier) (words document.text) slice k bits) (eqb-true c column both.1)
+      (subst (λ k. AreDocumentBitsIn (words_of_slice opening) (treat opening k earlier) (words document.text) k c bits) (eqb-true s slice both.0)
+      (subst (λ (d : Document). AreDocumentBitsIn (words_of_slice opening) (treat opening s earlier) (words d.text) s c bits) same its.3))
+  by_test false is put = cc
+put_bits limits opening earlier _ slice column document legal its puts lives = cc
+
+-- so an owned bit tells a word of the document that was put on the column, while its slice isn't cleared
+pub owned-tells-documents : OwnedBitsTellWordsOfDocuments
+owned-tells-documents limits opening history slice column document since later word row legal sound put stays range in_slice exact has bit =
+    let e = put.event in
+    let then = treat opening slice put.earlier in
+    let kept : treat opening slice history ≡ then =
+    ap (treat opening slice) put.whole
+    ∙ treat-later opening slice put.earlier (e ∷ later) (or_from (clears slice e) (list_any (clears slice) later) (puts_no_clear slice column document.id slice e put.puts) stays) in
+    let whole : history ≡ (put.earlier ++ e ∷ []) ++ later = put.whole ∙ sym (append_assoc put.earlier (e ∷ []) later) in
+    let legal_then = legal_before limits (put.earlier ++ e ∷ []) later (subst (IsLegal limits) whole legal) in
+    let are = put_bits limits opening put.earlier e slice column document legal_then (sound put.earlier e later put.whole) put.puts put.lives in
+    owned-tells (words_of_slice opening) then (words document.text) slice column (bits_on slice column e) word row
+    (subst IsInRange kept range) (subst (λ k. column < columns_of_slice k) kept in_slice) are
+    (subst (λ k. is_exact k word ≡ true) kept exact) (subst (λ k. Contains (rows_of_word k word) row) kept has) bit

@@ -1,0 +1,8 @@
+use Rattle.row_layout.proofs.Owners.{exact-owned, one_owner}
+use Rattle.row_layout.proofs.laws.owned_bits_have_one_owner.Goals as goal
+
+pub returns-clause-one : goal.returns-clause-one
+returns-clause-one c = one_owner
+
+pub returns-clause-exact : goal.returns-clause-exact
+returns-clause-exact c = exact-owned
