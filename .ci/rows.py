@@ -92,6 +92,29 @@ def slice_rows():
     yield Row("a slice of deleted documents is recycled", [*emptied, *recycled], one_slice)
 
 
+def reserve_rows():
+    """Rows of slices of 64 columns, of which as many are to be kept free."""
+
+    def halved(last):
+        return [*adds(1, last), *((f"del {number}", f"deleted {last + 1 + number // 2}") for number in range(1, 128, 2))]
+
+    kept_free = ['{"slices":3,"reserve":64}']
+    not_kept_free = ['{"slices":3}', '{"slices":3,"reserve":0}']
+    none = ("recycle", "nothing retired")
+    two = [none, ("add 200 y", "added 194"), none, ("add 201 y", "added 195")]
+    left = ("find x", " ".join(["found 65", *(str(number) for number in range(2, 129, 2)), "129"]))
+    yield Row("adds move documents so that a slice retires", [*halved(129), *two, ("recycle", "recycled 0"), none, left], kept_free)
+    yield Row("no slice retires so without a reserve", [*halved(129), *two, none, left], not_kept_free)
+
+    again = [f"add {number} y" for number in range(1, 128, 2)]
+    third = [(f"add {number} y", f"added {number + 64}") for number in range(129, 193)]
+    more = [(line, f"added {257 + index}") for index, line in enumerate(again)]
+    full = ("add 200 y", "refused full")
+    yield Row("what is left of two slices is moved into one", [*halved(128), *third, *more, full], kept_free)
+    yield Row("each slice is filled once without a reserve", [*halved(128), *third, *((line, "refused full") for line in again), full], not_kept_free)
+    yield Row("nothing is moved where there is no room for a whole slice", [*halved(128), full], ['{"slices":2,"reserve":64}'])
+
+
 def long_rows():
     """Rows of long lines, lists, configurations and words, and of an input without a newline at its end."""
     yield Row("no line has no reply", given=b"")
@@ -136,7 +159,7 @@ def text_rows():
 
 def main(program):
     with open(os.path.join(os.path.dirname(__file__), "rows.txt"), encoding="utf-8") as file:
-        rows = [*rows_of(file.read()), *text_rows(), *slice_rows(), *long_rows()]
+        rows = [*rows_of(file.read()), *text_rows(), *slice_rows(), *reserve_rows(), *long_rows()]
     failed = sum(row.fails(program) for row in rows)
     print(f"{failed} of {len(rows)} rows failed" if failed else "each row has its replies")
     return 1 if failed else 0

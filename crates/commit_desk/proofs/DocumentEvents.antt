@@ -45,7 +45,7 @@ use Rattle.commit_desk.proofs.TokenEvents.{tokens-same}
 use Rattle.commit_desk.proofs.Untuned.{untuned-push}
 
 -- the bits of a document's words are those of its text's words
-bits_of_text : (config : Config) (set : List (List ℕ)) (text : List ℕ) (s c : ℕ) (bits : List Bit) → AreWordsOf set text → AreDocumentBits config set s c bits → AreDocumentBits config (words text) s c bits
+pub bits_of_text : (config : Config) (set : List (List ℕ)) (text : List ℕ) (s c : ℕ) (bits : List Bit) → AreWordsOf set text → AreDocumentBits config set s c bits → AreDocumentBits config (words text) s c bits
 bits_of_text config set text s c bits of_text are = record {
   rising = are.rising;
   exactly = λ bit. (
@@ -55,7 +55,7 @@ bits_of_text config set text s c bits of_text are = record {
 }
 
 -- how far the slices are, with another table and, for one slice, another stage
-staged_by : (limits : Limits) (history : List Event) (e : Event) (table next : Table) (tokens : List (Option ℕ)) (stages later : StageTable) → AreStages limits history table tokens stages →
+pub staged_by : (limits : Limits) (history : List Event) (e : Event) (table next : Table) (tokens : List (Option ℕ)) (stages later : StageTable) → AreStages limits history table tokens stages →
     length later.stages ≡ length stages.stages → later.columns ≡ stages.columns → later.mark ≡ stages.mark → AreAtStages limits (history ++ e ∷ []) next later →
     AreStages limits (history ++ e ∷ []) next tokens later
 staged_by limits history e table next tokens stages later are count columns mark each = record {
@@ -109,7 +109,7 @@ module _ (pool : PoolId) (most : ℕ) (history : List Event) (books : Books) (is
       (retired_before pool.limits history books.table kept.legal kept.recorded books.stages kept.staged.each kept.staged.count)
 
   -- what is kept with one more event, part by part
-  desk-with : (e : Event) (next : Books) → IsAllowed pool.limits history e → HasItsBits pool.config history e → tuning_of e ≡ None → (moves e ≡ true → list_any deletes_or_drops history ≡ true) → HasFew most pool.limits.passes (history ++ e ∷ []) → next_after e ≡ None →
+  pub desk-with : (e : Event) (next : Books) → IsAllowed pool.limits history e → HasItsBits pool.config history e → tuning_of e ≡ None → (moves e ≡ true → list_any deletes_or_drops history ≡ true) → HasFew most pool.limits.passes (history ++ e ∷ []) → next_after e ≡ None →
       ((pass : ℕ) → finds_or_ends pass e ≡ false) → next.slices ≡ books.slices → next.columns ≡ books.columns → next.tokens ≡ books.tokens → next.events ≡ length history + 1 →
       IsJournalOf pool.limits.commits (history ++ e ∷ []) next.journal → AreRecorded pool.limits (history ++ e ∷ []) next.table → AreListed next.table next.live →
       AreStages pool.limits (history ++ e ∷ []) next.table books.tokens next.stages → IsDesk pool most (history ++ e ∷ []) next

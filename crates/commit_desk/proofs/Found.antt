@@ -45,12 +45,13 @@ use Rattle.row_layout.proofs.BitLemmas.{bits-of_part, bits-of_query}
 use Rattle.row_layout.proofs.Owners.{put_bits}
 use Rattle.row_layout.specs.DocumentBits.{AreDocumentBits, AreDocumentBitsIn, IsDocumentBit}
 use Rattle.row_layout.specs.Sound.{IsSound}
+use Rattle.row_layout.proofs.OneList.{first_or_rest, same_members}
 use Rattle.slice_rule.specs.Seats.{PassState}
 use Rattle.commit_desk.specs.Answers.{found_of}
 use Rattle.commit_desk.specs.Records.{AreRecorded, document_added_at, state_in, state_of}
 use Rattle.commit_desk.specs.Scans.{AreScanned}
 use Rattle.commit_desk.proofs.LaterStates.{not_cleared_since}
-use Rattle.commit_desk.proofs.Sorting.{distinct_once, first_or_rest, pair_below, pairs_in_order, pairs_rise, rising-map, rising_from_pairs, same_members}
+use Rattle.commit_desk.proofs.Sorting.{distinct_once, pair_below, pairs_in_order, pairs_rise, rising-map, rising_from_pairs}
 
 -- the numbers of what a find finds are its answer
 pub numbers_are_answer : (history : List Event) (query : List ℕ) → map (λ (f : ℕ × ℕ). f.1) (found_of history query) ≡ answer history query

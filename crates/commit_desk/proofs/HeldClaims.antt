@@ -1,15 +1,29 @@
--- What a pass that caught up still holds of its claim.
-use Rattle.std.proofs.Common.{◌≡◌, ◌↔◌, List, Some, sym, ap, ◌∙◌, subst, Contains}
+-- What a pass that caught up still holds of its claim and of its look.
+use Rattle.std.proofs.Common.{◌≡◌, ◌↔◌, ℕ, ◌<◌, ◌||◌, All, List, ◌++◌, Some, sym, ap, ◌∙◌, subst, append_assoc, arith, Contains}
+use Rattle.std.proofs.lemmas.List.Elements.{All-contains_itself, All-weaker}
+use Rattle.std.proofs.lemmas.List.Folds.{list_any-append}
+use Rattle.std.specs.List.{list_any}
 use Rattle.funnel_model.specs.declared.bit_list.Bit.{Bit}
 use Rattle.funnel_model.specs.declared.claim.Claim.{Claim}
+use Rattle.funnel_model.specs.declared.config.Config.{Config}
 use Rattle.funnel_model.specs.declared.event.Event.TheVariants as event
+use Rattle.funnel_model.specs.Events.{deletes_or_drops}
 use Rattle.funnel_model.specs.History.{IsFrontOf, last_by}
 use Rattle.funnel_model.proofs.Clears.{last_by-front}
+use Rattle.row_layout.specs.DocumentBits.{AreDocumentBits}
 use Rattle.slice_rule.specs.declared.view.Fact.{Fact}
 use Rattle.slice_rule.specs.declared.view.Fact.TheVariants as fact
 use Rattle.slice_rule.specs.Numbers.{last_number}
 use Rattle.slice_rule.specs.Seats.{HoldsClaim, IsSamePass, PassState}
 use Rattle.slice_rule.proofs.Since.{number-front}
+use Rattle.commit_desk.specs.Moving.{HoldsLook}
+use Rattle.commit_desk.specs.declared.look.Look.{Look}
+
+-- the bits of a document are bits of words
+pub of_words : {config : Config} {words : List (List ℕ)} {slice column : ℕ} {bits : List Bit} → AreDocumentBits config words slice column bits → All (λ (b : Bit). b.bit < 64) bits
+of_words {config} {words} {slice} {column} {bits} are =
+    All-weaker (Contains bits) (λ (b : Bit). b.bit < 64)
+    (λ b in_bits. let is = (are.exactly b).0 in_bits in let at = ap (λ (b : Bit). b.bit) is.2 in omega (arith, at)) bits (All-contains_itself bits)
 
 module _ (seat caught : PassState) (same : IsSamePass seat caught) (goes : IsFrontOf caught.number seat.front caught.front) where
   -- the claim itself
@@ -28,3 +42,13 @@ module _ (seat caught : PassState) (same : IsSamePass seat caught) (goes : IsFro
   bits_held bits set =
       subst (λ n. (b : Bit) → Contains bits b ↔ Contains caught.own (fact.BitSet n b)) (sym number_held)
       (subst (λ (own : List Fact). (b : Bit) → Contains bits b ↔ Contains own (fact.BitSet (last_number seat.number seat.front) b)) (sym same.own) set)
+
+  -- what it looked at
+  pub look_held : (look : Look) → HoldsLook seat look → HoldsLook caught look
+  look_held look held = record {
+    earlier = held.earlier;
+    seen = (held.seen.0 ++ goes.later, sym (append_assoc held.earlier held.seen.0 goes.later) ∙ ap (λ h. h ++ goes.later) held.seen.1 ∙ sym goes.whole);
+    live = held.live;
+    of_text = held.of_text;
+    cause = ap (list_any deletes_or_drops) goes.whole ∙ list_any-append deletes_or_drops seat.front goes.later ∙ ap (λ b. b || list_any deletes_or_drops goes.later) held.cause;
+  }

@@ -1,14 +1,15 @@
 -- Columns that are live or pending, by their records.
 use Rattle.std.proofs.Common.{◌≡◌, ⊎_elim, ℕ, ◌+◌, ◌<◌, ◌≤◌, true, false, List, Option, ap, subst, arith, refl}
-use Rattle.std.proofs.lemmas.Bool.{both_ways, cases_lt}
+use Rattle.std.proofs.lemmas.Bool.{both_ways, cases_lt, true_from_ne_false}
 use Rattle.document_store.specs.Documents.{Parts}
-use Rattle.document_store.specs.Slots.{FitsColumn, Table, slot_at}
+use Rattle.document_store.specs.Slots.{FitsColumn, IsColumn, Table, is_over, is_over_in, slot_at}
 use Rattle.document_store.specs.declared.column.Column.{Column}
 use Rattle.document_store.specs.declared.column.Column.TheVariants as became
 use Rattle.funnel_model.specs.Blocks.{IsHeld}
 use Rattle.funnel_model.specs.declared.event.Event.{Event}
 use Rattle.funnel_model.specs.Legal.{IsLegal, Limits}
 use Rattle.funnel_model.specs.Slices.{ColumnState, Unclaimed, Pending, Dropped, Live, Deleted, IsFilled, IsInState, IsOver, IsRetired, is_claimed, is_clearing}
+use Rattle.funnel_model.proofs.Claims.{claimed_in_range}
 use Rattle.funnel_model.proofs.Columns.{one_state, some_state}
 use Rattle.commit_desk.specs.Records.{AreRecorded, state_in, state_of}
 use Rattle.commit_desk.proofs.StageFacts.{in_table}
@@ -39,6 +40,21 @@ none_held-next limits history table slice column legal recorded in' below not_li
     let here : IsInState history slice column other = subst (λ k. IsInState history slice k other) same is in
     held_in slot.column slot.doc at.fits not_live not_pending (subst IsHeld (one_state limits history slice column other (state_of slot) legal here at.state) held))
     (cases_lt lower column)
+
+-- none of the first columns of a slice is that are recorded as over
+pub none_held-over : (limits : Limits) (history : List Event) (table : Table) (slice column : ℕ) → IsLegal limits history → AreRecorded limits history table →
+    ((at : ℕ) → IsColumn table slice at → at < column → is_over (slot_at table slice at) ≡ true) → NoneHeldBelow history slice column
+none_held-over limits history table slice column legal recorded over lower low other is held =
+    let claimed =
+    true_from_ne_false (is_claimed slice lower history) (λ unclaimed. subst IsHeld (one_state limits history slice lower other Unclaimed legal is unclaimed) held) in
+    let in' = claimed_in_range limits history slice lower legal claimed in
+    let here = in_table limits history table legal recorded slice lower in'.0 in'.1 in
+    let slot = slot_at table slice lower in
+    let at = recorded.each slice lower here in
+    held_in slot.column slot.doc at.fits
+    (λ added since live. both_ways (is_over slot) (ap is_over_in live) (over lower here low))
+    (λ pass pending. both_ways (is_over slot) (ap is_over_in pending) (over lower here low))
+    (subst IsHeld (one_state limits history slice lower other (state_of slot) legal is at.state) held)
 
 -- a claimed column that isn't held is over
 over_unless_held : (history : List Event) (slice column : ℕ) (x : ColumnState) → is_claimed slice column history ≡ true → IsInState history slice column x → (IsHeld x → ⊥) → IsOver x

@@ -7,7 +7,7 @@ use Rattle.document_store.proofs.SlotLemmas.{column_within}
 use Rattle.document_store.specs.Documents.{Parts}
 use Rattle.document_store.specs.Entries.{Entries}
 use Rattle.document_store.specs.Entries.{column_of as entry_of}
-use Rattle.document_store.specs.Slots.{IsColumn, Table, free_slot, slot_at, slots_of}
+use Rattle.document_store.specs.Slots.{IsColumn, Table, free_slot, slot_at, slots_of, is_over}
 use Rattle.document_store.specs.declared.column.Column.TheVariants as became
 use Rattle.document_store.specs.declared.records.Slot.{Slot}
 use Rattle.funnel_model.specs.declared.config.Config.{Config}
@@ -23,7 +23,7 @@ use Rattle.slice_stages.specs.Stages.{StageTable, empty_stage}
 use Rattle.token_manager.specs.Guarding.{HasOpened}
 use Rattle.commit_desk.specs.Journals.{IsJournalOf}
 use Rattle.commit_desk.specs.Kept.{AreStages, AreTokens, Books, IsAtStage, AreBooksOf}
-use Rattle.commit_desk.specs.Records.{AreListed, AreRecorded, IsLiveIn, IsRecorded, is_over}
+use Rattle.commit_desk.specs.Records.{AreListed, AreRecorded, IsLiveIn, IsRecorded}
 use Rattle.commit_desk.proofs.Few.{few-new}
 use Rattle.commit_desk.proofs.Journals.{journal-new}
 

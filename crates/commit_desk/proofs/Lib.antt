@@ -1,8 +1,10 @@
 pub mod CallEnds
 pub mod CaughtUp
+pub mod Causes
 pub mod Checks
 pub mod DocumentEvents
 pub mod Few
+pub mod Emptying
 pub mod FindEnds
 pub mod FindEvents
 pub mod FindTurns
@@ -15,8 +17,12 @@ pub mod Journals
 pub mod KeptNew
 pub mod LaterStates
 pub mod ListedKept
+pub mod LiveLooks
 pub mod MadeEvents
 pub mod Marks
+pub mod MoveEvents
+pub mod MoveTurns
+pub mod MovedRecords
 pub mod PlainEvents
 pub mod RecordFacts
 pub mod RecordsKept
@@ -28,6 +34,7 @@ pub mod Sorting
 pub mod StageFacts
 pub mod StageReadings
 pub mod StagesKept
+pub mod StillThere
 pub mod TokenEvents
 pub mod Turns
 pub mod Untuned

@@ -100,7 +100,7 @@ retired_within columns slice number history at =
 
 module _ (limits : Limits) (history : List Event) (table : Table) (tokens : List (Option ℕ)) (stages : StageTable) (legal : IsLegal limits history) (recorded : AreRecorded limits history table) (tokens_are : AreTokens limits history tokens) (staged : AreStages limits history table tokens stages) where
   -- a slice that retired up to the mark can be cleared
-  by_mark : (slice : ℕ) (s : Stage) → IsAtStage limits.columns history table slice s → IsRetiredBy stages.mark s → CanClear limits.columns history slice
+  pub by_mark : (slice : ℕ) (s : Stage) → IsAtStage limits.columns history table slice s → IsRetiredBy stages.mark s → CanClear limits.columns history slice
   by_mark slice (stage.InUse first over) at by = absurd by
   by_mark slice (stage.Clearing pass) at by = absurd by
   by_mark slice (stage.Retired number) at by = record {
@@ -114,7 +114,7 @@ module _ (limits : Limits) (history : List Event) (table : Table) (tokens : List
   }
 
   -- one that retired later is guarded by the oldest find
-  after_mark : (slice number : ℕ) → IsNextMark history tokens stages.mark → IsRetired limits.columns slice history → IsRetiredAt limits.columns slice history number → stages.mark < number →
+  pub after_mark : (slice number : ℕ) → IsNextMark history tokens stages.mark → IsRetired limits.columns slice history → IsRetiredAt limits.columns slice history number → stages.mark < number →
       IsGuarded limits.columns history slice
   after_mark slice number next retired at less =
       ⊎_elim

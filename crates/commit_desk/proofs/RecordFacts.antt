@@ -16,6 +16,7 @@ use Rattle.funnel_model.specs.History.{Document, is_live, last_by, live, live_pl
 use Rattle.funnel_model.specs.Legal.{IsAllowed, IsLegal, Limits}
 use Rattle.funnel_model.specs.Slices.{ColumnState, Unclaimed, Pending, Live, IsInState, IsOver, is_clearing}
 use Rattle.funnel_model.proofs.Claims.{take_is_unclaimed}
+use Rattle.funnel_model.proofs.ColumnStates.{document_with}
 use Rattle.funnel_model.proofs.Columns.{clearing_is_over, last_is_pending, one_state}
 use Rattle.funnel_model.proofs.LiveColumns.{live_column_is_live, live_has_column, live_number}
 use Rattle.funnel_model.proofs.LiveLemmas.{is_live-from_place, live_once}
@@ -35,11 +36,14 @@ find_first (x ∷ xs) (suc k) d in' is before = later (x.id == d.id) (ne_eqb x.i
   later true up rest = cc
   later false up rest = rest
 
+-- a live document is found by its number
+pub found_live : (limits : Limits) (history : List Event) (d : Document) → IsLegal limits history → Contains (live history) d → document_with d.id history ≡ Some d
+found_live limits history d legal (k, in', is) =
+    find_first (live history) k d in' is (λ j lt same. live_once limits history legal j k d lt in' (same ∙ ap (λ (x : Document). x.id) (sym is)))
+
 -- the place of the add of a live document
 pub place_of_live : (limits : Limits) (history : List Event) (d : Document) → IsLegal limits history → Contains (live history) d → live_place d.id history ≡ Some d.place
-place_of_live limits history d legal (k, in', is) =
-    ap (option_map (λ (x : Document). x.place))
-    (find_first (live history) k d in' is (λ j lt same. live_once limits history legal j k d lt in' (same ∙ ap (λ (x : Document). x.id) (sym is))))
+place_of_live limits history d legal contained = ap (option_map (λ (x : Document). x.place)) (found_live limits history d legal contained)
 
 number_of_slot : (slot : Slot) (d : Document) (since : ℕ) (l : LiveSlot slot d since) (id : ℕ) → d.id ≡ id → l.doc.id ≡ id
 number_of_slot slot d since l id is = ap (λ (x : Document). x.id) l.is ∙ is

@@ -15,16 +15,16 @@ use Rattle.funnel_model.specs.Legal.{IsAllowed, IsLegal, Limits}
 use Rattle.funnel_model.specs.Slices.{ColumnState, Unclaimed, Pending, Dropped, Live, Deleted, IsInState}
 use Rattle.funnel_model.specs.Words.{AreWordsOf}
 use Rattle.funnel_model.proofs.Columns.{in_state-push}
-use Rattle.funnel_model.proofs.ColumnStates.{after, after-add, after-drop, after-take, after_taken_off, this_column}
+use Rattle.funnel_model.proofs.ColumnStates.{after, after-add, after-drop, after-take, after-void, after_taken_off, this_column}
 use Rattle.funnel_model.proofs.LiveColumns.{live_on_one_column}
 use Rattle.commit_desk.specs.Records.{AreRecorded, IsLiveIn, IsRecorded, document_added_at, state_of}
 use Rattle.commit_desk.proofs.Slots.{free_slice-cases, size-free, state-live, with_slot-cases}
 
-some_same : (x y : Parts) → Some x ≡ Some y → x ≡ y
+pub some_same : (x y : Parts) → Some x ≡ Some y → x ≡ y
 some_same x y is = cc
 
 -- an event that takes another document off leaves the state of a column
-not_taken_off : (id until : ℕ) (x : ColumnState) → ((d : Document) (since : ℕ) → x ≡ Live d since → id ≢ d.id) → after_taken_off id until x ≡ x
+pub not_taken_off : (id until : ℕ) (x : ColumnState) → ((d : Document) (since : ℕ) → x ≡ Live d since → id ≢ d.id) → after_taken_off id until x ≡ x
 not_taken_off id until Unclaimed other = refl
 not_taken_off id until (Pending pass) other = refl
 not_taken_off id until Dropped other = refl
@@ -33,7 +33,7 @@ not_taken_off id until (Deleted d since at) other = refl
 
 module _ (limits : Limits) (history : List Event) (e : Event) (legal : IsLegal limits history) (allowed : IsAllowed limits history e) where
   -- a column that is recorded with the state after the event
-  recorded_now : (slice column : ℕ) (x y : Slot) → IsRecorded history slice column x → FitsColumn y.column y.doc →
+  pub recorded_now : (slice column : ℕ) (x y : Slot) → IsRecorded history slice column x → FitsColumn y.column y.doc →
       state_of y ≡ after slice column history (state_of x) e → ((doc : Parts) → y.doc ≡ Some doc → AreWordsOf doc.words doc.text) →
       IsRecorded (history ++ e ∷ []) slice column y
   recorded_now slice column x y was fits is words = record {
@@ -43,7 +43,7 @@ module _ (limits : Limits) (history : List Event) (e : Event) (legal : IsLegal l
   }
 
   -- a column that the event leaves
-  recorded_still : (slice column : ℕ) (x : Slot) → IsRecorded history slice column x → after slice column history (state_of x) e ≡ state_of x →
+  pub recorded_still : (slice column : ℕ) (x : Slot) → IsRecorded history slice column x → after slice column history (state_of x) e ≡ state_of x →
       IsRecorded (history ++ e ∷ []) slice column x
   recorded_still slice column x was same = recorded_now slice column x x was was.fits (sym same) was.words_of_text
 
@@ -101,6 +101,14 @@ module _ (limits : Limits) (history : List Event) (table : Table) (legal : IsLeg
       (λ d same. subst (λ (p : Parts). AreWordsOf p.words p.text) (some_same doc d same) of_text)
       (λ slice column at apart. cond-false (s == slice && c == column) live (state_of (slot_at table slice column)) apart)
 
+  -- a column is left without a document
+  pub recorded-void : (pass s c : ℕ) → IsAllowed limits history (event.Void pass s c) → IsColumn table s c →
+      AreRecorded limits (history ++ event.Void pass s c ∷ []) (with_slot table s c (record { column = became.Dropped; doc = None }))
+  recorded-void pass s c allowed here =
+      recorded-one limits history (event.Void pass s c) legal allowed table s c (record { column = became.Dropped; doc = None }) are here refl
+      (sym (after-void s c history pass (state_of (slot_at table s c)))) (λ doc none. cc)
+      (λ slice column at apart. cond-false (s == slice && c == column) Dropped (state_of (slot_at table slice column)) apart)
+
   -- a document is dropped for its column
   pub recorded-drop : (pass id : ℕ) (text : List ℕ) (s c : ℕ) → IsAllowed limits history (event.Drop pass id text s c) → IsColumn table s c →
       AreRecorded limits (history ++ event.Drop pass id text s c ∷ []) (with_slot table s c (record { column = became.Dropped; doc = None }))
@@ -110,7 +118,7 @@ module _ (limits : Limits) (history : List Event) (table : Table) (legal : IsLeg
       (λ slice column at apart. cond-false (s == slice && c == column) Dropped (state_of (slot_at table slice column)) apart)
 
   -- a live document of the same number is on the same column
-  live_apart : (s c slice column : ℕ) (doc : Parts) (d : Document) (since : ℕ) → IsColumn table s c → IsColumn table slice column → IsLiveIn (slot_at table s c) doc →
+  pub live_apart : (s c slice column : ℕ) (doc : Parts) (d : Document) (since : ℕ) → IsColumn table s c → IsColumn table slice column → IsLiveIn (slot_at table s c) doc →
       state_of (slot_at table slice column) ≡ Live d since → doc.id ≡ d.id → (s == slice && c == column) ≡ true
   live_apart s c slice column doc d since here at l is same =
       let first : IsInState history s c (Live (document_added_at l.added doc) l.since) = subst (IsInState history s c) (state-live (slot_at table s c) doc l) (are.each s c here).state in

@@ -6,13 +6,13 @@ use Rattle.std.specs.Prelude.{◌==◌, replicate}
 use Rattle.document_store.proofs.CountLemmas.{count_by-set}
 use Rattle.document_store.proofs.SlotLemmas.{length-slots_of, length-with_free_slice, slot_at-slots_of, slot_at-with_free_slice, slot_at-with_free_slice_other, slot_at-with_slot, slot_at-with_slot_other, slots_of-with_free_slice, slots_of-with_free_slice_other, slots_of-with_slot, slots_of-with_slot_other}
 use Rattle.document_store.specs.Documents.{Parts}
-use Rattle.document_store.specs.Slots.{FitsColumn, IsColumn, Table, free_slot, slot_at, slots_of, with_slot, with_free_slice}
+use Rattle.document_store.specs.Slots.{FitsColumn, IsColumn, Table, free_slot, slot_at, slots_of, with_slot, with_free_slice, is_over, is_over_in}
 use Rattle.document_store.specs.declared.column.Column.{Column}
 use Rattle.document_store.specs.declared.column.Column.TheVariants as became
 use Rattle.document_store.specs.declared.records.Slot.{Slot}
 use Rattle.funnel_model.specs.History.{Document}
 use Rattle.funnel_model.specs.Slices.{ColumnState, Unclaimed, Pending, Live, IsOver}
-use Rattle.commit_desk.specs.Records.{IsLiveIn, document_added_at, is_over, is_over_in, state_in, state_of}
+use Rattle.commit_desk.specs.Records.{IsLiveIn, document_added_at, state_in, state_of}
 
 -- a column in the state `Unclaimed` is recorded as free
 free_in : (c : Column) (doc : Option Parts) → FitsColumn c doc → state_in c doc ≡ Unclaimed → c ≡ became.Free

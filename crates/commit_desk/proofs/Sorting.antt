@@ -1,8 +1,8 @@
 -- Lists whose elements rise.
-use Rattle.std.proofs.Common.{◌≡◌, ◌⊎◌, ⊎_elim, ℕ, zero, suc, ◌+◌, ◌<◌, Bool, true, false, List, [], ◌∷◌, get_or, map, filter_map, Option, Some, None, refl, sym, ap, ◌∙◌, subst, arith, inl, inr, Contains, IsSorted}
+use Rattle.std.proofs.Common.{◌≡◌, ℕ, suc, ◌+◌, ◌<◌, Bool, true, false, List, [], ◌∷◌, get_or, map, filter_map, Option, Some, None, refl, sym, ap, ◌∙◌, arith, Contains, IsSorted}
 use Rattle.std.proofs.lemmas.Bool.{eqb-false}
 use Rattle.std.proofs.lemmas.Cmp.{nat_cmp_total, on_total, ranked, then_total}
-use Rattle.std.proofs.lemmas.List.Elements.{All-contains, All-from_recursion, All-map, All-weaker, recursion_from_All}
+use Rattle.std.proofs.lemmas.List.Elements.{All-contains, All-map, All-weaker, recursion_from_All}
 use Rattle.std.proofs.lemmas.Map.Keys.{apart_from_distinct, sorted_from_all_adjacent}
 use Rattle.std.specs.Cmp.{IsTotalOrder, nat_cmp_is}
 use Rattle.std.specs.List.{All, AllByRecursion, AllPairs, IsDistinct, cons_option}
@@ -13,20 +13,7 @@ use Rattle.std.specs.declared.cmp.Ordering.{Ordering}
 use Rattle.std.specs.declared.cmp.Ordering.TheVariants.{Less, Equal, Greater}
 use Rattle.document_store.specs.Finding.{pair_cmp}
 use Rattle.funnel_model.proofs.AnswerLemmas.{Contains-cons}
-
--- what is in a list is its first element or in the rest
-pub first_or_rest : {A : Type 0} (x : A) (xs : List A) (y : A) → Contains (x ∷ xs) y → (x ≡ y) ⊎ Contains xs y
-first_or_rest x xs y (zero, in', is) = inl is
-first_or_rest x xs y (suc k, in', is) = inr (k, omega arith, is)
-
--- each element after the first is above it
-above_first : {A : Type 0} (c : A → A → Ordering) (x : A) (xs : List A) → IsStrictlySortedBy c (x ∷ xs) → All (λ y. c x y ≡ Less) xs
-unfolding IsStrictlySortedBy
-above_first c x xs rising = All-from_recursion (λ y. c x y ≡ Less) xs rising.0
-
-rest_rises : {A : Type 0} (c : A → A → Ordering) (x : A) (xs : List A) → IsStrictlySortedBy c (x ∷ xs) → IsStrictlySortedBy c xs
-unfolding IsStrictlySortedBy
-rest_rises c x xs rising = rising.1
+use Rattle.row_layout.proofs.OneList.{above_first, rest_rises}
 
 pub none_rises : {A : Type 0} (c : A → A → Ordering) → IsStrictlySortedBy c []
 unfolding IsStrictlySortedBy
@@ -51,33 +38,6 @@ rising_from_pairs c [] pairs = none_rises c
 rising_from_pairs c (x ∷ xs) pairs =
     rises_from c x xs (λ k d in'. pairs 0 (suc k) d (omega arith) (omega arith))
     (rising_from_pairs c xs (λ i j d lt in'. pairs (suc i) (suc j) d (omega arith) (omega arith)))
-
--- lists that rise and have the same elements are the same
-pub same_members : {A : Type 0} (c : A → A → Ordering) → ((x y : A) → c x y ≡ Less → c y x ≡ Less → ⊥) → (xs ys : List A) → IsStrictlySortedBy c xs → IsStrictlySortedBy c ys →
-    ((x : A) → Contains xs x → Contains ys x) → ((x : A) → Contains ys x → Contains xs x) → xs ≡ ys
-same_members c order [] [] rising_xs rising_ys into from = refl
-same_members c order [] (y ∷ ys) rising_xs rising_ys into from = let h = from y (0, omega arith, refl) in absurd (omega (arith, h.1))
-same_members c order (x ∷ xs) [] rising_xs rising_ys into from = let h = into x (0, omega arith, refl) in absurd (omega (arith, h.1))
-same_members {A = A} c order (x ∷ xs) (y ∷ ys) rising_xs rising_ys into from =
-    let first : x ≡ y =
-    ⊎_elim (λ (h : y ≡ x). sym h)
-    (λ (later : Contains ys x). ⊎_elim (λ (h : x ≡ y). h)
-    (λ (later_y : Contains xs y). absurd (order x y (All-contains (λ z. c x z ≡ Less) xs y (above_first c x xs rising_xs) later_y)
-    (All-contains (λ z. c y z ≡ Less) ys x (above_first c y ys rising_ys) later)))
-    (first_or_rest x xs y (from y (0, omega arith, refl))))
-    (first_or_rest y ys x (into x (0, omega arith, refl))) in
-    let not_first_x : (z : A) → Contains xs z → (y ≡ z) → ⊥ = λ z has same.
-    let up : c x z ≡ Less = All-contains (λ w. c x w ≡ Less) xs z (above_first c x xs rising_xs) has in
-    let up_self : c x x ≡ Less = subst (λ w. c x w ≡ Less) (sym (first ∙ same)) up in
-    order x x up_self up_self in
-    let not_first_y : (z : A) → Contains ys z → (x ≡ z) → ⊥ = λ z has same.
-    let up : c y z ≡ Less = All-contains (λ w. c y w ≡ Less) ys z (above_first c y ys rising_ys) has in
-    let up_self : c y y ≡ Less = subst (λ w. c y w ≡ Less) (sym (sym first ∙ same)) up in
-    order y y up_self up_self in
-    let rest = same_members c order xs ys (rest_rises c x xs rising_xs) (rest_rises c y ys rising_ys)
-    (λ z has. ⊎_elim (λ (h : y ≡ z). absurd (not_first_x z has h)) (λ (h : Contains ys z). h) (first_or_rest y ys z (into z (Contains-cons x xs z has))))
-    (λ z has. ⊎_elim (λ (h : x ≡ z). absurd (not_first_y z has h)) (λ (h : Contains xs z). h) (first_or_rest x xs z (from z (Contains-cons y ys z has)))) in
-    ap (λ w. w ∷ xs) first ∙ ap (λ ws. y ∷ ws) rest
 
 -- what each element gives satisfies P
 all_given : {A B : Type 0} (P : B → Type 0) (h : A → Option B) (xs : List A) → ((x : A) (y : B) → Contains xs x → h x ≡ Some y → P y) → AllByRecursion P (filter_map h xs)

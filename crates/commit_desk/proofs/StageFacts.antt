@@ -6,7 +6,7 @@ use Rattle.std.proofs.lemmas.Bool.{and_parts, both_ways, or_parts}
 use Rattle.std.proofs.lemmas.List.Elements.{All-from_get_or}
 use Rattle.document_store.proofs.CountLemmas.{count_by-all}
 use Rattle.document_store.proofs.SlotLemmas.{length-slots_of, slot_at-slots_of}
-use Rattle.document_store.specs.Slots.{IsColumn, Table, free_slot, slot_at, slots_of}
+use Rattle.document_store.specs.Slots.{IsColumn, Table, free_slot, slot_at, slots_of, is_over}
 use Rattle.document_store.specs.declared.records.Slot.{Slot}
 use Rattle.funnel_model.specs.declared.event.Event.{Event}
 use Rattle.funnel_model.specs.Events.{clears, opens, pass_of}
@@ -19,7 +19,7 @@ use Rattle.slice_stages.specs.Stages.{IsUsed, StageTable, stage_of}
 use Rattle.slice_stages.specs.declared.stage.Stage.{Stage}
 use Rattle.slice_stages.specs.declared.stage.Stage.TheVariants as stage
 use Rattle.commit_desk.specs.Kept.{AreStages, IsAtStage, IsRetiredSlice}
-use Rattle.commit_desk.specs.Records.{AreRecorded, is_over, state_of}
+use Rattle.commit_desk.specs.Records.{AreRecorded, state_of}
 use Rattle.commit_desk.proofs.Slots.{column_by_over}
 
 -- a slice that a pass clears is being cleared

@@ -7,7 +7,7 @@ use Rattle.std.proofs.lemmas.List.FromFn.{length-range_with_len}
 use Rattle.document_store.proofs.CountLemmas.{all_pass-from_count}
 use Rattle.document_store.proofs.SlotLemmas.{length-slots_of, slot_at-slots_of}
 use Rattle.document_store.specs.Documents.{Parts}
-use Rattle.document_store.specs.Slots.{IsColumn, Table, free_slot, slot_at, slots_of}
+use Rattle.document_store.specs.Slots.{IsColumn, Table, free_slot, slot_at, slots_of, is_over}
 use Rattle.document_store.specs.declared.records.Slot.{Slot}
 use Rattle.funnel_model.specs.declared.event.Event.{Event}
 use Rattle.funnel_model.specs.declared.event.Event.TheVariants as event
@@ -23,7 +23,7 @@ use Rattle.slice_stages.specs.Stages.{HasLeft, HoldsOfNone, IsLowest, IsUsed, Re
 use Rattle.slice_stages.specs.declared.stage.Stage.{Stage}
 use Rattle.slice_stages.specs.declared.stage.Stage.TheVariants as stage
 use Rattle.commit_desk.specs.Kept.{IsAtStage, IsRetiredSlice, IsUsedSlice}
-use Rattle.commit_desk.specs.Records.{AreRecorded, IsLiveIn, is_over, state_of}
+use Rattle.commit_desk.specs.Records.{AreRecorded, IsLiveIn, state_of}
 use Rattle.commit_desk.proofs.Slots.{over_by_column, state-live}
 use Rattle.commit_desk.proofs.StageFacts.{by_is_clearing, in_table, retired_since, used_by_stage, used_stage}
 
@@ -53,7 +53,7 @@ pub claimed_count : (columns : ℕ) (history : List Event) (table : Table) (slic
 claimed_count columns history table slice first over is = ap length is.claims ∙ length-range_with_len 0 first
 
 -- a slice whose columns are all claimed has none unclaimed
-none_left : (columns slice first : ℕ) (history : List Event) → IsFilled columns slice history → HasUnclaimed columns slice history → ⊥
+pub none_left : (columns slice first : ℕ) (history : List Event) → IsFilled columns slice history → HasUnclaimed columns slice history → ⊥
 none_left columns slice first history filled unclaimed =
     both_ways (is_claimed slice unclaimed.0 history) unclaimed.2 (filled unclaimed.0 unclaimed.1)
 

@@ -5,7 +5,7 @@ use Rattle.std.proofs.lemmas.List.{get_or-set_other, get_or-set_same}
 use Rattle.std.specs.List.{range_with_len}
 use Rattle.std.specs.Prelude.{◌==◌}
 use Rattle.document_store.specs.Documents.{Parts}
-use Rattle.document_store.specs.Slots.{IsColumn, Table, slot_at, slots_of, with_free_slice, with_slot}
+use Rattle.document_store.specs.Slots.{IsColumn, Table, slot_at, slots_of, with_free_slice, with_slot, is_over}
 use Rattle.document_store.specs.declared.records.Slot.{Slot}
 use Rattle.funnel_model.specs.declared.bit_list.Bit.{Bit}
 use Rattle.funnel_model.specs.declared.event.Event.{Event}
@@ -27,13 +27,13 @@ use Rattle.slice_stages.specs.Stages.{StageTable, after_end, empty_stage, stage_
 use Rattle.slice_stages.specs.declared.stage.Stage.{Stage}
 use Rattle.slice_stages.specs.declared.stage.Stage.TheVariants as stage
 use Rattle.commit_desk.specs.Kept.{IsAtStage, IsUsedSlice}
-use Rattle.commit_desk.specs.Records.{AreRecorded, IsLiveIn, is_over}
+use Rattle.commit_desk.specs.Records.{AreRecorded, IsLiveIn}
 use Rattle.commit_desk.proofs.Slots.{count-with_slot, live_not_over, none_over, slots_of-free_other, slots_of-other}
 use Rattle.commit_desk.proofs.StageFacts.{count_by_over, in_table, state_is}
 use Rattle.commit_desk.proofs.StageReadings.{AreAtStages, not_over_by_state, over_by_count, used_slice}
 
 -- so many columns of the slice are recorded as deleted or dropped
-abbrev count_over : Table → ℕ → ℕ
+abbrev pub count_over : Table → ℕ → ℕ
 count_over table slice = count_by is_over (slots_of table slice)
 
 -- the event doesn't concern how far the slice is: it claims no column of it, doesn't begin to clear it and doesn't open it
@@ -49,7 +49,7 @@ not_clearing-left slice history e opened cleared not_clearing =
     in_span-push (clears slice) slice history e opened ∙ or_from (is_clearing slice history) (clears slice e) not_clearing cleared
 
 -- a slice stays as far as it is with an event that doesn't concern that, where as many of its columns stay recorded as deleted or dropped
-stage-left : (columns slice : ℕ) (history : List Event) (e : Event) (table next : Table) (s : Stage) → LeavesSlice slice e → count_over next slice ≡ count_over table slice →
+pub stage-left : (columns slice : ℕ) (history : List Event) (e : Event) (table next : Table) (s : Stage) → LeavesSlice slice e → count_over next slice ≡ count_over table slice →
     IsAtStage columns history table slice s → IsAtStage columns (history ++ e ∷ []) next slice s
 stage-left columns slice history e table next (stage.InUse first over) leaves same at = record {
   not_clearing = not_clearing-left slice history e leaves.opens leaves.clears at.not_clearing;
@@ -67,7 +67,7 @@ stage-left columns slice history e table next (stage.Clearing pass) leaves same 
     ∙ or_left (is_clearing_by pass slice history) (pass_of e == pass && clears slice e) by
 
 -- one slice is at another stage, and the others at the same
-stages-one : (limits : Limits) (history : List Event) (table : Table) (stages : StageTable) (s : ℕ) (next : Stage) → length stages.stages ≡ limits.slices → s < limits.slices →
+pub stages-one : (limits : Limits) (history : List Event) (table : Table) (stages : StageTable) (s : ℕ) (next : Stage) → length stages.stages ≡ limits.slices → s < limits.slices →
     IsAtStage limits.columns history table s next → ((slice : ℕ) → slice < limits.slices → slice ≢ s → IsAtStage limits.columns history table slice (stage_of stages slice)) →
     AreAtStages limits history table (with_stage stages s next)
 stages-one limits history table stages s next size here at others slice in' =
@@ -108,7 +108,7 @@ module _ (limits : Limits) (history : List Event) (table : Table) (stages : Stag
   count-more s column y at was is = let count = count-with_slot table s column y false true at recorded.size was is in omega arith
 
   -- the column of the pass's take is one of the table, and neither deleted nor dropped
-  taken_column : (pass s column : ℕ) → last_by pass history ≡ Some (event.Take pass s column) → (s < limits.slices) × (column < limits.columns) × (is_over (slot_at table s column) ≡ false)
+  pub taken_column : (pass s column : ℕ) → last_by pass history ≡ Some (event.Take pass s column) → (s < limits.slices) × (column < limits.columns) × (is_over (slot_at table s column) ≡ false)
   taken_column pass s column last =
       let pending = last_is_pending limits history s column pass legal last in
       let in' = pending_in_range limits history s column pass legal pending in
@@ -160,7 +160,7 @@ module _ (limits : Limits) (history : List Event) (table : Table) (stages : Stag
       (each slice in')
 
   -- one more column of a slice is deleted or dropped by an event: the slice retires with the last one
-  ends_at : (e : Event) (next : Table) (s first over : ℕ) → s < limits.slices → LeavesSlice s e → AreRecorded limits (history ++ e ∷ []) next → IsLegal limits (history ++ e ∷ []) →
+  pub ends_at : (e : Event) (next : Table) (s first over : ℕ) → s < limits.slices → LeavesSlice s e → AreRecorded limits (history ++ e ∷ []) next → IsLegal limits (history ++ e ∷ []) →
       IsUsedSlice limits.columns history table s first over → count_over next s ≡ over + 1 → IsAtStage limits.columns (history ++ e ∷ []) next s (after_end limits.columns (length history + 1) first over)
   ends_at e next s first over here leaves recorded_next legal_next used more =
       cond_both (over + 1 == limits.columns) (stage.Retired (length history + 1)) (stage.InUse first (over + 1)) (IsAtStage limits.columns (history ++ e ∷ []) next s)
@@ -214,6 +214,17 @@ module _ (limits : Limits) (history : List Event) (table : Table) (stages : Stag
       AreAtStages limits (history ++ event.Drop pass id text s column ∷ []) (with_slot table s column y) (with_stage stages s (after_end limits.columns (length history + 1) first over))
   stages-drop pass id text s column first over y is allowed recorded_next at_stage =
       let e = event.Drop pass id text s column in
+      let taken = taken_column pass s column allowed.rule.taken in
+      let at = in_table limits history table legal recorded s column taken.0 taken.1 in
+      stages-end e s column first over y (record { slice_in_range = at.slice_in_range; column_in_range = at.column_in_range }) taken.2 is
+      (λ slice. record { takes = refl; clears = refl; opens = refl }) (legal-push limits history e legal allowed) recorded_next at_stage
+
+  -- a column is left without a document by the pass that took it
+  pub stages-void : (pass s column first over : ℕ) (y : Slot) → is_over y ≡ true → IsAllowed limits history (event.Void pass s column) →
+      AreRecorded limits (history ++ event.Void pass s column ∷ []) (with_slot table s column y) → stage_of stages s ≡ stage.InUse first over →
+      AreAtStages limits (history ++ event.Void pass s column ∷ []) (with_slot table s column y) (with_stage stages s (after_end limits.columns (length history + 1) first over))
+  stages-void pass s column first over y is allowed recorded_next at_stage =
+      let e = event.Void pass s column in
       let taken = taken_column pass s column allowed.rule.taken in
       let at = in_table limits history table legal recorded s column taken.0 taken.1 in
       stages-end e s column first over y (record { slice_in_range = at.slice_in_range; column_in_range = at.column_in_range }) taken.2 is

@@ -3,7 +3,7 @@ use Rattle.std.specs.Prelude.{◌≡◌, ℕ, ◌+◌, ◌*◌, ◌^◌, ◌<◌
 use Rattle.std.specs.List.{list_any, range_with_len}
 use Rattle.std.specs.Option.{is_some, option_map_or}
 use Rattle.document_store.specs.Entries.{Entries}
-use Rattle.document_store.specs.Slots.{Table, slots_of}
+use Rattle.document_store.specs.Slots.{Table, slots_of, is_over}
 use Rattle.funnel_model.specs.Configuration.{IsInRange}
 use Rattle.funnel_model.specs.declared.config.Config.{Config}
 use Rattle.funnel_model.specs.declared.event.Event.{Event}
@@ -20,7 +20,7 @@ use Rattle.slice_stages.specs.declared.stage.Stage.{Stage}
 use Rattle.slice_stages.specs.declared.stage.Stage.TheVariants as stage
 use Rattle.token_manager.specs.Guarding.{HasOpened}
 use Rattle.commit_desk.specs.Journals.{IsJournalOf, JournalState}
-use Rattle.commit_desk.specs.Records.{AreListed, AreRecorded, is_over}
+use Rattle.commit_desk.specs.Records.{AreListed, AreRecorded}
 
 -- each pass has the token that is kept of it, and no other
 pub record AreTokens (limits : Limits) (history : List Event) (tokens : List (Option ℕ)) : Type 0 where

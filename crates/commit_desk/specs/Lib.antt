@@ -3,6 +3,7 @@ pub mod Desks
 pub mod Journals
 pub mod Kept
 pub mod Laws
+pub mod Moving
 pub mod Passes
 pub mod Records
 pub mod Scans

@@ -1,5 +1,5 @@
 -- How the records of the columns and the list of live numbers stand for a history.
-use Rattle.std.specs.Prelude.{◌≡◌, ℕ, ◌*◌, Bool, true, false, List, length, Option, Some}
+use Rattle.std.specs.Prelude.{◌≡◌, ℕ, ◌*◌, List, length, Option, Some}
 use Rattle.std.specs.Option.{option_map_or}
 use Rattle.document_store.specs.Documents.{Parts}
 use Rattle.document_store.specs.Entries.{Entries}
@@ -62,12 +62,3 @@ pub record AreListed (table : Table) (live : Entries) : Type 0 where
   pub columns_are : live.columns ≡ table.columns
   pub listed : (id slice column : ℕ) → entry_of live id ≡ Some (slice, column) → IsEntry table id slice column
   pub every : (slice column : ℕ) (doc : Parts) → IsColumn table slice column → IsLiveIn (slot_at table slice column) doc → entry_of live doc.id ≡ Some (slice, column)
-
--- whether the column that is recorded so is over: its document was deleted, moved away or dropped
-abbrev pub is_over_in : Column → Bool
-is_over_in (became.Over added since until) = true
-is_over_in became.Dropped = true
-is_over_in _ = false
-
-abbrev pub is_over : Slot → Bool
-is_over slot = is_over_in slot.column

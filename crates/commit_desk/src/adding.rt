@@ -47,8 +47,8 @@ impl Desk {
         }
     }
 
-    /// Opens the slice that the pass cleared for an add, and claims its first column. The slice's documents, which are all
-    /// deleted, are dropped.
+    /// Opens the slice that the pass cleared for an add, and claims its first column. The documents that the slice
+    /// had, which were all deleted or moved away, are dropped.
     pub fn opened_take(&mut self, pool: &Pool, seat: &mut PassSeat, job: ClearJob) -> Claim
         requires pool { pool.now ≡ self.old.pool }
         requires seat { IsSeatOf self.old seat.old }
@@ -157,7 +157,7 @@ impl Desk {
     }
 
     // Claims the next column of the slice.
-    fn claim(&mut self, pool: &Pool, seat: &mut PassSeat, slice: u32) -> Claim
+    pub(crate) fn claim(&mut self, pool: &Pool, seat: &mut PassSeat, slice: u32) -> Claim
         requires pool { pool.now ≡ self.old.pool }
         requires caught_up { IsCaughtUp self.old seat.old }
         requires takes_calls { TakesCalls self.old.events_limit self.old.history }

@@ -41,8 +41,8 @@ impl Desk {
         Err(refusal)
     }
 
-    /// Opens the slice that the pass cleared, for a recycle, and gives its number. Its documents, which are all deleted,
-    /// are dropped.
+    /// Opens the slice that the pass cleared, for a recycle, and gives its number. The documents that it had,
+    /// which were all deleted or moved away, are dropped.
     pub fn opened(&mut self, pool: &Pool, seat: &mut PassSeat, job: ClearJob) -> u32
         requires pool { pool.now ≡ self.old.pool }
         requires seat { IsSeatOf self.old seat.old }

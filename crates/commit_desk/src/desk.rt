@@ -55,7 +55,7 @@ impl Desk {
     ghost use Rattle.commit_desk.specs.Desks.{DeskState};
 
     /// An empty desk of the pool whose home it is given. From so many events on it takes no call. It takes all memory that
-    /// it ever needs, but for that of a journal's answer.
+    /// it ever needs, but for that of a journal's answer and of a look.
     pub fn new(
         alloc: Global,
         config: &Config,

@@ -31,6 +31,19 @@ impl<'a> Entry for Drops<'a> {
     ghost event = { λ e. event.Drop e.pass e.doc.now.id e.doc.now.text e.claim.now.slice e.claim.now.column };
 }
 
+/// A document moves to the column that was claimed for it.
+#[derive(Drop)]
+pub struct Moves<'a> {
+    pub pass: u32,
+    pub id: u64,
+    pub claim: &'a Claim,
+    pub bits: &'a BitList,
+}
+
+impl<'a> Entry for Moves<'a> {
+    ghost event = { λ e. event.Move e.pass e.id e.claim.now.slice e.claim.now.column e.bits.now };
+}
+
 /// An add of a document is refused.
 #[derive(Drop)]
 pub struct Refuses<'a> {

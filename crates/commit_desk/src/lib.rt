@@ -4,7 +4,7 @@
 //! of its last commits, the records of its columns, the live numbers, the tokens of running finds, and how far each slice is.
 //! Each call makes the events that its contract names, in the order of the checks that it names too, and afterwards the
 //! pass that made it has seen the whole history. All memory is taken when the desk is made, but for that of a journal's
-//! answer.
+//! answer, and of the copy of a document that is looked at to move it.
 #![tactic(auto)]
 
 mod adding;
@@ -16,11 +16,14 @@ mod entries;
 mod finding;
 mod journal;
 pub mod laws;
+mod look;
 mod making;
+mod moving;
 mod named;
 mod reading;
 mod refusing;
 
 pub use answers::{AddFault, ClearRefusal, CommitFault, DeleteFault, JournalFault, Spent, Taken};
 pub use desk::Desk;
+pub use look::{Look, Looks};
 pub use named::Named;

@@ -1,6 +1,7 @@
 ghost use Rattle.std.specs.Prelude.{◌≡◌, ◌^◌};
 
 use crate::desk::Desk;
+use crate::look::Looks;
 use slice_rule::PoolName;
 use std::marker::PhantomData;
 
@@ -8,6 +9,7 @@ use std::marker::PhantomData;
 #[derive(Drop)]
 pub struct Named<N: PoolName> {
     pub desk: Desk,
+    pub looks: Looks,
     pub of: PhantomData<N>,
     pub ghost of_pool: { desk.pool ≡ N.pool },
     pub ghost limit: { desk.events_limit ≡ 2 ^ 62 },

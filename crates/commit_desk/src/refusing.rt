@@ -52,7 +52,7 @@ impl Desk {
         requires not_clearing { is_clearing slice self.now.history ≡ false }
         ensures { IsBlock self.now.pool.limits.columns self.now.history slice result }
     {
-        for column in 0..self.columns {
+        for column in self.records.first_over(slice)..self.columns {
             match self.records.state(slice, column) {
                 Column::Live { .. } => return Block::Live { column },
                 Column::Pending(pass) => return Block::Pending { column, pass },

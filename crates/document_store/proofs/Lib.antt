@@ -6,3 +6,4 @@ pub mod EntryLemmas
 pub mod TreeLemmas
 pub mod ColumnLemmas
 pub mod RemovalLemmas
+pub mod TableLemmas

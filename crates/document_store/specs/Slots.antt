@@ -1,5 +1,5 @@
 -- What is kept of each column of each slice.
-use Rattle.std.specs.Prelude.{ℕ, ◌+◌, ◌*◌, ◌<◌, ◌≡◌, ⊤, List, ◌++◌, length, take, drop, replicate, slice_set, slice_index_or, Option, None, Some}
+use Rattle.std.specs.Prelude.{ℕ, ◌+◌, ◌*◌, ◌<◌, ◌≡◌, ⊤, Bool, true, false, List, ◌++◌, length, take, drop, replicate, slice_set, slice_index, slice_index_or, Option, None, Some}
 use Rattle.std.specs.List.{All}
 use Rattle.document_store.specs.Documents.{Parts}
 use Rattle.document_store.specs.declared.column.Column.{Column}
@@ -54,7 +54,18 @@ FitsColumn _ doc = doc ≡ None
 abbrev pub HasDocRightly : Slot → Type 0
 HasDocRightly slot = FitsColumn slot.column slot.doc
 
--- each column has its slot, and each slot's document fits
-pub record IsTable (table : Table) : Type 0 where
+-- whether the column is over: its document was deleted or moved away, or it got none
+abbrev pub is_over_in : Column → Bool
+is_over_in (column.Over place since until) = true
+is_over_in column.Dropped = true
+is_over_in _ = false
+
+abbrev pub is_over : Slot → Bool
+is_over slot = is_over_in slot.column
+
+-- each column has its slot, each slot's document fits, and so many of the first columns of each slice as it is told are over
+pub record IsTable (table : Table) (first_over : List ℕ) : Type 0 where
   pub every_column : length table.slots ≡ table.slices * table.columns
   pub docs : All HasDocRightly table.slots
+  pub every_slice : length first_over ≡ table.slices
+  pub over : (slice at : ℕ) → IsColumn table slice at → at < slice_index first_over slice → is_over (slot_at table slice at) ≡ true

@@ -1,8 +1,9 @@
-ghost use Rattle.std.specs.Prelude.{◌≡◌, ◌↔◌, IsTrue};
+ghost use Rattle.std.specs.Prelude.{◌≡◌, ◌↔◌, IsTrue, IfOk};
 ghost use Rattle.funnel_model.specs.Words.{AreWordsOf};
 ghost use Rattle.document_store.specs.Documents.{HasEvery};
 
-use funnel_model::{Text, WordSet};
+use funnel_model::{Memory, Text, WordSet};
+use std::alloc::Global;
 use std::marker::Model;
 
 /// A document: its number, its text, and the set of the text's words. Contracts see these three.
@@ -31,6 +32,17 @@ impl Doc {
         ensures { result ≡ record { id = id; text = text; words = words } }
     {
         Doc { id, text, words }
+    }
+
+    /// The same document once more.
+    pub fn copy(&self, alloc: Global) -> Result<Doc, Memory>
+        ensures { IfOk result (λ doc. doc ≡ self.now) }
+    {
+        Ok(Doc {
+            id: self.id,
+            text: self.text.copy(alloc)?,
+            words: self.words.copy(alloc)?,
+        })
     }
 
     /// The document's number.

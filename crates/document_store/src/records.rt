@@ -1,8 +1,8 @@
-ghost use Rattle.std.specs.Prelude.{◌≡◌, ◌↔◌, ℕ, ◌+◌, ◌*◌, ◌<◌, length, replicate, map, IfOk, IsSome};
+ghost use Rattle.std.specs.Prelude.{◌≡◌, ◌↔◌, ℕ, ◌+◌, ◌*◌, ◌<◌, ◌≤◌, ◌++◌, length, take, drop, replicate, map, true, IfOk, IsSome, IsTrue};
 ghost use Rattle.std.specs.declared.option.Option.TheVariants.{Some, None};
 ghost use Rattle.std.specs.Option.{option_map};
 ghost use Rattle.document_store.specs.Documents.{Parts};
-ghost use Rattle.document_store.specs.Slots.{FitsColumn, IsColumn, KeepsDoc, free_slot, slot_at, with_free_slice, with_slot};
+ghost use Rattle.document_store.specs.Slots.{FitsColumn, IsColumn, KeepsDoc, free_slot, is_over, slot_at, with_free_slice, with_slot};
 ghost use Rattle.document_store.specs.declared.column.Column.TheVariants.{Dropped, Free, Live, Over, Pending};
 
 use crate::column::Column;
@@ -24,6 +24,8 @@ pub struct Records {
     slices: u32,
     columns: u32,
     slots: Vec<Slot>,
+    // So many of the first columns of each slice are known to be over.
+    first_over: Vec<u32>,
 }
 
 impl Model for Records {
@@ -33,7 +35,7 @@ impl Model for Records {
 
     ghost view = { λ r. record { slices = r.slices; columns = r.columns; slots = r.slots.items } };
 
-    ghost invariant = { λ r. IsTable (record { slices = r.slices; columns = r.columns; slots = r.slots.items }) };
+    ghost invariant = { λ r. IsTable (record { slices = r.slices; columns = r.columns; slots = r.slots.items }) r.first_over.items };
 }
 
 impl Records {
@@ -52,6 +54,7 @@ impl Records {
             slices,
             columns,
             slots,
+            first_over: vec![in alloc; 0; slices as usize]?,
         })
     }
 
@@ -86,6 +89,37 @@ impl Records {
         &self.slots[self.index(slice, column)]
     }
 
+    /// So many of the slice's first columns are over: as many as there are, though no contract says that.
+    pub fn first_over(&self, slice: u32) -> u32
+        requires { slice < self.now.slices }
+        ensures { (column : ℕ) → IsColumn self.now slice column → column < result → is_over (slot_at self.now slice column) ≡ true }
+    {
+        self.first_over[slice as usize]
+    }
+
+    // Comes past the slice's first columns that are over. Each column is passed once, until the slice is made free.
+    fn pass_over(&mut self, slice: u32)
+        requires { slice < self.old.slices }
+        ensures { self.new ≡ self.old }
+    {
+        let mut column = self.first_over[slice as usize];
+        while column < self.columns && self.is_over(slice, column) {
+            column += 1;
+        }
+        self.first_over[slice as usize] = column;
+    }
+
+    // Whether the column is over.
+    fn is_over(&self, slice: u32, column: u32) -> bool
+        requires { IsColumn self.now slice column }
+        ensures { result ≡ is_over (slot_at self.now slice column) }
+    {
+        matches!(
+            self.state(slice, column),
+            Column::Over { .. } | Column::Dropped
+        )
+    }
+
     /// A pass claims a free column.
     pub fn claim(&mut self, slice: u32, column: u32, pass: u32)
         requires in_range { IsColumn self.old slice column }
@@ -109,7 +143,7 @@ impl Records {
         };
     }
 
-    /// The document for a pending column was refused.
+    /// A pending column gets no document after all.
     pub fn drop_column(&mut self, slice: u32, column: u32)
         requires in_range { IsColumn self.old slice column }
         requires pending { (pass : ℕ) × ((slot_at self.old slice column).column ≡ Pending pass) }
@@ -117,6 +151,7 @@ impl Records {
     {
         let index = self.index(slice, column);
         self.slots[index].column = Column::Dropped;
+        self.pass_over(slice);
     }
 
     /// The event with this number takes the document off a live column, which keeps it: finds that began before still see it.
@@ -135,6 +170,7 @@ impl Records {
             since,
             until,
         };
+        self.pass_over(slice);
     }
 
     /// Makes every column of the slice free, and drops their documents.
@@ -143,8 +179,8 @@ impl Records {
         ensures { self.new ≡ with_free_slice self.old slice }
     {
         let columns = self.columns as usize;
-        let start = slice as usize * columns;
-        free_all(&mut self.slots[start..start + columns]);
+        free_part(&mut self.slots, slice as usize * columns, columns);
+        self.first_over[slice as usize] = 0;
     }
 
     /// Where the slot of the column stands.
@@ -155,6 +191,14 @@ impl Records {
     {
         slice as usize * self.columns as usize + column as usize
     }
+}
+
+/// Makes so many columns free from this one on.
+fn free_part(slots: &mut Vec<Slot>, start: usize, columns: usize)
+    requires { start + columns ≤ length slots.old.items }
+    ensures { slots.new.items ≡ take start slots.old.items ++ (replicate columns free_slot ++ drop (start + columns) slots.old.items) }
+{
+    free_all(&mut slots[start..start + columns]);
 }
 
 /// Makes each of the columns free.

@@ -1,14 +1,16 @@
 -- The step of an add, from its turns.
-use Rattle.std.proofs.Common.{◌≡◌, ℕ, false, List, [], ◌∷◌, Option, Some, None, Ok, Err, refl, sym, ap, ◌∙◌, ⊎_elim, inl, inr, arith}
+use Rattle.std.proofs.Common.{◌≡◌, ℕ, ◌+◌, ◌≤◌, false, List, [], ◌∷◌, Option, Some, None, Result, Ok, Err, refl, sym, ap, ◌∙◌, ⊎_elim, inl, inr, arith}
 use Rattle.std.specs.Option.{is_some, option_map, option_map_or}
+use Rattle.funnel_model.specs.declared.bit_list.Bit.{Bit}
 use Rattle.funnel_model.specs.declared.call.Call.TheVariants as call
+use Rattle.funnel_model.specs.declared.call.TheConstants.{MOST_MOVES}
 use Rattle.funnel_model.specs.declared.claim.Claim.{Claim}
 use Rattle.funnel_model.specs.declared.config.Config.{Config}
 use Rattle.funnel_model.specs.declared.event.Event.{Event}
 use Rattle.funnel_model.specs.declared.event.Event.TheVariants as event
 use Rattle.funnel_model.specs.declared.reply.Reply.{Reply}
 use Rattle.funnel_model.specs.declared.reply.Reply.TheVariants as reply
-use Rattle.funnel_model.specs.History.{is_live, live, live_place}
+use Rattle.funnel_model.specs.History.{is_live, live, live_place, place}
 use Rattle.funnel_model.specs.Legal.{IsIdle, IsLegal, Limits}
 use Rattle.funnel_model.specs.Steps.{IsReplyToRefused, Step, most_moves}
 use Rattle.funnel_model.proofs.LiveLemmas.{is_live-from_place}
@@ -19,9 +21,11 @@ use Rattle.commit_desk.specs.declared.answers.CommitFault.{CommitFault}
 use Rattle.commit_desk.specs.declared.answers.CommitFault.TheVariants as commit
 use Rattle.commit_desk.specs.declared.answers.Taken.TheVariants as taken
 use Rattle.slice_recycler.specs.Turns.{IsTurn}
-use Rattle.slice_recycler.proofs.Steps.{IsQuiet, own-unanswered, quiet_trans, quiet_turn, quiet_weaker, step_made_after, step_made_by_turn, step_spent_turn}
-use Rattle.engine.specs.Adds.{AddTurns, ClaimTurns, CommitTurns, TakeTurn, fault_of_drop}
+use Rattle.slice_recycler.proofs.Steps.{IsQuiet, own-unanswered, quiet_trans, quiet_turn, quiet_weaker, step_made_after, step_spent_after}
+use Rattle.engine.specs.Adds.{AddTurns, ClaimTurns, CommitTurns, MovesFirst, OwnTurns, TakeTurn, fault_of_drop}
+use Rattle.engine.specs.Moves.{SomeMoves}
 use Rattle.engine.specs.Replies.{reply_of_add}
+use Rattle.engine.proofs.Moves.{moves_are_quiet}
 
 none_of : (o : Option ℕ) → is_some o ≡ false → o ≡ None
 none_of None none = refl
@@ -53,51 +57,69 @@ module _ (limits : Limits) (pass id : ℕ) (text : List ℕ) where
       (quiet_turn pass first.middle middle opens first.opened (own-unanswered pass opens refl) refl))
       turns
 
-  claimed_quietly : (before middle : List Event) (claim : Claim) → ClaimTurns limits pass id text before middle claim → IsQuiet pass (most_moves (call.Add id text)) before middle
-  claimed_quietly before middle claim turns = quiet_weaker pass 0 (most_moves (call.Add id text)) before middle (omega arith) (claim_is_quiet before middle claim turns)
-
   module _ (before after : List Event) where
-    pub refused_turns : (config : Config) (fault : AddFault) → TakeTurn limits pass id text before after (taken.Refused fault) → AddTurns config limits pass id text before after (Err fault)
+    pub refused_turns : (config : Config) (fault : AddFault) → TakeTurn limits pass id text before after (taken.Refused fault) → OwnTurns config limits pass id text before after (Err fault)
     refused_turns config (add.Present added) turn = inl turn
     refused_turns config (add.Full blocks) turn = turn
     refused_turns config (add.Spent events) turn = turn
     refused_turns config add.Memory turn = absurd turn.answer
 
-    pub dropped_turns : (config : Config) (fault : CommitFault) → CommitTurns config limits pass id text before after (Err fault) → AddTurns config limits pass id text before after (Err (fault_of_drop fault))
+    pub dropped_turns : (config : Config) (fault : CommitFault) → CommitTurns config limits pass id text before after (Err fault) → OwnTurns config limits pass id text before after (Err (fault_of_drop fault))
     dropped_turns config (commit.Present added) turns = inr turns
 
-    module _ (idle : IsIdle pass before) (legal : IsLegal limits after) where
-      -- an add that was refused in its first turn
-      refused_by : {answers : List Event → Type 0} (given : Reply) (turn : IsTurn pass before after answers (event.No pass (call.Add id text) ∷ [])) →
-          IsReplyToRefused limits turn.earlier (call.Add id text) given → Step limits pass before after (call.Add id text) given
-      refused_by given turn replied =
-          let e = event.No pass (call.Add id text) in
-          step_made_by_turn limits pass before after e (call.Add id text) given idle turn refl (call_by-own pass e refl) refl refl replied legal
+  -- The step of an add that may have moved documents first.
+  module _ (before start after : List Event) (idle : IsIdle pass before) (idle_start : IsIdle pass start) (first : IsQuiet pass (most_moves (call.Add id text)) before start) (legal : IsLegal limits after) where
+    claimed_quietly : (middle : List Event) (claim : Claim) → ClaimTurns limits pass id text start middle claim → IsQuiet pass (most_moves (call.Add id text)) before middle
+    claimed_quietly middle claim turns =
+        let most = most_moves (call.Add id text) in
+        quiet_weaker pass (most + 0) most before middle (omega arith) (quiet_trans pass most 0 before start middle first (claim_is_quiet start middle claim turns))
 
-      pub refused_step : (fault : AddFault) → TakeTurn limits pass id text before after (taken.Refused fault) → Step limits pass before after (call.Add id text) (reply_of_add (Err fault))
-      refused_step (add.Present added) turn =
-          refused_by (reply.Present added) turn (present_reply turn.earlier id added reply.Full turn.answer.1.live)
-      refused_step (add.Full blocks) turn = refused_by reply.Full turn (absent_reply turn.earlier id reply.Full turn.answer.0.absent)
-      refused_step (add.Spent events) turn = step_spent_turn limits pass before after (call.Add id text) idle turn turn.answer.many legal
-      refused_step add.Memory turn = absurd turn.answer
+    -- an add that was refused in its first turn
+    refused_by : {answers : List Event → Type 0} (given : Reply) (turn : IsTurn pass start after answers (event.No pass (call.Add id text) ∷ [])) →
+        IsReplyToRefused limits turn.earlier (call.Add id text) given → Step limits pass before after (call.Add id text) given
+    refused_by given turn replied =
+        let e = event.No pass (call.Add id text) in
+        step_made_after limits pass before start after e (call.Add id text) given idle first turn refl (call_by-own pass e refl) refl refl replied legal
 
-      module _ (config : Config) where
-        pub added_step : (added : ℕ) → CommitTurns config limits pass id text before after (Ok added) → Step limits pass before after (call.Add id text) (reply.Added added)
-        added_step added turns =
-            let claim = turns.claim in
-            let e = event.Add pass id text claim.slice claim.column turns.bits in
-            step_made_after limits pass before turns.middle after e (call.Add id text) (reply.Added added) idle (claimed_quietly before turns.middle claim turns.claimed) turns.committed refl
-            (call_by-own pass e refl) refl refl (ap reply.Added turns.committed.answer.1) legal
+    -- an add whose document was added
+    added_by : {answers : List Event → Type 0} (added : ℕ) (bits : List Bit) (middle : List Event) (claim : Claim) → ClaimTurns limits pass id text start middle claim →
+        (turn : IsTurn pass middle after answers (event.Add pass id text claim.slice claim.column bits ∷ [])) → added ≡ place turn.earlier + 1 →
+        Step limits pass before after (call.Add id text) (reply.Added added)
+    added_by added bits middle claim claimed turn at =
+        let e = event.Add pass id text claim.slice claim.column bits in
+        step_made_after limits pass before middle after e (call.Add id text) (reply.Added added) idle (claimed_quietly middle claim claimed) turn refl (call_by-own pass e refl) refl refl (ap reply.Added at) legal
 
-        -- an add whose document was dropped
-        dropped_by : {answers : List Event → Type 0} (given : Reply) (middle : List Event) (claim : Claim) → ClaimTurns limits pass id text before middle claim →
-            (turn : IsTurn pass middle after answers (event.Drop pass id text claim.slice claim.column ∷ [])) → option_map reply.Present (live_place id turn.earlier) ≡ Some given →
-            Step limits pass before after (call.Add id text) given
-        dropped_by given middle claim claimed turn replied =
-            let e = event.Drop pass id text claim.slice claim.column in
-            step_made_after limits pass before middle after e (call.Add id text) given idle (claimed_quietly before middle claim claimed) turn refl (call_by-own pass e refl) refl refl replied legal
+    -- an add whose document was dropped
+    dropped_by : {answers : List Event → Type 0} (given : Reply) (middle : List Event) (claim : Claim) → ClaimTurns limits pass id text start middle claim →
+        (turn : IsTurn pass middle after answers (event.Drop pass id text claim.slice claim.column ∷ [])) → option_map reply.Present (live_place id turn.earlier) ≡ Some given →
+        Step limits pass before after (call.Add id text) given
+    dropped_by given middle claim claimed turn replied =
+        let e = event.Drop pass id text claim.slice claim.column in
+        step_made_after limits pass before middle after e (call.Add id text) given idle (claimed_quietly middle claim claimed) turn refl (call_by-own pass e refl) refl refl replied legal
 
-        pub dropped_step : (fault : CommitFault) → CommitTurns config limits pass id text before after (Err fault) → Step limits pass before after (call.Add id text) (reply_of_add (Err (fault_of_drop fault)))
-        dropped_step (commit.Present added) turns =
-            let turn = turns.committed in
-            dropped_by (reply.Present added) turns.middle turns.claim turns.claimed turn (ap (option_map reply.Present) turn.answer.live)
+    pub own_step : (config : Config) (answer : Result ℕ AddFault) → OwnTurns config limits pass id text start after answer → Step limits pass before after (call.Add id text) (reply_of_add answer)
+    own_step config (Ok added) turns = added_by added turns.bits turns.middle turns.claim turns.claimed turns.committed turns.committed.answer.1
+    own_step config (Err (add.Present added)) turns =
+        ⊎_elim
+        (λ turn. refused_by (reply.Present added) turn (present_reply turn.earlier id added reply.Full turn.answer.1.live))
+        (λ late. dropped_by (reply.Present added) late.middle late.claim late.claimed late.committed (ap (option_map reply.Present) late.committed.answer.live))
+        turns
+    own_step config (Err (add.Full blocks)) turn = refused_by reply.Full turn (absent_reply turn.earlier id reply.Full turn.answer.0.absent)
+    own_step config (Err (add.Spent events)) turn = step_spent_after limits pass before start after (call.Add id text) idle idle_start first turn turn.answer.many legal
+    own_step config (Err add.Memory) turns = absurd turns
+
+  module _ (config : Config) (before start after : List Event) (moves : ℕ) (few : moves ≤ MOST_MOVES) (moved : SomeMoves config limits pass id before start moves) where
+    first_moved : (answer : Result ℕ AddFault) → OwnTurns config limits pass id text start after answer → MovesFirst config limits pass id text before after answer
+    first_moved answer own = record { moves = moves; few = few; middle = start; moved = moved; own = own }
+
+    pub moved_turns : (answer : Result ℕ AddFault) → OwnTurns config limits pass id text start after answer → AddTurns config limits pass id text before after answer
+    moved_turns (Ok added) own = first_moved (Ok added) own
+    moved_turns (Err (add.Present added)) own = first_moved (Err (add.Present added)) own
+    moved_turns (Err (add.Full blocks)) own = first_moved (Err (add.Full blocks)) own
+    moved_turns (Err (add.Spent events)) own = first_moved (Err (add.Spent events)) own
+    moved_turns (Err add.Memory) own = absurd own
+
+    pub moved_step : (answer : Result ℕ AddFault) → OwnTurns config limits pass id text start after answer → IsIdle pass before → IsIdle pass start → IsLegal limits after →
+        Step limits pass before after (call.Add id text) (reply_of_add answer)
+    moved_step answer own idle idle_start legal =
+        own_step before start after idle idle_start (quiet_weaker pass moves (most_moves (call.Add id text)) before start few (moves_are_quiet config limits pass id moves before start moved)) legal config answer own

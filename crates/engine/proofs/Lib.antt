@@ -4,6 +4,8 @@ pub mod Claims
 pub mod DeskTurns
 pub mod Ends
 pub mod Finds
+pub mod MovePasses
+pub mod Moves
 pub mod NewPasses
 pub mod NotTaken
 pub mod OpenFinds

@@ -1,6 +1,7 @@
--- The turns of an add at the desk.
-use Rattle.std.specs.Prelude.{◌≡◌, ℕ, ◌⊎◌, false, List, [], ◌∷◌, Result, Ok, Err}
+-- The turns of an add at the desk: those of its moves, and those for its own document.
+use Rattle.std.specs.Prelude.{◌≡◌, ℕ, ◌≤◌, ◌⊎◌, false, List, [], ◌∷◌, Result, Ok, Err}
 use Rattle.funnel_model.specs.declared.bit_list.Bit.{Bit}
+use Rattle.funnel_model.specs.declared.call.TheConstants.{MOST_MOVES}
 use Rattle.funnel_model.specs.declared.claim.Claim.{Claim}
 use Rattle.funnel_model.specs.declared.config.Config.{Config}
 use Rattle.funnel_model.specs.declared.event.Event.{Event}
@@ -14,6 +15,7 @@ use Rattle.commit_desk.specs.declared.answers.CommitFault.{CommitFault}
 use Rattle.commit_desk.specs.declared.answers.CommitFault.TheVariants as commit
 use Rattle.commit_desk.specs.declared.answers.Taken.{Taken}
 use Rattle.commit_desk.specs.declared.answers.Taken.TheVariants as taken
+use Rattle.engine.specs.Moves.{SomeMoves}
 use Rattle.row_layout.specs.DocumentBits.{AreDocumentBits}
 use Rattle.slice_recycler.specs.Turns.{IsTurn}
 
@@ -47,12 +49,25 @@ pub record CommitTurns (config : Config) (limits : Limits) (pass id : ℕ) (text
 abbrev pub fault_of_drop : CommitFault → AddFault
 fault_of_drop (commit.Present added) = add.Present added
 
--- An add that is answered by its place was added in its last turn. It is refused as present in its first turn or in its last, and for
--- want of room or as spent in its first. Where no memory was found nothing was done.
-abbrev pub AddTurns : Config → Limits → ℕ → ℕ → List ℕ → List Event → List Event → Result ℕ AddFault → Type 0
-AddTurns config limits pass id text before after (Ok added) = CommitTurns config limits pass id text before after (Ok added)
-AddTurns config limits pass id text before after (Err (add.Present added)) =
+-- The turns of an add for its own document. One that is answered by its place was added in its last turn. It is refused as present in its
+-- first turn or in its last, and for want of room or as spent in its first.
+abbrev pub OwnTurns : Config → Limits → ℕ → ℕ → List ℕ → List Event → List Event → Result ℕ AddFault → Type 0
+OwnTurns config limits pass id text before after (Ok added) = CommitTurns config limits pass id text before after (Ok added)
+OwnTurns config limits pass id text before after (Err (add.Present added)) =
     TakeTurn limits pass id text before after (taken.Refused (add.Present added)) ⊎ CommitTurns config limits pass id text before after (Err (commit.Present added))
-AddTurns config limits pass id text before after (Err (add.Full blocks)) = TakeTurn limits pass id text before after (taken.Refused (add.Full blocks))
-AddTurns config limits pass id text before after (Err (add.Spent events)) = TakeTurn limits pass id text before after (taken.Refused (add.Spent events))
+OwnTurns config limits pass id text before after (Err (add.Full blocks)) = TakeTurn limits pass id text before after (taken.Refused (add.Full blocks))
+OwnTurns config limits pass id text before after (Err (add.Spent events)) = TakeTurn limits pass id text before after (taken.Refused (add.Spent events))
+OwnTurns config limits pass id text before after (Err add.Memory) = ⊥
+
+-- the add moved a few documents, and then came its own turns
+pub record MovesFirst (config : Config) (limits : Limits) (pass id : ℕ) (text : List ℕ) (before after : List Event) (answer : Result ℕ AddFault) : Type 0 where
+  pub moves : ℕ
+  pub few : moves ≤ MOST_MOVES
+  pub middle : List Event
+  pub moved : SomeMoves config limits pass id before middle moves
+  pub own : OwnTurns config limits pass id text middle after answer
+
+-- The turns of an add. Where no memory was found for it nothing was done, and nothing was moved.
+abbrev pub AddTurns : Config → Limits → ℕ → ℕ → List ℕ → List Event → List Event → Result ℕ AddFault → Type 0
 AddTurns config limits pass id text before after (Err add.Memory) = before ≡ after
+AddTurns config limits pass id text before after answer = MovesFirst config limits pass id text before after answer

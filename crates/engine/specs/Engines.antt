@@ -21,12 +21,14 @@ pub record IsBlank (pool : PoolId) (home : HomeState) (passes : List PassState) 
   pub new_home : home ≡ new_home_state pool
   pub new_passes : passes ≡ map (new_pass_state pool) (range_with_len 0 pool.config.passes)
 
--- the engine's pool is the one that its type names, and its rows are laid out by the pool's configuration
-pub record IsEngine (named pool : PoolId) (layout : Config) (slices : ℕ) : Type 0 where
+-- the engine's pool is the one that its type names; its rows are laid out by the pool's configuration, and it has that one's slices and
+-- reserve
+pub record IsEngine (named pool : PoolId) (layout : Config) (slices reserve : ℕ) : Type 0 where
   pub of_name : pool ≡ named
   pub of_config : IsOfConfig pool
   pub laid_out : layout ≡ pool.config
   pub count : slices ≡ pool.config.slices
+  pub kept_free : reserve ≡ pool.config.reserve
 
 -- an engine that is closed: how many commits of its history come before those that its journal keeps, these, the number of its
 -- events, and the history

@@ -6,7 +6,7 @@ ghost use Rattle.funnel_model.specs.Steps.{Step};
 ghost use Rattle.funnel_model.specs.Words.{AreWordsOf};
 ghost use Rattle.commit_desk.specs.declared.answers.Taken.TheVariants as taken;
 ghost use Rattle.commit_desk.specs.Passes.{HasWritten, IsResting, IsToWrite};
-ghost use Rattle.engine.specs.Adds.{AddTurns, ClaimTurns, TakeTurn, fault_of_drop};
+ghost use Rattle.engine.specs.Adds.{AddTurns, ClaimTurns, OwnTurns, TakeTurn, fault_of_drop};
 ghost use Rattle.engine.specs.Replies.{reply_of_add};
 ghost use Rattle.row_layout.specs.DocumentBits.{CanPlace};
 ghost use Rattle.row_layout.specs.Orders.{HasRowsOf};
@@ -24,8 +24,15 @@ use word_cut::words;
 
 impl<N: PoolName> Engine<N> {
     /// Adds a document, and gives the place of its add. It takes all its memory at first: for the words, the text, the bits,
-    /// and what `Full` tells. Where there is none it makes no event. Then it waits for the lock twice, or three times where
-    /// it clears a slice; where it is refused in its first turn, once.
+    /// and what `Full` tells. Where there is none it makes no event.
+    ///
+    /// With a `reserve` in the configuration it then waits for the lock to see whether fewer columns are left. While so, it moves
+    /// documents out of the filled slice that holds the fewest, at most 16, so that the slice can be cleared, if the others have
+    /// room for them. For each it waits for the lock three times: to see which one is next, to take a column for it, and to move
+    /// it. It takes memory for a copy of it and for its bits; where there is none it moves no more, and goes on.
+    ///
+    /// For its own document it waits for the lock twice, or three times where it clears a slice; where it is refused in the first
+    /// of these turns, once.
     pub fn add<R: Wait>(
         &self,
         rt: &R,
@@ -43,7 +50,8 @@ impl<N: PoolName> Engine<N> {
         self.add_by(rt, alloc, pass, id, text, &mut Direct)
     }
 
-    /// An add whose column is written by `work`, and whose slice is cleared by it, while the lock is free.
+    /// An add whose column, and those of the documents that it moves, are written by `work`, and whose slice is cleared by it,
+    /// while the lock is free.
     pub fn add_by<R: Wait, W: Work>(
         &self,
         rt: &R,
@@ -63,13 +71,14 @@ impl<N: PoolName> Engine<N> {
         match self.prepare(alloc, id, text) {
             Ok(prepared) => {
                 let (doc, bits, room) = prepared;
+                self.move_some(rt, alloc, pass, id, work);
                 self.add_prepared(rt, pass, doc, bits, room, work)
             }
             Err(Memory) => Err(AddFault::Memory),
         }
     }
 
-    // The turns of an add.
+    // The turns of an add for its own document.
     fn add_prepared<R: Wait, W: Work>(
         &self,
         rt: &R,
@@ -85,8 +94,8 @@ impl<N: PoolName> Engine<N> {
         requires can_place { CanPlace self.now.config bits.rows }
         requires empty { room.items ≡ [] }
         requires enough { self.now.limits.slices ≤ vec_capacity room }
-        ensures step { Step self.now.limits pass.old.number pass.old.front pass.new.front (call.Add doc.id doc.text) (reply_of_add result) }
-        ensures turns { AddTurns self.now.config self.now.limits pass.old.number doc.id doc.text pass.old.front pass.new.front result }
+        ensures turns { OwnTurns self.now.config self.now.limits pass.old.number doc.id doc.text pass.old.front pass.new.front result }
+        ensures legal { IsLegal self.now.limits pass.new.front }
         ensures rests { IsResting self.now pass.new }
         ensures number { pass.new.number ≡ pass.old.number }
     {
@@ -146,7 +155,13 @@ impl<N: PoolName> Engine<N> {
     }
 
     // Moves the bits to the column that was claimed, and sets them.
-    fn write<W: Work>(&self, pass: &mut PassSeat, claim: &Claim, bits: &mut Bits, work: &mut W)
+    pub(crate) fn write<W: Work>(
+        &self,
+        pass: &mut PassSeat,
+        claim: &Claim,
+        bits: &mut Bits,
+        work: &mut W,
+    )
         requires claimed { IsToWrite self.now claim.now pass.old }
         requires can_place { CanPlace self.now.config bits.old.rows }
         ensures written { (words : List (List ℕ)) → HasRowsOf self.now.config words bits.old.rows → HasWritten self.now claim.now words bits.new.bits pass.new }

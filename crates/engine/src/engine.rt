@@ -17,7 +17,7 @@ ghost use Rattle.slice_rule.specs.Seats.{PassState, new_pass_state};
 use crate::blank::Blank;
 use crate::closed::Closed;
 use crate::work::{Direct, Work};
-use commit_desk::{DeleteFault, Desk, JournalFault, Named, Spent};
+use commit_desk::{DeleteFault, Desk, JournalFault, Looks, Named, Spent};
 use funnel_model::{Commits, Config, Memory};
 use row_layout::Layout;
 use slice_recycler::{Recycled, recycle_by};
@@ -32,6 +32,7 @@ pub struct Engine<N: PoolName> {
     pub(crate) pool: Pool,
     pub(crate) layout: Layout,
     pub(crate) slices: u32,
+    pub(crate) reserve: u32,
     pub(crate) desk: Mutex<Named<N>>,
 }
 
@@ -43,7 +44,7 @@ impl<N: PoolName> Model for Engine<N> {
 
     ghost view = { λ e. e.pool };
 
-    ghost invariant = { λ e. IsEngine N.pool e.pool e.layout e.slices };
+    ghost invariant = { λ e. IsEngine N.pool e.pool e.layout e.slices e.reserve };
 }
 
 impl<N: PoolName> Engine<N> {
@@ -62,12 +63,14 @@ impl<N: PoolName> Engine<N> {
         let layout = Layout::new(alloc, config)?;
         let Blank { pool, home, passes } = blank;
         let desk = Desk::new(alloc, config, home, 1 << 62)?;
+        let looks = Looks::new(alloc, config.slices, layout.columns())?;
         let of = PhantomData;
         let engine = Engine {
             pool,
             layout,
             slices: config.slices,
-            desk: Mutex::new(Named { desk, of }),
+            reserve: config.reserve,
+            desk: Mutex::new(Named { desk, looks, of }),
         };
         Ok((engine, passes))
     }
@@ -193,9 +196,14 @@ impl<N: PoolName> Engine<N> {
             pool,
             layout: _,
             slices: _,
+            reserve: _,
             desk,
         } = self;
-        let Named { desk, of: _ } = desk.into_inner();
+        let Named {
+            desk,
+            looks: _,
+            of: _,
+        } = desk.into_inner();
         let (home, base, commits) = desk.into_parts();
         let ended = pool.close(home, passes);
         Closed {

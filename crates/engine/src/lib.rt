@@ -47,7 +47,8 @@
 //!
 //! The calls that make events wait for the lock. No column is written, no slice is scanned and none is cleared under it. What
 //! is done there takes the longer the more there is of it: a find verifies its candidates, a journal copies its commits, an add
-//! that is refused as full looks through the slices, and the documents of a slice that is opened are dropped. `Blank::new`,
+//! that is refused as full looks through the slices, one that moves a document copies it, and the documents of a slice that is
+//! opened are dropped. `Blank::new`,
 //! `open`, `note`, `meet` and `close` wait for nobody. `Blank::new`, `open`, `add`, `find`, `begin_find`, `finish_find` and
 //! `journal` take memory, and answer so where there is none; the others take none.
 #![tactic(auto)]
@@ -58,6 +59,7 @@ mod client;
 mod closed;
 mod engine;
 mod finding;
+mod moving;
 mod open_find;
 mod turns;
 mod work;

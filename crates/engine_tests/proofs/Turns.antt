@@ -1,26 +1,42 @@
 -- The events of a call, from its turns.
-use Rattle.std.proofs.Common.{ℕ, List, Result, Ok, Err}
+use Rattle.std.proofs.Common.{◌≡◌, ℕ, List, [], ◌∷◌, Result, Ok, Err}
 use Rattle.std.specs.Prelude.{IfOk}
 use Rattle.commit_desk.specs.declared.answers.AddFault.{AddFault}
+use Rattle.commit_desk.specs.declared.answers.AddFault.TheVariants as add
 use Rattle.engine.specs.Adds.{AddTurns}
 use Rattle.engine.specs.Finds.{FindTurns}
 use Rattle.engine.specs.declared.finding.FindFault.{FindFault}
-use Rattle.engine_tests.specs.Events.{EndsWithAdd, FindsBetween}
+use Rattle.engine.proofs.Moves.{none_moved_without_reserve, turn_from}
+use Rattle.engine_tests.specs.Events.{EndsWith, EndsWithAdd, FindsBetween, Makes}
+use Rattle.funnel_model.specs.declared.block.Block.{Block}
+use Rattle.funnel_model.specs.declared.call.Call.TheVariants as call
 use Rattle.funnel_model.specs.declared.config.Config.{Config}
 use Rattle.funnel_model.specs.declared.event.Event.{Event}
+use Rattle.funnel_model.specs.declared.event.Event.TheVariants as event
 use Rattle.funnel_model.specs.Legal.{Limits}
 
 pub ends_with_add : (config : Config) (limits : Limits) (pass id : ℕ) (text : List ℕ) (before after : List Event) (answer : Result ℕ AddFault) →
     AddTurns config limits pass id text before after answer → IfOk answer (λ _. EndsWithAdd config pass id text after)
 ends_with_add config limits pass id text before after (Ok added) turns = record {
-  earlier = turns.committed.earlier;
-  slice = turns.claim.slice;
-  column = turns.claim.column;
-  bits = turns.bits;
-  of_text = turns.of_text;
-  whole = turns.committed.made;
+  earlier = turns.own.committed.earlier;
+  slice = turns.own.claim.slice;
+  column = turns.own.claim.column;
+  bits = turns.own.bits;
+  of_text = turns.own.of_text;
+  whole = turns.own.committed.made;
 }
 ends_with_add config limits pass id text before after (Err fault) turns = tt
+
+-- an add that was refused as full ends with its refusal, and makes it alone where no column is to be kept free
+module _ (config : Config) (limits : Limits) (pass id : ℕ) (text : List ℕ) (before after : List Event) (blocks : List Block) (turns : AddTurns config limits pass id text before after (Err (add.Full blocks))) where
+  pub ends_with_refusal : EndsWith (event.No pass (call.Add id text)) after
+  ends_with_refusal = (turns.own.earlier, turns.own.made)
+
+  pub refuses_at_once : config.reserve ≡ 0 → Makes pass before after (event.No pass (call.Add id text) ∷ [])
+  refuses_at_once none =
+      let refusal = event.No pass (call.Add id text) ∷ [] in
+      let turn = turn_from pass before turns.middle after refusal (none_moved_without_reserve config limits pass id turns.moves before turns.middle none turns.moved) turns.own in
+      record { earlier = turn.earlier; others = turn.seen; whole = turn.made }
 
 pub finds_between : (limits : Limits) (pass : ℕ) (query : List ℕ) (before after : List Event) (answer : Result (List ℕ) FindFault) →
     FindTurns limits pass query before after answer → IfOk answer (FindsBetween pass before after query)

@@ -20,6 +20,10 @@ pub record MakesTwo (pass : ℕ) (before after : List Event) (first second : Eve
   pub begins : Makes pass before middle (first ∷ [])
   pub ends : Makes pass middle after (second ∷ [])
 
+-- this is the last event
+abbrev pub EndsWith : Event → List Event → Type 0
+EndsWith e after = (earlier : List Event) × (after ≡ earlier ++ e ∷ [])
+
 -- the last event adds the document, with exactly the bits of its text
 pub record EndsWithAdd (config : Config) (pass id : ℕ) (text : List ℕ) (after : List Event) : Type 0 where
   pub earlier : List Event

@@ -47,8 +47,15 @@ impl<'e, N: PoolName, R: Wait> Caller<'e, N, R> {
     pub fn add(&mut self, id: u64, text: &str) -> Result<u64, Refused>
         ensures { self.new ≡ self.old }
     {
-        let (rt, alloc) = (self.rt, self.alloc);
-        told(self.engine.add(rt, alloc, &mut self.pass, id, text))
+        told(self.add_told(id, text))
+    }
+
+    /// An add that tells all slices of a full engine.
+    pub fn add_told(&mut self, id: u64, text: &str) -> Result<u64, AddFault>
+        ensures { self.new ≡ self.old }
+    {
+        self.engine
+            .add(self.rt, self.alloc, &mut self.pass, id, text)
     }
 
     pub fn add_by<W: Work>(&mut self, id: u64, text: &str, work: &mut W) -> Result<u64, Refused>
@@ -202,8 +209,8 @@ impl<'e, N: PoolName, R: Wait> Model for Finding<'e, N, R> {
 }
 
 impl<'e, N: PoolName, R: Wait> Finding<'e, N, R> {
-    /// Ends the find. Whether it has the numbers from the first up to the second, in order.
-    pub fn has(self, range: (u64, u64)) -> bool {
+    /// Ends the find.
+    pub fn end(self) -> Result<Ids, Memory> {
         let Finding {
             engine,
             find,
@@ -211,7 +218,12 @@ impl<'e, N: PoolName, R: Wait> Finding<'e, N, R> {
             alloc,
         } = self;
         let (_, ids) = engine.finish_find(rt, alloc, find);
-        match ids {
+        ids
+    }
+
+    /// Ends the find. Whether it has the numbers from the first up to the second, in order.
+    pub fn has(self, range: (u64, u64)) -> bool {
+        match self.end() {
             Ok(ids) => is_range(&ids, range),
             Err(Memory) => false,
         }

@@ -1,7 +1,7 @@
 //! The events that calls make, as the contract of each call tells them.
 ghost use Rattle.std.specs.Prelude.{◌≡◌, ℕ, Err, true, [], ◌∷◌, IfOk};
 ghost use Rattle.commit_desk.specs.Passes.{IsResting};
-ghost use Rattle.engine_tests.specs.Events.{EndsWithAdd, FindsBetween, Makes, MakesTwo};
+ghost use Rattle.engine_tests.specs.Events.{EndsWith, EndsWithAdd, FindsBetween, Makes, MakesTwo};
 ghost use Rattle.funnel_model.specs.declared.call.Call.TheVariants as call;
 ghost use Rattle.funnel_model.specs.declared.event.Event.TheVariants as event;
 
@@ -37,8 +37,9 @@ impl Case for Events {
     }
 }
 
-/// An add that found no room makes its refusal alone, and one that found no memory makes nothing. The last event of one that
-/// was answered by its place has the document, with exactly its bits.
+/// The last event of an add that found no room is its refusal, and it makes no other where no column is to be kept free. One
+/// that found no memory makes nothing. The last event of one that was answered by its place has the document, with exactly
+/// its bits.
 fn add<N: PoolName, R: Wait>(
     rt: &R,
     alloc: Global,
@@ -50,7 +51,8 @@ fn add<N: PoolName, R: Wait>(
     requires named { engine.now ≡ N.pool }
     requires rests { IsResting N.pool pass.old }
     ensures rests { IsResting N.pool pass.new }
-    ensures full { (blocks : _) → result ≡ Err (AddFault.Full blocks) →
+    ensures full { (blocks : _) → result ≡ Err (AddFault.Full blocks) → EndsWith (event.No pass.old.number (call.Add id text.now)) pass.new.front }
+    ensures full_at_once { (blocks : _) → engine.now.config.reserve ≡ 0 → result ≡ Err (AddFault.Full blocks) →
         Makes pass.old.number pass.old.front pass.new.front (event.No pass.old.number (call.Add id text.now) ∷ []) }
     ensures memory { result ≡ Err AddFault.Memory → pass.new.front ≡ pass.old.front }
     ensures added { IfOk result (λ _. EndsWithAdd engine.now.config pass.old.number id text.now pass.new.front) }

@@ -13,11 +13,12 @@ use std::test::*;
 
 /// Why a thread gave up: a call was answered otherwise than it can be, or there was no memory for the test's own lists.
 #[derive(Clone, Copy, Debug)]
-enum Wrong {
+pub(crate) enum Wrong {
     Add,
     Delete,
     Find,
     Place,
+    Journal,
     Recycle,
     Memory,
 }
@@ -33,7 +34,7 @@ enum Report {
 
 /// The answer of a find, and the number of commits before it and after it.
 #[derive(Drop)]
-struct Seen {
+pub(crate) struct Seen {
     before: u64,
     ids: Ids,
     after: u64,
@@ -48,7 +49,7 @@ struct Mix {
 impl Task for Mix {
     fn work<N: PoolName, R: Wait>(&self, caller: &mut Caller<'_, N, R>) {
         let report = if caller.number() == 3 {
-            search(caller)
+            search(caller).map(Report::Found)
         } else {
             add_and_delete(caller)
         };
@@ -147,7 +148,9 @@ fn delete_one<N: PoolName, R: Wait>(
 }
 
 /// 100 finds.
-fn search<N: PoolName, R: Wait>(caller: &mut Caller<'_, N, R>) -> Result<Report, Wrong>
+pub(crate) fn search<N: PoolName, R: Wait>(
+    caller: &mut Caller<'_, N, R>,
+) -> Result<Vec<Seen>, Wrong>
     ensures { caller.new ≡ caller.old }
 {
     let mut seen = Vec::new(caller.alloc);
@@ -155,7 +158,7 @@ fn search<N: PoolName, R: Wait>(caller: &mut Caller<'_, N, R>) -> Result<Report,
         let found = find_one(caller)?;
         seen.push(found).or(Err(Wrong::Memory))?;
     }
-    Ok(Report::Found(seen))
+    Ok(seen)
 }
 
 /// A find between two reads of the number of commits.
@@ -186,24 +189,37 @@ fn apply(live: &mut Vec<u64>, commit: &Commit) -> Result<(), Fail> {
     Ok(())
 }
 
-/// Whether a find was answered by what was live after a number of commits that it may have had before it.
-fn was_live(alloc: Global, commits: &[Commit], seen: &Seen) -> Result<bool, Fail> {
-    let mut live = Vec::new(alloc);
-    let mut place: u64 = 0;
-    let mut was = seen.before == 0 && seen.ids.as_slice().is_empty();
-    for commit in commits {
-        apply(&mut live, commit)?;
-        place = place.saturating_add(1);
-        let may_be = seen.before <= place && place <= seen.after;
-        was = was || may_be && live.as_slice() == seen.ids.as_slice();
+/// Makes the commits from one place up to another.
+fn go_on(live: &mut Vec<u64>, commits: &[Commit], from: u64, to: u64) -> Result<(), Fail> {
+    let count = to.saturating_sub(from) as usize;
+    for commit in commits.iter().skip(from as usize).take(count) {
+        apply(live, commit)?;
     }
-    Ok(was)
+    Ok(())
 }
 
-/// Whether each find was.
-fn were_live(alloc: Global, commits: &[Commit], seen: &[Seen]) -> Result<bool, Fail> {
+/// Whether a find was answered by what was live after a number of commits that it may have had before it. These were live
+/// after the commits that it had at least.
+fn was_live(alloc: Global, commits: &[Commit], live: &[u64], seen: &Seen) -> Result<bool, Fail> {
+    let mut then = Vec::new(alloc);
+    then.extend_from_slice(live)?;
+    for place in seen.before..seen.after {
+        if then.as_slice() == seen.ids.as_slice() {
+            return Ok(true);
+        }
+        go_on(&mut then, commits, place, place.saturating_add(1))?;
+    }
+    Ok(then.as_slice() == seen.ids.as_slice())
+}
+
+/// Whether each find was, of those of one pass in their order.
+pub(crate) fn were_live(alloc: Global, commits: &[Commit], seen: &[Seen]) -> Result<bool, Fail> {
+    let mut live = Vec::new(alloc);
+    let mut place = 0;
     for one in seen {
-        if !was_live(alloc, commits, one)? {
+        go_on(&mut live, commits, place, one.before)?;
+        place = one.before;
+        if !was_live(alloc, commits, live.as_slice(), one)? {
             return Ok(false);
         }
     }

@@ -20,6 +20,10 @@ mod guards;
 #[cfg(test)]
 mod large;
 #[cfg(test)]
+mod moving;
+#[cfg(test)]
+mod replacing;
+#[cfg(test)]
 mod setting;
 #[cfg(test)]
 mod threads;

@@ -44,7 +44,7 @@ Keys of funnel.json, a file with one JSON object in the folder where the program
   blocks     1 to 64, default 1: words of 64 bits of a row of the highest rank in a slice
   max_rank   0 to 6, default 0: the highest rank of a row
   commits    1 to 16777216, default 1024: adds and deletes that the journal keeps
-  reserve    0 to 4194304, default 0: columns to be kept free, which has no effect yet
+  reserve    0 to 4194304, default 0: columns to be kept free
   one_in     2 to 20, default 10: one bit in so many is set in a shared row
   snr        1 to 1000, default 10: wanted ratio of documents with a word to others that its rows let pass
   documents  1 to 4294967296, default 1000: documents among which the listed words were counted

@@ -333,12 +333,12 @@ touch slice column (event.Read pass asked) = Silent (record {
 })
 
 -- the state to which later events take a column from its state after these
-state_from : (slice column : ℕ) → List Event → ColumnState → List Event → ColumnState
+unfoldable pub state_from : (slice column : ℕ) → List Event → ColumnState → List Event → ColumnState
 state_from slice column history x [] = x
 state_from slice column history x (e ∷ later) = state_from slice column (history ++ e ∷ []) (after slice column history x e) later
 
 -- the state in which a history leaves a column
-pub state_of : (slice column : ℕ) → List Event → ColumnState
+unfoldable pub state_of : (slice column : ℕ) → List Event → ColumnState
 state_of slice column history = state_from slice column [] Unclaimed history
 
 -- the state to which the events take a column, with one more event

@@ -19,9 +19,13 @@ pub in_state-push : (limits : Limits) (history : List Event) (e : Event) → IsL
     IsInState (history ++ e ∷ []) slice column (after slice column history x e)
 in_state-push limits history e legal allowed = kept_in_state limits history e legal (kept limits history legal) allowed
 
--- in a legal history each column is in a state
+-- in a legal history each column is in the state that its events compute
+pub in_its_state : (limits : Limits) (history : List Event) (slice column : ℕ) → IsLegal limits history → IsInState history slice column (state_of slice column history)
+in_its_state limits history slice column legal = (kept limits history legal).holds slice column
+
+-- so each is in a state
 pub some_state : (limits : Limits) (history : List Event) (slice column : ℕ) → IsLegal limits history → (x : ColumnState) × IsInState history slice column x
-some_state limits history slice column legal = (state_of slice column history, (kept limits history legal).holds slice column)
+some_state limits history slice column legal = (state_of slice column history, in_its_state limits history slice column legal)
 
 -- in a legal history a column is in one state
 pub one_state : (limits : Limits) (history : List Event) (slice column : ℕ) (x y : ColumnState) → IsLegal limits history →

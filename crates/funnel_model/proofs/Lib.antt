@@ -22,6 +22,7 @@ pub mod Moved
 pub mod NextEvents
 pub mod NothingMoved
 pub mod OpenTokens
+pub mod PairLemmas
 pub mod Progress
 pub mod Ranges
 pub mod RecycleFacts
@@ -39,6 +40,7 @@ pub mod Spans
 pub mod StepCauses
 pub mod StepLemmas
 pub mod TreatmentLemmas
+pub mod TuneFacts
 pub mod TuningLemmas
 pub mod WordClasses
 pub mod WordLemmas

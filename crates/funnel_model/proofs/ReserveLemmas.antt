@@ -136,7 +136,7 @@ some_spare_in limits history legal slice =
     (λ gone. (limits.columns, inr (gone, refl)))
     (use_cases limits history legal slice)
 
-one_spare_in : (columns : ℕ) (history : List Event) (slice m n : ℕ) → HasSpareIn columns history slice m → HasSpareIn columns history slice n → m ≡ n
+pub one_spare_in : (columns : ℕ) (history : List Event) (slice m n : ℕ) → HasSpareIn columns history slice m → HasSpareIn columns history slice n → m ≡ n
 one_spare_in columns history slice m n is also =
     ⊎_elim
     (λ here. ⊎_elim (λ there. here.1 ∙ sym there.1) (λ gone. absurd (not_in_use columns slice history here.0 gone.0)) also)
@@ -165,7 +165,7 @@ not_ready columns slice history gone = (
   λ can. ⊎_elim (λ guarded. can.unguarded guarded) (λ clearing. both_ways (is_clearing slice history) can.retired.not_clearing clearing) gone,
 )
 
-one_ready_in : (columns : ℕ) (history : List Event) (slice m n : ℕ) → HasReadyIn columns history slice m → HasReadyIn columns history slice n → m ≡ n
+pub one_ready_in : (columns : ℕ) (history : List Event) (slice m n : ℕ) → HasReadyIn columns history slice m → HasReadyIn columns history slice n → m ≡ n
 one_ready_in columns history slice m n is also =
     ⊎_elim
     (λ used. ⊎_elim
@@ -284,6 +284,13 @@ one_held_count columns history slice m n is also =
     ∙ same_count is.is_held also.is_held columns (λ k below. same_from_decides (is.is_held k) (also.is_held k) (is.tells k below) (also.tells k below))
     ∙ sym also.count
 
+-- so the slice out of which documents are moved next has one number of held columns
+pub one_source_held : (limits : Limits) (history : List Event) (slice other held also : ℕ) → IsSource limits history slice held →
+    IsSource limits history other also → held ≡ also
+one_source_held limits history slice other held also is is_too =
+    let same = one_source limits history slice other held also is is_too in
+    one_held_count limits.columns history slice held also is.can.holds (subst (λ s. HoldsColumns limits.columns history s also) (sym same) is_too.can.holds)
+
 -- whether a state is held
 abbrev pub is_held_state : ColumnState → Bool
 is_held_state (Live document since) = true
@@ -304,21 +311,38 @@ test_by_held Unclaimed is = absurd is
 test_by_held Dropped is = absurd is
 test_by_held (Deleted document since until) is = absurd is
 
--- and has one in a legal history
-pub some_held_count : (limits : Limits) (history : List Event) (slice : ℕ) → IsLegal limits history → (n : ℕ) × HoldsColumns limits.columns history slice n
-some_held_count limits history slice legal =
+-- the number of columns whose state, by their events, is held
+abbrev pub held_in : ℕ → ℕ → List Event → ℕ
+held_in columns slice history = count_by (λ column. is_held_state (state_of slice column history)) (range_with_len 0 columns)
+
+-- in a legal history so many are held
+pub holds_by_states : (limits : Limits) (history : List Event) (slice : ℕ) → IsLegal limits history →
+    HoldsColumns limits.columns history slice (held_in limits.columns slice history)
+holds_by_states limits history slice legal =
     let all = kept limits history legal in
-    let test = λ (column : ℕ). is_held_state (state_of slice column history) in (
-      count_by test (range_with_len 0 limits.columns),
-      record {
-        is_held = test;
-        tells = λ column in'. (
-          λ is. (state_of slice column history, all.holds slice column, held_by_test (state_of slice column history) is),
-          λ held. test_by_held (state_of slice column history) (subst IsHeld (all.only slice column held.0 held.1) held.2),
-        );
-        count = refl;
-      },
-    )
+    record {
+      is_held = λ column. is_held_state (state_of slice column history);
+      tells = λ column in'. (
+        λ is. (state_of slice column history, all.holds slice column, held_by_test (state_of slice column history) is),
+        λ held. test_by_held (state_of slice column history) (subst IsHeld (all.only slice column held.0 held.1) held.2),
+      );
+      count = refl;
+    }
+
+-- so documents may be moved out of a filled slice where the state of one column is live and fewer are held than there are
+pub emptied_by_states : (limits : Limits) (history : List Event) (slice column : ℕ) (document : Document) (since : ℕ) → IsLegal limits history →
+    IsFilled limits.columns slice history → column < limits.columns → state_of slice column history ≡ Live document since →
+    held_in limits.columns slice history < limits.columns → CanBeEmptied limits.columns history slice (held_in limits.columns slice history)
+emptied_by_states limits history slice column document since legal filled in' live few = record {
+  filled = filled;
+  live = (column, document, since, in', subst (IsInState history slice column) live ((kept limits history legal).holds slice column));
+  holds = holds_by_states limits history slice legal;
+  fewer = few;
+}
+
+-- each slice has a number of held columns
+pub some_held_count : (limits : Limits) (history : List Event) (slice : ℕ) → IsLegal limits history → (n : ℕ) × HoldsColumns limits.columns history slice n
+some_held_count limits history slice legal = (held_in limits.columns slice history, holds_by_states limits history slice legal)
 
 -- a state is live or not
 live_cases : (x : ColumnState) → ((d : Document) × (since : ℕ) × (x ≡ Live d since)) ⊎ ((d : Document) (since : ℕ) → x ≡ Live d since → ⊥)

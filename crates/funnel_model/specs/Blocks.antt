@@ -30,7 +30,8 @@ pub record IsLowestGuard (columns : ℕ) (history : List Event) (slice pass numb
 abbrev pub IsBlock : ℕ → List Event → ℕ → Block → Type 0
 IsBlock columns history slice (block.Clearing pass) = is_clearing_by pass slice history ≡ true
 IsBlock columns history slice (block.Guarded pass opened_at) = IsLowestGuard columns history slice pass opened_at
-IsBlock columns history slice (block.Live column) = (document : Document) × (since : ℕ) × IsLowestHeld columns history slice column (Live document since)
+IsBlock columns history slice (block.Live column) =
+    (document : Document) × (since : ℕ) × IsLowestHeld columns history slice column (Live document since)
 IsBlock columns history slice (block.Pending column pass) = IsLowestHeld columns history slice column (Pending pass)
 
 -- one block for each slice, by its number; meant for full histories

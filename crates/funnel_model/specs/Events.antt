@@ -46,7 +46,7 @@ takes_off id (event.Del pass deleted) = deleted == id
 takes_off id (event.Move pass moved slice column bits) = moved == id
 takes_off id _ = false
 
--- whether the event moves a document, or leaves a column without one that was claimed for a move
+-- whether the event moves a document to the claimed column, or leaves that column without one and no call is told so
 abbrev pub moves : Event → Bool
 moves (event.Move pass id slice column bits) = true
 moves (event.Void pass slice column) = true

@@ -82,8 +82,10 @@ moved_by pass history = count_by (λ e. pass_of e == pass && moves e) history
 -- each move has its cause, a delete or a drop before it, by which a slice has a column that is over. An engine keeps to this; a legal
 -- history need not
 abbrev pub MovesAreCaused : List Event → Type 0
-MovesAreCaused history = (earlier : List Event) (e : Event) (later : List Event) → history ≡ earlier ++ e ∷ later → moves e ≡ true → list_any deletes_or_drops earlier ≡ true
+MovesAreCaused history =
+    (earlier : List Event) (e : Event) (later : List Event) → history ≡ earlier ++ e ∷ later → moves e ≡ true →
+    list_any deletes_or_drops earlier ≡ true
 
--- no document was moved in the history, and no column that was claimed for a move was left without one
+-- no document was moved in the history, and no claimed column was left without one that no call was told of
 abbrev pub MovesNothing : List Event → Type 0
 MovesNothing history = list_any moves history ≡ false

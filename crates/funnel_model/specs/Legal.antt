@@ -29,7 +29,8 @@ IsIdle pass history = IfSome (last_by pass history) (λ e. leaves_open e ≡ fal
 -- or it is being cleared
 abbrev pub IsBlocked : ℕ → List Event → ℕ → Type 0
 IsBlocked columns history slice =
-    (IsFilled columns slice history × (IsRetired columns slice history → ⊥)) ⊎ (IsRetired columns slice history × IsGuarded columns history slice)
+    (IsFilled columns slice history × (IsRetired columns slice history → ⊥))
+    ⊎ (IsRetired columns slice history × IsGuarded columns history slice)
     ⊎ (is_clearing slice history ≡ true)
 
 -- the engine is full: in no slice can a column be taken, and no slice can be cleared
@@ -73,7 +74,7 @@ pub record MayDrop (history : List Event) (pass id slice column : ℕ) : Type 0 
   pub taken : last_by pass history ≡ Some (event.Take pass slice column)
   pub present : is_live id history ≡ true
 
--- a pass may move a live document to the column that it just took: its bits are bits of that slice's words of 64 bits
+-- a pass may move a live document to the column that it just took; the bits that it sets there are bits of that slice's words of 64 bits
 pub record MayMove (limits : Limits) (history : List Event) (pass id slice column : ℕ) (bits : List Bit) : Type 0 where
   pub taken : last_by pass history ≡ Some (event.Take pass slice column)
   pub present : is_live id history ≡ true
@@ -141,7 +142,8 @@ pub record MayReadOff (history : List Event) (pass : ℕ) (asked : Call) : Type 
 
 -- the event may come next, by its kind
 abbrev pub MayFollow : Limits → List Event → Event → Type 0
-MayFollow limits history (event.Take pass slice column) = MayTake limits history pass slice column ⊎ MayTakeOpened limits history pass slice column
+MayFollow limits history (event.Take pass slice column) =
+    MayTake limits history pass slice column ⊎ MayTakeOpened limits history pass slice column
 MayFollow limits history (event.Add pass id text slice column bits) = MayAdd limits history pass id slice column bits
 MayFollow limits history (event.Drop pass id text slice column) = MayDrop history pass id slice column
 MayFollow limits history (event.Del pass id) = MayDelete history pass id

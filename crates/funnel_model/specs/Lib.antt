@@ -8,6 +8,7 @@ pub mod Listed
 pub mod MoveExample
 pub mod RecycleExample
 pub mod Reserve
+pub mod ReserveExample
 pub mod RowWords
 pub mod Sizes
 pub mod SliceSets

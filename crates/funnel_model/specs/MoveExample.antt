@@ -6,16 +6,13 @@ use Rattle.funnel_model.specs.declared.event.Event.{Event}
 use Rattle.funnel_model.specs.declared.event.Event.TheVariants as event
 use Rattle.funnel_model.specs.declared.reply.Reply.{Reply}
 use Rattle.funnel_model.specs.declared.reply.Reply.TheVariants as reply
+use Rattle.funnel_model.specs.Example.{first_added}
 use Rattle.funnel_model.specs.History.{Document}
 use Rattle.funnel_model.specs.RecycleExample.{high_bit, low_bit}
 
 -- the document that moves
 abbrev pub cat : Document
 cat = record { id = 9; text = codes "a cat"; place = 1 }
-
--- a document of this number is added in slice 0
-abbrev pub first_of_two : List Event
-first_of_two = event.Take 0 0 0 ∷ event.Add 0 9 [] 0 0 [] ∷ []
 
 -- it is added in slice 0, pass 1 begins a find, and it moves to slice 1: slice 0 retires, and the find guards it
 abbrev pub moved : List Event
@@ -51,4 +48,4 @@ moved_again_replies =
 
 -- documents 9 and 7 fill a slice of two columns, and 9 is deleted
 abbrev pub half_deleted : List Event
-half_deleted = event.Take 0 0 0 ∷ event.Add 0 9 [] 0 0 [] ∷ event.Take 0 0 1 ∷ event.Add 0 7 [] 0 1 [] ∷ event.Del 0 9 ∷ []
+half_deleted = first_added ++ event.Take 0 0 1 ∷ event.Add 0 7 [] 0 1 [] ∷ event.Del 0 9 ∷ []

@@ -56,9 +56,13 @@ recycled =
     unguarded ++ event.Clear 0 0 ∷ event.Opened 0 0 true
     ∷ event.Read 0 (call.Journal 0) ∷ event.Read 0 (call.Journal 1) ∷ event.Read 0 (call.Journal 4) ∷ []
 
--- pass 1 clears slice 1 while pass 0 takes a column of slice 0 for document 5
+-- pass 1 clears and opens slice 1, and pass 0 takes a column of slice 0 between
+abbrev pub both_recycled : List Event
+both_recycled = recycled ++ event.Clear 1 1 ∷ event.Take 0 0 0 ∷ event.Opened 1 1 true ∷ []
+
+-- document 5 is added on that column
 abbrev pub together : List Event
-together = recycled ++ event.Clear 1 1 ∷ event.Take 0 0 0 ∷ event.Opened 1 1 true ∷ event.Add 0 5 [] 0 0 [] ∷ []
+together = both_recycled ++ event.Add 0 5 [] 0 0 [] ∷ []
 
 -- pass 0 has added a document in slice 0, and pass 1 has taken the column of slice 1
 abbrev pub held : List Event

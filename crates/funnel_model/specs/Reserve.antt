@@ -18,14 +18,15 @@ HasSpareIn columns history slice n =
     (IsInUse columns slice history × (n ≡ unclaimed_in columns slice history))
     ⊎ ((IsRetired columns slice history ⊎ (is_clearing slice history ≡ true)) × (n ≡ columns))
 
--- how many of them are ready, for the next add or after one clear: the spare ones, but none where the slice is being cleared or guarded
+-- how many columns of the slice are ready, to be taken at once or after one clear: those that are spare, but none where the slice is
+-- being cleared or guarded
 abbrev pub HasReadyIn : ℕ → List Event → ℕ → ℕ → Type 0
 HasReadyIn columns history slice n =
     (IsInUse columns slice history × (n ≡ unclaimed_in columns slice history))
     ⊎ (CanClear columns history slice × (n ≡ columns))
     ⊎ ((IsGuarded columns history slice ⊎ (is_clearing slice history ≡ true)) × (n ≡ 0))
 
--- the sum of the numbers of all slices, each of which is the slice's own
+-- each slice has one number, and this is the sum of them
 pub record IsTotal (slices : ℕ) (IsNumberOf : ℕ → ℕ → Type 0) (total : ℕ) : Type 0 where
   pub numbers : List ℕ
   pub count : length numbers ≡ slices
@@ -40,10 +41,11 @@ HasSpareColumns limits history n = IsTotal limits.slices (HasSpareIn limits.colu
 abbrev pub HasReadyColumns : Limits → List Event → ℕ → Type 0
 HasReadyColumns limits history n = IsTotal limits.slices (HasReadyIn limits.columns history) n
 
--- so many columns of the slice are held, which is live or pending: a test that tells of each whether it is passes for so many
+-- so many columns of the slice are held, which means live or pending: they are counted by a test that tells of each column whether it is
 pub record HoldsColumns (columns : ℕ) (history : List Event) (slice n : ℕ) : Type 0 where
   pub is_held : ℕ → Bool
-  pub tells : (column : ℕ) → column < columns → (is_held column ≡ true) ↔ ((state : ColumnState) × IsInState history slice column state × IsHeld state)
+  pub tells : (column : ℕ) → column < columns →
+      (is_held column ≡ true) ↔ ((state : ColumnState) × IsInState history slice column state × IsHeld state)
   pub count : n ≡ count_by is_held (range_with_len 0 columns)
 
 -- documents may be moved out of the slice, of which so many columns are held: it is filled, one of its columns is live, and not all of

@@ -49,7 +49,7 @@ pub record IsLiveOn (history : List Event) (slice column : ℕ) (document : Docu
   pub put : IsPutOn history slice column document since later
   pub not_taken_off : list_any (takes_off document.id) later ≡ false
 
--- the home of the live document with this number is the column on which it was put last
+-- the home of the live document with this number: the column on which it was put, and from which nothing took it off
 abbrev pub IsHome : List Event → ℕ → ℕ → ℕ → Type 0
 IsHome history id slice column = (document : Document) × (since : ℕ) × (document.id ≡ id) × IsLiveOn history slice column document since
 
@@ -63,9 +63,8 @@ pub record IsDeletedOn (history : List Event) (slice column : ℕ) (document : D
   pub takes_it_off : takes_off document.id event ≡ true
   pub count : until ≡ since + length between + 1
 
--- the states of a column: a pending one with the pass that claimed it, a live or deleted one with its document and the number of
--- the event that put it there, and a deleted one, which is one whose document was deleted or moved since, with the number of the
--- event that took it off
+-- The states of a column. It is pending by the pass that claimed it. It is live or deleted with its document and the number of the event
+-- that put it there. It is deleted where the document was deleted or moved away since, with the number of the event that took it off
 pub data ColumnState : Type 0 where
   Unclaimed : ColumnState
   Pending : ℕ → ColumnState
@@ -87,9 +86,10 @@ IsOver Dropped = Unit {0}
 IsOver (Deleted document since until) = Unit {0}
 IsOver _ = ⊥
 
--- each column of the slice is deleted or dropped
+-- each column of the slice is over
 abbrev pub AllOver : ℕ → ℕ → List Event → Type 0
-AllOver columns slice history = (column : ℕ) → column < columns → (state : ColumnState) × IsInState history slice column state × IsOver state
+AllOver columns slice history =
+    (column : ℕ) → column < columns → (state : ColumnState) × IsInState history slice column state × IsOver state
 
 -- whether a pass has begun to clear the slice and not opened it yet
 abbrev pub is_clearing : ℕ → List Event → Bool
@@ -99,12 +99,12 @@ is_clearing slice history = list_any (clears slice) (span slice history)
 abbrev pub is_clearing_by : ℕ → ℕ → List Event → Bool
 is_clearing_by pass slice history = list_any (λ e. pass_of e == pass && clears slice e) (span slice history)
 
--- each column of the slice is deleted or dropped, and it isn't being cleared yet
+-- each column of the slice is over, and it isn't being cleared yet
 pub record IsRetired (columns slice : ℕ) (history : List Event) : Type 0 where
   pub over : AllOver columns slice history
   pub not_clearing : is_clearing slice history ≡ false
 
--- the slice may be read and filled: it is neither retired nor being cleared
+-- documents may be read and added there: the slice is neither retired nor being cleared
 pub record IsInUse (columns slice : ℕ) (history : List Event) : Type 0 where
   pub not_retired : IsRetired columns slice history → ⊥
   pub not_clearing : is_clearing slice history ≡ false

@@ -112,7 +112,7 @@ pub record IsSpent (limits : Limits) (pass : ℕ) (before after : List Event) (g
   pub call : AddsNone pass before after
   pub many : limits.events ≤ length after
 
--- how many documents a call moves at most: an add may make room so for later ones, and no other call moves any
+-- how many columns a call takes at most to move documents there: an add some, and another call none
 abbrev pub most_moves : Call → ℕ
 most_moves (call.Add id text) = MOST_MOVES
 most_moves _ = 0
@@ -124,7 +124,9 @@ pub record Step (limits : Limits) (pass : ℕ) (before after : List Event) (aske
   pub idle_before : IsIdle pass before
   pub idle_after : IsIdle pass after
   pub few_moves : moved_by pass after ≤ moved_by pass before + most_moves asked
-  pub outcome : IsMade limits pass before after asked given ⊎ LacksMemory pass before after asked given ⊎ IsSpent limits pass before after given
+  pub outcome : IsMade limits pass before after asked given
+      ⊎ LacksMemory pass before after asked given
+      ⊎ IsSpent limits pass before after given
 
 -- calls lead from front to front, one step for each, and are answered by these replies in order
 abbrev pub Linear : Limits → ℕ → List Event → List Event → List Call → List Reply → Type 0

@@ -5,7 +5,7 @@ pub enum Block {
     Live { column: u32 },
     /// The pass has claimed this column for a document. It is the lowest column that is live or pending.
     Pending { column: u32, pass: u32 },
-    /// Each column of the slice is deleted or dropped. This is the lowest pass that runs a find begun before the slice retired,
+    /// Each column of the slice is over. This is the lowest pass that runs a find begun before the slice retired,
     /// and the number of the event that began it.
     Guarded { pass: u32, opened_at: u64 },
     /// The pass is clearing the slice.

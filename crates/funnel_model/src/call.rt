@@ -1,7 +1,7 @@
 use crate::config::Config;
 use crate::text::Text;
 
-/// The most documents that an add moves before it takes a column for its own.
+/// The most columns that an add takes to move documents there, beside the one for its own.
 pub const MOST_MOVES: u32 = 16;
 
 /// What a client asks of the engine.
@@ -17,8 +17,8 @@ pub enum Call {
     Place,
     /// Tell the commits but the first so many.
     Journal { from: u64 },
-    /// Clear and open a slice of which each column is deleted or dropped.
+    /// Clear and open a slice of which each column is over.
     Recycle,
-    /// Treat slices by this configuration, each from its next clear on.
+    /// Treat each slice that is cleared from now on by this configuration, until another is given.
     Tune { config: Config },
 }

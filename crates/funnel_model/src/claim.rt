@@ -1,6 +1,6 @@
 use crate::slice_set::SliceSet;
 
-/// A column that a pass has claimed, and to which it adds or drops a document. It must be spent.
+/// A column that a pass has claimed for a document that it adds or moves there, if it doesn't leave it without. It must be spent.
 #[derive(Debug)]
 pub struct Claim {
     pub slice: u32,

@@ -59,7 +59,7 @@ pub enum Event {
     End {
         pass: u32,
     },
-    /// The pass begins to clear a slice of which each column is deleted or dropped.
+    /// The pass begins to clear a slice of which each column is over: its document was deleted or moved away, or it got none.
     Clear {
         pass: u32,
         slice: u32,
@@ -71,7 +71,8 @@ pub enum Event {
         slice: u32,
         alone: bool,
     },
-    /// New statistics are given. A slice is treated by them from its next `Clear` on, and until then as it was.
+    /// New statistics are given. At each `Clear` a slice begins to be treated by those that were given last, and it stays so until its
+    /// next `Clear`.
     Tune {
         pass: u32,
         config: Config,

@@ -61,11 +61,12 @@ pub fn live_documents_have_columns()
     ensures number { (history : List Event) (id : ℕ) → is_live id history ≡ true ↔
         ((d : Document) × Contains (live history) d × (d.id ≡ id)) }
     ensures column { (limits : Limits) (history : List Event) (d : Document) → IsLegal limits history → Contains (live history) d →
-        (slice : ℕ) × (column : ℕ) × (since : ℕ) × (slice < limits.slices) × (column < limits.columns) × IsInState history slice column (Live d since) }
+        (slice : ℕ) × (column : ℕ) × (since : ℕ) × (slice < limits.slices) × (column < limits.columns)
+        × IsInState history slice column (Live d since) }
     ensures document { (history : List Event) (slice column since : ℕ) (d : Document) →
         IsInState history slice column (Live d since) → Contains (live history) d }
-    ensures once { (limits : Limits) (history : List Event) (slice column other at since after : ℕ) (d e : Document) → IsLegal limits history →
-        IsInState history slice column (Live d since) → IsInState history other at (Live e after) → d.id ≡ e.id →
+    ensures once { (limits : Limits) (history : List Event) (slice column other at since after : ℕ) (d e : Document) →
+        IsLegal limits history → IsInState history slice column (Live d since) → IsInState history other at (Live e after) → d.id ≡ e.id →
         (slice ≡ other) × (column ≡ at) }
 {}
 
@@ -78,7 +79,7 @@ pub fn retired_slices_are_empty()
 {}
 
 /// In a legal history of slices with columns, a slice that is retired has retired at one event: of those since its last opening,
-/// the first after which all its columns are deleted or dropped. The number of that event stays until the slice is opened, and
+/// the first after which all its columns are over. The number of that event stays until the slice is opened, and
 /// from that event on all columns are over.
 pub fn slices_retire_at_one_event()
     ensures some { (limits : Limits) (history : List Event) (slice : ℕ) → IsLegal limits history → 0 < limits.columns →

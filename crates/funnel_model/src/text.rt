@@ -1,5 +1,7 @@
-ghost use Rattle.std.specs.Prelude.{◌≡◌, ℕ, List, length, string_bytes};
+ghost use Rattle.std.specs.Prelude.{◌≡◌, ℕ, List, length, string_bytes, IfOk};
 
+use crate::memory::Memory;
+use std::alloc::Global;
 use std::marker::Model;
 
 /// The text of a document or a query, in UTF-8. Contracts see it as its bytes.
@@ -19,6 +21,13 @@ impl Text {
         ensures { result ≡ string_bytes text }
     {
         Text { text }
+    }
+
+    /// The same text in a string of its own.
+    pub fn copy(&self, alloc: Global) -> Result<Text, Memory>
+        ensures { IfOk result (λ text. text ≡ self.now) }
+    {
+        Ok(Text::new(String::from_str(alloc, &self.text)?))
     }
 
     /// Its length in bytes.

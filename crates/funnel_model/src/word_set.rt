@@ -57,6 +57,17 @@ impl WordSet {
         Ok(WordSet { buffer, ends })
     }
 
+    /// The same words in buffers of their own.
+    pub fn copy(&self, alloc: Global) -> Result<WordSet, Memory>
+        ensures { IfOk result (λ set. set ≡ self.now) }
+    {
+        let mut buffer = Vec::with_capacity(alloc, self.buffer.len())?;
+        buffer.extend_from_slice(&self.buffer)?;
+        let mut ends = Vec::with_capacity(alloc, self.ends.len())?;
+        ends.extend_from_slice(&self.ends)?;
+        Ok(WordSet { buffer, ends })
+    }
+
     /// The number of words.
     pub fn len(&self) -> usize
         ensures count { result ≡ length self.now }

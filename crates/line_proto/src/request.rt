@@ -11,6 +11,6 @@ pub enum Request<'a> {
     Place,
     /// Tell the commits but the first so many.
     Journal { from: u64 },
-    /// Clear and open a slice of which each column is deleted or dropped.
+    /// Clear and open a slice of which each column is over.
     Recycle,
 }

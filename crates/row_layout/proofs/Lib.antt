@@ -7,3 +7,5 @@ pub mod Sorting
 pub mod Ranked
 pub mod Owners
 pub mod SoundHistories
+pub mod SetBits
+pub mod OneList

@@ -1,6 +1,6 @@
 -- Private rows: whose bits theirs are, and that they tell their word.
-use Rattle.std.proofs.Common.{◌≡◌, ℕ, ◌+◌, ◌*◌, ◌/◌, ◌%◌, ◌^◌, ◌<◌, ◌≤◌, ⊎_elim, Bool, true, false, cond, List, [], ◌∷◌, ◌++◌, get_or, filter, Contains, Option, Some, None, sym, refl, ap, ◌∙◌, subst, append_assoc, arith}
-use Rattle.std.proofs.lemmas.Bool.{and_parts, cases_lt, eqb-true, ltb-true, or_from}
+use Rattle.std.proofs.Common.{◌≡◌, ℕ, ◌+◌, ◌*◌, ◌/◌, ◌%◌, ◌^◌, ◌<◌, ◌≤◌, ⊎_elim, Bool, true, false, cond, List, [], ◌∷◌, ◌++◌, get_or, filter, length, Contains, Option, Some, None, sym, refl, ap, ◌∙◌, subst, append_assoc, arith}
+use Rattle.std.proofs.lemmas.Bool.{and_parts, cases_lt, eqb-true, lt-ltb, ltb-true, or_from}
 use Rattle.std.proofs.lemmas.List.Elements.{Contains-append_right}
 use Rattle.std.proofs.lemmas.List.Sums.{passes_at_first}
 use Rattle.std.proofs.lemmas.Slice.Eq.{bytes_eq-Decides}
@@ -12,11 +12,11 @@ use Rattle.funnel_model.proofs.Histories.{legal_before}
 use Rattle.funnel_model.proofs.LiveColumns.{put_number}
 use Rattle.funnel_model.proofs.LiveLemmas.{added_at, live-push, live-silent, survives}
 use Rattle.funnel_model.proofs.LivesOn.{one_live}
+use Rattle.funnel_model.proofs.RowWords.{slices_apart}
 use Rattle.funnel_model.proofs.TuningLemmas.{treat-later}
-use Rattle.funnel_model.specs.Configuration.{IsInRange}
 use Rattle.funnel_model.specs.Events.{bits_on, clears, put_on}
 use Rattle.funnel_model.specs.History.{Document, live, place}
-use Rattle.funnel_model.specs.Legal.{Limits, IsLegal}
+use Rattle.funnel_model.specs.Legal.{Limits, IsInSlice, IsLegal}
 use Rattle.funnel_model.specs.Sizes.{class_of_word, columns_of_slice, private_words, base_of_rank, width_of_rank, words_of_slice}
 use Rattle.funnel_model.specs.Tunings.{treat}
 use Rattle.funnel_model.specs.Words.{words}
@@ -25,8 +25,8 @@ use Rattle.funnel_model.specs.declared.config.Config.{Config}
 use Rattle.funnel_model.specs.declared.event.Event.{Event}
 use Rattle.funnel_model.specs.declared.event.Event.TheVariants as event
 use Rattle.row_layout.specs.DocumentBits.{AreDocumentBitsIn, bit_of_row}
-use Rattle.row_layout.specs.Laws.{BitsHaveOneOwner, ExactWordsHaveOwnedBits, OwnedBitsTellWords, OwnedBitsTellWordsOfDocuments}
-use Rattle.row_layout.specs.Owners.{is_exact}
+use Rattle.row_layout.specs.Laws.{BitsHaveOneOwner, DocumentsKeepTheirBits, ExactWordsHaveOwnedBits, OwnedBitsTellWords, OwnedBitsTellWordsOfDocuments, PrivateRowsHaveOwnedBits, TreatedBitsHaveOneOwner}
+use Rattle.row_layout.specs.Owners.{IsOfExactWord, OwnsIn}
 use Rattle.row_layout.specs.Rows.{private_number, private_row, rank_in_class, row_count_of_word, row_of_word, rows_of_word}
 use Rattle.row_layout.specs.Sound.{HasItsBits}
 use Rattle.row_layout.specs.declared.row.Row.{Row}
@@ -34,6 +34,21 @@ use Rattle.row_layout.proofs.Listing.{private_number-below}
 use Rattle.row_layout.proofs.Lists.{Contains-from_flat_map, Contains-from_map}
 use Rattle.row_layout.proofs.Spans.{base-below, offset-below, private-ends, rows_more, width-positive}
 use Rattle.row_layout.proofs.WordRows.{row_of_word-private, row_of_word-shared}
+
+-- each column of a slice owns the bits of its private rows
+pub private-owned : PrivateRowsHaveOwnedBits
+private-owned room config slice column row fits in_slice private =
+    let i = private.0 in
+    let ends = private-ends config i private.1 in
+    let all = base-below config 0 (config.max_rank + 1) (omega arith) in
+    let x_in = offset-below config 0 column (omega arith) in_slice in
+    record {
+      row = row;
+      private = private;
+      is_its = refl;
+      in_slice = omega arith;
+      inside = subst (λ (r : Row). IsInSlice room slice (bit_of_row room slice column r).word) (sym private.2) (record { from = omega arith; to = omega arith });
+    }
 
 -- the only row of an exact word is its private row
 exact_row : (config : Config) (word : List ℕ) (row : Row) → class_of_word config word < 3 → Contains (rows_of_word config word) row →
@@ -44,9 +59,10 @@ exact_row config word row less has =
 
 -- so its column owns its bit
 pub exact-owned : ExactWordsHaveOwnedBits
-exact-owned room config slice column word row exact has =
+exact-owned room config slice column word row fits in_slice exact has =
     let less = ltb-true (class_of_word config word) 3 exact in
-    (row, (private_number config word, private_number-below config word less, exact_row config word row less has), refl)
+    private-owned room config slice column row fits in_slice
+    (private_number config word, private_number-below config word less, exact_row config word row less has)
 
 -- two private rows have one number where they start together
 one_number : (w i k : ℕ) → 1 ≤ w → i * w ≡ k * w → i ≡ k
@@ -73,26 +89,34 @@ one_place w i k x y within inside same =
     let rows : i * w ≡ k * w = ap (λ n. n * w) number in
     (number, omega (arith, same, rows))
 
--- a bit of a private row has one owner
-pub one_owner : BitsHaveOneOwner
-one_owner room config slice other column at bit range fits in_slice in_other owns also =
-    let i = owns.1.0 in
-    let k = also.1.0 in
+-- a bit of a private row is owned by one column of the slice
+one_column : (room : ℕ) (config : Config) (slice column at : ℕ) (bit : Bit) → OwnsIn room config slice column bit → OwnsIn room config slice at bit → column ≡ at
+one_column room config slice column at bit owns also =
+    let i = owns.private.0 in
+    let k = also.private.0 in
     let w = width_of_rank config 0 in
-    let first : bit ≡ bit_of_row room slice column (private_row config i) = owns.2 ∙ ap (bit_of_row room slice column) owns.1.2 in
-    let second : bit ≡ bit_of_row room other at (private_row config k) = also.2 ∙ ap (bit_of_row room other at) also.1.2 in
-    let word : slice * room + i * w + column / (64 * 2 ^ 0) ≡ other * room + k * w + at / (64 * 2 ^ 0) = ap (λ (b : Bit). b.word) (sym first ∙ second) in
+    let first : bit ≡ bit_of_row room slice column (private_row config i) = owns.is_its ∙ ap (bit_of_row room slice column) owns.private.2 in
+    let second : bit ≡ bit_of_row room slice at (private_row config k) = also.is_its ∙ ap (bit_of_row room slice at) also.private.2 in
+    let word : slice * room + i * w + column / (64 * 2 ^ 0) ≡ slice * room + k * w + at / (64 * 2 ^ 0) = ap (λ (b : Bit). b.word) (sym first ∙ second) in
     let place : column % 64 ≡ at % 64 = ap (λ (b : Bit). b.bit) (sym first ∙ second) in
-    let x_in = offset-below config 0 column (omega arith) in_slice in
-    let y_in = offset-below config 0 at (omega arith) in_other in
-    let i_ends = private-ends config i owns.1.1 in
-    let k_ends = private-ends config k also.1.1 in
-    let all = base-below config 0 (config.max_rank + 1) (omega arith) in
-    let places = one_place room slice other (i * w + column / (64 * 2 ^ 0)) (k * w + at / (64 * 2 ^ 0)) (omega arith) (omega arith) (omega (arith, word)) in
-    let rows = one_place w i k (column / (64 * 2 ^ 0)) (at / (64 * 2 ^ 0)) x_in y_in places.1 in
-    (places.0, same_column column at rows.1 place) where
+    let x_in = offset-below config 0 column (omega arith) owns.in_slice in
+    let y_in = offset-below config 0 at (omega arith) also.in_slice in
+    let rows = one_place w i k (column / (64 * 2 ^ 0)) (at / (64 * 2 ^ 0)) x_in y_in (omega (arith, word)) in
+    same_column column at rows.1 place where
       same_column : (c d : ℕ) → c / 64 ≡ d / 64 → c % 64 ≡ d % 64 → c ≡ d
       same_column c d whole rest = omega arith
+
+-- and by one of all columns
+pub one_owner : BitsHaveOneOwner
+one_owner room config slice other column at bit owns also =
+    let same = slices_apart room slice other bit.word owns.inside also.inside in
+    (same, one_column room config slice column at bit owns (subst (λ s. OwnsIn room config s at bit) (sym same) also))
+
+pub one_owner-treated : TreatedBitsHaveOneOwner
+one_owner-treated opening history slice other column at bit owns also =
+    let room = words_of_slice opening in
+    let same = slices_apart room slice other bit.word owns.inside also.inside in
+    (same, one_column room (treat opening slice history) slice column at bit owns (subst (λ s. OwnsIn room (treat opening s history) s at bit) (sym same) also))
 
 -- the word at the place of a private row is that word
 word_there : (config : Config) (word : List ℕ) (d : List ℕ × ℕ) → class_of_word config word < 3 →
@@ -111,6 +135,22 @@ one_word config word other less also same =
     ∙ ap (λ k. (get_or (private_words config) k (word, 0)).0) same
     ∙ word_there config other (word, 0) also
 
+-- the bit of a private row is none of a row of a word that has shared rows
+shared-apart : (room : ℕ) (config : Config) (word : List ℕ) (slice column i : ℕ) (row : Row) → i < length (private_words config) →
+    column < columns_of_slice config → 3 ≤ class_of_word config word → Contains (rows_of_word config word) row →
+    bit_of_row room slice column (private_row config i) ≡ bit_of_row room slice column row → ⊥
+shared-apart room config word slice column i row below in_slice high has same =
+    let listed = Contains-from_map (row_of_word config word) (range_with_len 0 (row_count_of_word config word)) row has in
+    let theirs = listed.2 ∙ row_of_word-shared config word listed.0 high in
+    let rank = rank_in_class config (class_of_word config word) listed.0 in
+    let w = width_of_rank config 0 in
+    let word_same : slice * room + i * w + column / (64 * 2 ^ 0) ≡ (bit_of_row room slice column row).word = ap (λ (b : Bit). b.word) same in
+    let start : base_of_rank config rank ≤ row.start = subst (λ (r : Row). base_of_rank config rank ≤ r.start) (sym theirs) (omega arith) in
+    let base = base-below config 0 rank (omega arith) in
+    let ends = private-ends config i below in
+    let x_in = offset-below config 0 column (omega arith) in_slice in
+    omega (arith, word_same, start, base, ends, x_in)
+
 -- a document that has the bit of an exact word's row has the word
 pub owned-tells : OwnedBitsTellWords
 owned-tells room config set slice column bits word row range in_slice are exact has bit =
@@ -122,8 +162,6 @@ owned-tells room config set slice column bits word row range in_slice are exact 
     let w = width_of_rank config 0 in
     let same : bit_of_row room slice column (private_row config n) ≡ bit_of_row room slice column from.0 =
     ap (bit_of_row room slice column) (sym mine) ∙ from.2 in
-    let ends = private-ends config n (private_number-below config word less) in
-    let x_in = offset-below config 0 column (omega arith) in_slice in
     ⊎_elim
     (λ (low' : class_of_word config of_word.0 < 3).
     let theirs = exact_row config of_word.0 from.0 low' of_word.2 in
@@ -133,13 +171,30 @@ owned-tells room config set slice column bits word row range in_slice are exact 
     let number = one_number w n k (width-positive config range 0) (omega (arith, word_same)) in
     subst (Contains set) (sym (one_word config word of_word.0 less low' number)) of_word.1)
     (λ (high : 3 ≤ class_of_word config of_word.0).
-    let listed = Contains-from_map (row_of_word config of_word.0) (range_with_len 0 (row_count_of_word config of_word.0)) from.0 of_word.2 in
-    let theirs = listed.2 ∙ row_of_word-shared config of_word.0 listed.0 high in
-    let rank = rank_in_class config (class_of_word config of_word.0) listed.0 in
-    let word_same : slice * room + n * w + column / (64 * 2 ^ 0) ≡ (bit_of_row room slice column from.0).word = ap (λ (b : Bit). b.word) same in
-    let start : base_of_rank config rank ≤ (from.0).start = subst (λ (r : Row). base_of_rank config rank ≤ r.start) (sym theirs) (omega arith) in
-    let base = base-below config 0 rank (omega arith) in
-    absurd (omega (arith, word_same, start, base, ends, x_in)))
+    absurd (shared-apart room config of_word.0 slice column n from.0 (private_number-below config word less) in_slice high of_word.2 same))
+    (cases_lt (class_of_word config of_word.0) 3)
+
+-- a bit of a document that its column owns is one of an exact word
+pub owned-exact : (room : ℕ) (config : Config) (set : List (List ℕ)) (slice column : ℕ) (bits : List Bit) (bit : Bit) →
+    AreDocumentBitsIn room config set slice column bits → OwnsIn room config slice column bit → Contains bits bit →
+    IsOfExactWord room config set slice column bit
+owned-exact room config set slice column bits bit are owns has =
+    let from = (are.exactly bit).0 has in
+    let of_word = Contains-from_flat_map (rows_of_word config) set from.0 from.1 in
+    let i = owns.private.0 in
+    let same : bit_of_row room slice column (private_row config i) ≡ bit_of_row room slice column from.0 =
+    sym (owns.is_its ∙ ap (bit_of_row room slice column) owns.private.2) ∙ from.2 in
+    ⊎_elim
+    (λ (low : class_of_word config of_word.0 < 3). record {
+      word = of_word.0;
+      has = of_word.1;
+      exact = lt-ltb (class_of_word config of_word.0) 3 low;
+      row = from.0;
+      its_row = of_word.2;
+      is_its = from.2;
+    })
+    (λ (high : 3 ≤ class_of_word config of_word.0).
+    absurd (shared-apart room config of_word.0 slice column i from.0 owns.private.1 owns.in_slice high of_word.2 same))
     (cases_lt (class_of_word config of_word.0) 3)
 
 -- an event that puts a document on a column clears no slice
@@ -180,9 +235,9 @@ put_bits limits opening earlier (event.Move pass id s c bits) slice column docum
   by_test false is put = cc
 put_bits limits opening earlier _ slice column document legal its puts lives = cc
 
--- so an owned bit tells a word of the document that was put on the column, while its slice isn't cleared
-pub owned-tells-documents : OwnedBitsTellWordsOfDocuments
-owned-tells-documents limits opening history slice column document since later word row legal sound put stays range in_slice exact has bit =
+-- and keeps them under the treatment of the slice, while it isn't cleared
+pub put_bits-kept : DocumentsKeepTheirBits
+put_bits-kept limits opening history slice column document since later legal sound put stays =
     let e = put.event in
     let then = treat opening slice put.earlier in
     let kept : treat opening slice history ≡ then =
@@ -190,7 +245,11 @@ owned-tells-documents limits opening history slice column document since later w
     ∙ treat-later opening slice put.earlier (e ∷ later) (or_from (clears slice e) (list_any (clears slice) later) (puts_no_clear slice column document.id slice e put.puts) stays) in
     let whole : history ≡ (put.earlier ++ e ∷ []) ++ later = put.whole ∙ sym (append_assoc put.earlier (e ∷ []) later) in
     let legal_then = legal_before limits (put.earlier ++ e ∷ []) later (subst (IsLegal limits) whole legal) in
-    let are = put_bits limits opening put.earlier e slice column document legal_then (sound put.earlier e later put.whole) put.puts put.lives in
-    owned-tells (words_of_slice opening) then (words document.text) slice column (bits_on slice column e) word row
-    (subst IsInRange kept range) (subst (λ k. column < columns_of_slice k) kept in_slice) are
-    (subst (λ k. is_exact k word ≡ true) kept exact) (subst (λ k. Contains (rows_of_word k word) row) kept has) bit
+    subst (λ k. AreDocumentBitsIn (words_of_slice opening) k (words document.text) slice column (bits_on slice column e)) (sym kept)
+    (put_bits limits opening put.earlier e slice column document legal_then (sound put.earlier e later put.whole) put.puts put.lives)
+
+-- so an owned bit tells a word of the document that was put on the column, while its slice isn't cleared
+pub owned-tells-documents : OwnedBitsTellWordsOfDocuments
+owned-tells-documents limits opening history slice column document since later word row legal sound put stays range in_slice exact has bit =
+    owned-tells (words_of_slice opening) (treat opening slice history) (words document.text) slice column (bits_on slice column put.event) word row
+    range in_slice (put_bits-kept limits opening history slice column document since later legal sound put stays) exact has bit

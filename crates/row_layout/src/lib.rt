@@ -17,8 +17,10 @@ mod word_rows;
 
 pub use bits::{Bits, bits_of};
 pub use laws::{
-    documents_have_bits_of_parts, each_row_has_its_bit, histories_are_sound_event_by_event,
-    owned_bits_have_one_owner, owned_bits_tell_words,
+    columns_have_the_bits_of_their_events, documents_have_bits_of_parts,
+    documents_have_one_list_of_bits, documents_keep_their_bits, each_row_has_its_bit,
+    histories_are_sound_event_by_event, owned_bits_have_one_owner, owned_bits_tell_words,
+    set_bits_tell_words,
 };
 pub use layout::Layout;
 pub use plan::Plan;

@@ -148,21 +148,29 @@ pub step_made_by_turn : {answers : List Event → Type 0} (limits : Limits) (pas
 step_made_by_turn limits pass before after e asked given idle turn mine call unmoved shut replied legal =
     step_made_after limits pass before before after e asked given idle (quiet_weaker pass 0 (most_moves asked) before before (omega arith) (quiet_none pass before)) turn mine call unmoved shut replied legal
 
--- A call that came too late: its turn has no event.
+-- A call that came too late: its turn has no event, and it may have moved documents before.
+pub step_spent_after : {answers : List Event → Type 0} (limits : Limits) (pass : ℕ) (before middle after : List Event) (asked : Call) →
+    IsIdle pass before → IsIdle pass middle → IsQuiet pass (most_moves asked) before middle → (turn : IsTurn pass middle after answers []) → limits.events ≤ length turn.earlier → IsLegal limits after →
+    Step limits pass before after asked reply.Spent
+step_spent_after limits pass before middle after asked idle idle_middle first turn many legal =
+    let most = most_moves asked in
+    let quiet = quiet_trans pass most 0 before middle after first (quiet_turn pass middle after [] turn refl refl) in record {
+      grows = quiet_grows pass (most + 0) before after quiet;
+      legal = legal;
+      idle_before = idle;
+      idle_after = idle_still pass middle after turn idle_middle;
+      few_moves = let few = quiet_moves_few pass (most + 0) before after quiet in omega (arith, few);
+      outcome = inr (inr (record {
+        reply = refl;
+        call = quiet_adds_none pass (most + 0) before after quiet;
+        many = subst (λ (h : List Event). limits.events ≤ length h) (sym (turn.made ∙ append-nil turn.earlier)) many;
+      }));
+    }
+
 pub step_spent_turn : {answers : List Event → Type 0} (limits : Limits) (pass : ℕ) (before after : List Event) (asked : Call) →
     IsIdle pass before → (turn : IsTurn pass before after answers []) → limits.events ≤ length turn.earlier → IsLegal limits after → Step limits pass before after asked reply.Spent
-step_spent_turn limits pass before after asked idle turn many legal = record {
-  grows = turn_grows pass before after [] turn;
-  legal = legal;
-  idle_before = idle;
-  idle_after = idle_still pass before after turn idle;
-  few_moves = let few = quiet_moves_few pass 0 before after (quiet_turn pass before after [] turn refl refl) in omega (arith, few);
-  outcome = inr (inr (record {
-    reply = refl;
-    call = quiet_adds_none pass 0 before after (quiet_turn pass before after [] turn refl refl);
-    many = subst (λ (h : List Event). limits.events ≤ length h) (sym (turn.made ∙ append-nil turn.earlier)) many;
-  }));
-}
+step_spent_turn limits pass before after asked idle turn many legal =
+    step_spent_after limits pass before before after asked idle idle (quiet_weaker pass 0 (most_moves asked) before before (omega arith) (quiet_none pass before)) turn many legal
 
 -- A call that found no memory: it led from front to front without an answer, or it had no turn at all.
 pub step_lacks_memory : (limits : Limits) (pass : ℕ) (before after : List Event) (asked : Call) →

@@ -4,7 +4,7 @@ use Rattle.std.proofs.lemmas.List.Elements.{Contains-append_right}
 use Rattle.std.specs.List.{Contains}
 use Rattle.slice_rule.specs.declared.view.Fact.{Fact}
 use Rattle.slice_rule.specs.declared.view.Fact.TheVariants as fact
-use Rattle.commit_desk.proofs.Sorting.{first_or_rest}
+use Rattle.row_layout.proofs.OneList.{first_or_rest}
 use Rattle.slice_recycler.specs.Cleared.{IsZeroOf}
 
 -- that a word from this one on and before that one is zero

@@ -1,9 +1,9 @@
 -- The sets and the queue that are kept beside the stages.
-use Rattle.std.specs.Prelude.{ℕ, ◌<◌, ◌≤◌, ◌↔◌, List, length, All, Contains}
+use Rattle.std.specs.Prelude.{ℕ, ◌≡◌, ◌<◌, ◌≤◌, ◌↔◌, List, length, All, Contains}
 use Rattle.std.specs.List.{AllPairs}
 use Rattle.circular_buffer.specs.Buffer.{Buffer}
 use Rattle.funnel_model.specs.declared.config.TheConstants.{MOST_SLICES}
-use Rattle.slice_stages.specs.Stages.{HasLeft, IsRetiredBy, IsUsed, StageTable, stage_of}
+use Rattle.slice_stages.specs.Stages.{HasLeft, IsRetiredBy, IsUsed, StageTable, spare_of, stage_of}
 use Rattle.slice_stages.specs.declared.stage.Stage.{Stage}
 use Rattle.slice_stages.specs.declared.stage.Stage.TheVariants as stage
 
@@ -26,7 +26,7 @@ pub record AreQueued (table : StageTable) (waiting : List ℕ) : Type 0 where
   pub all : AreAll (IsWaiting table.mark) table waiting
   pub order : AllPairs (λ slice later. IsBefore (stage_of table slice) (stage_of table later)) waiting
 
--- fewer columns are deleted or dropped than there are
+-- fewer columns are over than there are
 abbrev pub HasColumnsLeft : ℕ → Stage → Type 0
 HasColumnsLeft columns (stage.InUse claimed over) = over < columns
 HasColumnsLeft columns _ = Unit {0}
@@ -41,3 +41,8 @@ pub record AreSets (table : StageTable) (in_use with_room clearable : List ℕ) 
   pub ready : AreAll (IsRetiredBy table.mark) table clearable
   pub queue : AreQueued table waiting.items
   pub room : length table.stages ≤ waiting.capacity
+
+-- beside them the spare columns are counted
+pub record AreKept (table : StageTable) (in_use with_room clearable : List ℕ) (waiting : Buffer ℕ) (spare : ℕ) : Type 0 where
+  pub sets : AreSets table in_use with_room clearable waiting
+  pub counted : spare ≡ spare_of table

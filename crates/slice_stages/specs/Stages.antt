@@ -1,6 +1,5 @@
 -- What is kept of each slice, and the sets that it makes.
-use Rattle.std.specs.Prelude.{ℕ, ◌+◌, ◌<◌, ◌≤◌, ◌≡◌, ◌==◌, ◌↔◌, Bool, false, nat_lt, List, length, map, count_by, slice_index_or, slice_set, if◌then◌else◌, Contains}
-use Rattle.std.specs.List.{AllPairs}
+use Rattle.std.specs.Prelude.{ℕ, ◌+◌, ◌-◌, ◌<◌, ◌≤◌, ◌==◌, nat_le, List, length, sum_by, slice_index_or, slice_set, if◌then◌else◌}
 use Rattle.slice_stages.specs.declared.stage.Stage.{Stage}
 use Rattle.slice_stages.specs.declared.stage.Stage.TheVariants as stage
 
@@ -22,6 +21,24 @@ stage_of table slice = slice_index_or table.stages slice empty_stage
 -- the table with another stage for one slice
 abbrev pub with_stage : StageTable → ℕ → Stage → StageTable
 with_stage table slice next = record table { stages = slice_set table.stages slice next }
+
+-- how many columns of the slice are spare: those that aren't claimed, and all of a slice that is retired or being cleared
+abbrev pub spare_in : ℕ → Stage → ℕ
+spare_in columns (stage.InUse claimed over) = columns - claimed
+spare_in columns _ = columns
+
+-- and of all slices
+abbrev pub spare_of : StageTable → ℕ
+spare_of table = sum_by (spare_in table.columns) table.stages
+
+-- how many of them are ready: none where the slice is being cleared, or retired after the mark
+abbrev pub ready_in : ℕ → ℕ → Stage → ℕ
+ready_in columns mark (stage.InUse claimed over) = columns - claimed
+ready_in columns mark (stage.Retired at) = if nat_le at mark then columns else 0
+ready_in columns mark (stage.Clearing pass) = 0
+
+abbrev pub ready_of : StageTable → ℕ
+ready_of table = sum_by (ready_in table.columns table.mark) table.stages
 
 -- it may be filled and read
 abbrev pub IsUsed : Stage → Type 0
@@ -58,6 +75,6 @@ pub record IsLowest (holds : Stage → Type 0) (table : StageTable) (slice : ℕ
 abbrev pub HoldsOfNone : (Stage → Type 0) → StageTable → Type 0
 HoldsOfNone holds table = (slice : ℕ) → slice < length table.stages → holds (stage_of table slice) → ⊥
 
--- the stage after one more of its columns is deleted or dropped, by the event with this number
+-- the stage after one more of its columns is over, by the event with this number
 abbrev pub after_end : ℕ → ℕ → ℕ → ℕ → Stage
 after_end columns event claimed over = if over + 1 == columns then stage.Retired event else stage.InUse claimed (over + 1)

@@ -1,6 +1,6 @@
 ghost use Rattle.std.specs.Prelude.{◌≡◌, ℕ, ◌+◌, ◌<◌, ◌≤◌, ◌↔◌, All, Contains, IfOk, IsTrue, MatchOption, false, length, replicate};
 ghost use Rattle.funnel_model.specs.declared.config.TheConstants.{MOST_SLICES};
-ghost use Rattle.slice_stages.specs.Stages.{HasLeft, HoldsOfNone, IsLowest, IsRetiredBy, IsUsed, RetiredBefore, RetiredIn, after_end, empty_stage, stage_of, with_stage};
+ghost use Rattle.slice_stages.specs.Stages.{HasLeft, HoldsOfNone, IsLowest, IsRetiredBy, IsUsed, RetiredBefore, RetiredIn, after_end, empty_stage, ready_in, ready_of, spare_of, stage_of, with_stage};
 ghost use Rattle.slice_stages.specs.declared.stage.Stage.TheVariants as stage;
 
 use crate::stage::Stage;
@@ -25,17 +25,18 @@ pub struct Stages {
     with_room: SliceSet,
     clearable: SliceSet,
     waiting: HeapCircularBuffer<u32>,
+    spare: u64,
 }
 
 impl Model for Stages {
     ghost use Rattle.slice_stages.specs.Stages.{StageTable};
-    ghost use Rattle.slice_stages.specs.Sets.{AreSets};
+    ghost use Rattle.slice_stages.specs.Sets.{AreKept};
 
     ghost Value = { StageTable };
 
     ghost view = { λ s. record { columns = s.columns; stages = s.stages.items; mark = s.mark } };
 
-    ghost invariant = { λ s. AreSets (record { columns = s.columns; stages = s.stages.items; mark = s.mark }) s.in_use s.with_room s.clearable s.waiting };
+    ghost invariant = { λ s. AreKept (record { columns = s.columns; stages = s.stages.items; mark = s.mark }) s.in_use s.with_room s.clearable s.waiting s.spare };
 }
 
 impl Stages {
@@ -55,6 +56,7 @@ impl Stages {
             with_room: all_below(slices),
             clearable: SliceSet::new(),
             waiting: HeapCircularBuffer::with_capacity(alloc, slices as usize)?,
+            spare: slices as u64 * columns as u64,
         })
     }
 
@@ -71,6 +73,24 @@ impl Stages {
         ensures { MatchOption result (HoldsOfNone (HasLeft self.now.columns) self.now) (IsLowest (HasLeft self.now.columns) self.now) }
     {
         self.with_room.lowest()
+    }
+
+    /// How many columns are spare.
+    pub fn spare(&self) -> u64
+        ensures { result ≡ spare_of self.now }
+    {
+        self.spare
+    }
+
+    /// How many of them are ready. It looks through the slices.
+    pub fn ready(&self) -> u64
+        ensures { result ≡ ready_of self.now }
+    {
+        let mut ready = 0;
+        for stage in &self.stages {
+            ready += self.ready_in(*stage) as u64;
+        }
+        ready
     }
 
     /// The slices that a find may read.
@@ -100,13 +120,14 @@ impl Stages {
             claimed: claimed + 1,
             over,
         };
+        self.spare -= 1;
         if claimed + 1 == self.columns {
             self.with_room.remove(slice);
         }
         claimed
     }
 
-    /// One more column of the slice is deleted or dropped, by the event with this number. With the last one it retires.
+    /// One more column of the slice is over, by the event with this number. With the last one it retires.
     pub fn end_column(&mut self, slice: u32, event: u64)
         requires in_range { slice < length self.old.stages }
         requires used { IsUsed (stage_of self.old slice) }
@@ -118,7 +139,7 @@ impl Stages {
             unreachable!()
         };
         if over + 1 == self.columns {
-            self.retire(slice, event);
+            self.retire(slice, claimed, event);
         } else {
             self.stages[slice as usize] = Stage::InUse {
                 claimed,
@@ -157,10 +178,21 @@ impl Stages {
         self.with_room.add(slice);
     }
 
+    // How many columns of a slice that is as far are ready.
+    fn ready_in(&self, stage: Stage) -> u32
+        ensures { result ≡ ready_in self.now.columns self.now.mark stage }
+    {
+        match stage {
+            Stage::InUse { claimed, .. } => self.columns.saturating_sub(claimed),
+            Stage::Retired { at } if at <= self.mark => self.columns,
+            _ => 0,
+        }
+    }
+
     // The last column of a slice in use is over: the slice retires, and waits.
-    fn retire(&mut self, slice: u32, event: u64)
+    fn retire(&mut self, slice: u32, claimed: u32, event: u64)
         requires in_range { slice < length self.old.stages }
-        requires used { IsUsed (stage_of self.old slice) }
+        requires used { (over : ℕ) × (stage_of self.old slice ≡ stage.InUse claimed over) }
         requires last { All (RetiredBefore event) self.old.stages }
         requires later { self.old.mark < event }
         ensures { self.new ≡ with_stage self.old slice (stage.Retired event) }
@@ -168,6 +200,7 @@ impl Stages {
         self.in_use.remove(slice);
         self.with_room.remove(slice);
         self.stages[slice as usize] = Stage::Retired { at: event };
+        self.spare += claimed.min(self.columns) as u64;
         let Ok(()) = self.waiting.try_push_back(slice) else {
             unreachable!()
         };

@@ -1,5 +1,6 @@
-//! What is not legal, is no reply and is no step.
+//! What is not legal, is no reply, is no step and is not in range.
 ghost use Rattle.std.specs.Prelude.{◌≡◌, ◌<◌, ◌≤◌, ◌⊎◌, ℕ, true, false, List, [], ◌∷◌, ◌++◌, length, codes};
+ghost use Rattle.funnel_model.specs.Configuration.{IsInRange};
 ghost use Rattle.funnel_model.specs.declared.bit_list.Bit.{Bit};
 ghost use Rattle.funnel_model.specs.declared.call.Call.{Call};
 ghost use Rattle.funnel_model.specs.declared.call.Call.TheVariants as call;
@@ -10,7 +11,7 @@ ghost use Rattle.funnel_model.specs.declared.reply.Reply.{Reply};
 ghost use Rattle.funnel_model.specs.declared.reply.Reply.TheVariants as reply;
 ghost use Rattle.funnel_model.specs.Example.{first_added, small};
 ghost use Rattle.funnel_model.specs.Legal.{IsIdle, IsLegal, Limits};
-ghost use Rattle.funnel_model.specs.MoveExample.{first_of_two, moved};
+ghost use Rattle.funnel_model.specs.MoveExample.{moved};
 ghost use Rattle.funnel_model.specs.History.{MovesAreCaused};
 ghost use Rattle.funnel_model.specs.RecycleExample.{guarded, paired, slices_filled, unguarded};
 ghost use Rattle.funnel_model.specs.Steps.{AddsNone, AnswersLast, FindsNoMemory, IsReply, Step};
@@ -45,28 +46,29 @@ pub fn passes_out_of_turn()
 /// the one that was taken, a drop of a document that can be added, and a delete of a number that isn't live.
 pub fn adds_out_of_place()
     ensures bits { IsLegal paired (event.Take 0 0 0 ∷ event.Add 0 9 [] 0 0 (record { word = 4; bit = 0 } ∷ []) ∷ []) → ⊥ }
-    ensures below { IsLegal paired (event.Take 0 0 0 ∷ event.Add 0 9 [] 0 0 [] ∷ event.Take 0 1 0 ∷ event.Add 0 7 [] 1 0 (record { word = 3; bit = 0 } ∷ []) ∷ []) → ⊥ }
+    ensures below { IsLegal paired (first_added ++ event.Take 0 1 0 ∷ event.Add 0 7 [] 1 0 (record { word = 3; bit = 0 } ∷ []) ∷ []) → ⊥ }
     ensures wide { IsLegal paired (event.Take 0 0 0 ∷ event.Add 0 9 [] 0 0 (record { word = 0; bit = 64 } ∷ []) ∷ []) → ⊥ }
-    ensures live { IsLegal paired (event.Take 0 0 0 ∷ event.Add 0 9 [] 0 0 [] ∷ event.Take 0 1 0 ∷ event.Add 0 9 [] 1 0 [] ∷ []) → ⊥ }
+    ensures live { IsLegal paired (first_added ++ event.Take 0 1 0 ∷ event.Add 0 9 [] 1 0 [] ∷ []) → ⊥ }
     ensures column { IsLegal paired (event.Take 0 0 0 ∷ event.Add 0 9 [] 1 0 [] ∷ []) → ⊥ }
     ensures dropped { IsLegal paired (event.Take 0 0 0 ∷ event.Drop 0 9 [] 0 0 ∷ []) → ⊥ }
-    ensures absent { IsLegal paired (event.Take 0 0 0 ∷ event.Add 0 9 [] 0 0 [] ∷ event.Del 0 7 ∷ []) → ⊥ }
+    ensures absent { IsLegal paired (first_added ++ event.Del 0 7 ∷ []) → ⊥ }
 {}
 
 /// Not legal are a move of a document that isn't live, or not any more, one without a take, after the take of another pass or of
-/// another column, one with bits outside its new slice or past the 64 of a word, and a void
-/// without a take. A move and a void have no reply.
+/// another column, one with bits outside its new slice or past the 64 of a word, and a void without a take. A move and a void have
+/// no reply.
 pub fn moves_out_of_place()
     ensures absent { IsLegal paired (event.Take 0 0 0 ∷ event.Move 0 9 0 0 [] ∷ []) → ⊥ }
-    ensures deleted { IsLegal paired (event.Take 0 0 0 ∷ event.Add 0 9 [] 0 0 [] ∷ event.Del 0 9 ∷ event.Take 0 1 0 ∷ event.Move 0 9 1 0 [] ∷ []) → ⊥ }
-    ensures untaken { IsLegal paired (first_of_two ++ event.Move 0 9 1 0 [] ∷ []) → ⊥ }
-    ensures other_pass { IsLegal paired (first_of_two ++ event.Take 1 1 0 ∷ event.Move 0 9 1 0 [] ∷ []) → ⊥ }
-    ensures other_column { IsLegal paired (first_of_two ++ event.Take 0 1 0 ∷ event.Move 0 9 0 0 [] ∷ []) → ⊥ }
-    ensures below { IsLegal paired (first_of_two ++ event.Take 0 1 0 ∷ event.Move 0 9 1 0 (record { word = 3; bit = 0 } ∷ []) ∷ []) → ⊥ }
-    ensures wide { IsLegal paired (first_of_two ++ event.Take 0 1 0 ∷ event.Move 0 9 1 0 (record { word = 4; bit = 64 } ∷ []) ∷ []) → ⊥ }
-    ensures void { IsLegal paired (first_of_two ++ event.Void 0 1 0 ∷ []) → ⊥ }
+    ensures deleted { IsLegal paired (first_added ++ event.Del 0 9 ∷ event.Take 0 1 0 ∷ event.Move 0 9 1 0 [] ∷ []) → ⊥ }
+    ensures untaken { IsLegal paired (first_added ++ event.Move 0 9 1 0 [] ∷ []) → ⊥ }
+    ensures other_pass { IsLegal paired (first_added ++ event.Take 1 1 0 ∷ event.Move 0 9 1 0 [] ∷ []) → ⊥ }
+    ensures other_column { IsLegal paired (first_added ++ event.Take 0 1 0 ∷ event.Move 0 9 0 0 [] ∷ []) → ⊥ }
+    ensures below { IsLegal paired (first_added ++ event.Take 0 1 0 ∷ event.Move 0 9 1 0 (record { word = 3; bit = 0 } ∷ []) ∷ []) → ⊥ }
+    ensures wide { IsLegal paired (first_added ++ event.Take 0 1 0 ∷ event.Move 0 9 1 0 (record { word = 4; bit = 64 } ∷ []) ∷ []) → ⊥ }
+    ensures void { IsLegal paired (first_added ++ event.Void 0 1 0 ∷ []) → ⊥ }
     ensures no_reply { (limits : Limits) (history : List Event) (pass id slice column : ℕ) (bits : List Bit) (given : Reply) →
-        IsReply limits history (event.Move pass id slice column bits) given ⊎ IsReply limits history (event.Void pass slice column) given → ⊥ }
+        IsReply limits history (event.Move pass id slice column bits) given
+        ⊎ IsReply limits history (event.Void pass slice column) given → ⊥ }
 {}
 
 /// A move without a delete or a drop before it has no cause. Either is one.
@@ -80,7 +82,7 @@ pub fn moves_without_a_cause()
 /// of a call that doesn't.
 pub fn calls_refused_for_no_cause()
     ensures add { IsLegal paired (event.No 0 (call.Add 9 []) ∷ []) → ⊥ }
-    ensures delete { IsLegal paired (event.Take 0 0 0 ∷ event.Add 0 9 [] 0 0 [] ∷ event.No 0 (call.Delete 9) ∷ []) → ⊥ }
+    ensures delete { IsLegal paired (first_added ++ event.No 0 (call.Delete 9) ∷ []) → ⊥ }
     ensures place { IsLegal paired (event.No 0 call.Place ∷ []) → ⊥ }
     ensures read { IsLegal paired (event.Read 0 (call.Delete 9) ∷ []) → ⊥ }
 {}
@@ -90,6 +92,12 @@ pub fn tunings_out_of_turn()
     ensures taken { (config : Config) → IsLegal paired (event.Take 0 0 0 ∷ event.Tune 0 config ∷ []) → ⊥ }
     ensures refused { (config : Config) → IsLegal paired (event.No 0 (call.Tune config) ∷ []) → ⊥ }
     ensures read { (config : Config) → IsLegal paired (event.Read 0 (call.Tune config) ∷ []) → ⊥ }
+{}
+
+/// A configuration may keep 4,194,304 columns free. One that would keep 4,194,305 free is not in range.
+pub fn reserves_out_of_range()
+    ensures most { (config : Config) → IsInRange config → IsInRange (record config { reserve = 4194304 }) }
+    ensures more { (config : Config) → IsInRange (record config { reserve = 4194305 }) → ⊥ }
 {}
 
 /// A find may not read a slice that was being cleared when it began.
@@ -113,23 +121,26 @@ pub fn steps_answer_their_call()
 
 /// A step is made between calls of the pass. Only a history with so many events is answered Spent, and then the call isn't made;
 /// and only an add and a tuning, which aren't made then, a find and a journal are answered by want of memory. No step is answered as
-/// a malformed or a too long line, or as a tuning that has a fault or is too wide, and no place that is read by Spent. The second add of a number is not answered by the reply to the first,
-/// and no step makes both adds.
+/// a malformed or a too long line, or as a tuning that has a fault or is too wide, and no place that is read by Spent. The second
+/// add of a number is not answered by the reply to the first, and no step makes both adds.
 pub fn steps_have_their_cause()
-    ensures spent { (limits : Limits) (pass : ℕ) (before after : List Event) (asked : Call) → Step limits pass before after asked reply.Spent →
-        (limits.events ≤ length after) × AddsNone pass before after }
-    ensures memory { (limits : Limits) (pass : ℕ) (before after : List Event) (asked : Call) → Step limits pass before after asked reply.Memory →
-        FindsNoMemory pass before after asked }
-    ensures idle { (limits : Limits) (pass : ℕ) (before after : List Event) (asked : Call) (given : Reply) → Step limits pass before after asked given →
-        IsIdle pass before × IsIdle pass after }
-    ensures add { (limits : Limits) (pass id : ℕ) (text : List ℕ) (before after : List Event) → Step limits pass before after (call.Add id text) reply.Memory →
-        AddsNone pass before after }
-    ensures tune { (limits : Limits) (pass : ℕ) (config : Config) (before after : List Event) → Step limits pass before after (call.Tune config) reply.Memory →
-        AddsNone pass before after }
-    ensures delete { (limits : Limits) (pass id : ℕ) (before after : List Event) → Step limits pass before after (call.Delete id) reply.Memory → ⊥ }
+    ensures spent { (limits : Limits) (pass : ℕ) (before after : List Event) (asked : Call) →
+        Step limits pass before after asked reply.Spent → (limits.events ≤ length after) × AddsNone pass before after }
+    ensures memory { (limits : Limits) (pass : ℕ) (before after : List Event) (asked : Call) →
+        Step limits pass before after asked reply.Memory → FindsNoMemory pass before after asked }
+    ensures idle { (limits : Limits) (pass : ℕ) (before after : List Event) (asked : Call) (given : Reply) →
+        Step limits pass before after asked given → IsIdle pass before × IsIdle pass after }
+    ensures add { (limits : Limits) (pass id : ℕ) (text : List ℕ) (before after : List Event) →
+        Step limits pass before after (call.Add id text) reply.Memory → AddsNone pass before after }
+    ensures tune { (limits : Limits) (pass : ℕ) (config : Config) (before after : List Event) →
+        Step limits pass before after (call.Tune config) reply.Memory → AddsNone pass before after }
+    ensures delete { (limits : Limits) (pass id : ℕ) (before after : List Event) →
+        Step limits pass before after (call.Delete id) reply.Memory → ⊥ }
     ensures place { (limits : Limits) (pass : ℕ) (before after : List Event) → Step limits pass before after call.Place reply.Memory → ⊥ }
-    ensures recycle { (limits : Limits) (pass : ℕ) (before after : List Event) → Step limits pass before after call.Recycle reply.Memory → ⊥ }
-    ensures unread { (limits : Limits) (pass : ℕ) (before after : List Event) (asked : Call) → Step limits pass before after asked reply.Line ⊎ Step limits pass before after asked reply.Long → ⊥ }
+    ensures recycle { (limits : Limits) (pass : ℕ) (before after : List Event) →
+        Step limits pass before after call.Recycle reply.Memory → ⊥ }
+    ensures unread { (limits : Limits) (pass : ℕ) (before after : List Event) (asked : Call) →
+        Step limits pass before after asked reply.Line ⊎ Step limits pass before after asked reply.Long → ⊥ }
     ensures untuned { (limits : Limits) (pass fault needed room : ℕ) (before after : List Event) (asked : Call) →
         Step limits pass before after asked (reply.Tuning fault) ⊎ Step limits pass before after asked (reply.Wide needed room) → ⊥ }
     ensures read { (before : List Event) → IsReply paired before (event.Read 0 call.Place) reply.Spent → ⊥ }

@@ -9,8 +9,8 @@ ghost use Rattle.funnel_model.specs.declared.event.Event.TheVariants as event;
 ghost use Rattle.funnel_model.specs.Example.{AreReplies, episode, episode_calls, episode_replies, filling_and_deleting, first_added, forgetful, later_added, reuse, reuse_replies, same_number, same_number_replies, shared, small, trimmed, trimmed_replies};
 ghost use Rattle.funnel_model.specs.History.{own};
 ghost use Rattle.funnel_model.specs.Legal.{IsFull, IsLegal};
-ghost use Rattle.funnel_model.specs.MoveExample.{cat, found_again, half_deleted, moved, moved_again, moved_again_replies, new_cat, voided};
-ghost use Rattle.funnel_model.specs.RecycleExample.{both_clearing, covering, first_set, guarded, held, high_bit, low_bit, not_covering, paired, recycled, second_set, together, together_replies, unguarded};
+ghost use Rattle.funnel_model.specs.MoveExample.{added_again, cat, found_again, half_deleted, moved, moved_again, moved_again_replies, new_cat, voided};
+ghost use Rattle.funnel_model.specs.RecycleExample.{both_clearing, both_recycled, covering, first_set, guarded, held, high_bit, low_bit, not_covering, paired, recycled, second_set, together, together_replies, unguarded};
 ghost use Rattle.funnel_model.specs.Reserve.{HasReadyColumns, IsSource, HasSpareColumns};
 ghost use Rattle.funnel_model.specs.RowWords.{AreFresh, Covers, IsCommitted};
 ghost use Rattle.funnel_model.specs.Slices.{Deleted, Dropped, Live, IsInState, IsRetiredAt};
@@ -59,7 +59,7 @@ pub fn trimmed_example()
 pub fn recycle_example()
     ensures legal { IsLegal paired together }
     ensures replies { AreReplies paired together together_replies }
-    ensures recycles { Step paired 1 recycled (recycled ++ event.Clear 1 1 ∷ event.Take 0 0 0 ∷ event.Opened 1 1 true ∷ []) call.Recycle (reply.Recycled 1) }
+    ensures recycles { Step paired 1 recycled both_recycled call.Recycle (reply.Recycled 1) }
     ensures adds { Step paired 0 (recycled ++ event.Clear 1 1 ∷ []) together (call.Add 5 []) (reply.Added 5) }
 {}
 
@@ -101,7 +101,8 @@ pub fn deleted_bits_stay_committed()
 /// There is a legal history in which a document moves under an open find, moves again after its number was deleted and added anew,
 /// and a column is left void between; moves and voids have no replies. The find still sees the document in the column that it had,
 /// and not in the new one, and may read both slices; a find that begins later sees it in the new column alone. The old slice retires
-/// by the move, and the find guards it; it retires by the void too. The new document has left its first column at the end.
+/// by the move, and the find guards it; it retires by the void too. Once its number is deleted, the document has left the column
+/// to which it moved; and the new document has left its first column at the end.
 pub fn move_example()
     ensures legal { IsLegal paired moved_again }
     ensures replies { AreReplies paired moved_again moved_again_replies }
@@ -109,6 +110,7 @@ pub fn move_example()
     ensures new { IsInState moved 1 0 (Live cat 5) × (seen_by 3 (Live cat 5) ≡ None) × (seen_by 8 (Live cat 5) ≡ Some cat) }
     ensures read { MayRead paired.columns moved 1 0 × MayRead paired.columns moved 1 1 }
     ensures retired { IsRetiredAt paired.columns 0 moved 5 × Guards paired.columns moved 0 1 3 }
+    ensures gone { IsInState added_again 1 0 (Deleted cat 5 16) }
     ensures voided { IsInState voided 0 0 Dropped × IsRetiredAt paired.columns 0 voided 13 }
     ensures again { IsInState moved_again 1 0 (Live new_cat 22) × IsInState moved_again 0 0 (Deleted new_cat 18 22) }
     ensures committed { IsCommitted moved 0 low_bit × IsCommitted moved 1 high_bit }
@@ -132,7 +134,8 @@ pub fn reserve_example()
 pub fn tune_example()
     ensures legal { (second third : Config) → IsLegal paired (tuned_twice second third) }
     ensures replies { (second third : Config) → AreReplies paired (tuned_twice second third) tuned_replies }
-    ensures before { (opening second : Config) → (treat opening 0 (tuned_once second) ≡ opening) × (current opening (tuned_once second) ≡ second) }
+    ensures before { (opening second : Config) →
+        (treat opening 0 (tuned_once second) ≡ opening) × (current opening (tuned_once second) ≡ second) }
     ensures cleared { (opening second third : Config) → treat opening 0 (tuned_twice second third) ≡ second }
     ensures other { (opening second third : Config) → treat opening 1 (tuned_twice second third) ≡ opening }
     ensures last { (opening second third : Config) → current opening (tuned_twice second third) ≡ third }

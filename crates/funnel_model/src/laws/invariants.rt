@@ -92,18 +92,19 @@ pub fn slices_retire_by_a_delete_a_move_a_drop_or_a_void()
 /// that began later guards nothing. The guard that a refused recycle is told is the lowest.
 pub fn finds_guard_what_retires_after_them()
     ensures earlier { (columns : ℕ) (history : List Event) (slice pass number retired_at : ℕ) → HasToken history pass number →
-        IsRetired columns slice history → IsRetiredAt columns slice history retired_at → number < retired_at → Guards columns history slice pass number }
+        IsRetired columns slice history → IsRetiredAt columns slice history retired_at → number < retired_at →
+        Guards columns history slice pass number }
     ensures later { (columns : ℕ) (history : List Event) (slice pass number retired_at : ℕ) → Guards columns history slice pass number →
         IsRetiredAt columns slice history retired_at → number < retired_at }
-    ensures lowest { (limits : Limits) (history : List Event) (slice pass lower number : ℕ) → IsLowestGuarded limits history slice pass → lower < pass →
-        Guards limits.columns history slice lower number → ⊥ }
+    ensures lowest { (limits : Limits) (history : List Event) (slice pass lower number : ℕ) →
+        IsLowestGuarded limits history slice pass → lower < pass → Guards limits.columns history slice lower number → ⊥ }
 {}
 
 /// In a legal history in which nothing is awaited, each call of an idle pass can begin: its add takes a column, clears a slice or
-/// is refused, its delete commits or is refused, its recycle clears a slice or is refused, its find begins, a place or a
-/// journal is read, and a tuning is taken. Each call that began can go on: after a take the pass adds its document, with any bits of the slice, or
-/// drops it, and it may void the column or move a live document there, after a clear it opens the slice for an add or by itself,
-/// and after a find it ends. The take that an opening awaits can follow, where slices have columns.
+/// is refused, its delete commits or is refused, its recycle clears a slice or is refused, its find begins, a place or a journal
+/// is read, and a tuning is taken. Each call that began can go on: after a take the pass adds its document, with any bits of the
+/// slice, or drops it, and it may void the column or move a live document there, after a clear it opens the slice for an add or by
+/// itself, and after a find it ends. The take that an opening awaits can follow, where slices have columns.
 pub fn calls_can_go_on()
     ensures add { (limits : Limits) (history : List Event) (pass id : ℕ) (text : List ℕ) → IsLegal limits history →
         pass < limits.passes → awaited history ≡ None → IsIdle pass history →
@@ -119,7 +120,9 @@ pub fn calls_can_go_on()
     ensures taken { (limits : Limits) (history : List Event) (pass slice column id : ℕ) (text : List ℕ) (bits : List Bit) →
         IsLegal limits history → pass < limits.passes → awaited history ≡ None →
         last_by pass history ≡ Some (event.Take pass slice column) → All (λ b. IsInSlice limits.slice_words slice b.word) bits →
-        All (λ (b : Bit). b.bit < 64) bits → IsAllowed limits history (event.Add pass id text slice column bits) ⊎ IsAllowed limits history (event.Drop pass id text slice column) }
+        All (λ (b : Bit). b.bit < 64) bits →
+        IsAllowed limits history (event.Add pass id text slice column bits)
+        ⊎ IsAllowed limits history (event.Drop pass id text slice column) }
     ensures voided { (limits : Limits) (history : List Event) (pass slice column : ℕ) → pass < limits.passes → awaited history ≡ None →
         last_by pass history ≡ Some (event.Take pass slice column) → IsAllowed limits history (event.Void pass slice column) }
     ensures moved { (limits : Limits) (history : List Event) (pass slice column id : ℕ) (bits : List Bit) → pass < limits.passes →
@@ -132,8 +135,9 @@ pub fn calls_can_go_on()
         IsIdle pass history → OnlyReads asked → IsAllowed limits history (event.Read pass asked) }
     ensures tuned { (limits : Limits) (history : List Event) (pass : ℕ) (config : Config) → pass < limits.passes → awaited history ≡ None →
         IsIdle pass history → IsAllowed limits history (event.Tune pass config) }
-    ensures cleared { (limits : Limits) (history : List Event) (pass slice : ℕ) (alone : Bool) → pass < limits.passes → awaited history ≡ None →
-        last_by pass history ≡ Some (event.Clear pass slice) → IsAllowed limits history (event.Opened pass slice alone) }
+    ensures cleared { (limits : Limits) (history : List Event) (pass slice : ℕ) (alone : Bool) → pass < limits.passes →
+        awaited history ≡ None → last_by pass history ≡ Some (event.Clear pass slice) →
+        IsAllowed limits history (event.Opened pass slice alone) }
     ensures opened { (limits : Limits) (history : List Event) (pass slice : ℕ) → pass < limits.passes → 0 < limits.columns →
         IsAllowed limits (history ++ event.Opened pass slice false ∷ []) (event.Take pass slice 0) }
     ensures found { (limits : Limits) (history : List Event) (pass : ℕ) (query : List ℕ) → pass < limits.passes → awaited history ≡ None →

@@ -21,8 +21,9 @@ pub fn live_numbers_have_one_home()
         (slice : ℕ) × (column : ℕ) × (slice < limits.slices) × (column < limits.columns) × IsHome history id slice column }
     ensures one { (limits : Limits) (history : List Event) (id slice column other at : ℕ) → IsLegal limits history →
         IsHome history id slice column → IsHome history id other at → (slice ≡ other) × (column ≡ at) }
-    ensures last { (limits : Limits) (history : List Event) (slice column other at since : ℕ) (d : Document) (before : List Event) (e : Event) (rest : List Event) →
-        IsLegal limits history → (is : IsLiveOn history slice column d since) → is.later ≡ before ++ e ∷ rest → put_on other at e ≡ Some d.id → ⊥ }
+    ensures last { (limits : Limits) (history : List Event) (slice column other at since : ℕ) (d : Document)
+        (before : List Event) (e : Event) (rest : List Event) → IsLegal limits history →
+        (is : IsLiveOn history slice column d since) → is.later ≡ before ++ e ∷ rest → put_on other at e ≡ Some d.id → ⊥ }
 {}
 
 /// In a legal history an open find sees the documents that were live as it began, however documents were moved, deleted and added
@@ -41,8 +42,8 @@ pub fn finds_see_what_was_live()
         IsLegal limits history → (token : HasToken history pass number) → IsInUse limits.columns slice token.earlier →
         IsInState history slice column state → seen_by number state ≡ Some d →
         (since : ℕ) × IsInState token.earlier slice column (Live d since) }
-    ensures once { (limits : Limits) (history : List Event) (pass number slice column other at : ℕ) (state also : ColumnState) (d e : Document) →
-        IsLegal limits history → (token : HasToken history pass number) →
+    ensures once { (limits : Limits) (history : List Event) (pass number slice column other at : ℕ) (state also : ColumnState)
+        (d e : Document) → IsLegal limits history → (token : HasToken history pass number) →
         IsInUse limits.columns slice token.earlier → IsInUse limits.columns other token.earlier →
         IsInState history slice column state → IsInState history other at also →
         seen_by number state ≡ Some d → seen_by number also ≡ Some e → d.id ≡ e.id → (slice ≡ other) × (column ≡ at) }
@@ -73,7 +74,8 @@ pub fn calls_move_few_documents()
     ensures adds { (limits : Limits) (pass : ℕ) (before after : List Event) (id : ℕ) (text : List ℕ) (given : Reply) →
         Step limits pass before after (call.Add id text) given → moved_by pass after ≤ moved_by pass before + 16 }
     ensures others { (limits : Limits) (pass : ℕ) (before after : List Event) (asked : Call) (given : Reply) →
-        ((id : ℕ) (text : List ℕ) → asked ≡ call.Add id text → ⊥) → Step limits pass before after asked given → moved_by pass after ≤ moved_by pass before }
+        ((id : ℕ) (text : List ℕ) → asked ≡ call.Add id text → ⊥) → Step limits pass before after asked given →
+        moved_by pass after ≤ moved_by pass before }
     ensures counted { (pass : ℕ) (history : List Event) (e : Event) →
         moved_by pass (history ++ e ∷ []) ≡ moved_by pass history + (if pass_of e == pass && moves e then 1 else 0) }
 {}
@@ -83,5 +85,6 @@ pub fn calls_move_few_documents()
 pub fn events_fill_what_they_take_or_end()
     ensures fills { (slice : ℕ) (e : Event) → (fills slice e ≡ true) ↔ ((column : ℕ) × ((column_taken_in slice e ≡ Some column)
         ⊎ (is_some (put_on slice column e) ≡ true) ⊎ (drops_on slice column e ≡ true))) }
-    ensures bits { (slice column : ℕ) (e : Event) → bits_on slice column e ≡ (if is_some (put_on slice column e) then bits_added_in slice e else []) }
+    ensures bits { (slice column : ℕ) (e : Event) →
+        bits_on slice column e ≡ (if is_some (put_on slice column e) then bits_added_in slice e else []) }
 {}

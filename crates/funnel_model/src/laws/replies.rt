@@ -46,8 +46,8 @@ pub fn refusals_have_their_cause()
         (pass : ℕ) × (from : ℕ) × (e ≡ event.Read pass (call.Journal from)) × (from < n) × (n ≡ base limits.commits before) }
     ensures full { (limits : Limits) (before later : List Event) (e : Event) → IsLegal limits (before ++ e ∷ later) →
         IsReply limits before e reply.Full → IsFull limits before }
-    ensures absent { (limits : Limits) (before later : List Event) (e : Event) → IsLegal limits (before ++ e ∷ later) → IsReply limits before e reply.Absent →
-        (pass : ℕ) × (id : ℕ) × (e ≡ event.No pass (call.Delete id)) × (is_live id before ≡ false) }
+    ensures absent { (limits : Limits) (before later : List Event) (e : Event) → IsLegal limits (before ++ e ∷ later) →
+        IsReply limits before e reply.Absent → (pass : ℕ) × (id : ℕ) × (e ≡ event.No pass (call.Delete id)) × (is_live id before ≡ false) }
     ensures none_retired { (limits : Limits) (before : List Event) (e : Event) → IsReply limits before e reply.NothingRetired →
         NoneRetired limits before }
     ensures guarded { (limits : Limits) (before later : List Event) (e : Event) (slice pass : ℕ) → IsLegal limits (before ++ e ∷ later) →
@@ -64,7 +64,8 @@ pub fn tunings_are_counted()
 /// The commits that a journal keeps are the last ones: with those before them they are all, they are no more than it keeps, and
 /// no fewer while there are so many.
 pub fn journals_keep_the_last_commits()
-    ensures all { (kept : ℕ) (history : List Event) → place history ≡ base kept history + length (commits_after history (base kept history)) }
+    ensures all { (kept : ℕ) (history : List Event) →
+        place history ≡ base kept history + length (commits_after history (base kept history)) }
     ensures few { (kept : ℕ) (history : List Event) → length (commits_after history (base kept history)) ≤ kept }
     ensures many { (kept : ℕ) (history : List Event) → kept ≤ place history → length (commits_after history (base kept history)) ≡ kept }
 {}

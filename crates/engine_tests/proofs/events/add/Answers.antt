@@ -1,12 +1,13 @@
 use Rattle.std.proofs.Common.{sym, subst}
 use Rattle.engine.specs.Adds.{AddTurns}
-use Rattle.engine_tests.proofs.Turns.{ends_with_add}
+use Rattle.engine_tests.proofs.Turns.{ends_with_add, ends_with_refusal, refuses_at_once}
 use Rattle.engine_tests.proofs.events.add.Goals as goal
 
 pub returns-clause-full : goal.returns-clause-full
-returns-clause-full g c blocks is =
-    let turn = subst (AddTurns _ _ _ _ _ _ _) is c.add.ensures.turns in
-    record { earlier = turn.earlier; others = turn.seen; whole = turn.made }
+returns-clause-full g c blocks is = ends_with_refusal _ _ _ _ _ _ _ blocks (subst (AddTurns _ _ _ _ _ _ _) is c.add.ensures.turns)
+
+pub returns-clause-full_at_once : goal.returns-clause-full_at_once
+returns-clause-full_at_once g c blocks none is = refuses_at_once _ _ _ _ _ _ _ blocks (subst (AddTurns _ _ _ _ _ _ _) is c.add.ensures.turns) none
 
 pub returns-clause-memory : goal.returns-clause-memory
 returns-clause-memory g c is = sym (subst (AddTurns _ _ _ _ _ _ _) is c.add.ensures.turns)

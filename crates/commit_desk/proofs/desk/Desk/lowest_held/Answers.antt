@@ -1,8 +1,15 @@
 use Rattle.std.proofs.Common.{◌≡◌, ◌+◌, ◌<◌, sym, ap, ◌∙◌, subst, arith}
 use Rattle.funnel_model.specs.Legal.{IsLegal}
 use Rattle.commit_desk.specs.Desks.{DeskState}
-use Rattle.commit_desk.proofs.HeldColumns.{NoneHeldBelow, none_held-next, retired_unless_held}
+use Rattle.commit_desk.proofs.HeldColumns.{NoneHeldBelow, none_held-next, none_held-over, retired_unless_held}
 use Rattle.commit_desk.proofs.desk.Desk.lowest_held.Goals as goal
+
+pub loop-column-init : goal.loop-column-init
+loop-column-init c =
+    let i = c.self.inside in
+    let kept = c.self.invariant.kept in
+    subst (λ (d : DeskState). NoneHeldBelow d.history c.args.slice c.first_over-column.result) c.self.view_is
+    (none_held-over i.home.pool.limits i.home.history i.records c.args.slice c.first_over-column.result kept.legal kept.recorded c.first_over-column.ensures)
 
 pub loop-column-preserved : goal.loop-column-preserved
 loop-column-preserved c =
@@ -28,8 +35,7 @@ unreachable-requires c =
     let columns : i.columns ≡ c.args.self.now.pool.limits.columns = kept.columns_are ∙ ap (λ (d : DeskState). d.pool.limits.columns) c.self.view_is in
     let end = c.loop-column.auto.column-end in
     let done = c.loop-column-test.false in
-    let same : column ≡ c.args.self.now.pool.limits.columns = omega arith in
     c.requires.not_retired
     (retired_unless_held c.args.self.now.pool.limits c.args.self.now.pool.limits.columns slice c.args.self.now.history
     (subst (λ (d : DeskState). IsLegal d.pool.limits d.history) c.self.view_is kept.legal) c.requires.filled c.requires.not_clearing
-    (subst (NoneHeldBelow c.args.self.now.history slice) same c.loop-column.invariant))
+    (λ lower low. c.loop-column.invariant lower (omega (arith, low, columns, end, done))))

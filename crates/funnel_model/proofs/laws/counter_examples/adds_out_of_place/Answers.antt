@@ -3,6 +3,7 @@ use Rattle.std.proofs.lemmas.Bool.{both_ways}
 use Rattle.std.proofs.lemmas.List.Elements.{All-head}
 use Rattle.funnel_model.specs.declared.bit_list.Bit.{Bit}
 use Rattle.funnel_model.specs.declared.event.Event.TheVariants as event
+use Rattle.funnel_model.specs.Example.{first_added}
 use Rattle.funnel_model.specs.History.{is_live}
 use Rattle.funnel_model.specs.Legal.{IsInSlice}
 use Rattle.funnel_model.specs.RecycleExample.{paired}
@@ -20,7 +21,7 @@ returns-clause-bits c legal =
 pub returns-clause-below : goal.returns-clause-below
 returns-clause-below c legal =
     let bit : Bit = record { word = 3; bit = 0 } in
-    let before = event.Take 0 0 0 ∷ event.Add 0 9 [] 0 0 [] ∷ event.Take 0 1 0 ∷ [] in
+    let before = first_added ++ event.Take 0 1 0 ∷ [] in
     let add = event.Add 0 7 [] 1 0 (bit ∷ []) in
     let in' = All-head (λ (b : Bit). IsInSlice 4 1 b.word) bit [] (allowed_within paired (before ++ add ∷ []) before add [] legal refl).rule.inside in
     let from = in'.from in omega arith
@@ -35,7 +36,7 @@ returns-clause-wide c legal =
 
 pub returns-clause-live : goal.returns-clause-live
 returns-clause-live c legal =
-    let before = event.Take 0 0 0 ∷ event.Add 0 9 [] 0 0 [] ∷ event.Take 0 1 0 ∷ [] in
+    let before = first_added ++ event.Take 0 1 0 ∷ [] in
     let add = event.Add 0 9 [] 1 0 [] in
     both_ways (is_live 9 before) (allowed_within paired (before ++ add ∷ []) before add [] legal refl).rule.absent refl
 
@@ -53,5 +54,5 @@ returns-clause-dropped c legal =
 
 pub returns-clause-absent : goal.returns-clause-absent
 returns-clause-absent c legal =
-    let before = event.Take 0 0 0 ∷ event.Add 0 9 [] 0 0 [] ∷ [] in
+    let before = first_added in
     both_ways (is_live 7 before) refl (allowed_within paired (before ++ event.Del 0 7 ∷ []) before (event.Del 0 7) [] legal refl).rule.present

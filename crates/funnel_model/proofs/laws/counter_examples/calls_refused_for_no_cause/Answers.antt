@@ -2,6 +2,7 @@ use Rattle.std.proofs.Common.{[], ◌∷◌, ◌++◌, ⊎_elim, refl, arith}
 use Rattle.std.proofs.lemmas.Bool.{both_ways}
 use Rattle.funnel_model.specs.declared.call.Call.TheVariants as call
 use Rattle.funnel_model.specs.declared.event.Event.TheVariants as event
+use Rattle.funnel_model.specs.Example.{first_added}
 use Rattle.funnel_model.specs.History.{is_live}
 use Rattle.funnel_model.specs.Legal.{IsFull}
 use Rattle.funnel_model.specs.RecycleExample.{paired}
@@ -31,7 +32,7 @@ returns-clause-add c legal =
 
 pub returns-clause-delete : goal.returns-clause-delete
 returns-clause-delete c legal =
-    let before = event.Take 0 0 0 ∷ event.Add 0 9 [] 0 0 [] ∷ [] in
+    let before = first_added in
     let no = event.No 0 (call.Delete 9) in
     both_ways (is_live 9 before) (allowed_within paired (before ++ no ∷ []) before no [] legal refl).rule.refused refl
 

@@ -1,10 +1,9 @@
 use Rattle.std.proofs.Common.{true, [], ◌∷◌, ◌++◌, ⊎_elim, refl, arith}
 use Rattle.funnel_model.specs.declared.call.Call.TheVariants as call
 use Rattle.funnel_model.specs.declared.event.Event.TheVariants as event
-use Rattle.funnel_model.specs.Legal.{CanClear}
 use Rattle.funnel_model.specs.RecycleExample.{guarded, paired, slices_filled, unguarded}
 use Rattle.funnel_model.proofs.Histories.{allowed_within}
-use Rattle.funnel_model.proofs.RecycleFacts.{low_guarded, low_over, low_unguarded}
+use Rattle.funnel_model.proofs.RecycleFacts.{low_can_clear, low_guarded}
 use Rattle.funnel_model.proofs.SpareLemmas.{not_retired, room_by}
 use Rattle.funnel_model.proofs.laws.counter_examples.slices_out_of_turn.Goals as goal
 
@@ -15,16 +14,9 @@ returns-clause-take c legal =
     (λ r. let none = r.opened in cc)
     (allowed_within paired (event.Take 0 1 0 ∷ []) [] (event.Take 0 1 0) [] legal refl).rule
 
--- slice 0 can be cleared once the find has ended
-can : CanClear 1 unguarded 0
-can = record {
-  retired = record { over = low_over (event.Del 0 7 ∷ event.No 0 call.Recycle ∷ event.End 1 ∷ []) refl; not_clearing = refl };
-  unguarded = low_unguarded 0;
-}
-
 pub returns-clause-clear : goal.returns-clause-clear
 returns-clause-clear c legal =
-    (allowed_within paired (unguarded ++ event.Clear 0 1 ∷ []) unguarded (event.Clear 0 1) [] legal refl).rule.lowest 0 (omega arith) can
+    (allowed_within paired (unguarded ++ event.Clear 0 1 ∷ []) unguarded (event.Clear 0 1) [] legal refl).rule.lowest 0 (omega arith) low_can_clear
 
 pub returns-clause-live : goal.returns-clause-live
 returns-clause-live c legal =
@@ -37,8 +29,8 @@ returns-clause-reader c legal =
 
 pub returns-clause-recycle : goal.returns-clause-recycle
 returns-clause-recycle c legal =
-    low_unguarded 0
-    ((allowed_within paired (unguarded ++ event.No 0 call.Recycle ∷ []) unguarded (event.No 0 call.Recycle) [] legal refl).rule.refused 0 (omega arith) can.retired)
+    low_can_clear.unguarded
+    ((allowed_within paired (unguarded ++ event.No 0 call.Recycle ∷ []) unguarded (event.No 0 call.Recycle) [] legal refl).rule.refused 0 (omega arith) low_can_clear.retired)
 
 pub returns-clause-opened : goal.returns-clause-opened
 returns-clause-opened c legal =

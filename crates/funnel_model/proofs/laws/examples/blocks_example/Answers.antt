@@ -11,7 +11,8 @@ use Rattle.funnel_model.specs.Events.{opens, takes_off}
 use Rattle.funnel_model.specs.Example.{episode, first_added, later_added}
 use Rattle.funnel_model.specs.RecycleExample.{both_clearing, guarded, held, paired}
 use Rattle.funnel_model.proofs.ExampleLemmas.{one_slice, two_columns}
-use Rattle.funnel_model.proofs.RecycleFacts.{high_guarded, low_guarded, lowest_guard}
+use Rattle.funnel_model.proofs.PairLemmas.{lowest_guard}
+use Rattle.funnel_model.proofs.RecycleFacts.{high_guarded, low_guarded}
 use Rattle.funnel_model.proofs.SpareLemmas.{not_retired}
 use Rattle.funnel_model.proofs.laws.examples.blocks_example.Goals as goal
 
@@ -78,7 +79,7 @@ returns-clause-lowest c =
 pub returns-clause-guarded : goal.returns-clause-guarded
 returns-clause-guarded c = (
   two_columns _ (inr (inl (low_guarded.retired, (1, 6, low_guarded)))) (inr (inl (high_guarded.retired, (1, 6, high_guarded)))),
-  two_blocks guarded (block.Guarded 1 6) (block.Guarded 1 6) (lowest_guard 0 low_guarded) (lowest_guard 1 high_guarded),
+  two_blocks guarded (block.Guarded 1 6) (block.Guarded 1 6) (lowest_guard guarded 0 6 refl low_guarded) (lowest_guard guarded 1 6 refl high_guarded),
 )
 
 pub returns-clause-clearing : goal.returns-clause-clearing

@@ -6,7 +6,8 @@ use Rattle.funnel_model.specs.MoveExample.{moved}
 use Rattle.funnel_model.specs.RecycleExample.{high_bit, low_bit}
 use Rattle.funnel_model.specs.Slices.{IsInUse}
 use Rattle.funnel_model.specs.Tokens.{MayRead}
-use Rattle.funnel_model.proofs.MoveFacts.{left_old, move_guarded, move_lowest, moved_again_is_legal, moved_new, new_column, old_column, retired_by_move, retired_by_void}
+use Rattle.funnel_model.proofs.MoveFacts.{gone_again, left_old, move_guarded, moved_again_is_legal, moved_new, new_column, old_column, open_find, retired_by_move, retired_by_void}
+use Rattle.funnel_model.proofs.PairLemmas.{lowest_guarded}
 use Rattle.funnel_model.proofs.SpareLemmas.{not_retired}
 use Rattle.funnel_model.proofs.laws.examples.move_example.Goals as goal
 
@@ -15,28 +16,17 @@ returns-clause-legal c = moved_again_is_legal
 
 pub returns-clause-replies : goal.returns-clause-replies
 unfolding unicode_segmentation caseless
-returns-clause-replies c = inl (refl, inr (_, _, refl, refl, inr (_, _, refl, refl, inl (refl, inl (refl, inr (_, _, refl, move_lowest, inl (refl, inr (_, _, refl, refl, inl (refl, inl (refl, inr (_, _, refl, (refl, refl), inl (refl, inl (refl, inl (refl, inr (_, _, refl, (refl, refl), inr (_, _, refl, refl, inl (refl, inr (_, _, refl, refl, inl (refl, inr (_, _, refl, (refl, refl), inl (refl, inl (refl, refl))))))))))))))))))))))
+returns-clause-replies c = inl (refl, inr (_, _, refl, refl, inr (_, _, refl, refl, inl (refl, inl (refl, inr (_, _, refl, lowest_guarded moved 3 refl move_guarded, inl (refl, inr (_, _, refl, refl, inl (refl, inl (refl, inr (_, _, refl, (refl, refl), inl (refl, inl (refl, inl (refl, inr (_, _, refl, (refl, refl), inr (_, _, refl, refl, inl (refl, inr (_, _, refl, refl, inl (refl, inr (_, _, refl, (refl, refl), inl (refl, inl (refl, refl))))))))))))))))))))))
 
 pub returns-clause-old : goal.returns-clause-old
-returns-clause-old c = (old_column [] refl, refl, refl)
+returns-clause-old c = (old_column, refl, refl)
 
 pub returns-clause-new : goal.returns-clause-new
-returns-clause-new c = (new_column [] refl refl, refl, refl)
+returns-clause-new c = (new_column, refl, refl)
 
 -- the find may read a slice that was in use before it
-may_read : (slice : ℕ) → IsInUse 1 slice (event.Take 0 0 0 ∷ event.Add 0 9 (codes "a cat") 0 0 (low_bit ∷ []) ∷ []) → MayRead 1 moved 1 slice
-may_read slice in_use = record {
-  number = 3;
-  token = record {
-    earlier = event.Take 0 0 0 ∷ event.Add 0 9 (codes "a cat") 0 0 (low_bit ∷ []) ∷ [];
-    query = codes "A";
-    later = event.Take 0 1 0 ∷ event.Move 0 9 1 0 (high_bit ∷ []) ∷ [];
-    whole = refl;
-    count = refl;
-    stays = refl;
-  };
-  in_use = in_use;
-}
+may_read : (slice : ℕ) → IsInUse 1 slice open_find.earlier → MayRead 1 moved 1 slice
+may_read slice in_use = record { number = 3; token = open_find; in_use = in_use }
 
 pub returns-clause-read : goal.returns-clause-read
 returns-clause-read c = (
@@ -46,6 +36,9 @@ returns-clause-read c = (
 
 pub returns-clause-retired : goal.returns-clause-retired
 returns-clause-retired c = (retired_by_move, move_guarded)
+
+pub returns-clause-gone : goal.returns-clause-gone
+returns-clause-gone c = gone_again
 
 pub returns-clause-voided : goal.returns-clause-voided
 returns-clause-voided c = (refl, retired_by_void)

@@ -4,9 +4,10 @@ use Rattle.unicode_segmentation.proofs.Computing.{unicode_segmentation}
 use Rattle.funnel_model.specs.declared.call.Call.TheVariants as call
 use Rattle.funnel_model.specs.declared.event.Event.TheVariants as event
 use Rattle.funnel_model.specs.declared.reply.Reply.TheVariants as reply
-use Rattle.funnel_model.specs.RecycleExample.{paired, recycled}
+use Rattle.funnel_model.specs.RecycleExample.{both_recycled, guarded, paired, recycled}
 use Rattle.funnel_model.proofs.Histories.{legal_before}
-use Rattle.funnel_model.proofs.RecycleFacts.{low_is_lowest, nothing_retired, together_is_legal}
+use Rattle.funnel_model.proofs.PairLemmas.{lowest_guarded}
+use Rattle.funnel_model.proofs.RecycleFacts.{low_guarded, nothing_retired, together_is_legal}
 use Rattle.funnel_model.proofs.StepLemmas.{step_made}
 use Rattle.funnel_model.proofs.laws.examples.recycle_example.Goals as goal
 
@@ -15,13 +16,12 @@ returns-clause-legal c = together_is_legal
 
 pub returns-clause-replies : goal.returns-clause-replies
 unfolding unicode_segmentation caseless
-returns-clause-replies c = inr (_, _, refl, nothing_retired, inl (refl, inr (_, _, refl, refl, inl (refl, inr (_, _, refl, refl, inr (_, _, refl, refl, inr (_, _, refl, refl, inr (_, _, refl, refl, inr (_, _, refl, low_is_lowest, inl (refl, inl (refl, inr (_, _, refl, (refl, refl), inr (_, _, refl, refl, inr (_, _, refl, refl, inr (_, _, refl, refl, inl (refl, inl (refl, inr (_, _, refl, (refl, refl), inr (_, _, refl, refl, refl)))))))))))))))))))
+returns-clause-replies c = inr (_, _, refl, nothing_retired, inl (refl, inr (_, _, refl, refl, inl (refl, inr (_, _, refl, refl, inr (_, _, refl, refl, inr (_, _, refl, refl, inr (_, _, refl, refl, inr (_, _, refl, lowest_guarded guarded 6 refl low_guarded, inl (refl, inl (refl, inr (_, _, refl, (refl, refl), inr (_, _, refl, refl, inr (_, _, refl, refl, inr (_, _, refl, refl, inl (refl, inl (refl, inr (_, _, refl, (refl, refl), inr (_, _, refl, refl, refl)))))))))))))))))))
 
 pub returns-clause-recycles : goal.returns-clause-recycles
 returns-clause-recycles c =
-    let front = recycled ++ event.Clear 1 1 ∷ event.Take 0 0 0 ∷ event.Opened 1 1 true ∷ [] in
     step_made paired 1 recycled (event.Clear 1 1 ∷ event.Take 0 0 0 ∷ []) (event.Opened 1 1 true) [] call.Recycle (reply.Recycled 1) refl refl refl refl refl refl refl
-    (refl, refl) (legal_before paired front (event.Add 0 5 [] 0 0 [] ∷ []) together_is_legal) refl
+    (refl, refl) (legal_before paired both_recycled (event.Add 0 5 [] 0 0 [] ∷ []) together_is_legal) refl
 
 pub returns-clause-adds : goal.returns-clause-adds
 returns-clause-adds c =

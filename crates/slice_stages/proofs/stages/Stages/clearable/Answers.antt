@@ -7,4 +7,4 @@ pub returns : goal.returns
 returns c =
     let t : StageTable = record { columns = c.self.inside.columns; stages = c.self.inside.stages.items; mark = c.self.inside.mark } in
     subst (λ (x : StageTable). MatchOption c.lowest.result (HoldsOfNone (IsRetiredBy x.mark) x) (IsLowest (IsRetiredBy x.mark) x)) c.self.view_is
-    (lowest_of (IsRetiredBy t.mark) t c.self.inside.clearable c.lowest.result c.self.invariant.ready c.lowest.ensures)
+    (lowest_of (IsRetiredBy t.mark) t c.self.inside.clearable c.lowest.result c.self.invariant.sets.ready c.lowest.ensures)

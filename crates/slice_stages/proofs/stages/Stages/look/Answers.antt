@@ -1,4 +1,4 @@
-use Rattle.std.proofs.Common.{◌≡◌, ℕ, ◌+◌, ◌-◌, ◌<◌, ◌≤◌, length, sym, ap, refl, ◌∙◌, subst, arith}
+use Rattle.std.proofs.Common.{◌≡◌, ◌<◌, ◌≤◌, length, sym, ap, refl, ◌∙◌, subst, arith}
 use Rattle.slice_stages.specs.Stages.{RetiredIn, StageTable, stage_of}
 use Rattle.slice_stages.proofs.SetLemmas.{sets-mark}
 use Rattle.slice_stages.proofs.stages.Stages.look.Goals as goal
@@ -21,10 +21,13 @@ invariant_of-self c =
     let done = c.loop-test.ensures.done refl in
     let is : t ≡ c.look_once.new.self = c.self.view_is in
     let same : t ≡ c.loop.self = is ∙ c.look_once.ensures.same ∙ ap (λ n. record c.loop.self { mark = n }) done.0 in
-    sets-mark t c.self.inside.in_use c.self.inside.with_room c.self.inside.clearable c.self.inside.waiting c.self.invariant c.args.mark
-    (subst (λ (x : StageTable). x.mark ≤ c.args.mark) (sym same) c.loop.invariant.1)
-    (λ slice in' between. done.1 slice (subst (λ (x : StageTable). slice < length x.stages) same in')
-    (subst (λ (x : StageTable). RetiredIn x.mark c.args.mark (stage_of x slice)) same between))
+    record {
+      sets = sets-mark t c.self.inside.in_use c.self.inside.with_room c.self.inside.clearable c.self.inside.waiting c.self.invariant.sets c.args.mark
+          (subst (λ (x : StageTable). x.mark ≤ c.args.mark) (sym same) c.loop.invariant.1)
+          (λ slice in' between. done.1 slice (subst (λ (x : StageTable). slice < length x.stages) same in')
+          (subst (λ (x : StageTable). RetiredIn x.mark c.args.mark (stage_of x slice)) same between));
+      counted = c.self.invariant.counted;
+    }
 
 pub returns : goal.returns
 returns c =

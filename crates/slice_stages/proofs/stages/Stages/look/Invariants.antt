@@ -1,4 +1,4 @@
-use Rattle.std.proofs.Common.{◌≡◌, ℕ, ◌-◌, ◌≤◌}
+use Rattle.std.proofs.Common.{◌≡◌, ◌-◌, ◌≤◌}
 use Rattle.slice_stages.proofs.stages.Stages.look.Given as goal
 
 abbrev pub invariant-loop : goal.invariant-loop

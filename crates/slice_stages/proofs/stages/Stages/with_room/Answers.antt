@@ -7,4 +7,4 @@ pub returns : goal.returns
 returns c =
     let t : StageTable = record { columns = c.self.inside.columns; stages = c.self.inside.stages.items; mark = c.self.inside.mark } in
     subst (λ (x : StageTable). MatchOption c.lowest.result (HoldsOfNone (HasLeft x.columns) x) (IsLowest (HasLeft x.columns) x)) c.self.view_is
-    (lowest_of (HasLeft t.columns) t c.self.inside.with_room c.lowest.result c.self.invariant.left c.lowest.ensures)
+    (lowest_of (HasLeft t.columns) t c.self.inside.with_room c.lowest.result c.self.invariant.sets.left c.lowest.ensures)

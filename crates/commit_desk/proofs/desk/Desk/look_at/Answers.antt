@@ -1,0 +1,23 @@
+use Rattle.std.proofs.Common.{◌<◌, sym, subst}
+use Rattle.document_store.specs.Documents.{Parts}
+use Rattle.funnel_model.specs.Words.{AreWordsOf}
+use Rattle.commit_desk.specs.Desks.{DeskState}
+use Rattle.commit_desk.proofs.Inside.{books_of}
+use Rattle.commit_desk.proofs.LiveLooks.{none_live}
+use Rattle.commit_desk.proofs.RecordFacts.{is_column}
+use Rattle.commit_desk.proofs.desk.Desk.look_at.Goals as goal
+
+pub unreachable-requires : goal.unreachable-requires
+unreachable-requires c =
+    let i = c.self.inside in
+    none_live c.args.self.now i.home i.events_limit (books_of i) c.self.invariant c.self.view_is c.args.slice c.args.column c.state.result c.state.ensures.state c.in_default.not-Live
+    c.requires.live.0 c.requires.live.1 c.requires.live.2
+
+pub returns-clause-of_text : goal.returns-clause-of_text
+returns-clause-of_text c =
+    let i = c.self.inside in
+    let kept = c.self.invariant.kept in
+    let at = is_column i.home.pool.limits i.home.history i.records kept.legal kept.recorded c.args.slice c.args.column
+    (subst (λ (d : DeskState). c.args.slice < d.pool.limits.slices) (sym c.self.view_is) c.requires.slice)
+    (subst (λ (d : DeskState). c.args.column < d.pool.limits.columns) (sym c.self.view_is) c.requires.column) in
+    subst (λ (d : Parts). AreWordsOf d.words d.text) (sym c.in_ok-doc.ensures) ((kept.recorded.each c.args.slice c.args.column at).words_of_text c.in-Some.doc.now (sym c.in-Some.ensures.doc))

@@ -1,0 +1,150 @@
+-- Which document is moved next so that its slice retires, and what the turns of a move answer.
+use Rattle.std.specs.Prelude.{◌≡◌, ◌≢◌, ℕ, ◌+◌, ◌*◌, ◌/◌, ◌<◌, ◌≤◌, ◌⊎◌, Bool, true, false, List, [], ◌∷◌, length, slice_index_or, slice_set, nat_lt, Option, Some, None, Result, Ok, Err}
+use Rattle.std.specs.List.{list_any}
+use mathlib.Core.List.{IsPrefix}
+use Rattle.funnel_model.specs.declared.bit_list.Bit.{Bit}
+use Rattle.funnel_model.specs.declared.claim.Claim.{Claim}
+use Rattle.funnel_model.specs.declared.event.Event.{Event}
+use Rattle.funnel_model.specs.declared.event.Event.TheVariants as event
+use Rattle.funnel_model.specs.declared.memory.Memory.{Memory}
+use Rattle.funnel_model.specs.Events.{deletes_or_drops}
+use Rattle.funnel_model.specs.History.{Document}
+use Rattle.funnel_model.specs.Legal.{HasRoom, Limits, MayTake}
+use Rattle.funnel_model.specs.Reserve.{HasReadyColumns, HasSpareColumns, HoldsColumns, IsSource}
+use Rattle.funnel_model.specs.Slices.{IsFilled, IsInState, Live}
+use Rattle.funnel_model.specs.Words.{AreWordsOf}
+use Rattle.slice_rule.specs.Seats.{PassState}
+use Rattle.commit_desk.specs.Answers.{MayEnter, TakesCalls}
+use Rattle.commit_desk.specs.declared.look.Look.{Look}
+use Rattle.commit_desk.specs.Records.{document_added_at}
+
+-- the document as the history has it
+abbrev pub document_of : Look → Document
+document_of look = document_added_at look.place look.doc
+
+-- the columns that open looks name, by a mark for each; those of a slice stand together
+pub record LooksState : Type 0 where
+  pub columns : ℕ
+  pub marks : List Bool
+
+-- whether an open look names the column
+abbrev pub is_named : LooksState → ℕ → ℕ → Bool
+is_named looks slice column = slice_index_or looks.marks (slice * looks.columns + column) false
+
+-- the looks with another mark for one column
+abbrev pub with_mark : LooksState → ℕ → ℕ → Bool → LooksState
+with_mark looks slice column mark = record looks { marks = slice_set looks.marks (slice * looks.columns + column) mark }
+
+-- Documents are to be moved out of the slice, of which so many columns are held, before a document with this number is added: nothing but
+-- want of room keeps that one out; fewer columns are spare than are to be kept free; the slice is the next to be emptied; and the others
+-- have room for its documents, and for one more for each sixteen of them.
+pub record IsToBeEmptied (reserve most : ℕ) (limits : Limits) (history : List Event) (id slice held : ℕ) : Type 0 where
+  pub may : MayEnter most history id
+  pub short : (spare : ℕ) × HasSpareColumns limits history spare × (spare < reserve)
+  pub source : IsSource limits history slice held
+  pub room : (ready : ℕ) × HasReadyColumns limits history ready × (held + (held + 15) / 16 ≤ ready)
+
+-- the column has this live document, since the event with this number, and no open look names it
+pub record IsFreeToMove (limits : Limits) (looks : LooksState) (history : List Event) (slice column : ℕ) (document : Document) (since : ℕ) : Type 0 where
+  pub in_range : column < limits.columns
+  pub live : IsInState history slice column (Live document since)
+  pub unnamed : is_named looks slice column ≡ false
+
+-- it is the lowest such column of its slice
+pub record IsLowestFree (limits : Limits) (looks : LooksState) (history : List Event) (slice column : ℕ) (document : Document) (since : ℕ) : Type 0 where
+  pub free : IsFreeToMove limits looks history slice column document since
+  pub lowest : (lower : ℕ) (other : Document) (at : ℕ) → lower < column → IsFreeToMove limits looks history slice lower other at → ⊥
+
+-- some column of the slice is live
+abbrev pub HasLive : ℕ → List Event → ℕ → Type 0
+HasLive columns history slice = (column : ℕ) × (document : Document) × (since : ℕ) × (column < columns) × IsInState history slice column (Live document since)
+
+-- the column is the lowest of its slice that is live
+pub record IsLowestLive (columns : ℕ) (history : List Event) (slice column : ℕ) : Type 0 where
+  pub in_range : column < columns
+  pub live : (document : Document) × (since : ℕ) × IsInState history slice column (Live document since)
+  pub lowest : (lower : ℕ) (other : Document) (at : ℕ) → lower < column → IsInState history slice lower (Live other at) → ⊥
+
+-- open looks name each live column of the slice, of which this is the lowest
+pub record IsNamedAgain (limits : Limits) (looks : LooksState) (history : List Event) (slice column : ℕ) : Type 0 where
+  pub none_free : (other : ℕ) (document : Document) (since : ℕ) → IsFreeToMove limits looks history slice other document since → ⊥
+  pub lowest : IsLowestLive limits.columns history slice column
+
+-- The column is the next of its slice whose document is moved: it has this live document, since the event with this number, and is the lowest
+-- that no open look names. Where looks name each, it is the lowest live one again: a pass that stands still with its look keeps no other from
+-- moving what it looked at.
+pub record IsNextToMove (limits : Limits) (looks : LooksState) (history : List Event) (slice column : ℕ) (document : Document) (since : ℕ) : Type 0 where
+  pub live : IsInState history slice column (Live document since)
+  pub next : IsLowestFree limits looks history slice column document since ⊎ IsNamedAgain limits looks history slice column
+
+-- this document is the next to be moved
+pub record IsNextLook (reserve most : ℕ) (limits : Limits) (looks : LooksState) (history : List Event) (id slice column : ℕ) (document : Document) (since : ℕ) : Type 0 where
+  pub held : ℕ
+  pub empties : IsToBeEmptied reserve most limits history id slice held
+  pub next : IsNextToMove limits looks history slice column document since
+
+-- no document is to be moved out of any slice
+abbrev pub NoneToMove : ℕ → ℕ → Limits → List Event → ℕ → Type 0
+NoneToMove reserve most limits history id = (slice held : ℕ) → IsToBeEmptied reserve most limits history id slice held → ⊥
+
+-- a pass looks at the next document to be moved before it adds one with this number; want of memory is answered only where there is such
+-- a document
+abbrev pub AnswersLook : ℕ → ℕ → Limits → LooksState → List Event → ℕ → Result (Option Look) Memory → Type 0
+AnswersLook reserve most limits looks history id (Ok (Some look)) =
+    IsNextLook reserve most limits looks history id look.slice look.column (document_of look) look.since
+AnswersLook reserve most limits looks history id (Ok None) = NoneToMove reserve most limits history id
+AnswersLook reserve most limits looks history id (Err memory) =
+    (slice column : ℕ) × (document : Document) × (since : ℕ) × IsNextLook reserve most limits looks history id slice column document since
+
+-- the looks after it: the column that is looked at is named
+abbrev pub looks_after : LooksState → Result (Option Look) Memory → LooksState
+looks_after looks (Ok (Some look)) = with_mark looks look.slice look.column true
+looks_after looks _ = looks
+
+-- the pass has seen the document where it looked: the document was put there by the event with this number, and has the words of its
+-- text; and a document had been deleted or dropped by then
+pub record HoldsLook (seat : PassState) (look : Look) : Type 0 where
+  pub earlier : List Event
+  pub seen : IsPrefix earlier seat.front
+  pub live : IsInState earlier look.slice look.column (Live (document_of look) look.since)
+  pub of_text : AreWordsOf look.doc.words look.doc.text
+  pub cause : list_any deletes_or_drops seat.front ≡ true
+
+-- For a move a column is claimed as for an add, in another slice than the one that is emptied. Else nothing is done: calls are taken no
+-- more, no slice has room, or the lowest that has is the one that is emptied.
+abbrev pub AnswersTakeMove : ℕ → Limits → List Event → ℕ → Look → Option (Claim × Look) → Type 0
+AnswersTakeMove most limits history pass look (Some taken) =
+    TakesCalls most history × MayTake limits history pass taken.0.slice taken.0.column × (taken.0.slice ≢ look.slice) × (taken.1 ≡ look)
+AnswersTakeMove most limits history pass look None =
+    (most ≤ length history) ⊎ ((slice : ℕ) → slice < limits.slices → HasRoom limits.columns history slice → ⊥)
+    ⊎ ((column : ℕ) × MayTake limits history pass look.slice column)
+
+abbrev pub events_of_take_move : ℕ → Option (Claim × Look) → List Event
+events_of_take_move pass (Some taken) = event.Take pass taken.0.slice taken.0.column ∷ []
+events_of_take_move pass None = []
+
+-- the look ends where no column was claimed
+abbrev pub looks_after_take : LooksState → Look → Option (Claim × Look) → LooksState
+looks_after_take looks look (Some taken) = looks
+looks_after_take looks look None = with_mark looks look.slice look.column false
+
+-- the document is moved where it is live still in the column that was looked at, by the very event that put it there then
+abbrev pub IsThereStill : List Event → Look → Type 0
+IsThereStill history look = (document : Document) × (document.id ≡ look.doc.id) × IsInState history look.slice look.column (Live document look.since)
+
+-- a move that came too late leaves its column void
+abbrev pub event_of_move : ℕ → Look → Claim → List Bit → Bool → Event
+event_of_move pass look claim bits true = event.Move pass look.doc.id claim.slice claim.column bits
+event_of_move pass look claim bits false = event.Void pass claim.slice claim.column
+
+-- of a filled slice so many columns are held, and not all
+pub record IsPartlyHeld (columns : ℕ) (history : List Event) (slice held : ℕ) : Type 0 where
+  pub filled : IsFilled columns slice history
+  pub holds : HoldsColumns columns history slice held
+  pub some : 1 ≤ held
+  pub fewer : held < columns
+
+-- whether so many are fewer than those of the source so far, where there is one
+abbrev pub is_fewer : ℕ → Option (ℕ × ℕ) → Bool
+is_fewer held None = true
+is_fewer held (Some source) = nat_lt held source.1

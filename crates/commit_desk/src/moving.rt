@@ -1,0 +1,385 @@
+//! Moves: documents go from the slice that holds the fewest to others, so that it retires.
+ghost use Rattle.std.specs.Prelude.{◌≡◌, ◌↔◌, ℕ, ◌<◌, ◌≤◌, [], ◌∷◌, All, Contains, IfOk, IfSome, IsTrue, false, true, MatchOption};
+ghost use Rattle.funnel_model.specs.declared.bit_list.Bit.{Bit};
+ghost use Rattle.funnel_model.specs.History.{Document};
+ghost use Rattle.funnel_model.specs.Legal.{IsIdle, IsInSlice};
+ghost use Rattle.funnel_model.specs.declared.event.Event.TheVariants as event;
+ghost use Rattle.funnel_model.specs.Events.{deletes_or_drops};
+ghost use Rattle.funnel_model.specs.Reserve.{HasReadyColumns, HasSpareColumns, IsSource};
+ghost use Rattle.funnel_model.specs.Slices.{IsInState, Live};
+ghost use Rattle.funnel_model.specs.Words.{AreWordsOf};
+ghost use Rattle.std.specs.List.{list_any};
+ghost use Rattle.row_layout.specs.DocumentBits.{AreDocumentBits};
+ghost use Rattle.slice_rule.specs.declared.view.Fact.TheVariants as fact;
+ghost use Rattle.slice_rule.specs.Numbers.{last_number};
+ghost use Rattle.slice_rule.specs.Seats.{HasNoneOutstanding, HoldsClaim};
+ghost use Rattle.commit_desk.specs.Desks.{IsCaughtUp, IsSeatOf, Makes, NothingUnderLast};
+ghost use Rattle.commit_desk.specs.Moving.{AnswersLook, AnswersTakeMove, HoldsLook, HasLive, IsLowestFree, IsLowestLive, IsPartlyHeld, document_of, is_fewer, IsFreeToMove, IsNextToMove, IsThereStill, IsToBeEmptied, event_of_move, events_of_take_move, looks_after, looks_after_take, with_mark};
+
+use crate::desk::Desk;
+use crate::entries::Moves;
+use crate::look::{Look, Looks};
+use document_store::Column;
+use funnel_model::{Claim, Event, Memory};
+use row_layout::Bits;
+use slice_rule::{PassSeat, Pool};
+use slice_stages::Stage;
+use std::alloc::Global;
+
+impl Desk {
+    /// Looks at the next document that is to be moved before one with this number is added, where there is one. The look is
+    /// handed on to `take_move` and then to `end_move`, or spent by `drop_look`. Its document is a copy, for which memory is taken.
+    pub fn look(
+        &mut self,
+        alloc: Global,
+        pool: &Pool,
+        seat: &mut PassSeat,
+        looks: &mut Looks,
+        reserve: u32,
+        id: u64,
+    ) -> Result<Option<Look>, Memory>
+        requires pool { pool.now ≡ self.old.pool }
+        requires seat { IsSeatOf self.old seat.old }
+        requires idle { IsIdle seat.old.number seat.old.front }
+        ensures answer { AnswersLook reserve self.old.events_limit self.old.pool.limits looks.old self.old.history id result }
+        ensures events { Makes [] self.old self.new seat.old seat.new }
+        ensures looks { looks.new ≡ looks_after looks.old result }
+        ensures look { IfOk result (λ found. IfSome found (HoldsLook seat.new)) }
+        ensures none_outstanding { HasNoneOutstanding seat.new }
+    {
+        pool.catch_up(&mut self.home, seat);
+        let Some(slice) = self.to_be_emptied(reserve, id) else {
+            return Ok(None);
+        };
+        let column = self.next_to_move(looks, slice);
+        let look = self.look_at(alloc, slice, column)?;
+        looks.name(slice, column);
+        Ok(Some(look))
+    }
+
+    /// Claims a column for the document that was looked at. Where it claims none the look is over. It takes no memory.
+    pub fn take_move(
+        &mut self,
+        pool: &Pool,
+        seat: &mut PassSeat,
+        looks: &mut Looks,
+        look: Look,
+    ) -> Option<(Claim, Look)>
+        requires pool { pool.now ≡ self.old.pool }
+        requires seat { IsSeatOf self.old seat.old }
+        requires idle { IsIdle seat.old.number seat.old.front }
+        ensures answer { AnswersTakeMove self.old.events_limit self.old.pool.limits self.old.history seat.old.number look result }
+        ensures events { Makes (events_of_take_move seat.old.number result) self.old self.new seat.old seat.new }
+        ensures looks { looks.new ≡ looks_after_take looks.old look result }
+        ensures nothing_yet { IfSome result (λ _. NothingUnderLast seat.new) }
+        ensures none_outstanding { HasNoneOutstanding seat.new }
+    {
+        pool.catch_up(&mut self.home, seat);
+        if !self.is_spent() {
+            if let Some(slice) = self.stages.with_room() {
+                if slice != look.slice {
+                    return Some((self.claim(pool, seat, slice), look));
+                }
+            }
+        }
+        looks.drop_look(look);
+        None
+    }
+
+    /// Moves the document to the column that was claimed for it, all of whose bits the pass has set; or leaves the column void where
+    /// the document isn't any more where it was looked at. It takes no memory.
+    pub fn end_move(
+        &mut self,
+        pool: &Pool,
+        seat: &mut PassSeat,
+        looks: &mut Looks,
+        claim: Claim,
+        look: Look,
+        bits: &Bits,
+    ) -> bool
+        requires pool { pool.now ≡ self.old.pool }
+        requires seat { IsSeatOf self.old seat.old }
+        requires claim { HoldsClaim seat.old claim }
+        requires look { HoldsLook seat.old look }
+        requires bits { AreDocumentBits self.old.pool.config look.doc.words claim.slice claim.column bits.now.bits }
+        requires inside { All (λ b. IsInSlice self.old.pool.limits.slice_words claim.slice b.word) bits.now.bits }
+        requires set { (b : Bit) → Contains bits.now.bits b ↔ Contains seat.old.own (fact.BitSet (last_number seat.old.number seat.old.front) b) }
+        ensures answer { IsTrue result ↔ IsThereStill self.old.history look }
+        ensures events { Makes (event_of_move seat.old.number look claim bits.now.bits result ∷ []) self.old self.new seat.old seat.new }
+        ensures looks { looks.new ≡ with_mark looks.old look.slice look.column false }
+        ensures none_outstanding { HasNoneOutstanding seat.new }
+    {
+        pool.catch_up(&mut self.home, seat);
+        looks.unname(look.slice, look.column);
+        if self.is_there_still(&look) {
+            self.make_move(pool, seat, claim, look, bits);
+            return true;
+        }
+        let Look {
+            slice: _,
+            column: _,
+            place: _,
+            since: _,
+            doc: _,
+        } = look;
+        self.make_void(pool, seat, claim);
+        false
+    }
+
+    // The slice out of which documents are to be moved before one with this number is added, where there is one.
+    fn to_be_emptied(&mut self, reserve: u32, id: u64) -> Option<u32>
+        ensures answer { MatchOption result
+            ((slice held : ℕ) → IsToBeEmptied reserve self.old.events_limit self.old.pool.limits self.old.history id slice held → ⊥)
+            (λ slice. (held : ℕ) × IsToBeEmptied reserve self.old.events_limit self.old.pool.limits self.old.history id slice held) }
+        ensures same { self.new ≡ self.old }
+    {
+        if self.is_spent() || self.place_of(id).is_some() || reserve as u64 <= self.spare() {
+            return None;
+        }
+        let Some((slice, held)) = self.source() else {
+            return None;
+        };
+        if self.ready() < held as u64 + held.div_ceil(16) as u64 {
+            return None;
+        }
+        Some(slice)
+    }
+
+    // How many columns are spare.
+    fn spare(&self) -> u64
+        ensures { HasSpareColumns self.now.pool.limits self.now.history result }
+    {
+        let _ = &self.home;
+        self.stages.spare()
+    }
+
+    // How many columns are ready.
+    fn ready(&mut self) -> u64
+        ensures ready { HasReadyColumns self.old.pool.limits self.old.history result }
+        ensures same { self.new ≡ self.old }
+    {
+        let _ = &self.home;
+        let mark = match self.tokens.oldest() {
+            Some(number) => number,
+            None => self.events,
+        };
+        self.stages.look(mark);
+        self.stages.ready()
+    }
+
+    // The slice out of which documents are moved next, and how many of its columns are held.
+    fn source(&self) -> Option<(u32, u32)>
+        ensures { MatchOption result ((slice held : ℕ) → IsSource self.now.pool.limits self.now.history slice held → ⊥)
+            (λ source. IsSource self.now.pool.limits self.now.history source.0 source.1) }
+    {
+        let _ = &self.home;
+        let mut source = None;
+        for slice in 0..self.slices {
+            if let Some(held) = self.held(slice) {
+                if is_fewer(held, source) && self.has_live(slice) {
+                    source = Some((slice, held));
+                }
+            }
+        }
+        source
+    }
+
+    // How many columns of the slice are held, where it is filled and not all of them are.
+    fn held(&self, slice: u32) -> Option<u32>
+        requires { slice < self.now.pool.limits.slices }
+        ensures { MatchOption result ((held : ℕ) → IsPartlyHeld self.now.pool.limits.columns self.now.history slice held → ⊥)
+            (IsPartlyHeld self.now.pool.limits.columns self.now.history slice) }
+    {
+        let _ = &self.home;
+        let Stage::InUse { claimed, over } = self.stages.stage(slice) else {
+            return None;
+        };
+        if claimed == self.columns && 0 < over {
+            return Some(self.columns - over);
+        }
+        None
+    }
+
+    // Whether a column of the slice is live.
+    fn has_live(&self, slice: u32) -> bool
+        requires { slice < self.now.pool.limits.slices }
+        ensures { IsTrue result ↔ HasLive self.now.pool.limits.columns self.now.history slice }
+    {
+        let _ = &self.home;
+        self.lowest_live(slice).is_some()
+    }
+
+    // The lowest column of the slice with a live document.
+    fn lowest_live(&self, slice: u32) -> Option<u32>
+        requires { slice < self.now.pool.limits.slices }
+        ensures { MatchOption result (HasLive self.now.pool.limits.columns self.now.history slice → ⊥) (IsLowestLive self.now.pool.limits.columns self.now.history slice) }
+    {
+        let _ = &self.home;
+        for column in self.records.first_over(slice)..self.columns {
+            if let Column::Live { .. } = self.records.state(slice, column) {
+                return Some(column);
+            }
+        }
+        None
+    }
+
+    // The column of the slice whose document is moved next.
+    fn next_to_move(&self, looks: &Looks, slice: u32) -> u32
+        requires slice { slice < self.now.pool.limits.slices }
+        requires live { HasLive self.now.pool.limits.columns self.now.history slice }
+        ensures { (document : Document) × (since : ℕ) × IsNextToMove self.now.pool.limits looks.now self.now.history slice result document since }
+    {
+        let _ = &self.home;
+        if let Some(column) = self.lowest_free(looks, slice) {
+            return column;
+        }
+        let Some(column) = self.lowest_live(slice) else {
+            unreachable!()
+        };
+        column
+    }
+
+    // The lowest column of the slice with a live document that no open look names.
+    fn lowest_free(&self, looks: &Looks, slice: u32) -> Option<u32>
+        requires { slice < self.now.pool.limits.slices }
+        ensures { MatchOption result
+            ((column : ℕ) (document : Document) (since : ℕ) → IsFreeToMove self.now.pool.limits looks.now self.now.history slice column document since → ⊥)
+            (λ column. (document : Document) × (since : ℕ) × IsLowestFree self.now.pool.limits looks.now self.now.history slice column document since) }
+    {
+        let _ = &self.home;
+        for column in self.records.first_over(slice)..self.columns {
+            if self.is_free_to_move(looks, slice, column) {
+                return Some(column);
+            }
+        }
+        None
+    }
+
+    // Whether the column has a live document that no open look names.
+    fn is_free_to_move(&self, looks: &Looks, slice: u32, column: u32) -> bool
+        requires slice { slice < self.now.pool.limits.slices }
+        requires column { column < self.now.pool.limits.columns }
+        ensures { IsTrue result ↔ ((document : Document) × (since : ℕ) × IsFreeToMove self.now.pool.limits looks.now self.now.history slice column document since) }
+    {
+        let _ = &self.home;
+        match self.records.state(slice, column) {
+            Column::Live { .. } => !looks.is_named(slice, column),
+            _ => false,
+        }
+    }
+
+    // A look at the column, which has a live document.
+    fn look_at(&self, alloc: Global, slice: u32, column: u32) -> Result<Look, Memory>
+        requires slice { slice < self.now.pool.limits.slices }
+        requires column { column < self.now.pool.limits.columns }
+        requires live { (document : Document) × (since : ℕ) × IsInState self.now.history slice column (Live document since) }
+        ensures slice { IfOk result (λ look. look.slice ≡ slice) }
+        ensures column { IfOk result (λ look. look.column ≡ column) }
+        ensures live { IfOk result (λ look. IsInState self.now.history slice column (Live (document_of look) look.since)) }
+        ensures of_text { IfOk result (λ look. AreWordsOf look.doc.words look.doc.text) }
+    {
+        let _ = &self.home;
+        let Column::Live { place, since } = self.records.state(slice, column) else {
+            unreachable!()
+        };
+        let Some(doc) = self.records.doc(slice, column) else {
+            unreachable!()
+        };
+        let doc = doc.copy(alloc)?;
+        Ok(Look {
+            slice,
+            column,
+            place,
+            since,
+            doc,
+        })
+    }
+
+    // Whether the document is live still in the column that was looked at, by the event that put it there then.
+    fn is_there_still(&self, look: &Look) -> bool
+        ensures { IsTrue result ↔ IsThereStill self.now.history look.now }
+    {
+        let _ = &self.home;
+        let Some((slice, column)) = self.live.get(look.doc.id()) else {
+            return false;
+        };
+        if slice != look.slice || column != look.column {
+            return false;
+        }
+        match self.records.state(slice, column) {
+            Column::Live { since, .. } => since == look.since,
+            _ => false,
+        }
+    }
+
+    // Makes the move.
+    fn make_move(&mut self, pool: &Pool, seat: &mut PassSeat, claim: Claim, look: Look, bits: &Bits)
+        requires pool { pool.now ≡ self.old.pool }
+        requires caught_up { IsCaughtUp self.old seat.old }
+        requires claim { HoldsClaim seat.old claim }
+        requires look { HoldsLook seat.old look }
+        requires there { IsThereStill self.old.history look }
+        requires bits { AreDocumentBits self.old.pool.config look.doc.words claim.slice claim.column bits.now.bits }
+        requires inside { All (λ b. IsInSlice self.old.pool.limits.slice_words claim.slice b.word) bits.now.bits }
+        requires of_words { All (λ b. b.bit < 64) bits.now.bits }
+        requires set { (b : Bit) → Contains bits.now.bits b ↔ Contains seat.old.own (fact.BitSet (last_number seat.old.number seat.old.front) b) }
+        ensures made { Makes (event.Move seat.old.number look.doc.id claim.slice claim.column bits.now.bits ∷ []) self.old self.new seat.old seat.new }
+        ensures none_outstanding { HasNoneOutstanding seat.new }
+    {
+        let pass = seat.number();
+        let id = look.doc.id();
+        let entry = Moves {
+            pass,
+            id,
+            claim: &claim,
+            bits: bits.list(),
+        };
+        let number = pool.make_event(&mut self.home, seat, &entry);
+        let Claim { slice, column } = claim;
+        let Look {
+            slice: from,
+            column: left,
+            place,
+            since: _,
+            doc,
+        } = look;
+        self.records.delete(from, left, number);
+        self.records.live(slice, column, doc, place, number);
+        self.live.remove(id);
+        self.live.add(id, slice, column);
+        self.stages.end_column(from, number);
+        self.events = number;
+    }
+
+    // Leaves the column that was claimed without a document.
+    fn make_void(&mut self, pool: &Pool, seat: &mut PassSeat, claim: Claim)
+        requires pool { pool.now ≡ self.old.pool }
+        requires caught_up { IsCaughtUp self.old seat.old }
+        requires claim { HoldsClaim seat.old claim }
+        requires cause { list_any deletes_or_drops self.old.history ≡ true }
+        ensures made { Makes (event.Void seat.old.number claim.slice claim.column ∷ []) self.old self.new seat.old seat.new }
+        ensures none_outstanding { HasNoneOutstanding seat.new }
+    {
+        let pass = seat.number();
+        let entry = Event::Void {
+            pass,
+            slice: claim.slice,
+            column: claim.column,
+        };
+        let number = pool.make_event(&mut self.home, seat, &entry);
+        let Claim { slice, column } = claim;
+        self.records.drop_column(slice, column);
+        self.stages.end_column(slice, number);
+        self.events = number;
+    }
+}
+
+// Whether so many are fewer than those of the source so far.
+fn is_fewer(held: u32, source: Option<(u32, u32)>) -> bool
+    ensures { result ≡ is_fewer held source }
+{
+    match source {
+        Some((_, fewest)) => held < fewest,
+        None => true,
+    }
+}

@@ -1,0 +1,129 @@
+-- Where a pass stands between the turns of a move.
+use Rattle.std.proofs.Common.{◌≡◌, ◌↔◌, ℕ, ◌<◌, Bool, true, false, IsTrue, ◌||◌, List, [], ◌∷◌, ◌++◌, Option, Some, None, Ok, sym, refl, ap, ◌∙◌, subst, append-nil}
+use Rattle.std.proofs.lemmas.List.Folds.{list_any-append}
+use Rattle.std.specs.List.{list_any}
+use Rattle.std.specs.Prelude.{IfSome, MatchOption}
+use mathlib.Core.List.{IsPrefix}
+use Rattle.funnel_model.specs.declared.bit_list.Bit.{Bit}
+use Rattle.funnel_model.specs.declared.claim.Claim.{Claim}
+use Rattle.funnel_model.specs.declared.config.Config.{Config}
+use Rattle.funnel_model.specs.declared.event.Event.{Event}
+use Rattle.funnel_model.specs.declared.event.Event.TheVariants as event
+use Rattle.funnel_model.specs.Events.{deletes_or_drops}
+use Rattle.funnel_model.specs.History.{last_by}
+use Rattle.funnel_model.specs.Legal.{IsIdle, IsLegal, Limits}
+use Rattle.funnel_model.specs.Words.{words}
+use Rattle.funnel_model.proofs.Claims.{take_within}
+use Rattle.funnel_model.proofs.Histories.{allowed_within, legal_before}
+use Rattle.funnel_model.proofs.Spans.{last_by-own}
+use Rattle.funnel_model.proofs.StepLemmas.{prefix_trans}
+use Rattle.row_layout.specs.declared.row.Row.{Row}
+use Rattle.row_layout.specs.DocumentBits.{AreDocumentBits}
+use Rattle.row_layout.specs.Orders.{HasRowsOf}
+use Rattle.slice_rule.specs.Pools.{PoolId}
+use Rattle.slice_rule.specs.Seats.{HasNoneOutstanding, PassState}
+use Rattle.commit_desk.specs.declared.look.Look.{Look}
+use Rattle.commit_desk.specs.Desks.{DeskState, Makes, NothingUnderLast}
+use Rattle.commit_desk.specs.Moving.{AnswersLook, AnswersTakeMove, HoldsLook, IsThereStill, LooksState, event_of_move, events_of_take_move}
+use Rattle.commit_desk.specs.Passes.{IsResting, IsToWrite}
+use Rattle.commit_desk.proofs.CallEnds.{rests_one}
+use Rattle.slice_recycler.specs.Turns.{IsTurn}
+use Rattle.slice_recycler.proofs.Steps.{idle_still}
+use Rattle.engine.specs.Moves.{IsToBeMoved, MoveTurns}
+
+-- a pass that looked at a document holds its look while its front grows
+pub holds_on : (seat next : PassState) (look : Look) → IsPrefix seat.front next.front → HoldsLook seat look → HoldsLook next look
+holds_on seat next look grows held = record {
+  earlier = held.earlier;
+  seen = prefix_trans held.earlier seat.front next.front held.seen grows;
+  live = held.live;
+  of_text = held.of_text;
+  cause = ap (list_any deletes_or_drops) (sym grows.1) ∙ list_any-append deletes_or_drops seat.front grows.0 ∙ ap (λ b. b || list_any deletes_or_drops grows.0) held.cause;
+}
+
+-- and while it does something itself
+pub holds_by_own : (seat next : PassState) (look : Look) → next ≡ record seat { own = next.own } → HoldsLook seat look → HoldsLook next look
+holds_by_own seat next look is held = holds_on seat next look ([], append-nil seat.front ∙ sym (ap (λ (p : PassState). p.front) is)) held
+
+module _ (pool : PoolId) (before after : DeskState) (seat next : PassState) (none : HasNoneOutstanding next) where
+  -- a pass that rests does so after a turn without an event
+  pub rests_on : IsResting pool seat → Makes [] before after seat next → IsResting pool next
+  rests_on rests made =
+      let turn : IsTurn seat.number seat.front next.front (λ history. Unit {0}) [] = record { earlier = before.history; seen = made.seen; answer = tt; made = made.front ∙ made.history } in
+      record {
+        seated = record { same = made.same ∙ rests.seated.same; none_outstanding = none };
+        idle = subst (λ n. IsIdle n next.front) (sym made.number) (idle_still seat.number seat.front next.front turn rests.idle);
+      }
+
+  -- and after it ended a move
+  pub rests_moved : seat.pool ≡ pool → (look : Look) (claim : Claim) (bits : List Bit) (moved : Bool) → Makes (event_of_move seat.number look claim bits moved ∷ []) before after seat next →
+      IsResting pool next
+  rests_moved here look claim bits true made = rests_one pool before after seat next here none (event.Move seat.number look.doc.id claim.slice claim.column bits) refl refl made
+  rests_moved here look claim bits false made = rests_one pool before after seat next here none (event.Void seat.number claim.slice claim.column) refl refl made
+
+  module _ (of : before.pool ≡ pool) where
+    -- a column that the pass claimed is its to write
+    claims_one : seat.pool ≡ pool → (claim : Claim) → claim.slice < before.pool.limits.slices → NothingUnderLast next →
+        Makes (event.Take seat.number claim.slice claim.column ∷ []) before after seat next → IsToWrite pool claim next
+    claims_one here claim in' nothing made =
+        let limits = before.pool.limits in
+        let e = event.Take seat.number claim.slice claim.column in
+        let legal : IsLegal limits (before.history ++ e ∷ []) = subst (IsLegal limits) made.history (subst (λ (p : PoolId). IsLegal p.limits after.history) made.pool made.legal) in
+        let last : last_by next.number next.front ≡ Some e =
+        ap (λ n. last_by n next.front) made.number ∙ ap (last_by seat.number) (made.front ∙ made.history) ∙ last_by-own seat.number before.history e refl in
+        let within : claim.column < limits.columns =
+        take_within limits before.history seat.number claim.slice claim.column (legal_before limits before.history (e ∷ []) legal)
+        (allowed_within limits (before.history ++ e ∷ []) before.history e [] legal refl) in
+        record {
+          seated = record { same = made.same ∙ here; none_outstanding = none };
+          holds = last ∙ ap (λ n. Some (event.Take n claim.slice claim.column)) (sym made.number);
+          nothing = nothing;
+          in_range = subst (λ (p : PoolId). claim.slice < p.limits.slices) of in';
+          column = subst (λ (p : PoolId). claim.column < p.limits.columns) of within;
+        }
+
+    -- what the pass is to do after it took a column for a move, or took none
+    pub writes_or_rests : IsResting pool seat → (most : ℕ) (look : Look) (answer : Option (Claim × Look)) → AnswersTakeMove most before.pool.limits before.history seat.number look answer →
+        IfSome answer (λ taken. NothingUnderLast next) → Makes (events_of_take_move seat.number answer) before after seat next →
+        MatchOption answer (IsResting pool next) (λ taken. IsToWrite pool taken.0 next)
+    writes_or_rests rests most look None may nothing made = rests_on rests made
+    writes_or_rests rests most look (Some taken) may nothing made = claims_one rests.seated.same taken.0 may.1.in_range nothing made
+
+-- the document that the desk names is to be moved
+to_be_moved : (reserve : ℕ) (limits : Limits) (looks : LooksState) (history : List Event) (id : ℕ) (look : Look) → AnswersLook reserve limits.events limits looks history id (Ok (Some look)) →
+    IsToBeMoved reserve limits history id look
+to_be_moved reserve limits looks history id look next = record { held = next.held; empties = next.empties; live = next.next.live }
+
+-- The turns of a move whose pass wrote the bits before the last one.
+module _ (config : Config) (limits : Limits) (pass id : ℕ) (before after : List Event) (look kept : Look) (claim : Claim) (bits : List Bit) (moved : Bool) (seen took wrote : PassState) where
+  pub move_turns : IsTurn pass before seen.front (λ history. (looks : LooksState) × AnswersLook config.reserve limits.events limits looks history id (Ok (Some look))) [] → seen.number ≡ pass →
+      IsTurn seen.number seen.front took.front (λ history. AnswersTakeMove limits.events limits history seen.number look (Some (claim, kept))) (event.Take seen.number claim.slice claim.column ∷ []) →
+      kept ≡ look → took.number ≡ seen.number → wrote ≡ record took { own = wrote.own } → AreDocumentBits config (words look.doc.text) claim.slice claim.column bits →
+      IsTurn wrote.number wrote.front after (λ history. IsTrue moved ↔ IsThereStill history kept) (event_of_move wrote.number kept claim bits moved ∷ []) →
+      MoveTurns config limits pass id before after
+  move_turns looked number taken same next is of_text ended = record {
+    look = look;
+    claim = claim;
+    bits = bits;
+    moved = moved;
+    seen = seen.front;
+    middle = took.front;
+    looked = record {
+      earlier = looked.earlier;
+      seen = looked.seen;
+      answer = to_be_moved config.reserve limits looked.answer.0 looked.earlier id look looked.answer.1;
+      made = looked.made;
+    };
+    took = subst (λ (k : Look). IsTurn pass seen.front took.front (λ history. AnswersTakeMove limits.events limits history pass look (Some (claim, k))) (event.Take pass claim.slice claim.column ∷ [])) same
+        (subst (λ (n : ℕ). IsTurn n seen.front took.front (λ history. AnswersTakeMove limits.events limits history n look (Some (claim, kept))) (event.Take n claim.slice claim.column ∷ [])) number taken);
+    of_text = of_text;
+    ended = subst (λ (k : Look). IsTurn pass took.front after (λ history. IsTrue moved ↔ IsThereStill history k) (event_of_move pass k claim bits moved ∷ [])) same
+        (subst (λ (n : ℕ). IsTurn n took.front after (λ history. IsTrue moved ↔ IsThereStill history kept) (event_of_move n kept claim bits moved ∷ [])) (next ∙ number)
+        (subst (λ (p : PassState). IsTurn p.number p.front after (λ history. IsTrue moved ↔ IsThereStill history kept) (event_of_move p.number kept claim bits moved ∷ [])) is ended));
+  }
+
+-- the rows of the words of a document that is moved, laid out as its pool's are
+pub rows_laid : (pool : PoolId) (layout config : Config) (given set : List (List ℕ)) (rows : List Row) → layout ≡ pool.config → pool.config ≡ config → given ≡ set → HasRowsOf layout given rows →
+    HasRowsOf config set rows
+rows_laid pool layout config given set rows laid same is has =
+    subst (λ (k : Config). HasRowsOf k set rows) (laid ∙ same) (subst (λ (ws : List (List ℕ)). HasRowsOf layout ws rows) is has)

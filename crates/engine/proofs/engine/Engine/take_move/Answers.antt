@@ -1,0 +1,10 @@
+use Rattle.std.proofs.Common.{sym, ◌∙◌}
+use Rattle.engine.proofs.MovePasses.{writes_or_rests}
+use Rattle.engine.proofs.engine.Engine.take_move.Goals as goal
+
+pub returns-clause-next : goal.returns-clause-next
+returns-clause-next g c =
+    let desk = c.deref_mut-named.result.now.desk in
+    let took = c.take_move.ensures in
+    writes_or_rests c.args.self.now desk c.take_move.new.self c.args.pass.now c.take_move.new.seat took.none_outstanding
+    (c.deref_mut-named.result.now.of_pool ∙ sym c.self.invariant.of_name ∙ c.self.view_is) c.requires.rests desk.events_limit c.args.look c.take_move.result took.answer took.nothing_yet took.events
