@@ -1,41 +1,48 @@
--- What the call that ends a find finds.
-use Rattle.std.proofs.Common.{◌≡◌, ◌↔◌, ℕ, ◌<◌, false, List, filter_map, refl, sym, ap, ◌∙◌, subst, arith, Contains, IsSorted, IsPermutation}
+-- What a find finds of its candidates by the records, and what a pass that catches up still knows of them.
+use Rattle.std.proofs.Common.{◌≡◌, ◌↔◌, ℕ, ◌<◌, false, List, [], ◌∷◌, ◌++◌, filter_map, refl, sym, ap, ◌∙◌, subst, arith, Contains}
 use Rattle.std.specs.List.{list_any}
 use Rattle.std.specs.Option.{is_some}
-use Rattle.document_store.specs.Finding.{IsFound, found_at, pair_cmp}
+use Rattle.std.specs.Prelude.{IsBitSet}
+use Rattle.document_store.specs.Finding.{found_at}
 use Rattle.document_store.specs.Slots.{IsColumn, Table}
 use Rattle.funnel_model.specs.declared.claim.Token.{Token}
 use Rattle.funnel_model.specs.declared.config.Config.{Config}
 use Rattle.funnel_model.specs.declared.event.Event.{Event}
 use Rattle.funnel_model.specs.declared.event.Event.TheVariants as event
-use Rattle.funnel_model.specs.Events.{tuning_of}
+use Rattle.funnel_model.specs.Events.{finds_or_ends, tuning_of}
 use Rattle.funnel_model.specs.History.{IsFrontOf}
 use Rattle.funnel_model.specs.Legal.{IsLegal, Limits}
+use Rattle.funnel_model.specs.RowWords.{IsCommitted}
 use Rattle.funnel_model.specs.Slices.{IsInUse}
 use Rattle.funnel_model.specs.Tokens.{HasToken}
 use Rattle.funnel_model.specs.Words.{AreWordsOf}
 use Rattle.funnel_model.proofs.Retirement.{same_split}
 use Rattle.row_layout.specs.Sound.{IsSound}
-use Rattle.slice_rule.specs.Seats.{HoldsToken, PassState}
-use Rattle.commit_desk.specs.Answers.{found_of}
+use Rattle.slice_rule.specs.declared.view.Fact.{Fact}
+use Rattle.slice_rule.specs.declared.view.Fact.TheVariants as fact
+use Rattle.slice_rule.specs.Pools.{PoolId}
+use Rattle.slice_rule.specs.Seats.{HoldsToken, IsSamePass, PassState}
 use Rattle.commit_desk.specs.Records.{AreRecorded}
-use Rattle.commit_desk.specs.Scans.{AreScanned}
+use Rattle.commit_desk.specs.Resolving.{AreGiven, GiveAll}
+use Rattle.commit_desk.specs.Scans.{AreScanned, IsOfToken, WereScanned}
 use Rattle.commit_desk.proofs.FindTurns.{begun_later}
-use Rattle.commit_desk.proofs.Found.{found_is_met, is_candidate}
+use Rattle.commit_desk.proofs.Found.{scan_gives_all, table_gives_each}
 
--- the events before a find are those before its event
-begun_once : (history : List Event) (pass number : ℕ) (one other : HasToken history pass number) → one.earlier ≡ other.earlier
+-- a find began once: the events before it are those before its event, which has its query
+begun_once : (history : List Event) (pass number : ℕ) (one other : HasToken history pass number) → (one.earlier ≡ other.earlier) × (one.query ≡ other.query)
 begun_once history pass number one other =
     let count = one.count in
     let also = other.count in
-    (same_split one.earlier other.earlier one.later other.later (event.Find pass one.query) (event.Find pass other.query) (sym one.whole ∙ other.whole) (omega arith)).0
+    let split = same_split one.earlier other.earlier one.later other.later (event.Find pass one.query) (event.Find pass other.query) (sym one.whole ∙ other.whole) (omega arith) in
+    (split.0, cc)
 
--- the candidates of a scan are columns of the table
-pub scanned_in_table : (limits : Limits) (history : List Event) (table : Table) (config : Config) (seat : PassState) (token : Token) (set : List (List ℕ)) (candidates : List (ℕ × ℕ)) →
-    AreRecorded limits history table → seat.pool.limits ≡ limits → HoldsToken seat token → AreScanned config seat token set candidates →
+-- the candidates of a token are columns of the table
+pub scanned_in_table : (limits : Limits) (history : List Event) (table : Table) (seat : PassState) (token : Token) (candidates : List (ℕ × ℕ)) →
+    AreRecorded limits history table → seat.pool.limits ≡ limits → HoldsToken seat token →
+    ((candidate : ℕ × ℕ) → Contains candidates candidate → IsOfToken seat.pool.limits.columns token candidate) →
     (slice column : ℕ) → Contains candidates (slice, column) → IsColumn table slice column
-scanned_in_table limits history table config seat token set candidates recorded same holds scanned slice column has =
-    let of = scanned.of_token (slice, column) has in
+scanned_in_table limits history table seat token candidates recorded same holds of_token slice column has =
+    let of = of_token (slice, column) has in
     let slices_are = recorded.slices_are ∙ ap (λ (l : Limits). l.slices) (sym same) in
     let columns_are = recorded.columns_are ∙ ap (λ (l : Limits). l.columns) (sym same) in
     record {
@@ -43,21 +50,72 @@ scanned_in_table limits history table config seat token set candidates recorded 
       column_in_range = omega (arith, of.column);
     }
 
--- what is found of the candidates of a scan are the documents that were live before the find and have every word
-pub found_by_scan : (config : Config) (limits : Limits) (history : List Event) (table : Table) (seat : PassState) (token : Token) (set : List (List ℕ)) (candidates found : List (ℕ × ℕ)) →
-    IsLegal limits history → IsSound config history → list_any (λ e. is_some (tuning_of e)) history ≡ false → AreRecorded limits history table → seat.pool.limits ≡ limits → IsFrontOf seat.number seat.front history → HoldsToken seat token →
-    AreScanned config seat token set candidates →
-    ((added id : ℕ) → Contains found (added, id) ↔ IsFound table candidates set token.opened_at (added, id)) → IsSorted pair_cmp found →
-    IsPermutation (filter_map (found_at table set token.opened_at) candidates) found →
-    (begun : HasToken seat.front seat.number token.opened_at) → AreWordsOf set begun.query → found ≡ found_of begun.earlier begun.query
-found_by_scan config limits history table seat token set candidates found legal sound untuned recorded same goes holds scanned exactly sorted permuted begun of_query =
-    let now = begun_later seat.number token.opened_at seat.front history begun goes in
-    let earlier : holds.begun.earlier ≡ begun.earlier = begun_once seat.front seat.number token.opened_at holds.begun begun in
-    let held_are : (slice : ℕ) → Contains token.slices slice ↔ ((slice < limits.slices) × IsInUse limits.columns slice begun.earlier) =
-    subst (λ (h : List Event). (slice : ℕ) → Contains token.slices slice ↔ ((slice < limits.slices) × IsInUse limits.columns slice h)) earlier
-    (subst (λ (l : Limits). (slice : ℕ) → Contains token.slices slice ↔ ((slice < l.slices) × IsInUse l.columns slice holds.begun.earlier)) same holds.slices) in
-    found_is_met config limits history table legal sound untuned recorded seat.number token.opened_at now candidates set found of_query
-    (λ slice column has. ((held_are slice).0 (scanned.of_token (slice, column) has).slice).1)
-    (scanned_in_table limits history table config seat token set candidates recorded same holds scanned) scanned.each_once
-    (is_candidate config limits history table legal sound untuned recorded seat.number token.opened_at now seat token set candidates begun.later goes.later same held_are scanned of_query begun.whole refl)
-    exactly sorted permuted
+-- A find whose pass has seen the history up to its front.
+module _ (config : Config) (limits : Limits) (history : List Event) (table : Table) (legal : IsLegal limits history) (sound : IsSound config history)
+    (untuned : list_any (λ e. is_some (tuning_of e)) history ≡ false) (recorded : AreRecorded limits history table) (seat : PassState) (same : seat.pool.limits ≡ limits)
+    (goes : IsFrontOf seat.number seat.front history) (token : Token) (holds : HoldsToken seat token) (set : List (List ℕ)) (candidates : List (ℕ × ℕ))
+    (scanned : WereScanned config seat token set candidates) (begun : HasToken seat.front seat.number token.opened_at) (of_query : AreWordsOf set begun.query) where
+  abbrev now : HasToken history seat.number token.opened_at
+  now = begun_later seat.number token.opened_at seat.front history begun goes
+
+  -- the token has the slices that were in use
+  held_are : (slice : ℕ) → Contains token.slices slice ↔ ((slice < limits.slices) × IsInUse limits.columns slice begun.earlier)
+  held_are =
+      subst (λ (h : List Event). (slice : ℕ) → Contains token.slices slice ↔ ((slice < limits.slices) × IsInUse limits.columns slice h))
+      (begun_once seat.front seat.number token.opened_at holds.begun begun).0
+      (subst (λ (l : Limits). (slice : ℕ) → Contains token.slices slice ↔ ((slice < l.slices) × IsInUse l.columns slice holds.begun.earlier)) same holds.slices)
+
+  -- what the records give of a part of the candidates is what these give
+  pub part_gives : (part : List (ℕ × ℕ)) → ((candidate : ℕ × ℕ) → Contains part candidate → Contains candidates candidate) →
+      AreGiven begun.earlier begun.query part (filter_map (found_at table set token.opened_at) part)
+  part_gives part among =
+      table_gives_each config limits history table legal sound untuned recorded seat.number token.opened_at now set part of_query
+      (λ candidate has. (
+        scanned_in_table limits history table seat token candidates recorded same holds (scanned begun).of_token candidate.0 candidate.1 (among candidate has),
+        ((held_are candidate.0).0 ((scanned begun).of_token candidate (among candidate has)).slice).1,
+      ))
+
+  -- all candidates give all of the answer
+  pub candidates_give_all : GiveAll begun.earlier begun.query candidates
+  candidates_give_all =
+      scan_gives_all config limits history table legal sound untuned recorded seat.number token.opened_at now
+      (record seat { front = begun.earlier ++ event.Find seat.number begun.query ∷ [] }) token set candidates same held_are (scanned begun) of_query refl
+
+-- what was scanned is that of a pass which has the same by now
+pub scanned_as : (config : Config) (seat next : PassState) (token : Token) (set : List (List ℕ)) (candidates : List (ℕ × ℕ)) → next.pool ≡ seat.pool → next.front ≡ seat.front → next.own ≡ seat.own →
+    AreScanned config seat token set candidates → AreScanned config next token set candidates
+scanned_as config seat next token set candidates pool front own scanned = record {
+  of_token = subst (λ (p : PoolId). (candidate : ℕ × ℕ) → Contains candidates candidate → IsOfToken p.limits.columns token candidate) (sym pool) scanned.of_token;
+  each_once = scanned.each_once;
+  every = λ slice column has below all.
+      scanned.every slice column has (subst (λ (p : PoolId). column < p.limits.columns) pool below)
+      (λ bit of. subst (λ (h : List Event). IsCommitted h slice bit) front (all bit of));
+  read = λ candidate has bit of.
+      subst (λ (facts : List Fact). (value : ℕ) × Contains facts (fact.WordRead token.opened_at bit.word value) × IsBitSet value bit.bit) (sym own) (scanned.read candidate has bit of);
+}
+
+-- the find is the same, once the pass has seen more
+pub begun_still : (seat next : PassState) (number : ℕ) → next.number ≡ seat.number → IsFrontOf seat.number seat.front next.front → (first : HasToken seat.front seat.number number) →
+    (begun : HasToken next.front next.number number) → (begun.earlier ≡ first.earlier) × (begun.query ≡ first.query)
+begun_still seat next number same goes first begun =
+    let also : HasToken next.front seat.number number = record {
+      earlier = begun.earlier;
+      query = begun.query;
+      later = begun.later;
+      whole = begun.whole ∙ ap (λ n. begun.earlier ++ event.Find n begun.query ∷ begun.later) same;
+      count = begun.count;
+      stays = subst (λ n. list_any (finds_or_ends n) begun.later ≡ false) same begun.stays;
+    } in
+    begun_once next.front seat.number number also (begun_later seat.number number seat.front next.front first goes)
+
+-- the candidates are those of the scan still, once the pass has seen more
+pub were_scanned : (config : Config) (seat next : PassState) (token : Token) (set : List (List ℕ)) (candidates : List (ℕ × ℕ)) → IsSamePass seat next → IsFrontOf seat.number seat.front next.front →
+    HoldsToken seat token → WereScanned config seat token set candidates → WereScanned config next token set candidates
+were_scanned config seat next token set candidates same goes holds scanned begun =
+    let first = holds.begun in
+    let once = begun_still seat next token.opened_at same.number goes first begun in
+    let front : (begun.earlier ++ event.Find next.number begun.query ∷ []) ≡ (first.earlier ++ event.Find seat.number first.query ∷ []) =
+    ap (λ h. h ++ event.Find next.number begun.query ∷ []) once.0 ∙ ap (λ q. first.earlier ++ event.Find next.number q ∷ []) once.1
+    ∙ ap (λ n. first.earlier ++ event.Find n first.query ∷ []) same.number in
+    scanned_as config (record seat { front = first.earlier ++ event.Find seat.number first.query ∷ [] }) (record next { front = begun.earlier ++ event.Find next.number begun.query ∷ [] }) token set candidates
+    same.pool front same.own (scanned first)

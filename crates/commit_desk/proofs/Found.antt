@@ -1,21 +1,14 @@
--- What a find finds of its candidates are the documents of its answer in the history before it, although other passes made events since.
+-- What a find finds of its candidates by the records is what they give by the history before it, although other passes made events since.
 use Rattle.std.proofs.Common.{◌≡◌, ◌↔◌, ⊎_elim, ℕ, ◌+◌, ◌<◌, Bool, true, false, cond, ◌&&◌, List, [], ◌∷◌, ◌++◌, length, get_or, map, filter, filter_map, Option, Some, None, refl, sym, ap, ◌∙◌, subst, arith, append_assoc, Contains, IsSorted, IsPermutation}
 use Rattle.std.proofs.lemmas.Bool.{and_from, and_parts, eqb-true, false_from_ne_true, lt-ltb, ltb-true, or_from, or_parts}
-use Rattle.std.proofs.lemmas.Cmp.{nat_eq_equiv, ranked}
 use Rattle.std.proofs.lemmas.List.Folds.{list_any-append}
-use Rattle.std.proofs.lemmas.List.Kept.{IsStrictlySortedBy-filter}
-use Rattle.std.proofs.lemmas.Map.Keys.{IsDistinct-IsPermutation}
-use Rattle.std.specs.Cmp.{nat_cmp_is}
-use Rattle.std.specs.List.{AllPairs, cons_option, list_any}
-use Rattle.std.specs.List.Sorted.{IsStrictlySortedBy}
+use Rattle.std.specs.List.{list_any}
 use Rattle.std.specs.Option.{is_some}
-use Rattle.std.specs.Ordering.{nat_cmp}
 use Rattle.std.specs.Prelude.{◌==◌, nat_lt}
-use Rattle.std.specs.declared.cmp.Ordering.TheVariants.{Less}
-use Rattle.document_store.proofs.FoundLemmas.{found-exactly}
+use Rattle.document_store.proofs.FoundLemmas.{AddedAt, WasLiveAt, found_in-gives, found_in-tells}
 use Rattle.document_store.proofs.WordSets.{meets_by_words}
 use Rattle.document_store.specs.Documents.{Parts}
-use Rattle.document_store.specs.Finding.{AddedAt, IsFound, WasLiveAt, found_at, pair_cmp}
+use Rattle.document_store.specs.Finding.{found_at}
 use Rattle.document_store.specs.Slots.{FitsColumn, IsColumn, Table, slot_at}
 use Rattle.document_store.specs.declared.column.Column.{Column}
 use Rattle.document_store.specs.declared.column.Column.TheVariants as became
@@ -25,19 +18,18 @@ use Rattle.funnel_model.specs.declared.config.Config.{Config}
 use Rattle.funnel_model.specs.declared.event.Event.{Event}
 use Rattle.funnel_model.specs.declared.event.Event.TheVariants as event
 use Rattle.funnel_model.specs.Events.{bits_added_in, bits_on, clears, tuning_of}
-use Rattle.funnel_model.specs.History.{Document, answer, live}
+use Rattle.funnel_model.specs.History.{Document, live}
 use Rattle.funnel_model.specs.Legal.{IsLegal, Limits}
 use Rattle.funnel_model.specs.RowWords.{IsCommitted}
 use Rattle.funnel_model.specs.Sizes.{words_of_slice}
 use Rattle.funnel_model.specs.Slices.{ColumnState, Live, IsInState, IsInUse, IsLiveOn, is_clearing}
 use Rattle.funnel_model.specs.Tokens.{HasToken, seen_by}
 use Rattle.funnel_model.specs.Words.{AreWordsOf, meets, words}
-use Rattle.funnel_model.proofs.AnswerLemmas.{Contains-filter, Contains-map, kept_by_filter}
+use Rattle.funnel_model.proofs.AnswerLemmas.{Contains-cons, kept_by_filter}
 use Rattle.funnel_model.proofs.Clears.{read_later}
 use Rattle.funnel_model.proofs.Columns.{clearing_is_over, not_retired_by, one_state}
 use Rattle.funnel_model.proofs.Histories.{legal_before}
-use Rattle.funnel_model.proofs.LiveColumns.{live_column_is_live, live_on_one_column}
-use Rattle.funnel_model.proofs.LiveLemmas.{live_in_order}
+use Rattle.funnel_model.proofs.LiveColumns.{live_column_is_live, live_has_column, live_on_one_column}
 use Rattle.funnel_model.proofs.OpenTokens.{token_is_silent}
 use Rattle.funnel_model.proofs.SeenColumns.{sees_all_that_was_live, sees_what_was_live}
 use Rattle.funnel_model.proofs.TuningLemmas.{treat_untuned}
@@ -45,28 +37,11 @@ use Rattle.row_layout.proofs.BitLemmas.{bits-of_part, bits-of_query}
 use Rattle.row_layout.proofs.Owners.{put_bits}
 use Rattle.row_layout.specs.DocumentBits.{AreDocumentBits, AreDocumentBitsIn, IsDocumentBit}
 use Rattle.row_layout.specs.Sound.{IsSound}
-use Rattle.row_layout.proofs.OneList.{first_or_rest, same_members}
 use Rattle.slice_rule.specs.Seats.{PassState}
-use Rattle.commit_desk.specs.Answers.{found_of}
 use Rattle.commit_desk.specs.Records.{AreRecorded, document_added_at, state_in, state_of}
+use Rattle.commit_desk.specs.Resolving.{AreGiven, GiveAll, Gives}
 use Rattle.commit_desk.specs.Scans.{AreScanned}
 use Rattle.commit_desk.proofs.LaterStates.{not_cleared_since}
-use Rattle.commit_desk.proofs.Sorting.{distinct_once, pair_below, pairs_in_order, pairs_rise, rising-map, rising_from_pairs}
-
--- the numbers of what a find finds are its answer
-pub numbers_are_answer : (history : List Event) (query : List ℕ) → map (λ (f : ℕ × ℕ). f.1) (found_of history query) ≡ answer history query
-numbers_are_answer history query = numbers (filter (λ d. meets d.text query) (live history)) where
-  numbers : (ds : List Document) → map (λ (f : ℕ × ℕ). f.1) (map (λ (d : Document). (d.place, d.id)) ds) ≡ map (λ (d : Document). d.id) ds
-  numbers [] = refl
-  numbers (d ∷ ds) = ap (λ ids. d.id ∷ ids) (numbers ds)
-
--- the live documents rise by their places
-live_rises : (history : List Event) → IsStrictlySortedBy (λ (d e : Document). nat_cmp d.place e.place) (live history)
-live_rises history =
-    rising_from_pairs (λ (d e : Document). nat_cmp d.place e.place) (live history)
-    (λ i j d lt in'.
-    let below = live_in_order history i j d lt in' in
-    sym (nat_cmp_is (get_or (live history) i d).place (get_or (live history) j d).place Less below))
 
 -- a column is recorded with a document that the find with this number sees
 record KeptAt (c : Column) (doc : Option Parts) (d : Document) (number : ℕ) : Type 0 where
@@ -136,10 +111,6 @@ added_bits slice column (event.Move pass id s c bits) bit has = bits_of_both (s 
 added_bits slice column _ bit has = has
 
 module _ (config : Config) (limits : Limits) (history : List Event) (table : Table) (legal : IsLegal limits history) (sound : IsSound config history) (untuned : list_any (λ e. is_some (tuning_of e)) history ≡ false) (recorded : AreRecorded limits history table) (pass number : ℕ) (token : HasToken history pass number) where
-  -- the candidates are columns of slices that were in use
-  abbrev InUse : List (ℕ × ℕ) → Type 0
-  InUse candidates = (slice column : ℕ) → Contains candidates (slice, column) → IsInUse limits.columns slice token.earlier
-
   legal_earlier : IsLegal limits token.earlier
   legal_earlier = legal_before limits token.earlier (event.Find pass token.query ∷ token.later) (subst (IsLegal limits) token.whole legal)
 
@@ -197,108 +168,56 @@ module _ (config : Config) (limits : Limits) (history : List Event) (table : Tab
             ∙ or_from (list_any (clears slice) is.later) (list_any (clears slice) (find ∷ between)) none_before (or_from false (list_any (clears slice) between) refl none_after);
       }
 
-  -- a document found was live on its column
-  found_live : (candidates : List (ℕ × ℕ)) (set : List (List ℕ)) (found : ℕ × ℕ) → InUse candidates → ((slice column : ℕ) → Contains candidates (slice, column) → IsColumn table slice column) →
-      (is : IsFound table candidates set number found) → (since : ℕ) × IsLiveOn token.earlier is.slice is.at (document_added_at found.0 is.doc) since
-  found_live candidates set found in_use in_range is =
-      let slot = slot_at table is.slice is.at in
-      let rec = recorded.each is.slice is.at (in_range is.slice is.at is.candidate) in
-      sees_what_was_live limits history pass number is.slice is.at (state_of slot) (document_added_at found.0 is.doc) legal token (in_use is.slice is.at is.candidate) rec.state
-      (seen_then number found.0 is.doc slot.column slot.doc is.was_live is.added is.kept)
-
-  -- what one candidate gives is found of it alone
-  found_alone : (set : List (List ℕ)) (n : ℕ) (x y : ℕ × ℕ) → found_at table set n x ≡ Some y → IsFound table (x ∷ []) set n y
-  found_alone set n x y gives =
-      (found-exactly table (x ∷ []) set n y.0 y.1).0 (subst (λ o. Contains (cons_option o []) y) (sym gives) (0, omega arith, refl))
-
-  -- two candidates don't give documents of one number
-  found_apart : (candidates : List (ℕ × ℕ)) (set : List (List ℕ)) → InUse candidates → ((slice column : ℕ) → Contains candidates (slice, column) → IsColumn table slice column) →
-      (x z y w : ℕ × ℕ) → Contains candidates x → Contains candidates z → (x ≡ z → ⊥) → found_at table set number x ≡ Some y → found_at table set number z ≡ Some w →
-      (y.1 == w.1) ≡ false
-  found_apart candidates set in_use in_range x z y w has_x has_z apart gives_x gives_z =
-      let of_all : (at : ℕ × ℕ) → Contains candidates at → (slice column : ℕ) → Contains (at ∷ []) (slice, column) → Contains candidates (slice, column) = λ at has slice column one.
-      ⊎_elim (λ (same : at ≡ (slice, column)). subst (Contains candidates) same has) (λ (none : Contains [] (slice, column)). absurd (omega (arith, none.1)))
-      (first_or_rest at [] (slice, column) one) in
-      let this : (at : ℕ × ℕ) (slice column : ℕ) → Contains (at ∷ []) (slice, column) → at ≡ (slice, column) = λ at slice column one.
-      ⊎_elim (λ (same : at ≡ (slice, column)). same) (λ (none : Contains [] (slice, column)). absurd (omega (arith, none.1))) (first_or_rest at [] (slice, column) one) in
-      let is_x = found_alone set number x y gives_x in
-      let is_z = found_alone set number z w gives_z in
-      let live_x = found_live (x ∷ []) set y (λ s c one. in_use s c (of_all x has_x s c one)) (λ s c one. in_range s c (of_all x has_x s c one)) is_x in
-      let live_z = found_live (z ∷ []) set w (λ s c one. in_use s c (of_all z has_z s c one)) (λ s c one. in_range s c (of_all z has_z s c one)) is_z in
-      false_from_ne_true (y.1 == w.1) (λ same.
-      let one = live_on_one_column limits token.earlier is_x.slice is_x.at is_z.slice is_z.at live_x.0 live_z.0 (document_added_at y.0 is_x.doc) (document_added_at w.0 is_z.doc) legal_earlier live_x.1 live_z.1
-      (is_x.id_is ∙ eqb-true y.1 w.1 same ∙ sym is_z.id_is) in
-      apart (this x is_x.slice is_x.at is_x.candidate ∙ (λ k. (one.0 k, one.1 k)) ∙ sym (this z is_z.slice is_z.at is_z.candidate)))
-
-  -- the places and the numbers of the documents that were live and meet the query
-  met : List (ℕ × ℕ)
-  met = found_of token.earlier token.query
-
-  -- they rise
-  met_rises : IsStrictlySortedBy pair_cmp met
-  unfolding met
-  met_rises =
-      rising-map (λ (d e : Document). nat_cmp d.place e.place) pair_cmp (λ d. (d.place, d.id))
-      (λ d e less. pair_below (d.place, d.id) (e.place, e.id) (ranked d.place e.place Less (sym less)))
-      (filter (λ d. meets d.text token.query) (live token.earlier))
-      (IsStrictlySortedBy-filter (λ (d e : Document). nat_cmp d.place e.place) (λ d. meets d.text token.query) (live token.earlier) (live_rises token.earlier))
-
-  -- a document found is one of them
-  found_met : (candidates : List (ℕ × ℕ)) (set : List (List ℕ)) → InUse candidates → ((slice column : ℕ) → Contains candidates (slice, column) → IsColumn table slice column) → AreWordsOf set token.query →
-      (found : ℕ × ℕ) → IsFound table candidates set number found → Contains met found
-  unfolding met
-  found_met candidates set in_use in_range of_query found is =
-      let query = token.query in
-      let rec = recorded.each is.slice is.at (in_range is.slice is.at is.candidate) in
-      let d = document_added_at found.0 is.doc in
-      let was = found_live candidates set found in_use in_range is in
-      let in_live = live_column_is_live token.earlier is.slice is.at d was.0 was.1 in
-      let meets_it = (meets_by_words is.doc.text query is.doc.words set (rec.words_of_text is.doc is.kept) of_query).0 is.every_word in
-      subst (λ (id : ℕ). Contains {X = ℕ × ℕ} (map (λ (x : Document). (x.place, x.id)) (filter (λ x. meets x.text query) (live token.earlier))) (found.0, id)) is.id_is
-      (Contains-map (λ (x : Document). (x.place, x.id)) (filter (λ x. meets x.text query) (live token.earlier)) d
-      (Contains-filter (λ (x : Document). meets x.text query) (live token.earlier) d in_live meets_it))
-
-  -- a document that the find sees in a column and that meets the query is found, where the column is a candidate
-  seen_found : (candidates : List (ℕ × ℕ)) (set : List (List ℕ)) (slice column : ℕ) (x : ColumnState) (d : Document) → AreWordsOf set token.query → IsColumn table slice column →
-      IsInState history slice column x → seen_by number x ≡ Some d → meets d.text token.query ≡ true → Contains candidates (slice, column) →
-      IsFound table candidates set number (d.place, d.id)
-  seen_found candidates set slice column x d of_query in_table is sees meets_it candidate =
+  -- what the table gives of a candidate is what the candidate gives
+  table_gives : (set : List (List ℕ)) (slice column : ℕ) → AreWordsOf set token.query → IsColumn table slice column → IsInUse limits.columns slice token.earlier →
+      (given : Option (ℕ × ℕ)) → found_at table set number (slice, column) ≡ given → Gives token.earlier token.query (slice, column) given
+  table_gives set slice column of_query in_table used (Some found) gives =
       let slot = slot_at table slice column in
       let rec = recorded.each slice column in_table in
-      let at = kept_seen number d slot.column slot.doc rec.fits (ap (seen_by number) (one_state limits history slice column (state_of slot) x legal rec.state is) ∙ sees) in
+      let is = found_in-tells slot set number found gives in
+      let d = document_added_at found.0 is.doc in
+      let was =
+      sees_what_was_live limits history pass number slice column (state_of slot) d legal token used rec.state (seen_then number found.0 is.doc slot.column slot.doc is.was_live is.added is.kept) in (
+        d,
+        was.0,
+        was.1,
+        (meets_by_words is.doc.text token.query is.doc.words set (rec.words_of_text is.doc is.kept) of_query).0 is.every,
+        ap (λ n. (found.0, n)) (sym is.id_is),
+      )
+  table_gives set slice column of_query in_table used None none = λ d since lives.
+      false_from_ne_true (meets d.text token.query) (λ met.
+      let slot = slot_at table slice column in
+      let rec = recorded.each slice column in_table in
+      let seen = sees_all_that_was_live limits history pass number d legal token (live_column_is_live token.earlier slice column d since lives) in
+      let one = live_on_one_column limits token.earlier seen.0 seen.1 slice column seen.2 since d d legal_earlier seen.6 lives refl in
+      let here : IsInState history slice column seen.3 = subst (λ s. IsInState history s column seen.3) one.0 (subst (λ k. IsInState history seen.0 k seen.3) one.1 seen.9) in
+      let at = kept_seen number d slot.column slot.doc rec.fits (ap (seen_by number) (one_state limits history slice column (state_of slot) seen.3 legal rec.state here) ∙ seen.10) in
       let text : at.parts.text ≡ d.text = ap (λ (y : Document). y.text) at.is in
-      record {
-        slice = slice;
-        at = column;
-        doc = at.parts;
-        candidate = candidate;
-        was_live = at.live_at;
-        added = at.added;
-        kept = at.kept;
-        id_is = ap (λ (y : Document). y.id) at.is;
-        every_word = (meets_by_words at.parts.text token.query at.parts.words set (rec.words_of_text at.parts at.kept) of_query).1
-            (ap (λ t. meets t token.query) text ∙ meets_it);
-      }
+      let every = (meets_by_words at.parts.text token.query at.parts.words set (rec.words_of_text at.parts at.kept) of_query).1 (ap (λ t. meets t token.query) text ∙ met) in
+      let gives =
+      found_in-gives slot set number (d.place, d.id)
+      (record { doc = at.parts; was_live = at.live_at; added = at.added; kept = at.kept; id_is = ap (λ (y : Document). y.id) at.is; every = every }) in
+      none_is_some (sym none ∙ gives))
+    where
+      none_is_some : {Y : Type 0} {y : Y} → None ≡ Some y → ⊥
+      none_is_some is = cc
 
-  -- and the other way round
-  met_found : (candidates : List (ℕ × ℕ)) (set : List (List ℕ)) → AreWordsOf set token.query →
-      ((slice column : ℕ) (d : Document) (since : ℕ) → slice < limits.slices → column < limits.columns → IsLiveOn token.earlier slice column d since → meets d.text token.query ≡ true →
-      Contains candidates (slice, column)) →
-      (found : ℕ × ℕ) → Contains met found → IsFound table candidates set number found
-  unfolding met
-  met_found candidates set of_query every found has =
-      let kept = kept_by_filter (λ (d : Document). (d.place, d.id)) (λ d. meets d.text token.query) (live token.earlier) found has in
-      let at = sees_all_that_was_live limits history pass number kept.0 legal token kept.1 in
-      let slice = at.0 in
-      let column = at.1 in
-      let in' : slice < limits.slices = at.4 in
-      let below : column < limits.columns = at.5 in
-      let in_table : IsColumn table slice column = record { slice_in_range = let h = recorded.slices_are in omega (arith, in'); column_in_range = let h = recorded.columns_are in omega (arith, below) } in
-      subst (IsFound table candidates set number) kept.2
-      (seen_found candidates set slice column at.3 kept.0 of_query in_table at.9 at.10 kept.3 (every slice column kept.0 at.2 in' below at.6 kept.3))
+  -- and the same of several
+  pub table_gives_each : (set : List (List ℕ)) (candidates : List (ℕ × ℕ)) → AreWordsOf set token.query →
+      ((candidate : ℕ × ℕ) → Contains candidates candidate → IsColumn table candidate.0 candidate.1 × IsInUse limits.columns candidate.0 token.earlier) →
+      AreGiven token.earlier token.query candidates (filter_map (found_at table set number) candidates)
+  table_gives_each set [] of_query each = refl
+  table_gives_each set (candidate ∷ later) of_query each =
+      let first = each candidate (0, omega arith, refl) in (
+        found_at table set number candidate,
+        filter_map (found_at table set number) later,
+        table_gives set candidate.0 candidate.1 of_query first.0 first.1 (found_at table set number candidate) refl,
+        table_gives_each set later of_query (λ other has. each other (Contains-cons candidate later other has)),
+        refl,
+      )
 
   -- the column of a document that was live and meets the query is a candidate of a scan
-  pub is_candidate : (seat : PassState) (held : Token) (set : List (List ℕ)) (candidates : List (ℕ × ℕ)) (between rest : List Event) → seat.pool.limits ≡ limits →
+  is_candidate : (seat : PassState) (held : Token) (set : List (List ℕ)) (candidates : List (ℕ × ℕ)) (between rest : List Event) → seat.pool.limits ≡ limits →
       ((slice : ℕ) → Contains held.slices slice ↔ ((slice < limits.slices) × IsInUse limits.columns slice token.earlier)) → AreScanned config seat held set candidates → AreWordsOf set token.query →
       seat.front ≡ token.earlier ++ event.Find pass token.query ∷ between → token.later ≡ between ++ rest →
       (slice column : ℕ) (d : Document) (since : ℕ) → slice < limits.slices → column < limits.columns → IsLiveOn token.earlier slice column d since → meets d.text token.query ≡ true →
@@ -309,18 +228,14 @@ module _ (config : Config) (limits : Limits) (history : List Event) (table : Tab
       (bits-of_query config d.text token.query meets_it slice column bit
       (bits-of_part config set (words token.query) (λ word has. (of_query word).0 has) slice column bit of_set)))
 
-  -- what is found of the candidates are these
-  pub found_is_met : (candidates : List (ℕ × ℕ)) (set : List (List ℕ)) (found : List (ℕ × ℕ)) → AreWordsOf set token.query → InUse candidates →
-      ((slice column : ℕ) → Contains candidates (slice, column) → IsColumn table slice column) → AllPairs (λ (candidate other : ℕ × ℕ). candidate ≡ other → ⊥) candidates →
-      ((slice column : ℕ) (d : Document) (since : ℕ) → slice < limits.slices → column < limits.columns → IsLiveOn token.earlier slice column d since → meets d.text token.query ≡ true →
-      Contains candidates (slice, column)) →
-      ((added id : ℕ) → Contains found (added, id) ↔ IsFound table candidates set number (added, id)) → IsSorted pair_cmp found →
-      IsPermutation (filter_map (found_at table set number) candidates) found →
-      found ≡ found_of token.earlier token.query
-  unfolding met
-  found_is_met candidates set found of_query in_use in_range each_once every exactly sorted permuted =
-      let distinct = IsDistinct-IsPermutation (λ (x y : ℕ × ℕ). x.1 == y.1) (λ x y. nat_eq_equiv.symm x.1 y.1) (filter_map (found_at table set number) candidates) found permuted
-      (distinct_once (λ (x y : ℕ × ℕ). x.1 == y.1) (found_at table set number) candidates each_once (found_apart candidates set in_use in_range)) in
-      same_members pair_cmp pairs_in_order found met (pairs_rise found sorted distinct) met_rises
-      (λ f has. found_met candidates set in_use in_range of_query f ((exactly f.0 f.1).0 has))
-      (λ f has. (exactly f.0 f.1).1 (met_found candidates set of_query every f has))
+  -- so the candidates of a scan give all of the answer
+  pub scan_gives_all : (seat : PassState) (held : Token) (set : List (List ℕ)) (candidates : List (ℕ × ℕ)) → seat.pool.limits ≡ limits →
+      ((slice : ℕ) → Contains held.slices slice ↔ ((slice < limits.slices) × IsInUse limits.columns slice token.earlier)) → AreScanned config seat held set candidates → AreWordsOf set token.query →
+      seat.front ≡ token.earlier ++ event.Find pass token.query ∷ [] → GiveAll token.earlier token.query candidates
+  scan_gives_all seat held set candidates same_limits held_are scanned of_query front_is found has =
+      let kept = kept_by_filter (λ (d : Document). (d.place, d.id)) (λ d. meets d.text token.query) (live token.earlier) found has in
+      let home = live_has_column limits token.earlier kept.0 legal_earlier kept.1 in (
+        (home.0, home.1),
+        is_candidate seat held set candidates [] token.later same_limits held_are scanned of_query front_is refl home.0 home.1 kept.0 home.2 home.3 home.4 home.5 kept.3,
+        (kept.0, home.2, home.5, kept.3, sym kept.2),
+      )

@@ -9,6 +9,7 @@ pub mod FindEnds
 pub mod FindEvents
 pub mod FindTurns
 pub mod Found
+pub mod Given
 pub mod HeldClaims
 pub mod HeldColumns
 pub mod Inside

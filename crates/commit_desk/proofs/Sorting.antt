@@ -39,35 +39,6 @@ rising_from_pairs c (x ∷ xs) pairs =
     rises_from c x xs (λ k d in'. pairs 0 (suc k) d (omega arith) (omega arith))
     (rising_from_pairs c xs (λ i j d lt in'. pairs (suc i) (suc j) d (omega arith) (omega arith)))
 
--- what each element gives satisfies P
-all_given : {A B : Type 0} (P : B → Type 0) (h : A → Option B) (xs : List A) → ((x : A) (y : B) → Contains xs x → h x ≡ Some y → P y) → AllByRecursion P (filter_map h xs)
-all_given P h [] each = tt
-all_given {A = A} {B = B} P h (x ∷ xs) each = beside (h x) refl (all_given P h xs (λ z y has gives. each z y (Contains-cons x xs z has) gives)) where
-  beside : (o : Option B) → h x ≡ o → AllByRecursion P (filter_map h xs) → AllByRecursion P (cons_option o (filter_map h xs))
-  beside None is all = all
-  beside (Some y) is all = (each x y (0, omega arith, refl) is, all)
-
--- what the elements of a list give is distinct, where each is in the list once and any two give what is
-pub distinct_once : {A B : Type 0} (e : B → B → Bool) (h : A → Option B) (xs : List A) → AllPairs (λ x z. x ≡ z → ⊥) xs →
-    ((x z : A) (y w : B) → Contains xs x → Contains xs z → (x ≡ z → ⊥) → h x ≡ Some y → h z ≡ Some w → e y w ≡ false) → IsDistinct e (filter_map h xs)
-unfolding IsDistinct
-distinct_once e h [] once apart = tt
-distinct_once {A = A} {B = B} e h (x ∷ xs) once apart =
-    beside (h x) refl
-    (distinct_once e h xs (λ i j d lt in'. once (suc i) (suc j) d (omega arith) (omega arith))
-    (λ a b y w has_a has_b. apart a b y w (Contains-cons x xs a has_a) (Contains-cons x xs b has_b)))
-  where
-    others : All (λ z. x ≡ z → ⊥) xs
-    others k d in' = once 0 (suc k) d (omega arith) (omega arith)
-
-    beside : (o : Option B) → h x ≡ o → IsDistinct e (filter_map h xs) → IsDistinct e (cons_option o (filter_map h xs))
-    beside None is rest = rest
-    beside (Some y) is rest = (
-      all_given (λ w. e y w ≡ false) h xs
-          (λ z w has gives. apart x z y w (0, omega arith, refl) (Contains-cons x xs z has) (All-contains (λ b. x ≡ b → ⊥) xs z others has) is gives),
-      rest,
-    )
-
 -- a pair whose first part is below another's is below the other
 pub pair_below : (x y : ℕ × ℕ) → x.0 < y.0 → pair_cmp x y ≡ Less
 pair_below x y below = ap (λ r. ordering_then r (nat_cmp x.1 y.1)) (sym (nat_cmp_is x.0 y.0 Less (let h : x.0 < y.0 = omega arith in h)))

@@ -6,4 +6,5 @@ pub mod Laws
 pub mod Moving
 pub mod Passes
 pub mod Records
+pub mod Resolving
 pub mod Scans

@@ -1,10 +1,12 @@
 -- What a find hands in when it ends: the candidates that it scanned for.
-use Rattle.std.specs.Prelude.{◌≡◌, ℕ, ◌<◌, List, Contains, IsBitSet}
+use Rattle.std.specs.Prelude.{◌≡◌, ℕ, ◌<◌, List, [], ◌∷◌, ◌++◌, Contains, IsBitSet}
 use Rattle.std.specs.List.{AllPairs}
 use Rattle.funnel_model.specs.declared.bit_list.Bit.{Bit}
 use Rattle.funnel_model.specs.declared.claim.Token.{Token}
 use Rattle.funnel_model.specs.declared.config.Config.{Config}
+use Rattle.funnel_model.specs.declared.event.Event.TheVariants as event
 use Rattle.funnel_model.specs.RowWords.{IsCommitted}
+use Rattle.funnel_model.specs.Tokens.{HasToken}
 use Rattle.row_layout.specs.DocumentBits.{IsDocumentBit}
 use Rattle.slice_rule.specs.declared.view.Fact.TheVariants as fact
 use Rattle.slice_rule.specs.Seats.{PassState}
@@ -31,3 +33,9 @@ pub record AreScanned (config : Config) (seat : PassState) (token : Token) (word
   pub every : (slice column : ℕ) → Contains token.slices slice → column < seat.pool.limits.columns → HasAllCommitted config seat words slice column →
       Contains candidates (slice, column)
   pub read : (candidate : ℕ × ℕ) → Contains candidates candidate → (bit : Bit) → IsDocumentBit config words candidate.0 candidate.1 bit → WasReadUnder seat token bit
+
+-- the candidates are those of a scan by what the pass had seen when the find of its token began
+abbrev pub WereScanned : Config → PassState → Token → List (List ℕ) → List (ℕ × ℕ) → Type 0
+WereScanned config seat token words candidates =
+    (begun : HasToken seat.front seat.number token.opened_at) →
+    AreScanned config (record seat { front = begun.earlier ++ event.Find seat.number begun.query ∷ [] }) token words candidates

@@ -1,17 +1,20 @@
-ghost use Rattle.std.specs.Prelude.{◌≡◌, ◌≤◌, [], ◌∷◌, length, IfOk, Ok, Err};
+ghost use Rattle.std.specs.Prelude.{◌≡◌, ℕ, ◌+◌, ◌<◌, ◌≤◌, List, [], ◌∷◌, ◌++◌, length, IfOk, Ok, Err};
+ghost use Rattle.std.specs.List.{slice_range};
+ghost use Rattle.document_store.specs.declared.resolving.TheConstants.{MOST_LOOK_UPS};
 ghost use Rattle.funnel_model.specs.declared.event.Event.TheVariants as event;
 ghost use Rattle.funnel_model.specs.Legal.{IsIdle};
 ghost use Rattle.funnel_model.specs.Tokens.{HasToken};
 ghost use Rattle.funnel_model.specs.Words.{AreWordsOf};
 ghost use Rattle.slice_rule.specs.Seats.{HasNoneOutstanding, HoldsToken};
-ghost use Rattle.commit_desk.specs.Answers.{AnswersFind, TakesCalls, events_of_find, found_of};
+ghost use Rattle.commit_desk.specs.Answers.{AnswersFind, TakesCalls, events_of_find};
 ghost use Rattle.commit_desk.specs.Desks.{IsCaughtUp, IsSeatOf, Makes};
-ghost use Rattle.commit_desk.specs.Scans.{AreScanned};
+ghost use Rattle.commit_desk.specs.Resolving.{AreGiven, GiveAll};
+ghost use Rattle.commit_desk.specs.Scans.{WereScanned};
 
 use crate::answers::Spent;
 use crate::desk::Desk;
 use crate::entries::Finds;
-use document_store::{Found, resolve};
+use document_store::{Found, resolve_part};
 use funnel_model::{Candidates, Event, Token, WordSet};
 use slice_rule::{PassSeat, Pool};
 
@@ -40,32 +43,52 @@ impl Desk {
         Ok(self.make_find(pool, seat, query))
     }
 
-    /// Ends a find: of its candidates, `out` gets those whose document was live when the find began and has every word, in
-    /// the order in which they were added. `out` is empty and has room for all candidates. It takes no memory.
-    pub fn end_find(
+    /// A turn of a find that looks at its candidates from this one on, until the turn is over or there are no more, and answers
+    /// where the next turn goes on. `out` gets those whose document was live when the find began and has every word, in the order
+    /// of the candidates; it has room for all that are left. It makes no event, and takes no memory.
+    pub fn resolve_part(
         &mut self,
         pool: &Pool,
         seat: &mut PassSeat,
-        token: Token,
+        token: &Token,
         candidates: &Candidates,
+        from: usize,
         words: &WordSet,
         out: &mut Found,
-    )
+    ) -> usize
+        requires pool { pool.now ≡ self.old.pool }
+        requires seat { IsSeatOf self.old seat.old }
+        requires token { HoldsToken seat.old token.now }
+        requires words { (begun : HasToken seat.old.front seat.old.number token.now.opened_at) → AreWordsOf words.now begun.query }
+        requires scanned { WereScanned self.old.pool.config seat.old token.now words.now candidates.now }
+        requires from { from ≤ length candidates.now }
+        requires room { length candidates.now ≤ out.old.room + from }
+        ensures found { (begun : HasToken seat.old.front seat.old.number token.now.opened_at) → (more : List (ℕ × ℕ)) ×
+            AreGiven begun.earlier begun.query (slice_range candidates.now from result) more × (out.new.found ≡ out.old.found ++ more) }
+        ensures all { (begun : HasToken seat.old.front seat.old.number token.now.opened_at) → GiveAll begun.earlier begun.query candidates.now }
+        ensures onward { from ≤ result }
+        ensures further { from < length candidates.now → from < result }
+        ensures within { result ≤ length candidates.now }
+        ensures few { result ≤ from + MOST_LOOK_UPS }
+        ensures enough { length candidates.now ≤ out.new.room + result }
+        ensures events { Makes [] self.old self.new seat.old seat.new }
+        ensures token { HoldsToken seat.new token.now }
+        ensures scanned { WereScanned self.new.pool.config seat.new token.now words.now candidates.now }
+        ensures none_outstanding { HasNoneOutstanding seat.new }
+    {
+        pool.catch_up(&mut self.home, seat);
+        resolve_part(&self.records, candidates, from, words, token.opened_at, out)
+    }
+
+    /// Ends a find, whatever it has found.
+    pub fn end_find(&mut self, pool: &Pool, seat: &mut PassSeat, token: Token)
         requires pool { pool.now ≡ self.old.pool }
         requires seat { IsSeatOf self.old seat.old }
         requires token { HoldsToken seat.old token }
-        requires words { (begun : HasToken seat.old.front seat.old.number token.opened_at) → AreWordsOf words.now begun.query }
-        requires scanned { AreScanned self.old.pool.config seat.old token words.now candidates.now }
-        requires empty { out.old.found ≡ [] }
-        requires enough { length candidates.now ≤ out.old.room }
-        ensures found { (begun : HasToken seat.old.front seat.old.number token.opened_at) → out.new.found ≡ found_of begun.earlier begun.query }
-        ensures few { length out.new.found ≤ length candidates.now }
         ensures events { Makes (event.End seat.old.number ∷ []) self.old self.new seat.old seat.new }
         ensures none_outstanding { HasNoneOutstanding seat.new }
     {
         pool.catch_up(&mut self.home, seat);
-        let opened_at = token.opened_at;
-        resolve(&self.records, candidates, words, opened_at, out);
         self.make_end(pool, seat, token);
     }
 
@@ -77,8 +100,7 @@ impl Desk {
         ensures events { Makes (event.End seat.old.number ∷ []) self.old self.new seat.old seat.new }
         ensures none_outstanding { HasNoneOutstanding seat.new }
     {
-        pool.catch_up(&mut self.home, seat);
-        self.make_end(pool, seat, token);
+        self.end_find(pool, seat, token);
     }
 
     // Makes the event that begins a find, and gives its token.

@@ -1,23 +1,26 @@
 -- What the tests keep of a pool and of its passes.
-use Rattle.std.specs.Prelude.{◌≡◌, ℕ, List, [], map}
+use Rattle.std.specs.Prelude.{◌≡◌, ℕ, ◌+◌, ◌≤◌, List, [], length, map}
 use Rattle.std.specs.List.{range_with_len}
 use Rattle.commit_desk.specs.Passes.{IsFinding}
+use Rattle.commit_desk.specs.Scans.{WereScanned}
+use Rattle.document_store.specs.Finding.{FoundState}
 use Rattle.funnel_model.specs.declared.claim.Token.{Token}
 use Rattle.funnel_model.specs.declared.config.Config.{Config}
 use Rattle.funnel_model.specs.Sizes.{columns_of_slice, words_of_slice}
 use Rattle.funnel_model.specs.Tokens.{HasToken}
+use Rattle.funnel_model.specs.Words.{AreWordsOf}
 use Rattle.row_layout.specs.declared.row.Row.{Row}
 use Rattle.row_layout.specs.DocumentBits.{CanPlace}
 use Rattle.row_layout.specs.Orders.{HasRowsOf}
 use Rattle.slice_rule.specs.Pools.{PoolId, limits_of}
 use Rattle.slice_rule.specs.Seats.{PassState}
 
--- the pool has one slice of 64 columns, whose words are laid out by the configuration
+-- the pool has one slice, whose words are laid out by the configuration
 pub record IsLaidBy (layout : Config) (pool : PoolId) : Type 0 where
   pub config : layout ≡ pool.config
   pub limits : pool.limits ≡ limits_of layout (words_of_slice layout)
   pub one : layout.slices ≡ 1
-  pub columns : columns_of_slice layout ≡ 64
+  pub columns : 1 ≤ columns_of_slice layout
 
 -- the pool has this name, and so has that of the desk
 pub record IsSetting (name : PoolId) (layout : Config) (pool desk : PoolId) : Type 0 where
@@ -34,6 +37,14 @@ pub record IsDraft (layout : Config) (words : List (List ℕ)) (rows : List Row)
 pub record IsFindingAll (pool : PoolId) (token : Token) (seat : PassState) : Type 0 where
   pub finding : IsFinding pool token seat
   pub query : (begun : HasToken seat.front seat.number token.opened_at) → begun.query ≡ []
+
+-- A find of no words between its turns: all columns of the slice are its candidates, and there is room for those that are left.
+pub record IsLookingAtAll (pool : PoolId) (token : Token) (seat : PassState) (words : List (List ℕ)) (columns : List (ℕ × ℕ)) (found : FoundState) (from : ℕ) : Type 0 where
+  pub finding : IsFinding pool token seat
+  pub of_query : (begun : HasToken seat.front seat.number token.opened_at) → AreWordsOf words begun.query
+  pub scanned : WereScanned pool.config seat token words columns
+  pub within : from ≤ length columns
+  pub room : length columns ≤ found.room + from
 
 -- the first columns of slice 0
 unfoldable pub columns_up_to : ℕ → List (ℕ × ℕ)

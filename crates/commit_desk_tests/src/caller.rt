@@ -1,7 +1,7 @@
 //! A pass between its calls, and in the middle of each.
 use crate::draft::Draft;
-use document_store::Doc;
-use funnel_model::{Claim, ClearJob, Token};
+use document_store::{Doc, Found};
+use funnel_model::{Candidates, Claim, ClearJob, Token, WordSet};
 use row_layout::Bits;
 use slice_rule::{PassSeat, PoolName};
 use std::marker::{Model, PhantomData};
@@ -92,4 +92,25 @@ impl<N: PoolName> Model for Finding<N> {
     ghost view = { λ _. tt };
 
     ghost invariant = { λ f. IsFindingAll N.pool f.token f.seat };
+}
+
+/// A pass whose find of no words looks at all columns, from one on.
+pub(crate) struct Looking<N: PoolName> {
+    pub seat: PassSeat,
+    pub token: Token,
+    pub words: WordSet,
+    pub columns: Candidates,
+    pub found: Found,
+    pub from: usize,
+    pub of: PhantomData<N>,
+}
+
+impl<N: PoolName> Model for Looking<N> {
+    ghost use Rattle.commit_desk_tests.specs.Tested.{IsLookingAtAll};
+
+    ghost Value = { Unit {0} };
+
+    ghost view = { λ _. tt };
+
+    ghost invariant = { λ l. IsLookingAtAll N.pool l.token l.seat l.words l.columns l.found l.from };
 }

@@ -1,12 +1,15 @@
 //! Finds and their ends.
-ghost use Rattle.std.specs.Prelude.{◌≡◌, IfOk};
+ghost use Rattle.std.specs.Prelude.{◌≡◌, ◌≤◌, [], IfOk, length};
 ghost use Rattle.commit_desk_tests.specs.Tested.{columns_up_to};
+ghost use Rattle.funnel_model.specs.Sizes.{columns_of_slice};
 
-use crate::caller::{Caller, Finding};
-use crate::setting::{Case, Setting, Two, run};
+use crate::adding::Added;
+use crate::caller::{Caller, Finding, Looking};
+use crate::setting::{Case, Setting, Two, run, run_wide};
 use commit_desk::{DeleteFault, Spent};
 use document_store::Found;
 use funnel_model::{Candidates, Memory, WordSet};
+use row_layout::Layout;
 use slice_rule::PoolName;
 use std::alloc::Global;
 use std::test::*;
@@ -38,37 +41,107 @@ impl Case for Last {
 }
 
 /// The columns of the slice, each once.
-fn all_columns(alloc: Global) -> Result<Candidates, Memory>
-    ensures { IfOk result (λ made. made ≡ columns_up_to 64) }
+fn all_columns(alloc: Global, count: u32) -> Result<Candidates, Memory>
+    ensures { IfOk result (λ made. made ≡ columns_up_to count) }
 {
     let mut columns = Candidates::new(Vec::new(alloc));
-    for column in 0..64 {
+    for column in 0..count {
         columns.push(0, column)?;
     }
     Ok(columns)
 }
 
+/// No words, all columns of the slice, and room for what they give.
+fn candidates(alloc: Global, layout: &Layout) -> Result<(WordSet, Candidates, Found), Fail>
+    ensures words { IfOk result (λ made. made.0 ≡ []) }
+    ensures columns { IfOk result (λ made. made.1 ≡ columns_up_to (columns_of_slice layout.now)) }
+    ensures room { IfOk result (λ made. length made.1 ≤ made.2.room) }
+{
+    let words = WordSet::from_sorted(alloc, &[])?;
+    let columns = all_columns(alloc, layout.columns())?;
+    let found = Found::with_room(alloc, columns.len())?;
+    Ok((words, columns, found))
+}
+
 impl<N: PoolName> Setting<N> {
     /// The number of the event that begins a find of no words, and what it finds. All columns of the slice are its candidates,
-    /// since there is no bit to read.
+    /// since there is no bit to read; two turns look at them.
     pub fn find_all(&mut self, caller: Caller<N>) -> Result<(Caller<N>, u64, Found), Fail> {
-        let words = WordSet::from_sorted(self.alloc, &[])?;
-        let columns = all_columns(self.alloc)?;
-        let mut found = Found::with_room(self.alloc, 64)?;
         let finding = self.begin(caller)?;
+        let opened_at = finding.token.opened_at;
+        let looking = self.look_at_all(finding)?;
+        let (looking, _) = self.turn(looking);
+        let (looking, _) = self.turn(looking);
+        let (caller, found) = self.end(looking);
+        Ok((caller, opened_at, found))
+    }
+
+    /// A find before its first turn.
+    pub fn look_at_all(&mut self, finding: Finding<N>) -> Result<Looking<N>, Fail> {
         if !finding.token.slices.has(0) {
             let _ = self.drop_find(finding);
             return Err(Fail::new("a slice that it may read"));
         }
-        let Finding {
+        match candidates(self.alloc, &self.layout) {
+            Ok((words, columns, found)) => {
+                let Finding { seat, token, of } = finding;
+                Ok(Looking {
+                    seat,
+                    token,
+                    words,
+                    columns,
+                    found,
+                    from: 0,
+                    of,
+                })
+            }
+            Err(fail) => {
+                let _ = self.drop_find(finding);
+                Err(fail)
+            }
+        }
+    }
+
+    /// A turn of the find, and at which column the next goes on.
+    pub fn turn(&mut self, looking: Looking<N>) -> (Looking<N>, usize) {
+        let Looking {
             mut seat,
             token,
+            words,
+            columns,
+            mut found,
+            from,
             of,
-        } = finding;
-        let opened_at = token.opened_at;
-        self.desk
-            .end_find(&self.pool, &mut seat, token, &columns, &words, &mut found);
-        Ok((Caller { seat, of }, opened_at, found))
+        } = looking;
+        let from = self.desk.resolve_part(
+            &self.pool, &mut seat, &token, &columns, from, &words, &mut found,
+        );
+        let next = Looking {
+            seat,
+            token,
+            words,
+            columns,
+            found,
+            from,
+            of,
+        };
+        (next, from)
+    }
+
+    /// The end of the find, and what it found, in the order of the adds.
+    pub fn end(&mut self, looking: Looking<N>) -> (Caller<N>, Found) {
+        let Looking {
+            mut seat,
+            token,
+            words: _,
+            columns: _,
+            mut found,
+            from: _,
+            of,
+        } = looking;
+        self.desk.end_find(&self.pool, &mut seat, token);
+        found.sort();
+        (Caller { seat, of }, found)
     }
 }
 
@@ -96,5 +169,78 @@ impl Case for Live {
         let deleted = setting.delete(&mut second, 9);
         let (_, _, after) = setting.find_all(first)?;
         Ok((before, deleted, after))
+    }
+}
+
+/// A find of 8,192 candidates has two turns, between which another pass is answered. What is deleted and added then doesn't
+/// change what the find finds, and the next one sees it.
+#[test]
+fn a_find_of_many_candidates_has_turns(rt: HostRuntime) -> Result<(), Fail> {
+    let ((turns, between, found, after), _) = run_wide::<Turns, _>(&rt, rt.alloc())?;
+    assert_eq!(rt; turns, (4_096, 8_192));
+    assert_eq!(rt;
+        between,
+        (Ok(4_100), Ok(4_101), Ok(4_102), Some((4_100, 4_103, false)))
+    );
+    assert_eq!(rt; (found.len(), are_in_order(&found)), (4_100, true));
+    assert_eq!(rt; (after.len(), are_in_order(&after)), (4_099, false));
+    Ok(())
+}
+
+/// Whether the numbers of the documents are the places of their adds, from 1 on.
+fn are_in_order(found: &Found) -> bool {
+    let mut place: u64 = 0;
+    for pair in found.as_slice() {
+        place = place.wrapping_add(1);
+        if *pair != (place, place) {
+            return false;
+        }
+    }
+    true
+}
+
+/// What another pass is answered between two turns: a place, two deletes and an add.
+type Between = (
+    Result<u64, Spent>,
+    Result<u64, DeleteFault>,
+    Result<u64, DeleteFault>,
+    Added,
+);
+
+struct Turns;
+
+impl Case for Turns {
+    type Seen = ((usize, usize), Between, Found, Found);
+
+    fn run<N: PoolName>(setting: &mut Setting<N>, passes: Two<N>) -> Result<Self::Seen, Fail> {
+        let (first, second) = passes;
+        let second = setting.add_numbers(second, 4_100);
+        let finding = setting.begin(first)?;
+        let looking = setting.look_at_all(finding)?;
+        let (looking, one) = setting.turn(looking);
+        let between = setting.change(second);
+        let (looking, two) = setting.turn(looking);
+        let (first, found) = setting.end(looking);
+        let (_, _, after) = setting.find_all(first)?;
+        Ok(((one, two), between, found, after))
+    }
+}
+
+impl<N: PoolName> Setting<N> {
+    /// Adds so many documents, whose numbers begin at 1.
+    fn add_numbers(&mut self, mut caller: Caller<N>, count: u64) -> Caller<N> {
+        for id in 0..count {
+            caller = self.add(caller, id + 1).0;
+        }
+        caller
+    }
+
+    /// Reads a place, deletes a document of each turn, and adds one.
+    fn change(&mut self, mut caller: Caller<N>) -> Between {
+        let place = self.place(&mut caller);
+        let early = self.delete(&mut caller, 7);
+        let late = self.delete(&mut caller, 4_098);
+        let (_, added) = self.add(caller, 9_000);
+        (place, early, late, added)
     }
 }

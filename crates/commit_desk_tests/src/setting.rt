@@ -3,7 +3,6 @@ ghost use Rattle.std.specs.Prelude.{◌≡◌, ◌^◌, ◌≤◌, []};
 ghost use Rattle.commit_desk.specs.Passes.{IsResting};
 ghost use Rattle.commit_desk_tests.specs.Tested.{IsLaidBy};
 ghost use Rattle.funnel_model.specs.Configuration.{IsInRange};
-ghost use Rattle.funnel_model.specs.Sizes.{columns_of_slice};
 
 use crate::caller::Caller;
 use commit_desk::Desk;
@@ -51,18 +50,20 @@ fn no_words(alloc: Global) -> Listed
     Listed::new(Vec::new(alloc))
 }
 
-/// Two passes and one slice of 64 columns, the rest by default.
-fn config(alloc: Global) -> Config
+/// Two passes and one slice, the rest by default.
+fn config(alloc: Global, blocks: u32, max_rank: u8) -> Config
+    requires some { 1 ≤ blocks }
+    requires most { blocks ≤ 64 }
+    requires rank { max_rank ≤ 6 }
     ensures in_range { IsInRange result }
     ensures passes { result.passes ≡ 2 }
     ensures slices { result.slices ≡ 1 }
-    ensures columns { columns_of_slice result ≡ 64 }
 {
     Config {
         passes: 2,
         slices: 1,
-        blocks: 1,
-        max_rank: 0,
+        blocks,
+        max_rank,
         commits: 1024,
         reserve: 0,
         one_in: 10,
@@ -74,7 +75,7 @@ fn config(alloc: Global) -> Config
     }
 }
 
-/// Makes the calls at a new desk with this limit of events, and closes it: what they give, and the commits.
+/// Makes the calls at a new desk of 64 columns with this limit of events, and closes it: what they give, and the commits.
 pub(crate) fn run<C: Case, R: Abort>(
     rt: &R,
     alloc: Global,
@@ -83,14 +84,38 @@ pub(crate) fn run<C: Case, R: Abort>(
     requires some { 1 ≤ events_limit }
     requires bounded { events_limit ≤ 2 ^ 62 }
 {
-    let config = config(alloc);
+    run_sized::<C, R>(rt, alloc, events_limit, 1, 0)
+}
+
+/// The same at a desk of 8,192 columns.
+pub(crate) fn run_wide<C: Case, R: Abort>(
+    rt: &R,
+    alloc: Global,
+) -> Result<(C::Seen, Commits), Fail> {
+    run_sized::<C, R>(rt, alloc, 1 << 62, 64, 1)
+}
+
+fn run_sized<C: Case, R: Abort>(
+    rt: &R,
+    alloc: Global,
+    events_limit: u64,
+    blocks: u32,
+    max_rank: u8,
+) -> Result<(C::Seen, Commits), Fail>
+    requires some { 1 ≤ events_limit }
+    requires bounded { events_limit ≤ 2 ^ 62 }
+    requires blocks { 1 ≤ blocks }
+    requires most { blocks ≤ 64 }
+    requires rank { max_rank ≤ 6 }
+{
+    let config = config(alloc, blocks, max_rank);
     if sizes(&config).pool_words > 33_554_432 {
         return Err(Fail::new("the pool is too large"));
     }
     let layout = Layout::new(alloc, &config)?;
     let (_, slice_words) = layout.slice_range(0);
-    if slice_words == 0 {
-        return Err(Fail::new("a slice has words"));
+    if slice_words == 0 || layout.columns() == 0 {
+        return Err(Fail::new("a slice has words and columns"));
     }
     let (pool, home, mut passes) = Pool::new(alloc, &config, slice_words).expect(rt, "a pool");
     let second = passes.pop().expect(rt, "two passes");

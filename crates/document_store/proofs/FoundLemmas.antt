@@ -1,4 +1,4 @@
--- What a find makes of its candidates: the pairs by the test are those of the documents found.
+-- What a find makes of a candidate: the pair by the test is that of the document found.
 use Rattle.std.proofs.Common.{◌≡◌, ◌↔◌, ℕ, zero, suc, ◌+◌, ◌<◌, ◌≤◌, Bool, true, false, cond, ltb, List, [], ◌∷◌, ◌++◌, length, get_or, take, Option, Some, None, refl, sym, ap, ◌∙◌, subst, ⊎_elim, inl, inr, ◌⊎◌, arith, filter_map, Contains}
 use Rattle.std.specs.List.{cons_option}
 use Rattle.std.specs.Option.{option_and_then}
@@ -8,12 +8,24 @@ use Rattle.std.proofs.lemmas.List.Elements.{filter_map-append}
 use Rattle.std.proofs.lemmas.Option.{option_and_then_some}
 use Rattle.funnel_model.proofs.AnswerLemmas.{Contains-cons}
 use Rattle.document_store.specs.Documents.{HasEvery, Parts}
-use Rattle.document_store.specs.Finding.{AddedAt, IsFound, WasLiveAt, place_if_live, found_at, found_in, has_every}
-use Rattle.document_store.specs.Slots.{Table, slot_at}
+use Rattle.document_store.specs.Finding.{place_if_live, found_in, has_every}
 use Rattle.document_store.specs.declared.column.Column.{Column}
 use Rattle.document_store.specs.declared.column.Column.TheVariants as column
 use Rattle.document_store.specs.declared.records.Slot.{Slot}
 use Rattle.document_store.proofs.WordSets.{has_every-decides}
+
+-- the column's document was live in it as the event with this number came: an event before that put it there, and none took it off
+-- before
+abbrev pub WasLiveAt : Column → ℕ → Type 0
+WasLiveAt (column.Live place since) number = since < number
+WasLiveAt (column.Over place since until) number = (since < number) × (number < until)
+WasLiveAt _ number = ⊥
+
+-- the place at which the column's document was added
+abbrev pub AddedAt : Column → ℕ → Type 0
+AddedAt (column.Live added since) place = added ≡ place
+AddedAt (column.Over added since until) place = added ≡ place
+AddedAt _ place = ⊥
 
 -- by its parts, what the test gives of a column
 pub found_in-parts : (slot : Slot) (words : List (List ℕ)) (number place : ℕ) (doc : Parts) (b : Bool) → place_if_live slot.column number ≡ Some place →
@@ -48,17 +60,18 @@ place_if_live-tells column.Free number place e = cc
 place_if_live-tells (column.Pending pass) number place e = cc
 place_if_live-tells column.Dropped number place e = cc
 
--- what a column gives is of its document
-record Gives (slot : Slot) (words : List (List ℕ)) (number : ℕ) (found : ℕ × ℕ) : Type 0 where
-  doc : Parts
-  was_live : WasLiveAt slot.column number
-  added : AddedAt slot.column found.0
-  kept : slot.doc ≡ Some doc
-  id_is : doc.id ≡ found.1
-  every : HasEvery doc.words words
+-- what a column gives: its document was live in it as the find with this number began, and has every word; the pair is the place of its add and
+-- its number
+pub record IsGiven (slot : Slot) (words : List (List ℕ)) (number : ℕ) (found : ℕ × ℕ) : Type 0 where
+  pub doc : Parts
+  pub was_live : WasLiveAt slot.column number
+  pub added : AddedAt slot.column found.0
+  pub kept : slot.doc ≡ Some doc
+  pub id_is : doc.id ≡ found.1
+  pub every : HasEvery doc.words words
 
-found_in-tells : (slot : Slot) (words : List (List ℕ)) (number : ℕ) (found : ℕ × ℕ) → found_in slot words number ≡ Some found →
-    Gives slot words number found
+pub found_in-tells : (slot : Slot) (words : List (List ℕ)) (number : ℕ) (found : ℕ × ℕ) → found_in slot words number ≡ Some found →
+    IsGiven slot words number found
 found_in-tells slot words number found e =
     option_and_then_some (λ (p : ℕ). option_and_then (λ (d : Parts). cond (has_every d.words words) (Some (p, d.id)) None) slot.doc) (place_if_live slot.column number) found e
     (λ place live given. option_and_then_some (λ (d : Parts). cond (has_every d.words words) (Some (place, d.id)) None) slot.doc found given
@@ -74,56 +87,11 @@ found_in-tells slot words number found e =
       every = (has_every-decides doc.words words).1 parts.0;
     }))
 
-kept_beside : {Y : Type 0} (o : Option Y) (ys : List Y) (y : Y) → Contains ys y → Contains (cons_option o ys) y
-kept_beside None ys y has = has
-kept_beside (Some z) ys y has = Contains-cons z ys y has
-
-first_or_later : {Y : Type 0} (o : Option Y) (ys : List Y) (y : Y) → Contains (cons_option o ys) y → (o ≡ Some y) ⊎ Contains ys y
-first_or_later None ys y has = inr has
-first_or_later (Some z) ys y (zero, within, is) = inl (ap Some is)
-first_or_later (Some z) ys y (suc k, within, is) = inr (k, omega arith, is)
-
--- what an item of the list gives is among all that is given
-pub Contains-filter_map : {X Y : Type 0} (h : X → Option Y) (xs : List X) (x : X) (y : Y) → Contains xs x → h x ≡ Some y →
-    Contains (filter_map h xs) y
-Contains-filter_map h [] x y has gives = absurd (omega (arith, has.1))
-Contains-filter_map h (z ∷ xs) x y (zero, within, is) gives =
-    subst (λ o. Contains (cons_option o (filter_map h xs)) y) (sym (ap h is ∙ gives)) (zero, omega arith, refl)
-Contains-filter_map h (z ∷ xs) x y (suc k, within, is) gives =
-    kept_beside (h z) (filter_map h xs) y (Contains-filter_map h xs x y (k, omega arith, is) gives)
-
--- all that is given, an item of the list gives
-pub given_by : {X Y : Type 0} (h : X → Option Y) (xs : List X) (y : Y) → Contains (filter_map h xs) y → (x : X) × Contains xs x × (h x ≡ Some y)
-given_by h [] y has = absurd (omega (arith, has.1))
-given_by h (z ∷ xs) y has =
-    ⊎_elim
-    (λ (here : h z ≡ Some y). (z, (zero, omega arith, refl), here))
-    (λ (later : Contains (filter_map h xs) y). let r = given_by h xs y later in (r.0, Contains-cons z xs r.0 r.1, r.2))
-    (first_or_later (h z) (filter_map h xs) y has)
-
--- the pairs by the test are those of the documents found
-pub found-exactly : (table : Table) (candidates : List (ℕ × ℕ)) (words : List (List ℕ)) (number place id : ℕ) →
-    Contains (filter_map (found_at table words number) candidates) (place, id) ↔ IsFound table candidates words number (place, id)
-found-exactly table candidates words number place id = (
-  λ has.
-      let by = given_by (found_at table words number) candidates (place, id) has in
-      let gives = found_in-tells (slot_at table by.0.0 by.0.1) words number (place, id) by.2 in
-      record {
-        slice = by.0.0;
-        at = by.0.1;
-        doc = gives.doc;
-        candidate = by.1;
-        was_live = gives.was_live;
-        added = gives.added;
-        kept = gives.kept;
-        id_is = gives.id_is;
-        every_word = gives.every;
-      },
-  λ is. Contains-filter_map (found_at table words number) candidates (is.slice, is.at) (place, id) is.candidate
-      (found_in-parts (slot_at table is.slice is.at) words number place is.doc true (place_if_live-gives (slot_at table is.slice is.at).column number place is.was_live is.added) is.kept
-      ((has_every-decides is.doc.words words).0 is.every_word)
-      ∙ ap (λ n. Some (place, n)) is.id_is),
-)
+-- and the test gives it
+pub found_in-gives : (slot : Slot) (words : List (List ℕ)) (number : ℕ) (found : ℕ × ℕ) → IsGiven slot words number found → found_in slot words number ≡ Some found
+found_in-gives slot words number found is =
+    found_in-parts slot words number found.0 is.doc true (place_if_live-gives slot.column number found.0 is.was_live is.added) is.kept ((has_every-decides is.doc.words words).0 is.every)
+    ∙ ap (λ n. Some (found.0, n)) is.id_is
 
 -- each item gives at most one
 pub length-filter_map : {X Y : Type 0} (h : X → Option Y) (xs : List X) → length (filter_map h xs) ≤ length xs
@@ -132,15 +100,3 @@ length-filter_map h (x ∷ xs) = at_most_one (h x) (filter_map h xs) (length xs)
   at_most_one : {Y : Type 0} (o : Option Y) (ys : List Y) (n : ℕ) → length ys ≤ n → length (cons_option o ys) ≤ suc n
   at_most_one None ys n low = omega arith
   at_most_one (Some y) ys n low = omega arith
-
--- one more item
-pub filter_map-more : {X Y : Type 0} (h : X → Option Y) (xs : List X) (i : ℕ) (d : X) (o : Option Y) → i < length xs → h (get_or xs i d) ≡ o →
-    filter_map h (take (i + 1) xs) ≡ filter_map h (take i xs) ++ cons_option o []
-filter_map-more h xs i d o within is =
-    ap (filter_map h) (take_more xs i d within)
-    ∙ filter_map-append h (take i xs) (get_or xs i d ∷ [])
-    ∙ ap (λ p. filter_map h (take i xs) ++ cons_option p []) is
-
--- so many items give no more than so many
-pub length-filter_map-take : {X Y : Type 0} (h : X → Option Y) (xs : List X) (i : ℕ) → length (filter_map h (take i xs)) ≤ i
-length-filter_map-take h xs i = omega (arith, length-filter_map h (take i xs), length-take i xs)

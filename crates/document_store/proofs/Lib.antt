@@ -1,9 +1,11 @@
 pub mod CountLemmas
 pub mod FoundLemmas
 pub mod SlotLemmas
+pub mod WordOrder
 pub mod WordSets
 pub mod EntryLemmas
 pub mod TreeLemmas
 pub mod ColumnLemmas
 pub mod RemovalLemmas
 pub mod TableLemmas
+pub mod TurnLemmas

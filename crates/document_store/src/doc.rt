@@ -1,9 +1,13 @@
-ghost use Rattle.std.specs.Prelude.{◌≡◌, ◌↔◌, IsTrue, IfOk};
-ghost use Rattle.funnel_model.specs.Words.{AreWordsOf};
+ghost use Rattle.std.specs.Prelude.{◌≡◌, ◌↔◌, ℕ, List, Contains, IsTrue, IfOk};
+ghost use Rattle.std.specs.Cmp.Lexicographic.{slice_cmp};
+ghost use Rattle.std.specs.Ordering.{nat_cmp};
+ghost use Rattle.std.specs.declared.cmp.Ordering.TheVariants.{Less};
+ghost use Rattle.funnel_model.specs.Words.{AreWordsOf, IsRising};
 ghost use Rattle.document_store.specs.Documents.{HasEvery};
 
-use funnel_model::{Memory, Text, WordSet};
+use funnel_model::{Memory, Text, WordSet, Words};
 use std::alloc::Global;
+use std::cmp::Ordering;
 use std::marker::Model;
 
 /// A document: its number, its text, and the set of the text's words. Contracts see these three.
@@ -68,9 +72,54 @@ impl Doc {
     }
 }
 
-/// Whether the document has every word. Each is looked up by a binary search.
+/// Whether the document has every word. Few words are looked up by a binary search each. Many are compared with those of the
+/// document by one pass over both, so that it takes no longer than reading them.
 pub fn verify(doc: &Doc, words: &WordSet) -> bool
     ensures { IsTrue result ↔ HasEvery doc.now.words words.now }
 {
-    words.iter().all(|word| doc.words.contains(word))
+    let set = &doc.words;
+    let steps = usize::BITS - set.len().leading_zeros();
+    if words.len().saturating_mul(steps as usize) <= set.len() {
+        has_each(set, words)
+    } else {
+        has_all(set, words)
+    }
+}
+
+/// Whether each word is in the set, by a binary search for each.
+fn has_each(set: &WordSet, words: &WordSet) -> bool
+    ensures { IsTrue result ↔ HasEvery set.now words.now }
+{
+    words.iter().all(|word| set.contains(word))
+}
+
+/// Whether each word is in the set, by one pass over both.
+fn has_all(set: &WordSet, words: &WordSet) -> bool
+    ensures { IsTrue result ↔ HasEvery set.now words.now }
+{
+    let mut left = set.iter();
+    for word in words.iter() {
+        if !reach(&mut left, word) {
+            return false;
+        }
+    }
+    true
+}
+
+/// Comes to the word, and past it, where it is among those that are left; those above it are left then.
+fn reach(left: &mut Words<'_>, word: &[u8]) -> bool
+    requires rising { IsRising left.old }
+    ensures found { IsTrue result ↔ Contains left.old word.now }
+    ensures above { IsTrue result → (other : List ℕ) → slice_cmp nat_cmp word.now other ≡ Less → Contains left.old other → Contains left.new other }
+    ensures same { (other : List ℕ) → Contains left.new other → Contains left.old other }
+    ensures rising { IsRising left.new }
+{
+    while let Some(next) = left.next() {
+        match next.cmp(word) {
+            Ordering::Less => {}
+            Ordering::Equal => return true,
+            Ordering::Greater => return false,
+        }
+    }
+    false
 }

@@ -66,12 +66,14 @@ impl Found {
         self.found.push_reserved((place, id));
     }
 
-    /// Puts them in order of the places.
-    pub(crate) fn sort(&mut self)
+    /// Puts them in order of the places. Those that are in it already aren't sorted.
+    pub fn sort(&mut self)
         ensures same { IsPermutation self.old.found self.new.found }
         ensures rising { IsSorted pair_cmp self.new.found }
         ensures room { self.new.room ≡ self.old.room }
     {
-        self.found.as_mut_slice().sort_unstable();
+        if !self.found.as_slice().is_sorted() {
+            self.found.as_mut_slice().sort_unstable();
+        }
     }
 }

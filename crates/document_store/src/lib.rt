@@ -15,4 +15,4 @@ pub use doc::{Doc, verify};
 pub use found::Found;
 pub use live_list::LiveList;
 pub use records::{Records, Slot};
-pub use resolving::resolve;
+pub use resolving::{MOST_LOOK_UPS, MOST_LOOKED_FOR, resolve_part};

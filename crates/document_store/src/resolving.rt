@@ -1,6 +1,6 @@
-ghost use Rattle.std.specs.Prelude.{◌≡◌, ◌↔◌, ℕ, ◌+◌, ◌≤◌, [], length, filter_map, map, Contains};
-ghost use Rattle.std.specs.List.Sorted.{IsPermutation, IsSorted};
-ghost use Rattle.document_store.specs.Finding.{IsFound, found_at, found_in, pair_cmp, place_if_live};
+ghost use Rattle.std.specs.Prelude.{◌≡◌, ℕ, ◌+◌, ◌-◌, ◌<◌, ◌≤◌, ◌++◌, [], length, filter_map, Contains};
+ghost use Rattle.std.specs.List.{cons_option, slice_range};
+ghost use Rattle.document_store.specs.Finding.{EndsTurn, found_at, found_in, looked_for, place_if_live};
 ghost use Rattle.document_store.specs.Slots.{IsColumn, slot_at};
 
 use crate::column::Column;
@@ -9,43 +9,60 @@ use crate::found::Found;
 use crate::records::{Records, Slot};
 use funnel_model::{Candidates, WordSet};
 
-/// Keeps each candidate whose document was live in its column as the find with this number began and has every word, in the
-/// order in which they were added. It takes no memory.
-pub fn resolve(
+/// A turn looks up so many candidates at most.
+pub const MOST_LOOK_UPS: usize = 4096;
+
+/// A turn ends with the document at which it has looked for so many words.
+pub const MOST_LOOKED_FOR: usize = 256;
+
+/// Looks at the candidates from this one on, until the turn is over or there are no more, and answers where the next turn goes
+/// on. `out` gets those whose document was live in its column as the find with this number began and has every word. It takes
+/// no memory.
+pub fn resolve_part(
     records: &Records,
     candidates: &Candidates,
+    from: usize,
     words: &WordSet,
     opened_at: u64,
     out: &mut Found,
-)
-    requires empty { out.old.found ≡ [] }
-    requires room { length candidates.now ≤ out.old.room }
+) -> usize
+    requires from { from ≤ length candidates.now }
+    requires room { length candidates.now ≤ out.old.room + from }
     requires in_range { (slice column : ℕ) → Contains candidates.now (slice, column) → IsColumn records.now slice column }
-    ensures exactly { (place id : ℕ) → Contains out.new.found (place, id) ↔ IsFound records.now candidates.now words.now opened_at (place, id) }
-    ensures rising { IsSorted pair_cmp out.new.found }
-    ensures each_once { IsPermutation (filter_map (found_at records.now words.now opened_at) candidates.now) out.new.found }
-    ensures few { length out.new.found ≤ length candidates.now }
-    ensures room { out.new.room + length out.new.found ≡ out.old.room }
+    ensures found { out.new.found ≡ out.old.found ++ filter_map (found_at records.now words.now opened_at) (slice_range candidates.now from result) }
+    ensures turn { EndsTurn records.now candidates.now words.now opened_at from result }
+    ensures enough { length candidates.now ≤ out.new.room + result }
+    ensures room { out.new.room + length out.new.found ≡ out.old.room + length out.old.found }
 {
-    for (slice, column) in candidates.as_slice() {
-        if let Some((place, id)) = found_in(records.slot(*slice, *column), words, opened_at) {
-            out.push(place, id);
+    let end = from + (candidates.len() - from).min(MOST_LOOK_UPS);
+    let mut left = MOST_LOOKED_FOR;
+    for at in from..end {
+        let (slice, column) = candidates.as_slice()[at];
+        left = look_up(records.slot(slice, column), words, opened_at, left, out);
+        if left == 0 {
+            return at + 1;
         }
     }
-    out.sort();
+    end
 }
 
-/// The place of the add and the number of the column's document, where it is found.
-fn found_in(slot: &Slot, words: &WordSet, opened_at: u64) -> Option<(u64, u64)>
-    ensures { result ≡ found_in slot.now words.now opened_at }
+/// Looks at one candidate, and answers how many more words the turn may look for.
+fn look_up(slot: &Slot, words: &WordSet, opened_at: u64, left: usize, out: &mut Found) -> usize
+    requires room { 1 ≤ out.old.room }
+    ensures found { out.new.found ≡ out.old.found ++ cons_option (found_in slot.now words.now opened_at) [] }
+    ensures left { result ≡ left - looked_for slot.now words.now opened_at }
+    ensures room { out.new.room + length out.new.found ≡ out.old.room + length out.old.found }
 {
-    let place = place_if_live(slot.column, opened_at)?;
-    let doc = slot.doc.as_ref()?;
+    let Some(place) = place_if_live(slot.column, opened_at) else {
+        return left;
+    };
+    let Some(doc) = slot.doc.as_ref() else {
+        return left;
+    };
     if verify(doc, words) {
-        Some((place, doc.id()))
-    } else {
-        None
+        out.push(place, doc.id());
     }
+    left.saturating_sub(words.len())
 }
 
 /// The place of the add, where the column's document was live in it as the find with this number began.

@@ -4,6 +4,7 @@ pub mod Claims
 pub mod DeskTurns
 pub mod Ends
 pub mod Finds
+pub mod FoundUpTo
 pub mod MovePasses
 pub mod Moves
 pub mod NewPasses

@@ -1,13 +1,17 @@
 -- Finds: what an open one scans for, and the turns of a find at the desk.
-use Rattle.std.specs.Prelude.{◌≡◌, ℕ, ◌⊎◌, List, [], ◌∷◌, ◌++◌, All, Result, Ok, Err}
+use Rattle.std.specs.Prelude.{◌≡◌, ℕ, ◌+◌, ◌≤◌, ◌⊎◌, List, [], ◌∷◌, ◌++◌, length, take, All, Option, None, Some, Result, Ok, Err}
+use Rattle.document_store.specs.Finding.{FoundState}
 use Rattle.funnel_model.specs.declared.claim.Token.{Token}
 use Rattle.funnel_model.specs.declared.event.Event.{Event}
 use Rattle.funnel_model.specs.declared.event.Event.TheVariants as event
 use Rattle.funnel_model.specs.History.{answer}
 use Rattle.funnel_model.specs.Legal.{Limits}
+use Rattle.funnel_model.specs.Tokens.{HasToken}
 use Rattle.funnel_model.specs.Words.{AreWordsOf}
 use Rattle.commit_desk.specs.Answers.{IsSpentAt, TakesCalls}
 use Rattle.commit_desk.specs.Passes.{IsFinding}
+use Rattle.commit_desk.specs.Resolving.{AreGiven, GiveAll}
+use Rattle.commit_desk.specs.Scans.{WereScanned}
 use Rattle.engine.specs.declared.finding.FindFault.{FindFault}
 use Rattle.engine.specs.declared.finding.FindFault.TheVariants as find
 use Rattle.row_layout.specs.declared.row.Row.{Row}
@@ -34,6 +38,26 @@ pub record IsScanFor (pool : PoolId) (pass : PassState) (token : Token) (words :
   pub of_query : (earlier : List Event) (query : List ℕ) → IsBegunAt pass earlier query → AreWordsOf words query
   pub rows : HasRowsOf pool.config words plan
   pub laid : All (IsRowOf pool.config) plan
+
+-- A find between its turns. Its candidates were scanned for the words of its query, there is room for all that are left, and what those
+-- before this one give is found: by the history before the find, whatever came since.
+pub record IsFoundUpTo (pool : PoolId) (pass : PassState) (token : Token) (words : List (List ℕ)) (candidates : List (ℕ × ℕ)) (found : FoundState) (from : ℕ) : Type 0 where
+  pub finding : IsFinding pool token pass
+  pub of_query : (begun : HasToken pass.front pass.number token.opened_at) → AreWordsOf words begun.query
+  pub scanned : WereScanned pool.config pass token words candidates
+  pub within : from ≤ length candidates
+  pub room : length candidates ≤ found.room + from
+  pub given : (begun : HasToken pass.front pass.number token.opened_at) → AreGiven begun.earlier begun.query (take from candidates) found.found
+
+-- what all candidates give is found, and they give all of the answer
+abbrev pub IsAllFound : PassState → Token → List (ℕ × ℕ) → List (ℕ × ℕ) → Type 0
+IsAllFound pass token candidates found =
+    (begun : HasToken pass.front pass.number token.opened_at) → AreGiven begun.earlier begun.query candidates found × GiveAll begun.earlier begun.query candidates
+
+-- the events of a turn that looks at candidates: the last one ends the find
+abbrev pub events_of_turn : ℕ → Option (Token × ℕ) → List Event
+events_of_turn pass None = event.End pass ∷ []
+events_of_turn pass (Some next) = []
 
 -- the turn that begins a find
 abbrev pub FindBegins : Limits → ℕ → List ℕ → List Event → List Event → Type 0

@@ -7,7 +7,7 @@ ghost use Rattle.funnel_model.specs.Legal.{IsLegal};
 ghost use Rattle.funnel_model.specs.Steps.{AddsCall, AddsNone, Step};
 ghost use Rattle.commit_desk.specs.Passes.{IsResting};
 ghost use Rattle.commit_desk.specs.Scans.{AreScanned};
-ghost use Rattle.engine.specs.Finds.{FindBegins, FindEnds, FindTurns, IsBegunAt, IsScanFor, RefusedTurns};
+ghost use Rattle.engine.specs.Finds.{FindBegins, FindEnds, FindTurns, IsAllFound, IsBegunAt, IsFoundUpTo, IsScanFor, RefusedTurns};
 ghost use Rattle.engine.specs.Replies.{reply_of_find, reply_of_find_fault};
 ghost use Rattle.engine.specs.Scans.{AreScannedBelow, CanScan};
 ghost use Rattle.row_read.specs.SharedRows.{kept_of};
@@ -17,7 +17,7 @@ use crate::open_find::{Begun, OpenFind};
 use crate::work::{Direct, Work};
 use commit_desk::Spent;
 use document_store::Found;
-use funnel_model::{Candidates, Ids, Memory};
+use funnel_model::{Candidates, Ids, Memory, Token, WordSet};
 use plan_rows::plan;
 use row_read::Shared;
 use slice_rule::{PassSeat, PoolName};
@@ -37,8 +37,8 @@ pub enum FindFault {
 
 impl<N: PoolName> Engine<N> {
     /// The numbers of the documents that are live when the find begins and have every word of the query, in the order in
-    /// which they were added. It waits for the lock twice, or once where the engine is spent, and not at all where there is no
-    /// memory for its words and their rows.
+    /// which they were added. It waits for the lock to begin, and then for each turn that looks at its candidates; once where the
+    /// engine is spent, and not at all where there is no memory for its words and their rows.
     pub fn find<R: Wait>(
         &self,
         rt: &R,
@@ -106,7 +106,7 @@ impl<N: PoolName> Engine<N> {
     }
 
     /// Ends a find, and hands its pass back. Where there is no memory for its candidates or its answer, the find is ended all
-    /// the same. It waits for the lock once.
+    /// the same. It waits for the lock for each turn that looks at its candidates, and for one at least.
     pub fn finish_find<R: Wait>(
         &self,
         rt: &R,
@@ -155,7 +155,7 @@ impl<N: PoolName> Engine<N> {
         }
     }
 
-    // Scans, and ends the find.
+    // Scans, and ends the find. The answer is sorted with the lock free.
     fn finish<R: Wait, W: Work>(
         &self,
         rt: &R,
@@ -179,7 +179,8 @@ impl<N: PoolName> Engine<N> {
                     plan: _,
                 } = begun;
                 let mut found = found;
-                self.end_find(rt, pass, token, &candidates, &words, &mut found);
+                self.resolve(rt, pass, token, &candidates, &words, &mut found);
+                found.sort();
                 Ok(found.into_ids(ids))
             }
             Err(Memory) => {
@@ -191,6 +192,33 @@ impl<N: PoolName> Engine<N> {
                 self.drop_find(rt, pass, token);
                 Err(Memory)
             }
+        }
+    }
+
+    // Looks at the candidates turn by turn, until the last turn ends the find.
+    fn resolve<R: Wait>(
+        &self,
+        rt: &R,
+        pass: &mut PassSeat,
+        token: Token,
+        candidates: &Candidates,
+        words: &WordSet,
+        out: &mut Found,
+    )
+        requires so_far { IsFoundUpTo self.now pass.old token words.now candidates.now out.old 0 }
+        ensures found { IsAllFound pass.old token candidates.now out.new.found }
+        ensures ended { FindEnds pass.old.number pass.old.front pass.new.front }
+        ensures rests { IsResting self.now pass.new }
+        ensures number { pass.new.number ≡ pass.old.number }
+        ensures legal { IsLegal self.now.limits pass.new.front }
+    {
+        let mut token = token;
+        let mut from = 0;
+        while let Some((open, next)) = self.resolve_turn(
+            rt, pass, token, candidates, from, words, out,
+        ) {
+            token = open;
+            from = next;
         }
     }
 

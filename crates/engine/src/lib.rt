@@ -45,10 +45,10 @@
 //!
 //! This program, with the clauses that tie a pass to its engine, is a proved test (`example.rt` of the crate `engine_tests`).
 //!
-//! The calls that make events wait for the lock. No column is written, no slice is scanned and none is cleared under it. What
-//! is done there takes the longer the more there is of it: a find verifies its candidates, a journal copies its commits, an add
-//! that is refused as full looks through the slices, one that moves a document copies it, and the documents of a slice that is
-//! opened are dropped. `Blank::new`,
+//! The calls that make events wait for the lock. No column is written, no slice is scanned and none is cleared under it. A find
+//! verifies its candidates there in short turns, between which the lock is free, and sorts its answer afterwards. What else is
+//! done there takes the longer the more there is of it: a journal copies its commits, an add that is refused as full looks through
+//! the slices, one that moves a document copies it, and the documents of a slice that is opened are dropped. `Blank::new`,
 //! `open`, `note`, `meet` and `close` wait for nobody. `Blank::new`, `open`, `add`, `find`, `begin_find`, `finish_find` and
 //! `journal` take memory, and answer so where there is none; the others take none.
 #![tactic(auto)]

@@ -1,14 +1,10 @@
 //! The turns of adds and finds at the desk. Each holds the lock for one call of the desk alone.
-ghost use Rattle.std.specs.Prelude.{◌≡◌, ℕ, List, ◌≤◌, [], ◌∷◌, false, length, map, MatchResult, vec_capacity};
-ghost use Rattle.funnel_model.specs.declared.event.Event.{Event};
+ghost use Rattle.std.specs.Prelude.{◌≡◌, ◌<◌, ◌≤◌, [], ◌∷◌, false, length, IfSome, MatchResult, None, vec_capacity};
 ghost use Rattle.funnel_model.specs.declared.event.Event.TheVariants as event;
-ghost use Rattle.funnel_model.specs.History.{answer};
 ghost use Rattle.funnel_model.specs.Legal.{IsLegal};
-ghost use Rattle.funnel_model.specs.Words.{AreWordsOf};
 ghost use Rattle.commit_desk.specs.Answers.{AnswersCommit, AnswersFind, AnswersTake, events_of_commit, events_of_find, events_of_take};
 ghost use Rattle.commit_desk.specs.Passes.{HasCleared, HasWritten, IsFinding, IsResting, IsToDo, IsToWrite};
-ghost use Rattle.commit_desk.specs.Scans.{AreScanned};
-ghost use Rattle.engine.specs.Finds.{HasJustBegun, IsBegunAt};
+ghost use Rattle.engine.specs.Finds.{IsAllFound, IsFoundUpTo, events_of_turn};
 ghost use Rattle.slice_recycler.specs.Turns.{IsTurn};
 
 use crate::engine::Engine;
@@ -97,37 +93,40 @@ impl<N: PoolName> Engine<N> {
         self.desk.lock(rt).desk.open_find(&self.pool, pass, query)
     }
 
-    // The last turn of a find.
-    pub(crate) fn end_find<R: Wait>(
+    // A turn of a find that looks at its candidates from this one on. The last turn ends the find; any other hands its token back,
+    // and tells where the next goes on.
+    pub(crate) fn resolve_turn<R: Wait>(
         &self,
         rt: &R,
         pass: &mut PassSeat,
         token: Token,
         candidates: &Candidates,
+        from: usize,
         words: &WordSet,
         out: &mut Found,
-    )
-        requires finding { IsFinding self.now token pass.old }
-        requires begun { HasJustBegun pass.old }
-        requires words { (earlier : List Event) (query : List ℕ) → IsBegunAt pass.old earlier query → AreWordsOf words.now query }
-        requires scanned { AreScanned self.now.config pass.old token words.now candidates.now }
-        requires empty { out.old.found ≡ [] }
-        requires enough { length candidates.now ≤ out.old.room }
-        ensures found { (earlier : List Event) (query : List ℕ) → IsBegunAt pass.old earlier query → map (λ (f : ℕ × ℕ). f.1) out.new.found ≡ answer earlier query }
-        ensures few { length out.new.found ≤ length candidates.now }
-        ensures turn { IsTurn pass.old.number pass.old.front pass.new.front (λ history. Unit {0}) (event.End pass.old.number ∷ []) }
-        ensures rests { IsResting self.now pass.new }
+    ) -> Option<(Token, usize)>
+        requires so_far { IsFoundUpTo self.now pass.old token words.now candidates.now out.old from }
+        ensures next { IfSome result (λ next. IsFoundUpTo self.now pass.new next.0 words.now candidates.now out.new next.1) }
+        ensures same { IfSome result (λ next. next.0 ≡ token) }
+        ensures further { IfSome result (λ next. (from < next.1) × (next.1 < length candidates.now)) }
+        ensures found { result ≡ None → IsAllFound pass.old token candidates.now out.new.found }
+        ensures turn { IsTurn pass.old.number pass.old.front pass.new.front (λ history. Unit {0}) (events_of_turn pass.old.number result) }
+        ensures rests { result ≡ None → IsResting self.now pass.new }
         ensures number { pass.new.number ≡ pass.old.number }
         ensures legal { IsLegal self.now.limits pass.new.front }
     {
         let _ = &self.pool;
-        self.desk
-            .lock(rt)
-            .desk
-            .end_find(&self.pool, pass, token, candidates, words, out)
+        let mut named = self.desk.lock(rt);
+        let desk = &mut named.desk;
+        let next = desk.resolve_part(&self.pool, pass, &token, candidates, from, words, out);
+        if next < candidates.len() {
+            return Some((token, next));
+        }
+        desk.end_find(&self.pool, pass, token);
+        None
     }
 
-    // The last turn of a find that found no memory.
+    // The turn that ends a find that found no memory.
     pub(crate) fn drop_find<R: Wait>(&self, rt: &R, pass: &mut PassSeat, token: Token)
         requires finding { IsFinding self.now token pass.old }
         ensures turn { IsTurn pass.old.number pass.old.front pass.new.front (λ history. Unit {0}) (event.End pass.old.number ∷ []) }

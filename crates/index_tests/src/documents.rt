@@ -1,7 +1,7 @@
 //! Documents in their columns, and what a find makes of them.
 ghost use Rattle.std.specs.Prelude.{◌≡◌, ◌<◌, ◌≤◌, [], ◌∷◌, IfOk, length};
 
-use document_store::{Column, Doc, Found, Records, resolve, verify};
+use document_store::{Column, Doc, Found, Records, resolve_part, verify};
 use funnel_model::{Candidates, Ids, Text, WordSet};
 use std::alloc::{AllocError, Global};
 use std::marker::Model;
@@ -41,6 +41,20 @@ fn described(alloc: Global, text: &str) -> Result<((u64, bool, usize), bool, boo
 #[test]
 fn a_document_has_its_words(rt: HostRuntime) -> Result<(), Fail> {
     assert_eq!(rt; described(rt.alloc(), "cat")?, ((7, true, 1), true, false));
+    Ok(())
+}
+
+/// Whether a document of five words has three of them, two of them and another, and all of them and another.
+fn compared(alloc: Global) -> Result<(bool, bool, bool), WordFault> {
+    let doc = document(alloc, 7, "the cat sat on the mat")?;
+    let some = has_words(alloc, &doc, "mat sat the")?;
+    let other = has_words(alloc, &doc, "cat dog mat")?;
+    Ok((some, other, has_words(alloc, &doc, "on the mat a cat sat")?))
+}
+
+#[test]
+fn many_words_are_compared_with_those_of_a_document(rt: HostRuntime) -> Result<(), Fail> {
+    assert_eq!(rt; compared(rt.alloc())?, (true, false, false));
     Ok(())
 }
 
@@ -225,7 +239,8 @@ fn found_at(
 {
     let candidates = every_column(alloc)?;
     let mut out = Found::with_room(alloc, 8)?;
-    resolve(&columns.records, &candidates, words, opened_at, &mut out);
+    resolve_part(&columns.records, &candidates, 0, words, opened_at, &mut out);
+    out.sort();
     Ok(out)
 }
 

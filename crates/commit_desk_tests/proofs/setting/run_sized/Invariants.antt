@@ -1,4 +1,4 @@
-use Rattle.commit_desk_tests.proofs.setting.run.Given as goal
+use Rattle.commit_desk_tests.proofs.setting.run_sized.Given as goal
 
 -- the pool of the desk that is made
 abbrev pub ghosts-run_named : goal.ghosts-run_named

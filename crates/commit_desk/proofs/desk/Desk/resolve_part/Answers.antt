@@ -1,0 +1,79 @@
+use Rattle.std.proofs.Common.{◌≡◌, filter_map, sym, ap, ◌∙◌, subst}
+use Rattle.std.specs.List.{slice_range}
+use Rattle.document_store.specs.Finding.{found_at}
+use Rattle.funnel_model.specs.History.{IsFrontOf}
+use Rattle.slice_rule.specs.Pools.{PoolId}
+use Rattle.slice_rule.specs.Seats.{PassState}
+use Rattle.commit_desk.specs.Desks.{DeskState}
+use Rattle.commit_desk.specs.Scans.{WereScanned}
+use Rattle.commit_desk.proofs.FindEnds.{candidates_give_all, part_gives, scanned_in_table, were_scanned}
+use Rattle.commit_desk.proofs.FindTurns.{token_kept}
+use Rattle.commit_desk.proofs.Given.{Contains-range}
+use Rattle.commit_desk.proofs.Inside.{desk_of}
+use Rattle.commit_desk.proofs.desk.Desk.resolve_part.Goals as goal
+
+same_limits : (desk now : DeskState) (pool : PoolId) → desk ≡ now → pool ≡ now.pool → pool.limits ≡ desk.pool.limits
+same_limits desk now pool view same = ap (λ (p : PoolId). p.limits) (same ∙ sym (ap (λ (d : DeskState). d.pool) view))
+
+pub resolve_part-requires-clause-in_range : goal.resolve_part-requires-clause-in_range
+resolve_part-requires-clause-in_range c =
+    let i = c.self.inside in
+    let seat = c.args.seat.now in
+    let token = c.args.token.now in
+    scanned_in_table i.home.pool.limits i.home.history i.records seat token c.args.candidates.now c.self.invariant.kept.recorded
+    (same_limits (desk_of i) c.args.self.now seat.pool c.self.view_is c.requires.seat.pool) c.requires.token (c.requires.scanned c.requires.token.begun).of_token
+
+pub returns-clause-found : goal.returns-clause-found
+returns-clause-found c begun =
+    let i = c.self.inside in
+    let kept = c.self.invariant.kept in
+    let seat = c.args.seat.now in
+    let token = c.args.token.now in
+    let words = c.args.words.now in
+    let candidates = c.args.candidates.now in
+    let part = slice_range candidates c.args.from c.resolve_part.result in
+    let up = c.catch_up.ensures in
+    let goes : IsFrontOf seat.number seat.front i.home.history =
+    subst (λ h. IsFrontOf seat.number seat.front h) (up.front ∙ up.home.history) (subst (λ n. IsFrontOf n seat.front c.catch_up.new.seat.front) up.seat.number up.none_since) in
+    let scanned : WereScanned i.home.pool.config seat token words candidates =
+    subst (λ (d : DeskState). WereScanned d.pool.config seat token words candidates) (sym c.self.view_is) c.requires.scanned in (
+      filter_map (found_at i.records words token.opened_at) part,
+      part_gives i.home.pool.config i.home.pool.limits i.home.history i.records kept.legal kept.sound kept.untuned kept.recorded seat
+          (same_limits (desk_of i) c.args.self.now seat.pool c.self.view_is c.requires.seat.pool) goes token c.requires.token words candidates scanned begun (c.requires.words begun) part
+          (λ candidate has. Contains-range candidates c.args.from c.resolve_part.result candidate has),
+      c.resolve_part.ensures.found,
+    )
+
+pub returns-clause-all : goal.returns-clause-all
+returns-clause-all c begun =
+    let i = c.self.inside in
+    let kept = c.self.invariant.kept in
+    let seat = c.args.seat.now in
+    let token = c.args.token.now in
+    let words = c.args.words.now in
+    let candidates = c.args.candidates.now in
+    let up = c.catch_up.ensures in
+    let goes : IsFrontOf seat.number seat.front i.home.history =
+    subst (λ h. IsFrontOf seat.number seat.front h) (up.front ∙ up.home.history) (subst (λ n. IsFrontOf n seat.front c.catch_up.new.seat.front) up.seat.number up.none_since) in
+    let scanned : WereScanned i.home.pool.config seat token words candidates =
+    subst (λ (d : DeskState). WereScanned d.pool.config seat token words candidates) (sym c.self.view_is) c.requires.scanned in
+    candidates_give_all i.home.pool.config i.home.pool.limits i.home.history i.records kept.legal kept.sound kept.untuned kept.recorded seat
+    (same_limits (desk_of i) c.args.self.now seat.pool c.self.view_is c.requires.seat.pool) goes token c.requires.token words candidates scanned begun (c.requires.words begun)
+
+pub returns-clause-token : goal.returns-clause-token
+returns-clause-token c =
+    let up = c.catch_up.ensures in
+    let next = c.catch_up.new.seat in
+    token_kept c.args.seat.now next c.args.token.now up.seat (subst (λ n. IsFrontOf n c.args.seat.now.front next.front) up.seat.number up.none_since) c.requires.token
+
+pub returns-clause-scanned : goal.returns-clause-scanned
+returns-clause-scanned c =
+    let up = c.catch_up.ensures in
+    let seat = c.args.seat.now in
+    let next = c.catch_up.new.seat in
+    let token = c.args.token.now in
+    let words = c.args.words.now in
+    let candidates = c.args.candidates.now in
+    let pool : c.args.self.now.pool ≡ c.catch_up.new.home.pool = sym (up.home.pool ∙ ap (λ (d : DeskState). d.pool) c.self.view_is) in
+    subst (λ (p : PoolId). WereScanned p.config next token words candidates) pool
+    (were_scanned c.args.self.now.pool.config seat next token words candidates up.seat (subst (λ n. IsFrontOf n seat.front next.front) up.seat.number up.none_since) c.requires.token c.requires.scanned)
