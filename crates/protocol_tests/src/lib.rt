@@ -1,11 +1,14 @@
 //! Tests of the crates of the protocol that stand by themselves: lines and replies, configurations and tunings, the documents
-//! of a load, and sessions. What the program shows of them from outside is in the rows that the gate tries (`.ci/rows.txt`).
+//! of a load, configurations fitted to a sample, and sessions. What the program shows of them from outside is in the rows that
+//! the gate tries (`.ci/rows.txt`).
 #![tactic(auto)]
 
 #[cfg(test)]
 mod configurations;
 #[cfg(test)]
 mod documents;
+#[cfg(test)]
+mod fits;
 #[cfg(test)]
 mod lines;
 #[cfg(test)]

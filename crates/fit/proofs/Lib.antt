@@ -1,0 +1,10 @@
+pub mod Sets
+pub mod Counting
+pub mod Sampling
+pub mod Rooms
+pub mod Orders
+pub mod Writing
+pub mod Making
+pub mod Reading
+pub mod Fitted
+pub mod Ending

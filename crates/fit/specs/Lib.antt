@@ -1,0 +1,11 @@
+pub mod Adds
+pub mod Tallies
+pub mod Shapes
+pub mod Listings
+pub mod Texts
+pub mod Fits
+pub mod Ends
+pub mod Steps
+pub mod Samples
+pub mod Made
+pub mod Chosen
