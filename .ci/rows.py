@@ -114,6 +114,15 @@ def reserve_rows():
     yield Row("each slice is filled once without a reserve", [*halved(128), *third, *((line, "refused full") for line in again), full], not_kept_free)
     yield Row("nothing is moved where there is no room for a whole slice", [*halved(128), full], ['{"slices":2,"reserve":64}'])
 
+    def with_two(last):
+        return [*halved(last), ("add 200 y", f"added {last + 65}"), ("add 201 y", f"added {last + 66}")]
+
+    # A slice holds 32 documents, for which and for two adds 34 columns are enough.
+    yield Row("documents are moved where there is just room for them", [*with_two(158), ("recycle", "recycled 0")], kept_free)
+    yield Row("nothing is moved where a column is wanting", [*with_two(159), none], kept_free)
+    third_add = ("add 202 y", "added 195")
+    yield Row("nothing is moved while as many columns are left as are to be", [*with_two(128), none, third_add, ("recycle", "recycled 0")], kept_free)
+
 
 def long_rows():
     """Rows of long lines, lists, configurations and words, and of an input without a newline at its end."""
