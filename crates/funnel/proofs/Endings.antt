@@ -1,17 +1,20 @@
 -- How programs end.
-use Rattle.std.proofs.Common.{◌≡◌, ℕ, List, length, map, Option, None, inl, inr, refl, sym, ap, ◌∙◌, subst}
+use Rattle.std.proofs.Common.{◌≡◌, ℕ, true, List, length, map, Option, None, Some, inl, inr, refl, sym, ap, ◌∙◌, subst}
+use Rattle.std.proofs.lemmas.Bool.{false≢true}
+use Rattle.std.specs.List.{AllZip}
+use Rattle.std.specs.Option.{is_some}
 use Rattle.std.specs.Prelude.{IfSome}
 use Rattle.engine.specs.Engines.{ClosedState}
 use Rattle.funnel_io.specs.Calls.{Read, Write}
 use Rattle.funnel_io.specs.Streams.{Incoming, Outgoing}
 use Rattle.funnel_io.specs.declared.end.End.{End}
 use Rattle.funnel_io.specs.declared.gate.Next.{Next}
+use Rattle.funnel_io.specs.declared.gate.Opening.{Opening}
 use Rattle.funnel_server.specs.Gates.{GateState}
 use Rattle.funnel_model.specs.declared.config.Config.{Config}
 use Rattle.funnel_model.specs.History.{base}
 use Rattle.funnel_model.specs.Legal.{Limits}
 use Rattle.slice_rule.specs.Pools.{PoolId}
-use Rattle.funnel.specs.declared.command.Command.{Command}
 use Rattle.funnel.specs.declared.command.Command.TheVariants as command
 use Rattle.funnel.specs.declared.command.ServeCommand.{ServeCommand}
 use Rattle.funnel.specs.declared.ended.Why.{Why}
@@ -19,74 +22,97 @@ use Rattle.funnel.specs.declared.ended.Why.TheVariants as why_of
 use Rattle.funnel.specs.Misfits.{misfit_of}
 use Rattle.funnel.specs.Programs.{Ends, IsConfigured, Streams}
 use Rattle.funnel.specs.Runs.{KeepsLast, limits_by}
-use Rattle.funnel.specs.Served.{EndsServe}
-use Rattle.funnel.specs.Turns.{EndsInTurns, ServeGoesInTurns}
-use Rattle.funnel.specs.Workers.{EndsServeInTurns}
+use Rattle.funnel.specs.Served.{EndsServe, OneDidNotOpen}
+use Rattle.funnel.specs.Turns.{AreOpened, AreOpenedUntilOneFails, EndsInTurns, OpenGatesGoInTurns, ServeGoesInTurns}
+use Rattle.funnel.specs.Workers.{EndsOpenServeInTurns, EndsServeInTurns}
 
 -- an engine with the limits of the configuration keeps as many commits as it says
 pub keeps_last : (pool : PoolId) (config : Config) (closed : ClosedState) → pool.limits ≡ limits_by config →
     closed.base ≡ base pool.limits.commits closed.history → KeepsLast config closed
 keeps_last pool config closed limits_are base_is = base_is ∙ ap (λ (l : Limits). base l.commits closed.history) limits_are
 
--- a command that fits ends for want of memory before its engine is made
-pub ends_without_engine : (words : List (List ℕ)) (before after : Streams) (command : Command) (config : Config) →
-    IsConfigured words before after command config → misfit_of command (length before.gates) config ≡ None →
-    after.input ≡ before.input → after.output ≡ before.output → after.gates ≡ before.gates → Ends words before after why_of.Memory None
-ends_without_engine words before after command.Run config configured fits input output gates =
-    inr (inr (inr (inl (record { config = config; configured = configured; gates = gates; ran = refl; kept = tt }))))
-ends_without_engine words before after (command.Serve serve) config configured fits input output gates =
-    inr (inr (inr (inr (inl (record { serve = serve; config = config; configured = configured; fits = fits; input = input; output = output; served = (refl, gates); kept = tt })))))
-ends_without_engine words before after (command.Load load) config configured fits input output gates =
-    inr (inr (inr (inr (inr (record { load = load; config = config; configured = configured; fits = fits; input = input; gates = gates; ends = output; kept = tt })))))
-
 -- ---- the calls on gates
 
 -- what is told of the calls of a serve aside, an end is an end
-pub plain_end : {G C : Type 0} (next_gives : G → Next C → G → Type 0) (done_gives : G → C → End → G → Type 0)
+pub plain_end : {G C : Type 0} (open_gives : G → Opening → G → Type 0) (next_gives : G → Next C → G → Type 0) (done_gives : G → C → End → G → Type 0) (end_gives : G → G → Type 0)
     (read_gives : C → Read → C → Type 0) (write_gives : C → Write → C → Type 0) (incoming : C → Incoming) (outgoing : C → Outgoing)
     (words : List (List ℕ)) (before after : Streams) (why : Why) (closed : Option ClosedState) (gates laters : List G) →
-    EndsInTurns next_gives done_gives read_gives write_gives incoming outgoing words before after why closed gates laters → Ends words before after why closed
-plain_end next_gives done_gives read_gives write_gives incoming outgoing words before after why closed gates laters (inl ends) = inl ends
-plain_end next_gives done_gives read_gives write_gives incoming outgoing words before after why closed gates laters (inr (inl ends)) = inr (inl ends)
-plain_end next_gives done_gives read_gives write_gives incoming outgoing words before after why closed gates laters (inr (inr (inl ends))) = inr (inr (inl ends))
-plain_end next_gives done_gives read_gives write_gives incoming outgoing words before after why closed gates laters (inr (inr (inr (inl ends)))) = inr (inr (inr (inl ends)))
-plain_end next_gives done_gives read_gives write_gives incoming outgoing words before after why closed gates laters (inr (inr (inr (inr (inl serve))))) = inr (inr (inr (inr (inl serve.ends))))
-plain_end next_gives done_gives read_gives write_gives incoming outgoing words before after why closed gates laters (inr (inr (inr (inr (inr ends))))) = inr (inr (inr (inr (inr ends))))
-
--- and where no engine was opened there were no such calls
-pub unopened_in_turns : {G C : Type 0} (next_gives : G → Next C → G → Type 0) (done_gives : G → C → End → G → Type 0)
-    (read_gives : C → Read → C → Type 0) (write_gives : C → Write → C → Type 0) (incoming : C → Incoming) (outgoing : C → Outgoing)
-    (words : List (List ℕ)) (before after : Streams) (why : Why) (gates laters : List G) → Ends words before after why None →
-    EndsInTurns next_gives done_gives read_gives write_gives incoming outgoing words before after why None gates laters
-unopened_in_turns next_gives done_gives read_gives write_gives incoming outgoing words before after why gates laters (inl ends) = inl ends
-unopened_in_turns next_gives done_gives read_gives write_gives incoming outgoing words before after why gates laters (inr (inl ends)) = inr (inl ends)
-unopened_in_turns next_gives done_gives read_gives write_gives incoming outgoing words before after why gates laters (inr (inr (inl ends))) = inr (inr (inl ends))
-unopened_in_turns next_gives done_gives read_gives write_gives incoming outgoing words before after why gates laters (inr (inr (inr (inl ends)))) = inr (inr (inr (inl ends)))
-unopened_in_turns next_gives done_gives read_gives write_gives incoming outgoing words before after why gates laters (inr (inr (inr (inr (inl ends))))) = inr (inr (inr (inr (inl (record { ends = ends; in_turns = tt })))))
-unopened_in_turns next_gives done_gives read_gives write_gives incoming outgoing words before after why gates laters (inr (inr (inr (inr (inr ends))))) = inr (inr (inr (inr (inr ends))))
+    EndsInTurns open_gives next_gives done_gives end_gives read_gives write_gives incoming outgoing words before after why closed gates laters → Ends words before after why closed
+plain_end open_gives next_gives done_gives end_gives read_gives write_gives incoming outgoing words before after why closed gates laters (inl ends) = inl ends
+plain_end open_gives next_gives done_gives end_gives read_gives write_gives incoming outgoing words before after why closed gates laters (inr (inl ends)) = inr (inl ends)
+plain_end open_gives next_gives done_gives end_gives read_gives write_gives incoming outgoing words before after why closed gates laters (inr (inr (inl ends))) = inr (inr (inl ends))
+plain_end open_gives next_gives done_gives end_gives read_gives write_gives incoming outgoing words before after why closed gates laters (inr (inr (inr (inl ends)))) = inr (inr (inr (inl ends)))
+plain_end open_gives next_gives done_gives end_gives read_gives write_gives incoming outgoing words before after why closed gates laters (inr (inr (inr (inr (inl serve))))) = inr (inr (inr (inr (inl serve.ends))))
+plain_end open_gives next_gives done_gives end_gives read_gives write_gives incoming outgoing words before after why closed gates laters (inr (inr (inr (inr (inr ends))))) = inr (inr (inr (inr (inr ends))))
 
 -- a serve ended so between these states of its gates
-record ServedInTurns {G C : Type 0} (next_gives : G → Next C → G → Type 0) (done_gives : G → C → End → G → Type 0)
+record ServedInTurns {G C : Type 0} (open_gives : G → Opening → G → Type 0) (next_gives : G → Next C → G → Type 0) (done_gives : G → C → End → G → Type 0) (end_gives : G → G → Type 0)
     (read_gives : C → Read → C → Type 0) (write_gives : C → Write → C → Type 0) (incoming : C → Incoming) (outgoing : C → Outgoing)
     (config : Config) (connections : ℕ) (before after : List GateState) (gates laters : List G) (why : Why) (closed : Option ClosedState) : Type 0 where
   ends : EndsServe config connections before after why closed
-  in_turns : ServeGoesInTurns next_gives done_gives read_gives write_gives incoming outgoing config connections before after why closed ends gates laters
+  in_turns : ServeGoesInTurns open_gives next_gives done_gives end_gives read_gives write_gives incoming outgoing config connections before after why closed ends gates laters
 
-pub serve_in_turns : {G C : Type 0} (next_gives : G → Next C → G → Type 0) (done_gives : G → C → End → G → Type 0)
+pub serve_in_turns : {G C : Type 0} (open_gives : G → Opening → G → Type 0) (next_gives : G → Next C → G → Type 0) (done_gives : G → C → End → G → Type 0) (end_gives : G → G → Type 0)
     (read_gives : C → Read → C → Type 0) (write_gives : C → Write → C → Type 0) (incoming : C → Incoming) (outgoing : C → Outgoing)
     (state : G → GateState) (words : List (List ℕ)) (before after : Streams) (why : Why) (closed : Option ClosedState) (gates laters : List G)
     (serve : ServeCommand) (config : Config) → before.gates ≡ map state gates → after.gates ≡ map state laters →
     IsConfigured words before after (command.Serve serve) config → misfit_of (command.Serve serve) (length before.gates) config ≡ None →
     after.input ≡ before.input → after.output ≡ before.output →
-    EndsServeInTurns next_gives done_gives read_gives write_gives incoming outgoing state config serve.connections gates laters why closed →
+    EndsServeInTurns open_gives next_gives done_gives end_gives read_gives write_gives incoming outgoing state config serve.connections gates laters why closed →
     IfSome closed (KeepsLast config) →
-    EndsInTurns next_gives done_gives read_gives write_gives incoming outgoing words before after why closed gates laters
-serve_in_turns {G} {C} next_gives done_gives read_gives write_gives incoming outgoing state words before after why closed gates laters serve config from to configured fits input output served kept =
-    let told : ServedInTurns next_gives done_gives read_gives write_gives incoming outgoing config serve.connections before.gates after.gates gates laters why closed =
-    subst (λ (gs : List GateState). ServedInTurns next_gives done_gives read_gives write_gives incoming outgoing config serve.connections gs after.gates gates laters why closed) (sym from)
-    (subst (λ (gs : List GateState). ServedInTurns next_gives done_gives read_gives write_gives incoming outgoing config serve.connections (map state gates) gs gates laters why closed) (sym to)
+    EndsInTurns open_gives next_gives done_gives end_gives read_gives write_gives incoming outgoing words before after why closed gates laters
+serve_in_turns {G} {C} open_gives next_gives done_gives end_gives read_gives write_gives incoming outgoing state words before after why closed gates laters serve config from to configured fits input output served kept =
+    let told : ServedInTurns open_gives next_gives done_gives end_gives read_gives write_gives incoming outgoing config serve.connections before.gates after.gates gates laters why closed =
+    subst (λ (gs : List GateState). ServedInTurns open_gives next_gives done_gives end_gives read_gives write_gives incoming outgoing config serve.connections gs after.gates gates laters why closed) (sym from)
+    (subst (λ (gs : List GateState). ServedInTurns open_gives next_gives done_gives end_gives read_gives write_gives incoming outgoing config serve.connections (map state gates) gs gates laters why closed) (sym to)
     (record { ends = served.ends; in_turns = served.in_turns })) in
     inr (inr (inr (inr (inl (record {
       ends = record { serve = serve; config = config; configured = configured; fits = fits; input = input; output = output; served = told.ends; kept = kept };
       in_turns = told.in_turns;
     })))))
+
+-- ---- the gates of a serve are opened and ended
+
+module _ {G C : Type 0} (open_gives : G → Opening → G → Type 0) (next_gives : G → Next C → G → Type 0) (done_gives : G → C → End → G → Type 0)
+    (end_gives : G → G → Type 0) (read_gives : C → Read → C → Type 0) (write_gives : C → Write → C → Type 0) (incoming : C → Incoming) (outgoing : C → Outgoing)
+    (state : G → GateState) (config : Config) (connections : ℕ) (gates opened : List G) where
+  abbrev EndsServing : List G → Why → Option ClosedState → Type 0
+  EndsServing = EndsServeInTurns open_gives next_gives done_gives end_gives read_gives write_gives incoming outgoing state config connections gates
+
+  abbrev EndsServingOpen : List G → Why → Option ClosedState → Type 0
+  EndsServingOpen = EndsOpenServeInTurns next_gives done_gives end_gives read_gives write_gives incoming outgoing state config connections opened
+
+  -- one of them was not opened
+  pub not_opened : (laters : List G) → OneDidNotOpen (map state gates) (map state opened) → AreOpenedUntilOneFails open_gives gates opened →
+      map state laters ≡ map state opened → AllZip end_gives opened laters → EndsServing laters why_of.GateFault None
+  not_opened laters one fails same ended = record {
+    ends = inr (refl, subst (OneDidNotOpen (map state gates)) (sym same) one);
+    in_turns = record { tried = opened; opened = inr (refl, fails); ended = ended };
+  }
+
+  -- they were opened, and there was no memory for an engine
+  pub without_engine : (laters : List G) → map state opened ≡ map state gates → AreOpened open_gives gates opened →
+      map state laters ≡ map state opened → AllZip end_gives opened laters → EndsServing laters why_of.Memory None
+  without_engine laters told opens same ended = record {
+    ends = inl (refl, same ∙ told);
+    in_turns = record { tried = opened; opened = inl (refl, opens); ended = ended };
+  }
+
+  -- they were opened and served, as gates that tell what they told before
+  record Served (laters : List G) (before : List GateState) (why : Why) (closed : Option ClosedState) : Type 0 where
+    ends : EndsServe config connections before (map state laters) why closed
+    in_turns : OpenGatesGoInTurns next_gives done_gives end_gives read_gives write_gives incoming outgoing config connections before (map state laters) why closed ends
+        opened laters
+
+  pub opened_and_served : (laters : List G) (why : Why) (closed : ClosedState) → map state opened ≡ map state gates → AreOpened open_gives gates opened →
+      EndsServingOpen laters why (Some closed) → EndsServing laters why (Some closed)
+  opened_and_served laters why closed told opens served =
+      let all : Served laters (map state gates) why (Some closed) =
+      subst (λ (before : List GateState). Served laters before why (Some closed)) told (record { ends = served.ends; in_turns = served.in_turns }) in
+      record { ends = all.ends; in_turns = (opened, opens, all.in_turns) }
+
+  -- so where something is left of an engine
+  pub served_where_left : (laters : List G) (why : Why) (closed : Option ClosedState) → is_some closed ≡ true → map state opened ≡ map state gates → AreOpened open_gives gates opened →
+      EndsServingOpen laters why closed → EndsServing laters why closed
+  served_where_left laters why None left told opens served = absurd (false≢true left)
+  served_where_left laters why (Some closed) left told opens served = opened_and_served laters why closed told opens served

@@ -14,7 +14,7 @@ use Rattle.clap.specs.Walk as walk_words
 use Rattle.clap.specs.Simple.{Shape}
 use Rattle.clap.specs.Takes.{action_passes, bundle_passes, bundle_step_passes, default_passes, flag_word_passes, flags_pass, is_given, long_passes, option_passes, other_passes, positional_passes, react_passes, set_passes, settle_passes, short_passes, step_passes, turn_passes, use_passes, value_passes, values_pass, walk_passes, word_passes}
 use Rattle.clap.specs.declared.builder.action.ArgAction.{ArgAction}
-use Rattle.clap.specs.declared.builder.action.ArgAction.TheVariants.{Set}
+use Rattle.clap.specs.declared.builder.action.ArgAction.TheVariants.{Set, SetTrue}
 use Rattle.clap.specs.declared.builder.action.ArgAction.TheVariants as action
 use Rattle.clap.specs.declared.builder.value_parser.Reading.{Reading}
 use Rattle.clap.specs.declared.parser.matches.ValueSource.{ValueSource}
@@ -23,9 +23,10 @@ use Rattle.funnel.proofs.Faultless.{both, some_is}
 
 -- ---- options that take a value, and requests for help
 
--- each use sets one value or more, or the option only asks for help
+-- each use sets one value or more, or the value that stands for none, or the option only asks for help
 abbrev pub IsOption : Rule → Type 0
-IsOption a = ((action_of a ≡ Set) × (0 < (unwrap_or_range a.range).start_inclusive)) ⊎ (is_request (action_of a) ≡ true)
+IsOption a = ((action_of a ≡ Set) × (0 < (unwrap_or_range a.range).start_inclusive))
+    ⊎ ((action_of a ≡ SetTrue) × (0 < length a.missing)) ⊎ (is_request (action_of a) ≡ true)
 
 -- the option is the one that its id names among c
 pub record Belongs (c : List Rule) (a : Rule) : Type 0 where
@@ -127,16 +128,24 @@ used-fits c again a values rows belongs e h =
     let start = (unwrap_or_range a.range).start_inclusive in
     let first = both (nat_le start (length values)) _ e in
     let second = both (nat_le (length values) (most_values a)) _ first.1 in
-    elim belongs.kind [
-      | inl set ↦
-          let least : nat_le start (length values) ≡ true = first.0 in
-          let enough : 0 < start = set.1 in
-          sets (action_of a) set.0 (some_of start (length values) enough least) second.1
-      | inr request ↦ absurd (no_request (action_of a) again a (values_or_missing a values) rows request second.1)
-    ]
+    by_kind belongs.kind first.0 second.1
   where
     some_of : (n m : ℕ) → 0 < n → nat_le n m ≡ true → 0 < m
     some_of n m some least = grind (arith, nat_tests)
+
+    some_or_missing : (given : List Text) → 0 < length a.missing → 0 < length (values_or_missing a given)
+    some_or_missing [] some = some
+    some_or_missing (v ∷ vs) some = omega arith
+
+    flags : (x : ArgAction) → x ≡ SetTrue → 0 < length a.missing → action_passes x again a (values_or_missing a values) rows ≡ true
+        → AllFit c (used_as x a.id (reading_by a) (values_or_missing a values) rows)
+    flags x is some e =
+        let these = values_or_missing a values in
+        let passes : set_passes again a these rows ≡ true = (λ i. action_passes (sym is i) again a these rows) ∙ e in
+        let pass = (both (not (has_row a.id rows) || again) _ passes).1 in
+        let fits : AllFit c (used_as SetTrue a.id (reading_by a) these rows) =
+        with_values-fits c a CommandLine these (without a.id rows) belongs.own (some_or_missing values some) pass (without-fits c a.id rows h) in
+        subst (λ (y : ArgAction). AllFit c (used_as y a.id (reading_by a) these rows)) (sym is) fits
 
     sets : (x : ArgAction) → x ≡ Set → 0 < length values → action_passes x again a (values_or_missing a values) rows ≡ true → AllFit c (used_as x a.id (reading_by a) (values_or_missing a values) rows)
     sets x is some e =
@@ -145,6 +154,12 @@ used-fits c again a values rows belongs e h =
         let fits : AllFit c (used_as Set a.id (reading_by a) values rows) = with_values-fits c a CommandLine values (without a.id rows) belongs.own some pass (without-fits c a.id rows h) in
         subst (λ (y : ArgAction). AllFit c (used_as y a.id (reading_by a) (values_or_missing a values) rows)) (sym is)
         (subst (λ (vs : List Text). AllFit c (used_as Set a.id (reading_by a) vs rows)) (sym (given_values a values some)) fits)
+
+    by_kind : IsOption a → nat_le (unwrap_or_range a.range).start_inclusive (length values) ≡ true
+        → action_passes (action_of a) again a (values_or_missing a values) rows ≡ true → AllFit c (used a values rows)
+    by_kind (inl set) least passes = sets (action_of a) set.0 (some_of (unwrap_or_range a.range).start_inclusive (length values) set.1 least) passes
+    by_kind (inr (inl flag)) least passes = flags (action_of a) flag.0 flag.1 passes
+    by_kind (inr (inr request)) least passes = absurd (no_request (action_of a) again a (values_or_missing a values) rows request passes)
 
 -- ---- the walk
 

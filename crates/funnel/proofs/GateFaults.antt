@@ -1,12 +1,15 @@
 -- A gate fault is told only where a gate answered so.
 use Rattle.std.proofs.Common.{◌≡◌, ◌⊎◌, ◌||◌, ℕ, Bool, true, false, cond, List, [], ◌∷◌, Option, Some, None, refl, sym, ◌∙◌, subst, inl, inr, arith, suc}
-use Rattle.std.specs.List.{list_any}
+use Rattle.std.specs.List.{AllZip, list_any}
 use Rattle.engine.specs.Engines.{ClosedState}
 use Rattle.funnel_io.specs.Calls.{Read, Write}
 use Rattle.funnel_io.specs.Streams.{Incoming, Outgoing}
 use Rattle.funnel_io.specs.declared.end.End.{End}
 use Rattle.funnel_io.specs.declared.end.End.TheVariants as end_of
 use Rattle.funnel_io.specs.declared.gate.Next.{Next}
+use Rattle.funnel_io.specs.declared.gate.Next.TheVariants as next
+use Rattle.funnel_io.specs.declared.gate.Opening.{Opening}
+use Rattle.funnel_io.specs.declared.gate.Opening.TheVariants as opening
 use Rattle.funnel_model.specs.declared.config.Config.{Config}
 use Rattle.funnel_server.proofs.GateTurns.{asked_in_vain}
 use Rattle.funnel_server.specs.Gates.{GateState}
@@ -21,10 +24,10 @@ use Rattle.funnel.specs.Commands.{command_of}
 use Rattle.funnel.specs.Ends.{why_of_config, why_of_end}
 use Rattle.funnel.specs.Laws.{OneFailed}
 use Rattle.funnel.specs.LoadRuns.{EndsLoad}
-use Rattle.funnel.specs.Programs.{Streams}
+use Rattle.funnel.specs.Programs.{Ends, Streams}
 use Rattle.funnel.specs.Runs.{RanOrNot, limits_by}
-use Rattle.funnel.specs.Served.{AllWork, EndsServe, new_workers}
-use Rattle.funnel.specs.Turns.{EndsInTurns, GatesGoInTurns, ServeGoesInTurns}
+use Rattle.funnel.specs.Served.{AllWork, EndsServe, OneDidNotOpen, new_workers}
+use Rattle.funnel.specs.Turns.{AreOpened, AreOpenedInVain, AreOpenedUntilOneFails, EndsInTurns, GatesGoInTurns, ServeGoesInTurns}
 
 -- other ends are told otherwise
 not_config : (fault : ConfigFault) → why_of_config fault ≡ why_of.GateFault → ⊥
@@ -54,12 +57,26 @@ some_fault true memory is = refl
 some_fault false true is = cc
 some_fault false false is = cc
 
-module _ {G C : Type 0} (next_gives : G → Next C → G → Type 0) (done_gives : G → C → End → G → Type 0)
-    (read_gives : C → Read → C → Type 0) (write_gives : C → Write → C → Type 0) (incoming : C → Incoming) (outgoing : C → Outgoing) where
+module _ {G C : Type 0} (open_gives : G → Opening → G → Type 0) (next_gives : G → Next C → G → Type 0) (done_gives : G → C → End → G → Type 0)
+    (end_gives : G → G → Type 0) (read_gives : C → Read → C → Type 0) (write_gives : C → Write → C → Type 0) (incoming : C → Incoming) (outgoing : C → Outgoing) where
+  abbrev Failed : List G → Type 0
+  Failed = OneFailed open_gives next_gives end_gives
+
+  -- what one of some gates answered, one of more gates did
+  one_more : (gate : G) (laters : List G) → Failed laters → Failed (gate ∷ laters)
+  one_more gate laters one = record {
+    called = one.called;
+    failed = one.failed;
+    answer = one.answer;
+    later = one.later;
+    ended = one.ended;
+    there = (suc one.there.0, omega (arith, one.there.1), one.there.2);
+  }
+
   -- of workers that worked turn by turn, one whose gate failed was told so
   one_failed : (befores afters : List WorkerState) (work : AllWork befores afters) (gates laters : List G) →
-      GatesGoInTurns next_gives done_gives read_gives write_gives incoming outgoing befores afters work gates laters →
-      list_any (λ (w : WorkerState). w.fault) afters ≡ true → OneFailed next_gives laters
+      GatesGoInTurns next_gives done_gives end_gives read_gives write_gives incoming outgoing befores afters work gates laters →
+      list_any (λ (w : WorkerState). w.fault) afters ≡ true → Failed laters
   one_failed [] [] work gates laters turns some = cc
   one_failed [] (after ∷ afters) work gates laters turns some = absurd work
   one_failed (before ∷ befores) [] work gates laters turns some = absurd work
@@ -67,40 +84,52 @@ module _ {G C : Type 0} (next_gives : G → Next C → G → Type 0) (done_gives
   one_failed (before ∷ befores) (after ∷ afters) work (gate ∷ gates) [] turns some = absurd turns
   one_failed (before ∷ befores) (after ∷ afters) work (gate ∷ gates) (later ∷ laters) turns some =
       by_case after.fault refl (one_failed befores afters work.1 gates laters turns.1) where
-        works : WorksInTurns next_gives done_gives read_gives write_gives incoming outgoing (record { gate = gate; state = before }) (record { gate = later; state = after })
+        works : WorksInTurns next_gives done_gives end_gives read_gives write_gives incoming outgoing (record { gate = gate; state = before }) (record { gate = later; state = after })
         works = record { works = work.0; in_turns = turns.0 }
 
-        by_case : (fault : Bool) → after.fault ≡ fault → (list_any (λ (w : WorkerState). w.fault) afters ≡ true → OneFailed next_gives laters) →
-            OneFailed next_gives (later ∷ laters)
+        by_case : (fault : Bool) → after.fault ≡ fault → (list_any (λ (w : WorkerState). w.fault) afters ≡ true → Failed laters) → Failed (later ∷ laters)
         by_case true is others = record {
-          served = works.in_turns.served;
-          failed = later;
-          answer = asked_in_vain next_gives done_gives read_gives write_gives incoming outgoing (record { gate = gate; state = before }) (record { gate = later; state = after }) works is;
+          called = works.in_turns.served;
+          failed = works.in_turns.stopped;
+          answer = inr (asked_in_vain next_gives done_gives end_gives read_gives write_gives incoming outgoing (record { gate = gate; state = before }) (record { gate = later; state = after }) works is);
+          later = later;
+          ended = works.in_turns.ended;
           there = (0, omega arith, refl);
         }
-        by_case false is others =
-            let more = others (subst (λ b. (b || list_any (λ (w : WorkerState). w.fault) afters) ≡ true) is some) in
-            record {
-              served = more.served;
-              failed = more.failed;
-              answer = more.answer;
-              there = (suc more.there.0, omega (arith, more.there.1), more.there.2);
-            }
+        by_case false is others = one_more later laters (others (subst (λ b. (b || list_any (λ (w : WorkerState). w.fault) afters) ≡ true) is some))
+
+  -- of gates that were opened until one failed, that one was told so
+  one_not_opened : (gates tried laters : List G) → AreOpenedUntilOneFails open_gives gates tried → AllZip end_gives tried laters → Failed laters
+  one_not_opened [] tried laters opened ended = absurd opened
+  one_not_opened (gate ∷ gates) [] laters opened ended = absurd opened
+  one_not_opened (gate ∷ gates) (one ∷ tried) [] opened ended = absurd ended
+  one_not_opened (gate ∷ gates) (one ∷ tried) (later ∷ laters) (inl fails) ended = record {
+    called = gate;
+    failed = one;
+    answer = inl fails.0;
+    later = later;
+    ended = ended.0;
+    there = (0, omega arith, refl);
+  }
+  one_not_opened (gate ∷ gates) (one ∷ tried) (later ∷ laters) (inr opens) ended = one_more later laters (one_not_opened gates tried laters opens.1 ended.1)
 
   of_serve : (config : Config) (connections : ℕ) (before after : List GateState) (why : Why) (closed : Option ClosedState)
       (served : EndsServe config connections before after why closed) (gates laters : List G) →
-      ServeGoesInTurns next_gives done_gives read_gives write_gives incoming outgoing config connections before after why closed served gates laters →
-      why ≡ why_of.GateFault → OneFailed next_gives laters
-  of_serve config connections before after why None served gates laters turns is = let other : why_of.Memory ≡ why_of.GateFault = sym served.0 ∙ is in cc
+      ServeGoesInTurns open_gives next_gives done_gives end_gives read_gives write_gives incoming outgoing config connections before after why closed served gates laters →
+      why ≡ why_of.GateFault → Failed laters
+  of_serve config connections before after why None served gates laters turns is = by_cause turns.opened where
+    by_cause : ((why ≡ why_of.Memory) × AreOpened open_gives gates turns.tried) ⊎ ((why ≡ why_of.GateFault) × AreOpenedUntilOneFails open_gives gates turns.tried) → Failed laters
+    by_cause (inl memory) = let other : why_of.Memory ≡ why_of.GateFault = sym memory.0 ∙ is in cc
+    by_cause (inr fails) = one_not_opened gates turns.tried laters fails.1 turns.ended
   of_serve config connections before after why (Some closed) served gates laters turns is =
-      one_failed (new_workers (limits_by config) connections 0 before) served.workers served.work gates laters turns
+      one_failed (new_workers (limits_by config) connections 0 before) served.workers served.work turns.0 laters turns.2
       (some_fault (list_any (λ (w : WorkerState). w.fault) served.workers) (list_any (λ (w : WorkerState). w.memory) served.workers) (sym served.cause ∙ is))
 
   module _ (words : List (List ℕ)) (before after : Streams) (why : Why) (closed : Option ClosedState) (gates laters : List G) where
-    pub told_by_gate : EndsInTurns next_gives done_gives read_gives write_gives incoming outgoing words before after why closed gates laters →
-        why ≡ why_of.GateFault → OneFailed next_gives laters
+    pub told_by_gate : EndsInTurns open_gives next_gives done_gives end_gives read_gives write_gives incoming outgoing words before after why closed gates laters →
+        why ≡ why_of.GateFault → Failed laters
     told_by_gate (inl ends) is = by_cause ends.cause where
-      by_cause : ((why ≡ why_of.Usage) × (command_of words ≡ None)) ⊎ (why ≡ why_of.Memory) → OneFailed next_gives laters
+      by_cause : ((why ≡ why_of.Usage) × (command_of words ≡ None)) ⊎ (why ≡ why_of.Memory) → Failed laters
       by_cause (inl usage) = let other : why_of.Usage ≡ why_of.GateFault = sym usage.0 ∙ is in cc
       by_cause (inr memory) = let other : why_of.Memory ≡ why_of.GateFault = sym memory ∙ is in cc
     told_by_gate (inr (inl ends)) is = absurd (not_config ends.fault (sym ends.cause ∙ is))
@@ -112,3 +141,21 @@ module _ {G C : Type 0} (next_gives : G → Next C → G → Type 0) (done_gives
     told_by_gate (inr (inr (inr (inr (inr ends))))) is =
         absurd (not_load ends.config ends.load before.output after.output closed
         (subst (λ (w : Why). EndsLoad ends.config ends.load before.output after.output w closed) is ends.ends))
+
+-- with no engine it was told as a gate was opened
+of_unopened : (config : Config) (connections : ℕ) (before after : List GateState) → EndsServe config connections before after why_of.GateFault None →
+    OneDidNotOpen before after
+of_unopened config connections before after (inl memory) = let other : why_of.GateFault ≡ why_of.Memory = memory.0 in cc
+of_unopened config connections before after (inr fails) = fails.1
+
+pub told_at_opening : (words : List (List ℕ)) (before after : Streams) → Ends words before after why_of.GateFault None → OneDidNotOpen before.gates after.gates
+told_at_opening words before after (inl ends) = by_cause ends.cause where
+  by_cause : ((why_of.GateFault ≡ why_of.Usage) × (command_of words ≡ None)) ⊎ (why_of.GateFault ≡ why_of.Memory) → OneDidNotOpen before.gates after.gates
+  by_cause (inl usage) = let other : why_of.GateFault ≡ why_of.Usage = usage.0 in cc
+  by_cause (inr memory) = cc
+told_at_opening words before after (inr (inl ends)) = absurd (not_config ends.fault (sym ends.cause))
+told_at_opening words before after (inr (inr (inl ends))) = let other : why_of.GateFault ≡ why_of.Misfit ends.misfit = ends.cause in cc
+told_at_opening words before after (inr (inr (inr (inl ends)))) =
+    absurd (not_run ends.config before.input after.input before.output after.output why_of.GateFault None ends.ran refl)
+told_at_opening words before after (inr (inr (inr (inr (inl serve))))) = of_unopened serve.config serve.serve.connections before.gates after.gates serve.served
+told_at_opening words before after (inr (inr (inr (inr (inr ends))))) = absurd (not_load ends.config ends.load before.output after.output None ends.ends)

@@ -35,7 +35,7 @@ use Rattle.funnel.specs.LoadRuns.{EndsLoad}
 use Rattle.funnel.specs.Misfits.{misfit_of}
 use Rattle.funnel.specs.Programs.{Ends, EndsAtConfig, EndsAtMisfit, EndsAtWords, EndsAfterLoad, EndsAfterRun, EndsAfterServe, Streams}
 use Rattle.funnel.specs.Runs.{Ran, RanOrNot, first_caller, limits_by}
-use Rattle.funnel.specs.Served.{AllWork, EndsServe, new_workers}
+use Rattle.funnel.specs.Served.{AllWork, EndsServe, OneDidNotOpen, new_workers}
 use Rattle.funnel.proofs.ServedGates.{gates_without_a_fault, not_failed, raised_rose}
 
 -- bytes that were taken up to the end of a source are all that it told
@@ -325,10 +325,18 @@ none_failed connections why [] (later ∷ laters) served none = absurd served
 none_failed connections why (gate ∷ gates) [] served none = absurd served
 none_failed connections why (gate ∷ gates) (later ∷ laters) served none = (served.0 none.0, none_failed connections why gates laters served.1 none.1)
 
+-- where one gate did not open, a call of a gate failed
+none_did_not_open : (before after : List GateState) → OneDidNotOpen before after → NoneFailed before after → ⊥
+none_did_not_open [] after opened none = opened
+none_did_not_open (gate ∷ gates) [] opened none = opened
+none_did_not_open (gate ∷ gates) (later ∷ laters) (inl fails) none = none.0 (raised_rose gate.faults later.faults (ap (λ (g : GateState). g.faults) fails.0))
+none_did_not_open (gate ∷ gates) (later ∷ laters) (inr opens) none = none_did_not_open gates laters opens.1 none.1
+
 -- how a serve ends, where no call of a gate failed
 of_serve : (value : Config) (connections : ℕ) (before after : List GateState) (why : Why) (closed : Option ClosedState) →
     EndsServe value connections before after why closed → NoneFailed before after → CompletesServe value connections before after why closed
-of_serve value connections before after why None ends none = subst (λ (w : Why). CompletesServe value connections before after w None) (sym ends.0) ends.1
+of_serve value connections before after why None (inl ends) none = subst (λ (w : Why). CompletesServe value connections before after w None) (sym ends.0) ends.1
+of_serve value connections before after why None (inr ends) none = absurd (none_did_not_open before after ends.1 none)
 of_serve value connections before after why (Some state) served none =
     let faults = no_worker_failed (limits_by value) connections 0 before served.workers served.work (subst (NoneFailed before) served.gates none) in
     by_memory (list_any (λ (worker : WorkerState). worker.memory) served.workers)

@@ -1,7 +1,8 @@
 -- Numbers as words write them, and as they are read.
-use Rattle.std.proofs.Common.{◌≤◌, ◌≡◌, ◌∙◌, ◌<◌, ◌^◌, ◌==◌, ℕ, Bool, codes, cond, true, false, refl, sym, ap, subst, arith, List, [], ◌∷◌, drop, Option, Some, None, Result, Ok, Err}
+use Rattle.std.proofs.Common.{◌≤◌, ◌≡◌, ◌∙◌, ◌<◌, ◌^◌, ◌==◌, ℕ, Bool, codes, cond, true, false, refl, sym, ap, subst, inl, inr, arith, ◌⊎◌, List, [], ◌∷◌, drop, Option, Some, None, Result, Ok, Err}
 use Rattle.std.specs.Prelude.{pos, unwrap_or}
-use Rattle.std.specs.Option.{IsSomeAnd}
+use Rattle.std.specs.Option.{IsSomeAnd, option_map_or}
+use Rattle.std.specs.Str.{bytes_eq}
 use Rattle.std.specs.Str.Parse.{IsNumeral, ParsesUnsigned, digits_value, starts_with_minus, without_leading_plus}
 use Rattle.std.proofs.lemmas.Bool.{ne_eqb}
 use Rattle.std.proofs.lemmas.Int.{ints}
@@ -12,7 +13,7 @@ use Rattle.clap.specs.Values.{IsSignedIn, read_as}
 use Rattle.clap.specs.Walk.{Row, Rule, Text, one_of, reading_by, rows_of}
 use Rattle.clap.specs.declared.parser.matches.Found.{Found}
 use Rattle.clap.proofs.WalkLemmas.{one_text-rows}
-use Rattle.funnel.specs.Commands.{HasLoadNumbers, HasNumber, HasServeNumbers, IsLoadInRange, IsServeInRange, load_of, option_number, serve_of}
+use Rattle.funnel.specs.Commands.{HasLoadNumbers, HasNumber, HasServeNumbers, IsGivenOrNot, IsLoadInRange, IsServeInRange, is_given, load_of, option_number, serve_of}
 use Rattle.funnel.specs.declared.command.LoadCommand.{LoadCommand}
 use Rattle.funnel.specs.declared.command.ServeCommand.{ServeCommand}
 use Rattle.funnel_model.specs.declared.config.TheConstants.{MOST_PASSES}
@@ -78,6 +79,20 @@ option_read G bits low high id found r fits has reads only = go (one_of id (rows
         number_read G bits low high t r fits (reads t (one_text-rows found id ∙ is)) only h
         ∙ ap (λ (o : Option Text). Some (digits_value 10 (without_leading_plus (unwrap_or o [])))) (sym is)
 
+-- what `get_flag` reads of an option without a value
+pub flag_read : (id : Text) (found : Found) (r : Bool) → IsGivenOrNot id (rows_of found) → (one_text found id ≡ Some (codes "true") → r ≡ true)
+    → (one_text found id ≡ Some (codes "false") → r ≡ false) → r ≡ is_given id (rows_of found)
+flag_read id found r has if_true if_false = go (one_of id (rows_of found)) refl has
+  where
+    go : (o : Option Text) → one_of id (rows_of found) ≡ o → IsSomeAnd o (λ text. (text ≡ codes "true") ⊎ (text ≡ codes "false")) → r ≡ is_given id (rows_of found)
+    go None is h = absurd h
+    go (Some t) is (inl given) =
+        if_true (one_text-rows found id ∙ is ∙ ap (λ (x : Text). Some x) given)
+        ∙ ap (λ (o : Option Text). option_map_or (λ text. bytes_eq text (codes "true")) o false) (sym (is ∙ ap (λ (x : Text). Some x) given))
+    go (Some t) is (inr not_given) =
+        if_false (one_text-rows found id ∙ is ∙ ap (λ (x : Text). Some x) not_given)
+        ∙ ap (λ (o : Option Text). option_map_or (λ text. bytes_eq text (codes "true")) o false) (sym (is ∙ ap (λ (x : Text). Some x) not_given))
+
 -- the number that an option has lies in its range
 number_in_range : (low high : ℕ) (id : Text) (rows : List Row) → HasNumber low high id rows → (low ≤ option_number id rows) × (option_number id rows ≤ high)
 number_in_range low high id rows has = go (one_of id rows) has
@@ -103,10 +118,10 @@ load_in_range found has =
     record { some_docs = docs.0; few_docs = docs.1; some_workers = workers.0; few_workers = workers.1; few_words = words.1 }
 
 -- a serve with the numbers of its options is the one that was found
-pub serve_is : (found : List Row) (port workers connections idle : ℕ) → port ≡ option_number (codes "port") found → workers ≡ option_number (codes "workers") found →
-    connections ≡ option_number (codes "connections") found → idle ≡ option_number (codes "idle") found →
-    ◌≡◌ {A = ServeCommand} (record { port = port; workers = workers; connections = connections; idle = idle }) (serve_of found)
-serve_is found port workers connections idle p w c d = λ i. record { port = p i; workers = w i; connections = c i; idle = d i }
+pub serve_is : (found : List Row) (port workers connections idle : ℕ) (one_port : Bool) → port ≡ option_number (codes "port") found → workers ≡ option_number (codes "workers") found →
+    connections ≡ option_number (codes "connections") found → idle ≡ option_number (codes "idle") found → one_port ≡ is_given (codes "one-port") found →
+    ◌≡◌ {A = ServeCommand} (record { port = port; workers = workers; connections = connections; idle = idle; one_port = one_port }) (serve_of found)
+serve_is found port workers connections idle one_port p w c d o = λ i. record { port = p i; workers = w i; connections = c i; idle = d i; one_port = o i }
 
 -- and so is a load
 pub load_is : (found : List Row) (docs workers words seed : ℕ) → docs ≡ option_number (codes "docs") found → workers ≡ option_number (codes "workers") found →

@@ -32,7 +32,7 @@ use Rattle.funnel.specs.Runs.{limits_by}
 use Rattle.funnel.specs.Served.{AllWork, new_worker, new_workers, why_of_workers}
 use Rattle.funnel.specs.Serving.{new_passes}
 use Rattle.funnel.specs.Turns.{GatesGoInTurns}
-use Rattle.funnel.specs.Workers.{AreEquipped, ComeBack, EndsServeInTurns, GaveBack, HaveWorked, HaveWorkedInTurns, gates_of, stand_of, stand_of_worker, states_of}
+use Rattle.funnel.specs.Workers.{AreEquipped, ComeBack, EndsOpenServeInTurns, GaveBack, HaveWorked, HaveWorkedInTurns, gates_of, stand_of, stand_of_worker, states_of}
 
 -- ---- the gates and passes go to workers
 
@@ -163,16 +163,16 @@ all_with_gate {G} (worker ∷ workers) ready =
 -- ---- the workers work
 
 -- of workers with their gates
-module _ {G C : Type 0} (next_gives : G → Next C → G → Type 0) (done_gives : G → C → End → G → Type 0)
+module _ {G C : Type 0} (next_gives : G → Next C → G → Type 0) (done_gives : G → C → End → G → Type 0) (end_gives : G → G → Type 0)
     (read_gives : C → Read → C → Type 0) (write_gives : C → Write → C → Type 0) (incoming : C → Incoming) (outgoing : C → Outgoing) where
   -- they did their work, turn by turn
   record WorkInTurns (befores afters : List WorkerState) (gates laters : List G) : Type 0 where
     pub work : AllWork befores afters
-    pub turns : GatesGoInTurns next_gives done_gives read_gives write_gives incoming outgoing befores afters work gates laters
+    pub turns : GatesGoInTurns next_gives done_gives end_gives read_gives write_gives incoming outgoing befores afters work gates laters
 
   work_in_turns : (befores afters : List (WorkerWithGate G)) → length afters ≡ length befores →
       ((k : ℕ) (d : WorkerWithGate G) → k < length befores →
-      WorksInTurns next_gives done_gives read_gives write_gives incoming outgoing (slice_index_or befores k d) (slice_index_or afters k d)) →
+      WorksInTurns next_gives done_gives end_gives read_gives write_gives incoming outgoing (slice_index_or befores k d) (slice_index_or afters k d)) →
       WorkInTurns (states_of befores) (states_of afters) (gates_of befores) (gates_of afters)
   work_in_turns [] [] same work = record { work = tt; turns = tt }
   work_in_turns (before ∷ befores) [] same work = absurd (omega (arith, same))
@@ -188,10 +188,10 @@ module _ {G C : Type 0} (next_gives : G → Next C → G → Type 0) (done_gives
       states_of befores ≡ new_workers pool.limits connections 0 (map state gates) → gates_of befores ≡ gates → none ≡ [] →
       left ≡ new_passes pool (length gates) (pool.config.passes - length gates) → length afters ≡ length befores →
       ((k : ℕ) (d : WorkerWithGate G) → k < length befores →
-      WorksInTurns next_gives done_gives read_gives write_gives incoming outgoing (slice_index_or befores k d) (slice_index_or afters k d)) →
+      WorksInTurns next_gives done_gives end_gives read_gives write_gives incoming outgoing (slice_index_or befores k d) (slice_index_or afters k d)) →
       map state back ≡ map state none ++ map (λ (worker : WorkerState). worker.gate) (states_of afters) → back ≡ none ++ gates_of afters →
       why ≡ why_of_workers (states_of afters) → ComeBack named (states_of afters) left passes →
-      HaveWorkedInTurns next_gives done_gives read_gives write_gives incoming outgoing state pool connections gates back why passes
+      HaveWorkedInTurns next_gives done_gives end_gives read_gives write_gives incoming outgoing state pool connections gates back why passes
   have_worked state named pool connections gates none back why left passes befores afters named_is made theirs empty left_are same work told back_are cause come =
       let came : back ≡ gates_of afters = back_are ∙ ap (λ (gs : List G). gs ++ gates_of afters) empty in
       let all : WorkInTurns (new_workers pool.limits connections 0 (map state gates)) (states_of afters) gates back =
@@ -372,20 +372,20 @@ module _ (pool : PoolId) (connections : ℕ) (before after : List GateState) (wh
     workers_end = fronts worked.back.used worked.workers worked.back.theirs used_end
 
 -- so the gates were served
-module _ {G C : Type 0} (next_gives : G → Next C → G → Type 0) (done_gives : G → C → End → G → Type 0)
+module _ {G C : Type 0} (next_gives : G → Next C → G → Type 0) (done_gives : G → C → End → G → Type 0) (end_gives : G → G → Type 0)
     (read_gives : C → Read → C → Type 0) (write_gives : C → Write → C → Type 0) (incoming : C → Incoming) (outgoing : C → Outgoing) where
   pub has_served : (state : G → GateState) (pool : PoolId) (config : Config) (connections : ℕ) (gates laters : List G) (why : Why) (passes : List PassState)
       (closed : ClosedState) → pool.limits ≡ limits_by config → pool.config ≡ config → pool.limits.passes ≡ pool.config.passes →
       length (map state gates) ≤ pool.config.passes →
-      HaveWorkedInTurns next_gives done_gives read_gives write_gives incoming outgoing state pool connections gates laters why passes →
+      HaveWorkedInTurns next_gives done_gives end_gives read_gives write_gives incoming outgoing state pool connections gates laters why passes →
       IsLegal pool.limits closed.history → MovesAreCaused closed.history → IsSound pool.config closed.history → All (EndsIn closed.history) passes →
-      EndsServeInTurns next_gives done_gives read_gives write_gives incoming outgoing state config connections gates laters why (Some closed)
+      EndsOpenServeInTurns next_gives done_gives end_gives read_gives write_gives incoming outgoing state config connections gates laters why (Some closed)
   has_served state pool config connections gates laters why passes closed limits_are config_is counted enough did legal caused sound ends =
       let before = map state gates in
       let after = map state laters in
       let worked = did.worked in
-      let all : WorkInTurns next_gives done_gives read_gives write_gives incoming outgoing (new_workers (limits_by config) connections 0 before) worked.workers gates laters =
-      subst (λ (l : Limits). WorkInTurns next_gives done_gives read_gives write_gives incoming outgoing (new_workers l connections 0 before) worked.workers gates laters)
+      let all : WorkInTurns next_gives done_gives end_gives read_gives write_gives incoming outgoing (new_workers (limits_by config) connections 0 before) worked.workers gates laters =
+      subst (λ (l : Limits). WorkInTurns next_gives done_gives end_gives read_gives write_gives incoming outgoing (new_workers l connections 0 before) worked.workers gates laters)
       limits_are (record { work = worked.work; turns = did.in_turns }) in
       record {
         ends = record {

@@ -1,9 +1,11 @@
 -- What `clap` takes of funnel's own command line.
-use Rattle.std.proofs.Common.{◌≡◌, ◌≢◌, ◌∙◌, ℕ, Bool, codes, true, false, refl, sym, ap, ap₂, subst, inl, inr, arith, List, [], ◌∷◌, Option, Some, None, IfSome, slice_index, Result, Ok, Err, IfOk, IsErrAnd, IsErrOf}
+use Rattle.std.proofs.Common.{◌≡◌, ◌≢◌, ◌∙◌, ◌⊎◌, ◌||◌, ℕ, Bool, codes, true, false, refl, sym, ap, ap₂, subst, inl, inr, arith, List, [], ◌∷◌, Option, Some, None, IfSome, slice_index, Result, Ok, Err, IfOk, IsErrAnd, IsErrOf}
 use Rattle.std.specs.Prelude.{find, option_and_then, option_map}
 use Rattle.std.specs.List.{AllByRecursion, list_all}
-use Rattle.std.specs.Option.{ok_or, option_map_or}
-use Rattle.clap.specs.Walk.{Row, Rule, Text, answers_to, arg_by_id, has_row, nothing_held, reading_by, rows_after, settled, walk, walk_from}
+use Rattle.std.specs.Option.{IsSomeAnd, ok_or, option_map_or}
+use Rattle.std.specs.Str.{bytes_eq}
+use Rattle.std.proofs.lemmas.Slice.Eq.{bytes_eq-Decides}
+use Rattle.clap.specs.Walk.{Row, Rule, Text, answers_to, arg_by_id, has_row, nothing_held, one_of, reading_by, rows_after, settled, walk, walk_from}
 use Rattle.clap.specs.Simple.{Shape, argument_words, built, built_leaf, entered, filled, help_rule, help_shape, inherited, is_simple, label_of, marked_built, names_of, rows_at, subcommand_of, with_leaf_noted}
 use Rattle.clap.specs.Takes.{default_passes, entered_passes, is_given, is_valid, level_passes, settle_passes, takes, value_passes, walk_passes}
 use Rattle.clap.specs.Faults.{fault_of, is_simple_and_free}
@@ -24,7 +26,7 @@ use Rattle.funnel.specs.declared.command.Command.{Command}
 use Rattle.funnel.specs.declared.command.CommandFault.{CommandFault}
 use Rattle.funnel.specs.declared.command.CommandFault.TheVariants.{Memory, Usage}
 use Rattle.funnel.proofs.NumberLemmas.{IsNumber, number_in, signed_number}
-use Rattle.funnel.specs.Commands.{HasLoadNumbers, HasNumber, HasNumbers, HasServeNumbers, call_words, command_of, connections_option, docs_option, fault_by, funnel_app, idle_option, load_form, load_workers_option, numbers_between, port_option, run_form, seed_option, serve_form, subcommand_as, words_option, workers_option}
+use Rattle.funnel.specs.Commands.{HasLoadNumbers, HasNumber, HasNumbers, HasServeNumbers, IsGivenOrNot, call_words, command_of, connections_option, docs_option, fault_by, funnel_app, idle_option, load_form, load_workers_option, numbers_between, one_port_option, port_option, run_form, seed_option, serve_form, subcommand_as, words_option, workers_option}
 use Rattle.funnel.proofs.Faultless.{all_of_two, both, built_taken, is_open}
 use Rattle.funnel.proofs.FoundValues.{AllFit, Belongs, defaults-fit, defaults-there, found_has, given-there, has_value, settled-fits, walk-fits}
 
@@ -95,6 +97,19 @@ module _ (rules : List Rule) (rows : List Row) (fits : AllFit rules rows) where
       let passed = accepts-Accepts false (vp.Unsigned low high) value.value (passes value.value value.pass) in
       number_in low high a id rows value (subst (λ how. IsNumber low high (read_as how value.value)) (sym reads) (passed.0, passed.2, passed.3))
 
+  -- one without a value that has a row was given or not
+  given_or_not : (a : Rule) (id : Text) → arg_by_id rules id ≡ Some a → reading_by a ≡ AsWritten →
+      ((text : Text) → value_passes a text ≡ true → accepts false vp.Bool text ≡ true) → has_row id rows ≡ true → IsGivenOrNot id rows
+  given_or_not a id own reads passes there =
+      let value = has_value rules a id rows own fits there in
+      let read : one_of id rows ≡ Some value.value = value.reads ∙ ap (λ how. Some (read_as how value.value)) reads in
+      subst (λ (o : Option Text). IsSomeAnd o (λ text. (text ≡ codes "true") ⊎ (text ≡ codes "false"))) (sym read)
+      (one_of_two value.value (bytes_eq value.value (codes "true")) refl (passes value.value value.pass)) where
+        one_of_two : (text : Text) (b : Bool) → bytes_eq text (codes "true") ≡ b → (bytes_eq text (codes "true") || bytes_eq text (codes "false")) ≡ true
+            → (text ≡ codes "true") ⊎ (text ≡ codes "false")
+        one_of_two text true is either = inl ((bytes_eq-Decides text (codes "true")).0 is)
+        one_of_two text false is either = inr ((bytes_eq-Decides text (codes "false")).0 (subst (λ b. (b || bytes_eq text (codes "false")) ≡ true) is either))
+
 -- ---- the options of `serve`
 
 abbrev serve_rules : List Rule
@@ -112,6 +127,9 @@ connections = filled connections_option
 abbrev idle : Rule
 idle = filled idle_option
 
+abbrev one_port : Rule
+one_port = filled one_port_option
+
 serve_rules_belong : AllByRecursion (Belongs serve_rules) serve_rules
 serve_rules_belong = (
   record { own = refl; kind = inl (refl, omega arith) },
@@ -121,7 +139,7 @@ serve_rules_belong = (
       record { own = refl; kind = inl (refl, omega arith) },
       (
         record { own = refl; kind = inl (refl, omega arith) },
-        (record { own = refl; kind = inr refl }, tt),
+        (record { own = refl; kind = inr (inl (refl, omega arith)) }, (record { own = refl; kind = inr (inr refl) }, tt)),
       ),
     ),
   ),
@@ -138,13 +156,15 @@ serve_numbers words e =
     let rows = rows_after serve_rules [] words in
     let given = port_and_workers_are_given rows found.valid in
     let before = rows_given (built_form serve_form) words in
-    let connections_default = defaults-there (port ∷ workers ∷ []) (idle ∷ filled help_rule ∷ []) connections before (omega arith) in
-    let idle_default = defaults-there (port ∷ workers ∷ connections ∷ []) (filled help_rule ∷ []) idle before (omega arith) in
+    let connections_default = defaults-there (port ∷ workers ∷ []) (idle ∷ one_port ∷ filled help_rule ∷ []) connections before (omega arith) in
+    let idle_default = defaults-there (port ∷ workers ∷ connections ∷ []) (one_port ∷ filled help_rule ∷ []) idle before (omega arith) in
+    let one_port_default = defaults-there (port ∷ workers ∷ connections ∷ idle ∷ []) (filled help_rule ∷ []) one_port before (omega arith) in
     record {
       port = signed serve_rules rows found.fit 1 MOST_PORT port (codes "port") refl refl (λ text pass. pass) (given-there (codes "port") rows given.0);
       workers = signed serve_rules rows found.fit 1 MOST_PASSES workers (codes "workers") refl refl (λ text pass. pass) (given-there (codes "workers") rows given.1);
       connections = unsigned serve_rules rows found.fit 1 MOST_CONNECTIONS connections (codes "connections") refl refl (λ text pass. pass) connections_default;
       idle = signed serve_rules rows found.fit 0 MOST_IDLE idle (codes "idle") refl refl (λ text pass. pass) idle_default;
+      one_port = given_or_not serve_rules rows found.fit one_port (codes "one-port") refl refl (λ text pass. pass) one_port_default;
     }
 
 -- ---- the options of `load`
@@ -173,7 +193,7 @@ load_rules_belong = (
       record { own = refl; kind = inl (refl, omega arith) },
       (
         record { own = refl; kind = inl (refl, omega arith) },
-        (record { own = refl; kind = inr refl }, tt),
+        (record { own = refl; kind = inr (inr refl) }, tt),
       ),
     ),
   ),

@@ -1,12 +1,12 @@
 -- Which command some words are: what `clap` makes of them for the command that is written out here.
-use Rattle.std.specs.Prelude.{◌≡◌, ◌≤◌, ⊤, ℕ, Bool, true, false, List, [], ◌∷◌, Option, Some, None, pos, codes, if◌then◌else◌, option_and_then, unwrap_or}
+use Rattle.std.specs.Prelude.{◌≡◌, ◌≤◌, ◌⊎◌, ⊤, ℕ, Bool, true, false, List, [], ◌∷◌, Option, Some, None, pos, codes, if◌then◌else◌, option_and_then, replicate, unwrap_or}
 use Rattle.std.specs.List.{range_with_len}
-use Rattle.std.specs.Option.{IsSomeAnd}
+use Rattle.std.specs.Option.{IsSomeAnd, option_map_or}
 use Rattle.std.specs.Str.{bytes_eq}
 use Rattle.std.specs.Str.Parse.{IsNumeral, digits_value, without_leading_plus}
 use Rattle.clap.specs.Words.{App, Row, Rule, Shape, Text, new_rule, one_of, subcommand_of, takes}
 use Rattle.clap.specs.Simple.{new_shape}
-use Rattle.clap.specs.declared.builder.action.ArgAction.TheVariants.{Set}
+use Rattle.clap.specs.declared.builder.action.ArgAction.TheVariants.{Set, SetTrue}
 use Rattle.clap.specs.declared.builder.value_parser.ValueParser.{ValueParser}
 use Rattle.clap.specs.declared.builder.value_parser.ValueParser.TheVariants as vp
 use Rattle.funnel.specs.declared.command.Command.{Command}
@@ -45,6 +45,10 @@ connections_option = record (number_option (codes "connections") (vp.Unsigned 1 
 abbrev pub idle_option : Rule
 idle_option = record (number_option (codes "idle") (numbers_between 0 MOST_IDLE)) { defaults = codes "0" ∷ [] }
 
+-- whether all workers take connections at one port: a word without a value
+abbrev pub one_port_option : Rule
+one_port_option = record (new_rule (codes "one-port")) { long = Some (codes "one-port"); action = Some SetTrue }
+
 -- a number of documents, which has to be given
 abbrev pub docs_option : Rule
 docs_option = record (number_option (codes "docs") (numbers_between 1 MOST_DOCS)) { required = true }
@@ -66,7 +70,7 @@ abbrev pub run_form : Shape
 run_form = new_shape (codes "run")
 
 abbrev pub serve_form : Shape
-serve_form = record (new_shape (codes "serve")) { rules = port_option ∷ workers_option ∷ connections_option ∷ idle_option ∷ [] }
+serve_form = record (new_shape (codes "serve")) { rules = port_option ∷ workers_option ∷ connections_option ∷ idle_option ∷ one_port_option ∷ [] }
 
 abbrev pub load_form : Shape
 load_form = record (new_shape (codes "load")) { rules = docs_option ∷ load_workers_option ∷ words_option ∷ seed_option ∷ [] }
@@ -83,12 +87,17 @@ abbrev pub HasNumber : ℕ → ℕ → Text → List Row → Type 0
 HasNumber low high name found = IsSomeAnd (one_of name found) (λ text.
     IsNumeral 10 (without_leading_plus text) × (low ≤ digits_value 10 (without_leading_plus text)) × (digits_value 10 (without_leading_plus text) ≤ high))
 
--- each option of `serve` has one
+-- the option was given, or not
+abbrev pub IsGivenOrNot : Text → List Row → Type 0
+IsGivenOrNot name found = IsSomeAnd (one_of name found) (λ text. (text ≡ codes "true") ⊎ (text ≡ codes "false"))
+
+-- each option of `serve` has one, but for the one without a value
 pub record HasServeNumbers (found : List Row) : Type 0 where
   pub port : HasNumber 1 MOST_PORT (codes "port") found
   pub workers : HasNumber 1 MOST_PASSES (codes "workers") found
   pub connections : HasNumber 1 MOST_CONNECTIONS (codes "connections") found
   pub idle : HasNumber 0 MOST_IDLE (codes "idle") found
+  pub one_port : IsGivenOrNot (codes "one-port") found
 
 -- each option of `load` has one
 pub record HasLoadNumbers (found : List Row) : Type 0 where
@@ -106,12 +115,17 @@ pub record HasNumbers (found : Text × List Row) : Type 0 where
 abbrev pub option_number : Text → List Row → ℕ
 option_number name found = digits_value 10 (without_leading_plus (unwrap_or (one_of name found) []))
 
+-- an option without a value was given
+abbrev pub is_given : Text → List Row → Bool
+is_given name found = option_map_or (λ text. bytes_eq text (codes "true")) (one_of name found) false
+
 abbrev pub serve_of : List Row → ServeCommand
 serve_of found = record {
   port = option_number (codes "port") found;
   workers = option_number (codes "workers") found;
   connections = option_number (codes "connections") found;
   idle = option_number (codes "idle") found;
+  one_port = is_given (codes "one-port") found;
 }
 
 abbrev pub load_of : List Row → LoadCommand
@@ -167,15 +181,24 @@ abbrev pub is_serve : Option Command → Bool
 is_serve (Some (command.Serve serve)) = true
 is_serve _ = false
 
--- the ports on which a command listens: one for each worker of a serve, from the stated one up, also where there is no such port
+-- the port of each worker of a serve: the stated one for all, or from that one up, also where there is no such port
+abbrev pub ports_of_serve : ServeCommand → List ℕ
+ports_of_serve serve = if serve.one_port then replicate serve.workers serve.port else range_with_len serve.port serve.workers
+
+-- the ports on which a command listens
 abbrev pub ports_of : Option Command → List ℕ
-ports_of (Some (command.Serve serve)) = range_with_len serve.port serve.workers
+ports_of (Some (command.Serve serve)) = ports_of_serve serve
 ports_of _ = []
 
 -- for how many seconds the connections of a command may wait
 abbrev pub idle_of : Option Command → ℕ
 idle_of (Some (command.Serve serve)) = serve.idle
 idle_of _ = 0
+
+-- whether the workers of a command listen on one port
+abbrev pub shares_port : Option Command → Bool
+shares_port (Some (command.Serve serve)) = serve.one_port
+shares_port _ = false
 
 -- why no command was read, by what `clap` says went wrong
 abbrev pub fault_by : ErrorKind → CommandFault

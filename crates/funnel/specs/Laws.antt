@@ -10,6 +10,8 @@ use Rattle.funnel_io.specs.declared.end.End.{End}
 use Rattle.funnel_io.specs.declared.end.End.TheVariants as end_of
 use Rattle.funnel_io.specs.declared.gate.Next.{Next}
 use Rattle.funnel_io.specs.declared.gate.Next.TheVariants as next
+use Rattle.funnel_io.specs.declared.gate.Opening.{Opening}
+use Rattle.funnel_io.specs.declared.gate.Opening.TheVariants as opening
 use Rattle.funnel_model.specs.declared.call.Call.{Call}
 use Rattle.funnel_model.specs.declared.call.Call.TheVariants as call
 use Rattle.funnel_model.specs.declared.config.Config.{Config}
@@ -166,19 +168,22 @@ ServesAllGates config connections before after why closed =
     HaveAllServed config connections before after why closed × AllZip (GateIsServed connections why) before after
 
 -- a serve is done when each gate's connections had their sessions, up to the number that was stated, each to its own end, and ends
--- otherwise for want of memory alone: that of a session, and all had theirs, or that of the engine or its workers, and no gate was called
+-- otherwise for want of memory alone: that of a session, and all had theirs, or that of the engine or its workers, and no connection was taken
 abbrev pub CompletesServe : Config → ℕ → List GateState → List GateState → Why → Option ClosedState → Type 0
 CompletesServe config connections before after why_of.Done (Some closed) = ServesAllGates config connections before after why_of.Done closed
 CompletesServe config connections before after why_of.Memory (Some closed) = ServesAllGates config connections before after why_of.Memory closed
 CompletesServe config connections before after why_of.Memory None = after ≡ before
 CompletesServe config connections before after _ closed = ⊥
 
--- a gate answered that it failed, and is one of these since
-pub record OneFailed {G C : Type 0} (next_gives : G → Next C → G → Type 0) (laters : List G) : Type 0 where
-  pub served : G
+-- a gate answered that it failed, as it was opened or asked for a connection, was ended, and is one of these since
+pub record OneFailed {G C : Type 0} (open_gives : G → Opening → G → Type 0) (next_gives : G → Next C → G → Type 0) (end_gives : G → G → Type 0)
+    (laters : List G) : Type 0 where
+  pub called : G
   pub failed : G
-  pub answer : next_gives served next.Fault failed
-  pub there : Contains laters failed
+  pub answer : open_gives called opening.Fault failed ⊎ next_gives called next.Fault failed
+  pub later : G
+  pub ended : end_gives failed later
+  pub there : Contains laters later
 
 -- the program did all, or memory ran out, or as many bytes were read as may be
 abbrev pub EndsWell : Why → Type 0

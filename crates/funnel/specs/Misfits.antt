@@ -18,7 +18,7 @@ misfit_of_load load config =
 
 -- the port of the last worker
 abbrev pub last_port_of : ServeCommand → ℕ
-last_port_of serve = serve.port + serve.workers - 1
+last_port_of serve = if serve.one_port then serve.port else serve.port + serve.workers - 1
 
 -- each worker needs a gate of its own, a pass of its own, and a port that there is
 abbrev pub misfit_of_serve : ServeCommand → ℕ → Config → Option Misfit

@@ -1,7 +1,8 @@
 -- A serve: the connections of each gate are answered by a pass of its own of one new engine.
-use Rattle.std.specs.Prelude.{◌≡◌, ⊤, ℕ, ◌+◌, ◌<◌, false, List, [], ◌∷◌, length, map, All, Option, Some, None, if◌then◌else◌}
+use Rattle.std.specs.Prelude.{◌≡◌, ◌⊎◌, ⊤, ℕ, ◌+◌, ◌<◌, false, List, [], ◌∷◌, length, map, All, Option, Some, None, if◌then◌else◌}
 use Rattle.std.specs.List.{list_any}
 use Rattle.engine.specs.Engines.{ClosedState}
+use Rattle.funnel_io.specs.Counts.{raised}
 use Rattle.funnel_model.specs.declared.config.Config.{Config}
 use Rattle.funnel_model.specs.Events.{pass_of}
 use Rattle.funnel_model.specs.History.{IsFrontOf, MovesAreCaused}
@@ -55,7 +56,14 @@ pub record HaveAllServed (config : Config) (connections : ℕ) (before after : L
   pub gates : after ≡ map (λ worker. worker.gate) workers
   pub cause : why ≡ why_of_workers workers
 
--- the gates were served, or there was no memory for the engine or for its workers, and no gate was called
+-- one gate failed as it was opened: its count of faults rose; of it and of all others nothing else changed, and no connection came
+abbrev pub OneDidNotOpen : List GateState → List GateState → Type 0
+OneDidNotOpen (gate ∷ gates) (later ∷ laters) =
+    ((later ≡ record gate { faults = raised gate.faults }) × (laters ≡ gates)) ⊎ ((later ≡ gate) × OneDidNotOpen gates laters)
+OneDidNotOpen before after = ⊥
+
+-- the gates were served, or there was no memory for the engine or for its workers, or a gate failed as it was opened
 abbrev pub EndsServe : Config → ℕ → List GateState → List GateState → Why → Option ClosedState → Type 0
 EndsServe config connections before after why (Some closed) = HaveAllServed config connections before after why closed
-EndsServe config connections before after why None = (why ≡ why_of.Memory) × (after ≡ before)
+EndsServe config connections before after why None =
+    ((why ≡ why_of.Memory) × (after ≡ before)) ⊎ ((why ≡ why_of.GateFault) × OneDidNotOpen before after)

@@ -5,6 +5,7 @@ use Rattle.funnel_io.specs.Calls.{Read, Write}
 use Rattle.funnel_io.specs.Streams.{Incoming, Outgoing}
 use Rattle.funnel_io.specs.declared.end.End.{End}
 use Rattle.funnel_io.specs.declared.gate.Next.{Next}
+use Rattle.funnel_io.specs.declared.gate.Opening.{Opening}
 use Rattle.funnel_model.specs.declared.config.Config.{Config}
 use Rattle.commit_desk.specs.Passes.{IsResting}
 use Rattle.funnel_model.specs.declared.event.Event.{Event}
@@ -14,7 +15,7 @@ use Rattle.slice_rule.specs.Pools.{PoolId}
 use Rattle.slice_rule.specs.Seats.{PassState}
 use Rattle.funnel.specs.Served.{AllWork, EndsServe, new_workers, why_of_workers}
 use Rattle.funnel.specs.Serving.{new_passes}
-use Rattle.funnel.specs.Turns.{GatesGoInTurns, ServeGoesInTurns}
+use Rattle.funnel.specs.Turns.{GatesGoInTurns, OpenGatesGoInTurns, ServeGoesInTurns}
 use Rattle.funnel.specs.declared.ended.Why.{Why}
 
 -- a pass by its number and what it has seen, and so a worker
@@ -61,17 +62,25 @@ pub record HaveWorked (pool : PoolId) (connections : ℕ) (before after : List G
   pub back : ComeBack pool workers (new_passes pool (length before) (pool.config.passes - length before)) passes
 
 -- and the calls on the gates are those of the workers' sessions, turn by turn
-pub record HaveWorkedInTurns {G C : Type 0} (next_gives : G → Next C → G → Type 0) (done_gives : G → C → End → G → Type 0)
+pub record HaveWorkedInTurns {G C : Type 0} (next_gives : G → Next C → G → Type 0) (done_gives : G → C → End → G → Type 0) (end_gives : G → G → Type 0)
     (read_gives : C → Read → C → Type 0) (write_gives : C → Write → C → Type 0) (incoming : C → Incoming) (outgoing : C → Outgoing)
     (state : G → GateState) (pool : PoolId) (connections : ℕ) (gates laters : List G) (why : Why) (passes : List PassState) : Type 0 where
   pub worked : HaveWorked pool connections (map state gates) (map state laters) why passes
-  pub in_turns : GatesGoInTurns next_gives done_gives read_gives write_gives incoming outgoing
+  pub in_turns : GatesGoInTurns next_gives done_gives end_gives read_gives write_gives incoming outgoing
       (new_workers pool.limits connections 0 (map state gates)) worked.workers worked.work gates laters
 
--- a serve ended so, and the calls on its gates are those of the sessions that its end tells of
-pub record EndsServeInTurns {G C : Type 0} (next_gives : G → Next C → G → Type 0) (done_gives : G → C → End → G → Type 0)
+-- a serve of gates that were opened ended so, and the calls on them are those of the sessions that its end tells of
+pub record EndsOpenServeInTurns {G C : Type 0} (next_gives : G → Next C → G → Type 0) (done_gives : G → C → End → G → Type 0) (end_gives : G → G → Type 0)
     (read_gives : C → Read → C → Type 0) (write_gives : C → Write → C → Type 0) (incoming : C → Incoming) (outgoing : C → Outgoing)
     (state : G → GateState) (config : Config) (connections : ℕ) (gates laters : List G) (why : Why) (closed : Option ClosedState) : Type 0 where
   pub ends : EndsServe config connections (map state gates) (map state laters) why closed
-  pub in_turns : ServeGoesInTurns next_gives done_gives read_gives write_gives incoming outgoing
+  pub in_turns : OpenGatesGoInTurns next_gives done_gives end_gives read_gives write_gives incoming outgoing
+      config connections (map state gates) (map state laters) why closed ends gates laters
+
+-- a serve ended so, and the calls on its gates are those of their opening, of these sessions and of their end
+pub record EndsServeInTurns {G C : Type 0} (open_gives : G → Opening → G → Type 0) (next_gives : G → Next C → G → Type 0) (done_gives : G → C → End → G → Type 0) (end_gives : G → G → Type 0)
+    (read_gives : C → Read → C → Type 0) (write_gives : C → Write → C → Type 0) (incoming : C → Incoming) (outgoing : C → Outgoing)
+    (state : G → GateState) (config : Config) (connections : ℕ) (gates laters : List G) (why : Why) (closed : Option ClosedState) : Type 0 where
+  pub ends : EndsServe config connections (map state gates) (map state laters) why closed
+  pub in_turns : ServeGoesInTurns open_gives next_gives done_gives end_gives read_gives write_gives incoming outgoing
       config connections (map state gates) (map state laters) why closed ends gates laters

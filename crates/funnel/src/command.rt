@@ -4,7 +4,7 @@ ghost use Rattle.std.specs.Prelude.{◌≡◌, ◌↔◌, ℕ, List, [], ◌∷�
 ghost use Rattle.clap.specs.Words.{app_of, found_of, kind_of, rows_of, rule_of, subcommand_rows_of, takes};
 ghost use Rattle.clap.specs.declared.builder.command.Command.TheViews.{out-Command as fields_of};
 ghost use Rattle.funnel.specs.Commands.{HasLoadNumbers, HasNumbers, HasNumbersInRange, HasServeNumbers, IsLoadInRange, IsServeInRange, call_words, command_of, fault_by};
-ghost use Rattle.funnel.specs.Commands.{connections_option, docs_option, funnel_app, idle_option, load_form, load_of, load_workers_option, number_option, port_option, run_form, seed_option, serve_form, serve_of, subcommand_as, words_option, workers_option};
+ghost use Rattle.funnel.specs.Commands.{connections_option, docs_option, funnel_app, idle_option, load_form, load_of, load_workers_option, number_option, one_port_option, port_option, run_form, seed_option, serve_form, serve_of, subcommand_as, words_option, workers_option};
 ghost use Rattle.funnel.specs.declared.command.CommandFault.TheVariants.{Memory};
 
 use clap::builder::ValueParser;
@@ -37,7 +37,7 @@ pub enum Command {
 /// Where connections come from, and how many are served.
 #[derive(Clone, Copy, Debug, PartialEq, Eq)]
 pub struct ServeCommand {
-    /// The port of the first worker, from 1 to 65,535. Each other worker has the next one.
+    /// The port of the first worker, from 1 to 65,535. Each other worker has the next one, or the same.
     pub port: u32,
     /// The number of workers, from 1 to 64.
     pub workers: u32,
@@ -45,6 +45,8 @@ pub struct ServeCommand {
     pub connections: u64,
     /// For how many seconds a read or a write of a connection may wait, from 0 to 86,400. With 0 it waits as long as it takes.
     pub idle: u32,
+    /// Whether all workers take connections at the one port.
+    pub one_port: bool,
 }
 
 /// How a load is made up.
@@ -151,7 +153,8 @@ fn serve_app<'a>(alloc: Global) -> Result<clap::Command<'a>, AllocError>
         .arg(port_option(alloc))?
         .arg(workers_option(alloc))?
         .arg(connections_option(alloc))?
-        .arg(idle_option(alloc))
+        .arg(idle_option(alloc))?
+        .arg(one_port_option(alloc))
 }
 
 fn port_option<'a>(alloc: Global) -> Arg<'a>
@@ -184,6 +187,15 @@ fn idle_option<'a>(alloc: Global) -> Arg<'a>
 {
     let numbers = value_parser!(u32).range(0..=i64::from(MOST_IDLE));
     number_option(alloc, "idle", numbers).default_value("0")
+}
+
+fn one_port_option<'a>(alloc: Global) -> Arg<'a>
+    ensures rule { rule_of result ≡ one_port_option }
+    ensures local { result.global ≡ false }
+{
+    Arg::new(alloc, "one-port")
+        .long("one-port")
+        .action(ArgAction::SetTrue)
 }
 
 fn load_app<'a>(alloc: Global) -> Result<clap::Command<'a>, AllocError>
@@ -262,6 +274,7 @@ fn serve_in(found: &ArgMatches) -> ServeCommand
         workers: found.get_one("workers").unwrap(),
         connections: found.get_one("connections").unwrap(),
         idle: found.get_one("idle").unwrap(),
+        one_port: found.get_flag("one-port"),
     }
 }
 

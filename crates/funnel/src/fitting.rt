@@ -1,7 +1,7 @@
 ghost use Rattle.std.specs.Prelude.{◌≡◌};
 ghost use Rattle.funnel_model.specs.Configuration.{IsInRange};
 ghost use Rattle.funnel.specs.Commands.{HasNumbersInRange, IsServeInRange};
-ghost use Rattle.funnel.specs.Misfits.{misfit_of, misfit_of_load, misfit_of_serve};
+ghost use Rattle.funnel.specs.Misfits.{last_port_of, misfit_of, misfit_of_load, misfit_of_serve};
 
 use crate::command::{Command, LoadCommand, MOST_PORT, ServeCommand};
 use crate::ended::Misfit;
@@ -37,11 +37,23 @@ fn misfit_of_serve(serve: ServeCommand, gates: usize, config: &Config) -> Option
             passes,
         });
     }
-    let last = serve.port + stated - 1;
+    let last = last_port(serve);
     if MOST_PORT < last {
         return Some(Misfit::Ports { last });
     }
     None
+}
+
+/// The port of the last worker.
+fn last_port(serve: ServeCommand) -> u32
+    requires { IsServeInRange serve }
+    ensures { result ≡ last_port_of serve }
+{
+    if serve.one_port {
+        serve.port
+    } else {
+        serve.port + serve.workers - 1
+    }
 }
 
 fn misfit_of_load(load: LoadCommand, config: &Config) -> Option<Misfit>

@@ -1,5 +1,5 @@
 //! Laws of programs, over their definitions alone. Each is the contract of a function that does nothing.
-ghost use Rattle.std.specs.Prelude.{◌≡◌, ◌<◌, ℕ, List, [], All, Option, Some, true, false, length, take};
+ghost use Rattle.std.specs.Prelude.{◌≡◌, ◌<◌, ℕ, List, [], All, Option, None, Some, true, false, length, take};
 ghost use Rattle.std.specs.List.{AllZip};
 ghost use Rattle.engine.specs.Engines.{ClosedState};
 ghost use Rattle.funnel_io.specs.Streams.{Incoming, Outgoing};
@@ -16,7 +16,7 @@ ghost use Rattle.funnel.specs.Laws.{AllCallsAreOfSessions, AnswersInput, AreDue,
 ghost use Rattle.funnel.specs.Laws.{IsAccepted, IsServedUnlessFailed, KeepsNoFault, NoStreamFailed, OneFailed, RepliesAreDue, TellsFew};
 ghost use Rattle.funnel.specs.Programs.{Ends, Streams};
 ghost use Rattle.funnel.specs.Runs.{Ran, first_caller, limits_by};
-ghost use Rattle.funnel.specs.Served.{HaveAllServed, new_workers};
+ghost use Rattle.funnel.specs.Served.{HaveAllServed, OneDidNotOpen, new_workers};
 ghost use Rattle.funnel.specs.Turns.{EndsInTurns};
 
 use funnel_io::{End, Gate};
@@ -24,7 +24,7 @@ use funnel_io::{End, Gate};
 /// Let the words be a command, the configuration valid, the command fit it, and no read, no write and no call of a gate fail.
 /// Then a run whose input has fewer bytes than it may take answers all its lines, a serve gives each connection of its gates a session,
 /// and a load is made and told, where none of them runs out of memory. A longer run ends at its limit of bytes. A serve that runs out
-/// of memory gave each connection its session too, some of which found none, or called no gate.
+/// of memory gave each connection its session too, some of which found none, or took no connection.
 pub fn programs_without_a_fault_end_well()
     ensures run { (words : List (List ℕ)) (before after : Streams) (why : Why) (closed : Option ClosedState) (config : Config) (bytes : List ℕ) →
         Ends words before after why closed → NoStreamFailed before after → IsAccepted words before command.Run config →
@@ -76,16 +76,22 @@ pub fn connections_without_a_fault_are_done()
 /// What `funnel_main` tells of an end is told with the calls of a serve on its gates; the laws here need no more than the end.
 pub fn ends_are_told_with_their_turns<G: Gate>()
     ensures { (words : List (List ℕ)) (before after : Streams) (why : Why) (closed : Option ClosedState) (gates laters : List G) →
-        EndsInTurns G.next_gives G.done_gives G.Conn.read_gives G.Conn.write_gives G.Conn.incoming G.Conn.outgoing
+        EndsInTurns G.open_gives G.next_gives G.done_gives G.end_gives G.Conn.read_gives G.Conn.write_gives G.Conn.incoming G.Conn.outgoing
         words before after why closed gates laters → Ends words before after why closed }
 {}
 
-/// A program ends with a gate fault only where a gate answered that it failed.
+/// A program ends with a gate fault only where a gate answered that it failed, as it was opened or asked for a connection.
 pub fn gate_faults_are_answers_of_gates<G: Gate>()
     ensures { (words : List (List ℕ)) (before after : Streams) (why : Why) (closed : Option ClosedState) (gates laters : List G) →
-        EndsInTurns G.next_gives G.done_gives G.Conn.read_gives G.Conn.write_gives G.Conn.incoming G.Conn.outgoing
+        EndsInTurns G.open_gives G.next_gives G.done_gives G.end_gives G.Conn.read_gives G.Conn.write_gives G.Conn.incoming G.Conn.outgoing
         words before after why closed gates laters →
-        why ≡ Why.GateFault → OneFailed G.next_gives laters }
+        why ≡ Why.GateFault → OneFailed G.open_gives G.next_gives G.end_gives laters }
+{}
+
+/// A program that had no engine ends with a gate fault only where one gate failed as it was opened: the count of its faults rose, and
+/// no connection of any gate was taken.
+pub fn gates_that_do_not_open_leave_their_connections()
+    ensures { (words : List (List ℕ)) (before after : Streams) → Ends words before after Why.GateFault None → OneDidNotOpen before.gates after.gates }
 {}
 
 /// Where no gate is closed, as gates over TCP never are, each worker of a serve that is done served the stated number of connections.

@@ -1,32 +1,31 @@
-ghost use Rattle.std.specs.Prelude.{◌≡◌, Some, true, false, length, map, IfNone, IfSome};
+ghost use Rattle.std.specs.Prelude.{◌≡◌, ◌⊎◌, Some, true, false, length, map, IfNone, IfSome};
 ghost use Rattle.engine.specs.Engines.{IsClosed};
 ghost use Rattle.funnel_server.specs.Gates.{gate_state};
 ghost use Rattle.funnel.specs.Commands.{command_of, is_serve};
-ghost use Rattle.funnel.specs.Turns.{EndsInTurns, RunsInTurns};
+ghost use Rattle.funnel.specs.Turns.{AreOpenedInVain, EndsInTurns, RunsInTurns};
 ghost use Rattle.funnel.specs.declared.command.Command.TheVariants as command;
 ghost use Rattle.funnel.specs.declared.command.LoadCommand.{LoadCommand};
 
 use crate::command::{Command, CommandFault, read_command};
 use crate::ended::{Ended, Why};
 use crate::fitting::misfit;
-use crate::running::run;
-use crate::serving::serve_gates;
-use crate::workload::make_load;
-use engine::Blank;
+use crate::running::run_command;
+use crate::serving::serve_command;
+use crate::workload::load_command;
 use funnel_io::{Gate, Sink, Source};
 use funnel_stats::read_config;
 use std::alloc::Global;
-use std::marker::Brand;
 use std::sync::Wait;
 use std::thread::Threads;
 
 /// Runs the command that the words are, by an engine with the configuration. `run` answers the lines of `input` on `output`.
-/// `serve` answers the connections of each gate by a pass and a thread of its own. `load` makes its documents, has its workers
+/// `serve` opens the gates, and answers the connections of each by a pass and a thread of its own. `load` makes its documents, has its workers
 /// add, delete and find them, each by a pass and a thread of its own, and writes its summary on `output`. The last two read
 /// nothing from `input`. `gates` come back in their order.
 ///
-/// The words are judged first, then the configuration, then whether the command's numbers fit it and the gates. Nothing is
-/// left of an engine where one of these is refused, or where memory ran out before the engine was open.
+/// The words are judged first, then the configuration, then whether the command's numbers fit it and the gates, and then a serve
+/// opens its gates, all or none. Nothing is left of an engine where one of these is refused or fails, or where memory ran out
+/// before the engine was open.
 pub fn funnel_main<R: Threads + Wait + Sync, C: Source, S: Source, K: Sink, G: Gate + Send + Drop>(
     rt: &R,
     alloc: Global,
@@ -38,7 +37,7 @@ pub fn funnel_main<R: Threads + Wait + Sync, C: Source, S: Source, K: Sink, G: G
 ) -> Ended<G>
 where
     G::Conn: Send,
-    ensures ends { EndsInTurns G.next_gives G.done_gives G.Conn.read_gives G.Conn.write_gives G.Conn.incoming G.Conn.outgoing
+    ensures ends { EndsInTurns G.open_gives G.next_gives G.done_gives G.end_gives G.Conn.read_gives G.Conn.write_gives G.Conn.incoming G.Conn.outgoing
         (map (λ word. word.now) words.now)
         record {
           config = C.incoming config.old;
@@ -65,7 +64,10 @@ where
     ensures config_untouched { result.why ≡ Why.Usage → config.new ≡ config.old }
     ensures input_untouched { IfNone result.closed (input.new ≡ input.old) }
     ensures output_untouched { IfNone result.closed (output.new ≡ output.old) }
-    ensures gates_untouched { IfNone result.closed (result.gates ≡ gates) }
+
+    // With no engine the gates are as they came, or those of a serve that opened them in vain.
+    ensures gates_untouched { IfNone result.closed
+        ((result.gates ≡ gates) ⊎ AreOpenedInVain G.open_gives G.end_gives result.why gates.items result.gates.items) }
     ensures gates_unused { is_serve (command_of (map (λ word. word.now) words.now)) ≡ false → result.gates ≡ gates }
     ensures gates_count { length result.gates.items ≡ length gates.items }
     ensures config_borrowed { C.borrowed config.new ≡ C.borrowed config.old }
@@ -84,19 +86,14 @@ where
     if let Some(misfit) = misfit(command, gates.len(), &config) {
         return Ended::unopened(Why::Misfit(misfit), gates);
     }
-    let Ok(blank) = Blank::new(alloc, &config) else {
-        return Ended::unopened(Why::Memory, gates);
-    };
     match command {
         Command::Run => {
-            let (why, closed) = run::<Brand, _, _, _>(rt, alloc, &config, blank, input, output);
+            let (why, closed) = run_command(rt, alloc, &config, input, output);
             Ended { why, gates, closed }
         }
-        Command::Serve(serve) => {
-            serve_gates::<Brand, _, _>(rt, alloc, &config, blank, serve.connections, gates)
-        }
+        Command::Serve(serve) => serve_command(rt, alloc, &config, serve.connections, gates),
         Command::Load(load) => {
-            let (why, closed) = make_load::<Brand, _, _>(rt, alloc, &config, blank, load, output);
+            let (why, closed) = load_command(rt, alloc, &config, load, output);
             Ended { why, gates, closed }
         }
     }

@@ -15,11 +15,38 @@ use funnel_io::{End, Pair, Sink, Source};
 use funnel_model::Config;
 use session::{MOST_BYTES, serve_session};
 use std::alloc::Global;
+use std::marker::Brand;
 use std::sync::Wait;
+
+/// Answers the lines of the input by the first pass of a new engine, and closes it. Nothing of it is left where there was no memory
+/// to open it; then nothing was read or written.
+pub(crate) fn run_command<R: Wait, S: Source, K: Sink>(
+    rt: &R,
+    alloc: Global,
+    config: &Config,
+    input: &mut S,
+    output: &mut K,
+) -> (Why, Option<Closed>)
+    requires valid { IsValid config.now }
+    ensures ran { RanOrNot config.now (S.incoming input.old) (S.incoming input.new) (K.outgoing output.old) (K.outgoing output.new) result.0 result.1 }
+    ensures in_turns { RunsInTurns S.read_gives K.write_gives (result.0 ≡ Why.Done) (input.old, output.old) (input.new, output.new) }
+    ensures closed { IfSome result.1 IsClosed }
+    ensures kept { IfSome result.1 (KeepsLast config.now) }
+    ensures input_untouched { IfNone result.1 (input.new ≡ input.old) }
+    ensures output_untouched { IfNone result.1 (output.new ≡ output.old) }
+    ensures without_memory { result.0 ≡ Why.Memory → (input.new ≡ input.old) × (output.new ≡ output.old) }
+    ensures source_borrowed { S.borrowed input.new ≡ S.borrowed input.old }
+    ensures sink_borrowed { K.borrowed output.new ≡ K.borrowed output.old }
+{
+    let Ok(blank) = Blank::new(alloc, config) else {
+        return (Why::Memory, None);
+    };
+    run::<Brand, _, _, _>(rt, alloc, config, blank, input, output)
+}
 
 /// Opens an engine over the blank, answers the lines of the input by its first pass, and closes it. Nothing of it is left
 /// where there was no memory to open it; then nothing was read or written.
-pub(crate) fn run<N: PoolName, R: Wait, S: Source, K: Sink>(
+fn run<N: PoolName, R: Wait, S: Source, K: Sink>(
     rt: &R,
     alloc: Global,
     config: &Config,

@@ -1,30 +1,129 @@
 //! A serve: the connections of each gate are answered by a pass of its own of one new engine.
 ghost use Rattle.std.specs.Prelude.{◌≡◌, ◌≤◌, ◌+◌, ◌-◌, ◌++◌, [], length, map, IfNone, IfSome, if◌then◌else◌, vec_capacity};
-ghost use Rattle.std.specs.List.{list_any};
+ghost use Rattle.std.specs.List.{AllZip, list_any};
 ghost use Rattle.engine.specs.Engines.{IsClosed};
 ghost use Rattle.funnel_model.specs.Configuration.{IsValid};
+ghost use Rattle.funnel_io.specs.Answers.{MatchOpening};
 ghost use Rattle.funnel_server.specs.Gates.{gate_state};
 ghost use Rattle.funnel.specs.Runs.{KeepsLast, limits_by};
-ghost use Rattle.funnel.specs.Served.{new_workers};
+ghost use Rattle.funnel.specs.Served.{OneDidNotOpen, new_workers};
 ghost use Rattle.funnel.specs.Serving.{new_passes};
-ghost use Rattle.funnel.specs.Workers.{ComeBack, EndsServeInTurns, HaveWorkedInTurns, gates_of, states_of};
+ghost use Rattle.funnel.specs.Turns.{AreOpened, AreOpenedInVain, AreOpenedUntilOneFails};
+ghost use Rattle.funnel.specs.Workers.{ComeBack, EndsOpenServeInTurns, EndsServeInTurns, HaveWorkedInTurns, gates_of, states_of};
 
 use crate::ended::{Ended, Why};
 use engine::{Blank, Client, Engine, Pass, PoolName};
-use funnel_io::Gate;
+use funnel_io::{Gate, Opening};
 use funnel_model::Config;
 use funnel_server::{Worker, run_workers};
 use std::alloc::Global;
+use std::marker::Brand;
 use std::sync::Wait;
 use std::thread::Threads;
 
+/// Opens the gates in order, opens an engine, answers the connections of each gate by a pass of its own, up to so many, and closes
+/// the engine; each worker ends its gate. Where a gate doesn't open, or there is no memory for the engine or for the workers, nothing
+/// is left of it, no connection was taken, and each gate is ended.
+pub(crate) fn serve_command<R: Threads + Wait + Sync, G: Gate + Send + Drop>(
+    rt: &R,
+    alloc: Global,
+    config: &Config,
+    connections: u64,
+    mut gates: Vec<G>,
+) -> Ended<G>
+where
+    G::Conn: Send,
+    requires valid { IsValid config.now }
+    requires enough { length gates.items ≤ config.now.passes }
+    ensures ends { EndsServeInTurns G.open_gives G.next_gives G.done_gives G.end_gives G.Conn.read_gives G.Conn.write_gives G.Conn.incoming G.Conn.outgoing
+        (gate_state G.is_closed G.gate_faults G.waiting G.Conn.incoming G.Conn.outgoing G.served)
+        config.now connections gates.items result.gates.items result.why result.closed }
+    ensures closed { IfSome result.closed IsClosed }
+    ensures kept { IfSome result.closed (KeepsLast config.now) }
+    ensures unserved { IfNone result.closed (AreOpenedInVain G.open_gives G.end_gives result.why gates.items result.gates.items) }
+    ensures count { length result.gates.items ≡ length gates.items }
+{
+    let Opening::Open = open_all(&mut gates) else {
+        end_all(&mut gates);
+        return Ended::unopened(Why::GateFault, gates);
+    };
+    let ended = serve_open(rt, alloc, config, connections, gates);
+    if ended.closed.is_some() {
+        return ended;
+    }
+    let Ended { why, mut gates, .. } = ended;
+    end_all(&mut gates);
+    Ended::unopened(why, gates)
+}
+
+/// Opens the gates in order, and none after one that fails.
+fn open_all<G: Gate>(gates: &mut [G]) -> Opening
+    ensures opened { MatchOpening result
+        (AreOpened G.open_gives gates.old gates.new)
+        (AreOpenedUntilOneFails G.open_gives gates.old gates.new) }
+    ensures told { MatchOpening result
+        (map (gate_state G.is_closed G.gate_faults G.waiting G.Conn.incoming G.Conn.outgoing G.served) gates.new ≡ map (gate_state G.is_closed G.gate_faults G.waiting G.Conn.incoming G.Conn.outgoing G.served) gates.old)
+        (OneDidNotOpen (map (gate_state G.is_closed G.gate_faults G.waiting G.Conn.incoming G.Conn.outgoing G.served) gates.old) (map (gate_state G.is_closed G.gate_faults G.waiting G.Conn.incoming G.Conn.outgoing G.served) gates.new)) }
+    ensures count { length gates.new ≡ length gates.old }
+{
+    let Some((gate, others)) = gates.split_first_mut() else {
+        return Opening::Open;
+    };
+    match gate.open() {
+        Opening::Open => open_all(others),
+        Opening::Fault => Opening::Fault,
+    }
+}
+
+/// Ends each gate.
+fn end_all<G: Gate>(gates: &mut [G])
+    ensures ended { AllZip G.end_gives gates.old gates.new }
+    ensures told { map (gate_state G.is_closed G.gate_faults G.waiting G.Conn.incoming G.Conn.outgoing G.served) gates.new ≡ map (gate_state G.is_closed G.gate_faults G.waiting G.Conn.incoming G.Conn.outgoing G.served) gates.old }
+    ensures count { length gates.new ≡ length gates.old }
+{
+    if let Some((gate, others)) = gates.split_first_mut() {
+        gate.end();
+        end_all(others);
+    }
+}
+
+/// Serves gates that are open by a new engine. Nothing of it is left where there was no memory for it or for the workers; then no gate
+/// was called.
+fn serve_open<R: Threads + Wait + Sync, G: Gate + Send + Drop>(
+    rt: &R,
+    alloc: Global,
+    config: &Config,
+    connections: u64,
+    gates: Vec<G>,
+) -> Ended<G>
+where
+    G::Conn: Send,
+    requires valid { IsValid config.now }
+    requires enough { length gates.items ≤ config.now.passes }
+    ensures ends { EndsOpenServeInTurns G.next_gives G.done_gives G.end_gives G.Conn.read_gives G.Conn.write_gives G.Conn.incoming G.Conn.outgoing
+        (gate_state G.is_closed G.gate_faults G.waiting G.Conn.incoming G.Conn.outgoing G.served)
+        config.now connections gates.items result.gates.items result.why result.closed }
+    ensures closed { IfSome result.closed IsClosed }
+    ensures kept { IfSome result.closed (KeepsLast config.now) }
+    ensures untouched { IfNone result.closed ((result.why ≡ Why.Memory) × (result.gates ≡ gates)) }
+    ensures count { length result.gates.items ≡ length gates.items }
+{
+    let Ok(blank) = Blank::new(alloc, config) else {
+        return Ended::unopened(Why::Memory, gates);
+    };
+    serve_gates::<Brand, _, _>(rt, alloc, config, blank, connections, gates)
+}
+
 /// Opens an engine over the blank, answers the connections of each gate by a pass of its own, up to so many, and closes it.
 /// Nothing of it is left where there was no memory to open it or for the workers; then no gate was called.
-pub(crate) fn serve_gates<
-    N: PoolName + Send + Sync,
-    R: Threads + Wait + Sync,
-    G: Gate + Send + Drop,
->(rt: &R, alloc: Global, config: &Config, blank: Blank, connections: u64, gates: Vec<G>) -> Ended<G>
+fn serve_gates<N: PoolName + Send + Sync, R: Threads + Wait + Sync, G: Gate + Send + Drop>(
+    rt: &R,
+    alloc: Global,
+    config: &Config,
+    blank: Blank,
+    connections: u64,
+    gates: Vec<G>,
+) -> Ended<G>
 where
     G::Conn: Send,
     requires valid { IsValid config.now }
@@ -32,12 +131,12 @@ where
     requires limits { blank.limits ≡ limits_by config.now }
     requires named { blank ≡ N.pool }
     requires enough { length gates.items ≤ config.now.passes }
-    ensures ends { EndsServeInTurns G.next_gives G.done_gives G.Conn.read_gives G.Conn.write_gives G.Conn.incoming G.Conn.outgoing
+    ensures ends { EndsOpenServeInTurns G.next_gives G.done_gives G.end_gives G.Conn.read_gives G.Conn.write_gives G.Conn.incoming G.Conn.outgoing
         (gate_state G.is_closed G.gate_faults G.waiting G.Conn.incoming G.Conn.outgoing G.served)
         config.now connections gates.items result.gates.items result.why result.closed }
     ensures closed { IfSome result.closed IsClosed }
     ensures kept { IfSome result.closed (KeepsLast config.now) }
-    ensures untouched { IfNone result.closed (result.gates ≡ gates) }
+    ensures untouched { IfNone result.closed ((result.why ≡ Why.Memory) × (result.gates ≡ gates)) }
     ensures count { length result.gates.items ≡ length gates.items }
 {
     let Ok(room) = Vec::with_capacity(alloc, gates.len()) else {
@@ -69,7 +168,7 @@ where
     requires enough { length gates.items ≤ engine.now.config.passes }
     requires empty { room.items ≡ [] }
     requires room { length gates.items ≤ vec_capacity room }
-    ensures { HaveWorkedInTurns G.next_gives G.done_gives G.Conn.read_gives G.Conn.write_gives G.Conn.incoming G.Conn.outgoing
+    ensures { HaveWorkedInTurns G.next_gives G.done_gives G.end_gives G.Conn.read_gives G.Conn.write_gives G.Conn.incoming G.Conn.outgoing
         (gate_state G.is_closed G.gate_faults G.waiting G.Conn.incoming G.Conn.outgoing G.served)
         engine.now connections gates.items result.1.items result.0 result.2.items }
 {

@@ -2,9 +2,10 @@
 ghost use Rattle.std.specs.Prelude.{◌≡◌, IfOk, IsSome, MatchOption, None, map};
 ghost use Rattle.funnel.specs.Commands.{command_of};
 
-use crate::command::{call_words, funnel_app};
+use crate::command::{MOST_CONNECTIONS, MOST_IDLE, MOST_PORT, call_words, funnel_app};
 use clap::error::ErrorKind;
-use funnel_model::Memory;
+use funnel_model::{MOST_PASSES, Memory};
+use load_gen::{MOST_DOCS, MOST_WORDS};
 use std::alloc::Global;
 use std::fmt;
 
@@ -15,6 +16,12 @@ pub enum UsageFault {
     NotAlone,
     /// `clap` refuses the words, and this is all that it says.
     Refused(String),
+    /// So it is with the value of an option, which takes the numbers from `least` to `greatest`.
+    NoNumber {
+        text: String,
+        least: u64,
+        greatest: u64,
+    },
 }
 
 /// What `clap` has against the words: one that isn't understood, an option that is missing, or the numbers that it takes. None
@@ -32,7 +39,42 @@ pub fn usage_fault(alloc: Global, words: &[&str]) -> Result<Option<UsageFault>, 
     match error.kind() {
         ErrorKind::OutOfMemory => Err(Memory),
         ErrorKind::DisplayHelp | ErrorKind::DisplayVersion => Ok(Some(UsageFault::NotAlone)),
-        _ => Ok(Some(UsageFault::Refused(format!(in alloc; "{error}")?))),
+        _ => Ok(Some(refusal(error.kind(), format!(in alloc; "{error}")?))),
+    }
+}
+
+// The refusal that this text tells, with the numbers that an option takes where it doesn't tell them.
+fn refusal(kind: ErrorKind, text: String) -> UsageFault {
+    let numbers = match kind {
+        ErrorKind::ValueValidation => numbers_untold(text.as_str()),
+        _ => None,
+    };
+    match numbers {
+        Some((least, greatest)) => UsageFault::NoNumber {
+            text,
+            least,
+            greatest,
+        },
+        None => UsageFault::Refused(text),
+    }
+}
+
+// The numbers that the option of a refused value takes, unless the text tells them behind its name.
+fn numbers_untold(text: &str) -> Option<(u64, u64)> {
+    let (_, told) = text.rsplit_once(" for '--")?;
+    let (name, cause) = told.split_once(" <")?;
+    if cause.contains(" is not in ") {
+        return None;
+    }
+    match name {
+        "port" => Some((1, u64::from(MOST_PORT))),
+        "workers" => Some((1, u64::from(MOST_PASSES))),
+        "connections" => Some((1, MOST_CONNECTIONS)),
+        "idle" => Some((0, u64::from(MOST_IDLE))),
+        "docs" => Some((1, u64::from(MOST_DOCS))),
+        "words" => Some((0, u64::from(MOST_WORDS))),
+        "seed" => Some((0, u64::MAX)),
+        _ => None,
     }
 }
 
@@ -41,6 +83,17 @@ impl fmt::Display for UsageFault {
         match self {
             UsageFault::NotAlone => f.write_str("help and the version are asked for alone"),
             UsageFault::Refused(text) => write_cause(text.as_str(), f),
+            UsageFault::NoNumber {
+                text,
+                least,
+                greatest,
+            } => {
+                write_cause(text.as_str(), f)?;
+                write!(
+                    f,
+                    ": it has to be a whole number from {least} to {greatest}"
+                )
+            }
         }
     }
 }

@@ -16,12 +16,40 @@ use funnel_model::{Config, Memory};
 use funnel_server::run_load;
 use load_gen::{make, summary};
 use std::alloc::Global;
+use std::marker::Brand;
 use std::sync::Wait;
 use std::thread::Threads;
 
+/// Makes a load by a new engine, as [`make_load`] does.
+pub(crate) fn load_command<R: Threads + Wait + Sync, K: Sink>(
+    rt: &R,
+    alloc: Global,
+    config: &Config,
+    command: LoadCommand,
+    output: &mut K,
+) -> (Why, Option<Closed>)
+    requires valid { IsValid config.now }
+    requires some { 1 ≤ command.docs }
+    requires docs { command.docs ≤ MOST_DOCS }
+    requires workers { 1 ≤ command.workers }
+    requires words { command.words ≤ MOST_WORDS }
+    requires fits { misfit_of_load command config.now ≡ None }
+    ensures ends { EndsLoad config.now command (K.outgoing output.old) (K.outgoing output.new) result.0 result.1 }
+    ensures closed { IfSome result.1 IsClosed }
+    ensures kept { IfSome result.1 (KeepsLast config.now) }
+    ensures borrowed { K.borrowed output.new ≡ K.borrowed output.old }
+    ensures untouched { result.1 ≡ None → output.new ≡ output.old }
+    ensures without_memory { result.0 ≡ Why.Memory → output.new ≡ output.old }
+{
+    let Ok(blank) = Blank::new(alloc, config) else {
+        return (Why::Memory, None);
+    };
+    make_load::<Brand, _, _>(rt, alloc, config, blank, command, output)
+}
+
 /// Makes the documents of a load, puts its calls to a new engine by as many workers as it has, closes the engine, and writes
 /// the summary. For want of memory nothing is written.
-pub(crate) fn make_load<N: PoolName + Send + Sync, R: Threads + Wait + Sync, K: Sink>(
+fn make_load<N: PoolName + Send + Sync, R: Threads + Wait + Sync, K: Sink>(
     rt: &R,
     alloc: Global,
     config: &Config,

@@ -2,6 +2,8 @@
 use Rattle.std.specs.Prelude.{ℕ, Bool, true, false, List, [], take}
 use Rattle.funnel_io.specs.declared.gate.Next.{Next}
 use Rattle.funnel_io.specs.declared.gate.Next.TheVariants as next
+use Rattle.funnel_io.specs.declared.gate.Opening.{Opening}
+use Rattle.funnel_io.specs.declared.gate.Opening.TheVariants as opening
 use Rattle.funnel_io.specs.declared.source.Got.{Got}
 use Rattle.funnel_io.specs.declared.source.Got.TheVariants as got
 use Rattle.funnel_io.specs.declared.sink.Put.{Put}
@@ -51,3 +53,13 @@ abbrev pub gate_failed : {C : Type 0} → Next C → Bool
 gate_failed (next.Conn conn) = false
 gate_failed next.Closed = false
 gate_failed next.Fault = true
+
+-- a fact of a gate that opened, and one of a gate that failed to
+abbrev pub MatchOpening : Opening → Type 0 → Type 0 → Type 0
+MatchOpening opening.Open P Q = P
+MatchOpening opening.Fault P Q = Q
+
+-- the gate failed to open
+abbrev pub opening_failed : Opening → Bool
+opening_failed opening.Open = false
+opening_failed opening.Fault = true

@@ -1,5 +1,5 @@
 -- Sources, sinks and gates over std's readers, writers and networks, as contracts see them.
-use Rattle.std.specs.Prelude.{◌≡◌, ℕ, List, [], Option, Some, None}
+use Rattle.std.specs.Prelude.{◌≡◌, ℕ, Bool, false, List, [], Option, Some, None}
 use Rattle.funnel_io.specs.declared.opened_file.OpenedFile.{OpenedFile}
 use Rattle.funnel_io.specs.declared.opened_file.OpenedFile.TheVariants.{Absent, Open, Refused}
 
@@ -23,8 +23,14 @@ pub record ConnFaults : Type 0 where
 abbrev pub IsUnfailed : ConnFaults → Type 0
 IsUnfailed conn = (conn.reads ≡ 0) × (conn.writes ≡ 0)
 
--- a gate on a port, for how many seconds a read or a write of its connections waits at most, or 0, and how many of its calls failed
+-- a gate on a port, for how many seconds a read or a write of its connections waits at most, or 0, whether it listens, and how many of
+-- its calls failed
 pub record PortGate : Type 0 where
   pub port : ℕ
   pub idle : ℕ
+  pub listens : Bool
   pub faults : ℕ
+
+-- a gate that does not listen yet
+abbrev pub new_gate : ℕ → ℕ → PortGate
+new_gate idle port = record { port = port; idle = idle; listens = false; faults = 0 }

@@ -1,7 +1,7 @@
 ghost use Rattle.std.specs.Prelude.{◌≡◌, ◌<◌, ◌+◌, ℕ, Bool, true, false, List, [], ◌∷◌, ◌++◌, Option, IfSome, OnSome, ⊤};
 ghost use Rattle.std.specs.Option.{option_map};
 ghost use Rattle.funnel_io.specs.Counts.{counted};
-ghost use Rattle.funnel_io.specs.Answers.{MatchNext, gate_failed};
+ghost use Rattle.funnel_io.specs.Answers.{MatchNext, gate_failed, opening_failed};
 ghost use Rattle.funnel_io.specs.Served.{Served, served_as, IsFresh};
 
 use crate::connection::Connection;
@@ -18,14 +18,25 @@ pub enum Next<C> {
     Fault,
 }
 
-/// Where connections come from, and where they go back to.
+/// Whether a gate opened.
+#[derive(Clone, Copy, Debug, PartialEq, Eq)]
+pub enum Opening {
+    /// It did.
+    Open,
+    /// The gate failed.
+    Fault,
+}
+
+/// Where connections come from, and where they go back to. Whoever uses a gate opens it before it asks for the first connection,
+/// and ends it when it asks for no more.
 pub trait Gate {
     type Conn: Connection;
 
     ghost use Rattle.funnel_io.specs.declared.end.End.{End};
     ghost use Rattle.funnel_io.specs.declared.gate.Next.{Next};
+    ghost use Rattle.funnel_io.specs.declared.gate.Opening.{Opening};
 
-    // How many calls of `next` failed, up to the counter's last value.
+    // How many calls of `open` and of `next` failed, up to the counter's last value.
     ghost gate_faults: { Self → ℕ };
 
     // The connections that wait, in the order in which they come, where the gate tells them.
@@ -40,11 +51,24 @@ pub trait Gate {
     // The connections that came back, oldest first, where the gate tells them.
     ghost served: { Self → Option (List Served) };
 
-    // What else a gate tells of its calls: that a `next` with its answer, and a `done` with what it was
-    // handed, lead from one state to the next. So a caller can't leave one out where it says which calls it made.
+    // What else a gate tells of its calls: that an `open` and a `next` with their answers, a `done` with what it was handed, and an
+    // `end` lead from one state to the next. So a caller can't leave one out where it says which calls it made.
+    ghost open_gives: { Self → Opening → Self → Type 0 } = { λ _ _ _. ⊤ };
+
     ghost next_gives: { Self → Next Self.Conn → Self → Type 0 } = { λ _ _ _. ⊤ };
 
     ghost done_gives: { Self → Self.Conn → End → Self → Type 0 } = { λ _ _ _ _. ⊤ };
+
+    ghost end_gives: { Self → Self → Type 0 } = { λ _ _. ⊤ };
+
+    /// Gets ready to hand out connections, as by listening on a port. A gate that failed has not become ready.
+    fn open(&mut self) -> Opening
+        ensures faults { gate_faults self.new ≡ counted (opening_failed result) (gate_faults self.old) }
+        ensures waiting { waiting self.new ≡ waiting self.old }
+        ensures served { served self.new ≡ served self.old }
+        ensures is_closed { is_closed self.new ≡ is_closed self.old }
+        ensures out { out self.new ≡ out self.old }
+        ensures gives { open_gives self.old result self.new };
 
     /// Waits for the next connection and hands it out.
     fn next(&mut self) -> Next<Self::Conn>
@@ -78,4 +102,13 @@ pub trait Gate {
             (λ list. list ++ served_as (Self.Conn.incoming conn) (Self.Conn.outgoing conn) end ∷ [])
             (served self.old) }
         ensures gives { done_gives self.old conn end self.new };
+
+    /// Lets go of all by which it hands out connections, as of the port that it listens on.
+    fn end(&mut self)
+        ensures faults { gate_faults self.new ≡ gate_faults self.old }
+        ensures waiting { waiting self.new ≡ waiting self.old }
+        ensures served { served self.new ≡ served self.old }
+        ensures is_closed { is_closed self.new ≡ is_closed self.old }
+        ensures out { out self.new ≡ out self.old }
+        ensures gives { end_gives self.old self.new };
 }

@@ -1,16 +1,16 @@
-ghost use Rattle.std.specs.Prelude.{◌≡◌, ◌<◌, ◌≤◌, ◌+◌, ◌-◌, [], ◌∷◌, ◌++◌, Some, IfOk, map, ⊤, All};
-ghost use Rattle.funnel_io.specs.MemGates.{MemGateState, IsNext, IsTakenBack, IsUnused, served_of};
+ghost use Rattle.std.specs.Prelude.{◌≡◌, ◌<◌, ◌≤◌, ◌+◌, ◌-◌, [], ◌∷◌, ◌++◌, Some, IfOk, map, ⊤, All, false, true};
+ghost use Rattle.funnel_io.specs.MemGates.{MemGateState, IsEnded, IsNext, IsOpened, IsTakenBack, IsUnused, served_of};
 ghost use Rattle.funnel_io.specs.Answers.{MatchNext};
 
 use crate::duplex::MemConn;
 use crate::end::End;
-use crate::gate::{Gate, Next};
+use crate::gate::{Gate, Next, Opening};
 use crate::memory::Memory;
 use crate::served_conn::ServedConn;
 use std::alloc::Global;
 use std::marker::Model;
 
-/// A gate that hands out stored connections, and whose calls of given numbers fail.
+/// A gate that hands out stored connections, and whose calls of `next` of given numbers fail. It can be made to refuse to be opened.
 // The connections wait in reverse, and `total` is the number that waits, is out or was served.
 #[derive(Debug, Drop)]
 pub struct MemGate {
@@ -20,6 +20,9 @@ pub struct MemGate {
     calls: u64,
     fails: Vec<u64>,
     faults: u64,
+    refuses: bool,
+    opened: u64,
+    ended: u64,
 }
 
 impl Model for MemGate {
@@ -35,6 +38,9 @@ impl Model for MemGate {
       calls = g.calls;
       fails = g.fails.items;
       faults = g.faults;
+      refuses = g.refuses;
+      opened = g.opened;
+      ended = g.ended;
     } };
 
     ghost invariant = { λ g. (vec_len g.waiting + vec_len g.served ≤ g.total) × (g.total ≤ vec_capacity g.served) × All IsUnused g.waiting.items };
@@ -52,6 +58,9 @@ impl MemGate {
           calls = 0;
           fails = fails.items;
           faults = 0;
+          refuses = false;
+          opened = 0;
+          ended = 0;
         }) }
     {
         let total = waiting.len();
@@ -64,7 +73,34 @@ impl MemGate {
             calls: 0,
             fails,
             faults: 0,
+            refuses: false,
+            opened: 0,
+            ended: 0,
         })
+    }
+
+    /// The same gate, which refuses to be opened.
+    pub fn refusing(self) -> MemGate
+        ensures { result ≡ record self { refuses = true } }
+    {
+        MemGate {
+            refuses: true,
+            ..self
+        }
+    }
+
+    /// How many calls of `open` were made.
+    pub fn opened(&self) -> u64
+        ensures { result ≡ self.now.opened }
+    {
+        self.opened
+    }
+
+    /// How many calls of `end` were made.
+    pub fn ended(&self) -> u64
+        ensures { result ≡ self.now.ended }
+    {
+        self.ended
     }
 
     /// The connections that came back, oldest first.
@@ -79,7 +115,7 @@ impl Gate for MemGate {
     type Conn = MemConn;
 
     ghost use Rattle.std.specs.Prelude.{◌==◌, Some, length, map};
-    ghost use Rattle.funnel_io.specs.MemGates.{IsNext, IsTakenBack, served_of};
+    ghost use Rattle.funnel_io.specs.MemGates.{IsEnded, IsNext, IsOpened, IsTakenBack, served_of};
 
     ghost gate_faults = { λ g. g.faults };
 
@@ -94,6 +130,21 @@ impl Gate for MemGate {
     ghost next_gives = { IsNext };
 
     ghost done_gives = { IsTakenBack };
+
+    ghost open_gives = { IsOpened };
+
+    ghost end_gives = { IsEnded };
+
+    fn open(&mut self) -> Opening
+        ensures { IsOpened self.old result self.new }
+    {
+        self.opened = self.opened.saturating_add(1);
+        if self.refuses {
+            self.faults = self.faults.saturating_add(1);
+            return Opening::Fault;
+        }
+        Opening::Open
+    }
 
     fn next(&mut self) -> Next<MemConn>
         ensures fresh { MatchNext result IsUnused ⊤ ⊤ }
@@ -121,5 +172,11 @@ impl Gate for MemGate {
             session_end: end,
         };
         self.served.push(served).unwrap();
+    }
+
+    fn end(&mut self)
+        ensures { IsEnded self.old self.new }
+    {
+        self.ended = self.ended.saturating_add(1);
     }
 }

@@ -1,20 +1,22 @@
-ghost use Rattle.std.specs.Prelude.{◌≡◌, ◌<◌, ◌≤◌, ◌^◌, OnOk, IfOk, ⊤};
-ghost use Rattle.funnel_io.specs.Answers.{MatchNext, gate_failed};
+ghost use Rattle.std.specs.Prelude.{◌≡◌, ◌<◌, ◌≤◌, ◌^◌, OnOk, IfOk, ⊤, true, false};
+ghost use Rattle.funnel_io.specs.Answers.{MatchNext, MatchOpening, gate_failed, opening_failed};
 ghost use Rattle.funnel_io.specs.Counts.{counted};
-ghost use Rattle.funnel_io.specs.Std.{IsUnfailed};
+ghost use Rattle.funnel_io.specs.Std.{IsUnfailed, new_gate};
 
 use crate::end::End;
-use crate::gate::{Gate, Next};
+use crate::gate::{Gate, Next, Opening};
+use crate::listening::listen_on;
 use crate::passing::passes;
+use crate::shared_port::SharedPort;
 use crate::tcp_conn::TcpConn;
 use std::io;
 use std::io::ErrorKind;
 use std::marker::Model;
-use std::net::{Ipv4Addr, Net, OpenListener, TcpListener, TcpStream};
+use std::net::{Net, OpenListener, TcpStream};
 use std::time::{Clock, Duration};
 
-/// A gate that listens on a port of 127.0.0.1, from its first `next` on. It tells nothing of its
-/// connections.
+/// A gate that listens on a port of 127.0.0.1 from its opening to its end, alone or with others on a shared port. It tells nothing
+/// of its connections.
 ///
 /// Where the system refuses a connection for want of descriptors or memory, or because the peer is
 /// gone, the next one is waited for. Each other error of the system is a fault of the gate: nothing
@@ -27,32 +29,47 @@ pub struct TcpGate<'a, R: Net<Stream = TcpStream> + Clock> {
     rt: &'a R,
     port: u32,
     idle: u32,
+    shared: Option<&'a SharedPort<R::Listener>>,
     listener: Option<R::Listener>,
     faults: u64,
     error: Option<io::Error>,
 }
 
-// A contract sees the port, the seconds and the count of the calls that failed.
+// A contract sees the port, the seconds, whether it listens, and the count of the calls that failed.
 impl<'a, R: Net<Stream = TcpStream> + Clock> Model for TcpGate<'a, R> {
     ghost use Rattle.std.specs.Prelude.{◌<◌, ◌^◌, IfSome};
+    ghost use Rattle.std.specs.Option.{is_some};
     ghost use Rattle.funnel_io.specs.Std.{PortGate};
 
     ghost Value = { PortGate };
 
-    ghost view = { λ g. record { port = g.port; idle = g.idle; faults = g.faults } };
+    ghost view = { λ g. record { port = g.port; idle = g.idle; listens = is_some g.listener; faults = g.faults } };
 
     ghost invariant = { λ g. IfSome g.listener (λ _. g.port < 2 ^ 16) };
 }
 
 impl<'a, R: Net<Stream = TcpStream> + Clock> TcpGate<'a, R> {
-    /// A gate that does not listen yet. It takes no memory.
+    /// A gate on a port of its own, which does not listen yet. It takes no memory.
     pub fn new(rt: &'a R, port: u32, idle: u32) -> TcpGate<'a, R>
-        ensures { result ≡ record { port = port; idle = idle; faults = 0 } }
+        ensures { result ≡ new_gate idle port }
+    {
+        TcpGate::on(rt, port, idle, None)
+    }
+
+    /// A gate that does not listen yet, on a shared port where there is one, and else on its own. It takes no memory.
+    pub fn on(
+        rt: &'a R,
+        port: u32,
+        idle: u32,
+        shared: Option<&'a SharedPort<R::Listener>>,
+    ) -> TcpGate<'a, R>
+        ensures { result ≡ new_gate idle port }
     {
         TcpGate {
             rt,
             port,
             idle,
+            shared,
             listener: None,
             faults: 0,
             error: None,
@@ -70,19 +87,40 @@ impl<'a, R: Net<Stream = TcpStream> + Clock> TcpGate<'a, R> {
         self.error
     }
 
-    /// Waits for the next connection, and listens before where it does not yet.
-    fn accept(&mut self) -> io::Result<TcpConn>
-        ensures same { self.new ≡ self.old }
-        ensures port { OnOk result (self.old.port < 2 ^ 16) }
+    /// Listens on its port, where there is such a port.
+    fn listen(&self) -> io::Result<R::Listener>
+        ensures { OnOk result (self.now.port < 2 ^ 16) }
+    {
+        let Ok(port) = u16::try_from(self.port) else {
+            return Err(io::Error::from(ErrorKind::InvalidInput));
+        };
+        match self.shared {
+            Some(shared) => shared.copy(self.rt, port),
+            None => listen_on(self.rt, port),
+        }
+    }
+
+    /// Waits for the next connection, where it listens.
+    fn accept(&self) -> io::Result<TcpConn>
+        ensures listens { OnOk result (self.now.listens ≡ true) }
+        ensures port { OnOk result (self.now.port < 2 ^ 16) }
         ensures fresh { IfOk result IsUnfailed }
     {
-        let listener = match self.listener.take() {
-            Some(listener) => listener,
-            None => listen(self.rt, self.port)?,
-        };
-        let accepted = next_stream(self.rt, &listener);
-        self.listener = Some(listener);
-        connection(accepted?, self.idle)
+        match &self.listener {
+            Some(listener) => connection(next_stream(self.rt, listener)?, self.idle),
+            None => Err(io::Error::from(ErrorKind::NotConnected)),
+        }
+    }
+
+    /// Keeps what the system said, and counts the call that failed.
+    fn fail(&mut self, error: io::Error)
+        ensures port { self.new.port ≡ self.old.port }
+        ensures idle { self.new.idle ≡ self.old.idle }
+        ensures listens { self.new.listens ≡ self.old.listens }
+        ensures faults { self.new.faults ≡ counted true self.old.faults }
+    {
+        self.error = Some(error);
+        self.faults = self.faults.saturating_add(1);
     }
 }
 
@@ -102,19 +140,40 @@ impl<R: Net<Stream = TcpStream> + Clock> Gate for TcpGate<'_, R> {
     ghost served = { λ _. None };
 
     /// A port above 65,535 can't be listened on, which is a fault too.
+    fn open(&mut self) -> Opening
+        ensures port { self.new.port ≡ self.old.port }
+        ensures idle { self.new.idle ≡ self.old.idle }
+        ensures listens { MatchOpening result (self.new.listens ≡ true) (self.new.listens ≡ self.old.listens) }
+        ensures there { MatchOpening result (self.old.port < 2 ^ 16) ⊤ }
+        ensures faults { self.new.faults ≡ counted (opening_failed result) self.old.faults }
+    {
+        match self.listen() {
+            Ok(listener) => {
+                self.listener = Some(listener);
+                Opening::Open
+            }
+            Err(error) => {
+                self.fail(error);
+                Opening::Fault
+            }
+        }
+    }
+
+    /// A gate that was not opened, or has ended, has no connection to give, which is a fault.
     fn next(&mut self) -> Next<TcpConn>
         ensures port { self.new.port ≡ self.old.port }
         ensures idle { self.new.idle ≡ self.old.idle }
+        ensures listens { self.new.listens ≡ self.old.listens }
         ensures faults { self.new.faults ≡ counted (gate_failed result) self.old.faults }
         ensures fresh { MatchNext result IsUnfailed ⊤ ⊤ }
-        ensures listens { MatchNext result (λ _. self.old.port < 2 ^ 16) ⊤ ⊤ }
+        ensures listening { MatchNext result (λ _. self.old.listens ≡ true) ⊤ ⊤ }
+        ensures there { MatchNext result (λ _. self.old.port < 2 ^ 16) ⊤ ⊤ }
         ensures never_closed { MatchNext result (λ _. ⊤) ⊥ ⊤ }
     {
         match self.accept() {
             Ok(conn) => Next::Conn(conn),
             Err(error) => {
-                self.error = Some(error);
-                self.faults = self.faults.saturating_add(1);
+                self.fail(error);
                 Next::Fault
             }
         }
@@ -127,15 +186,15 @@ impl<R: Net<Stream = TcpStream> + Clock> Gate for TcpGate<'_, R> {
     {
         conn.end_writing();
     }
-}
 
-// Listens on the port of 127.0.0.1, where there is such a port.
-fn listen<R: Net>(net: &R, port: u32) -> io::Result<R::Listener>
-    ensures { OnOk result (port < 2 ^ 16) }
-{
-    match u16::try_from(port) {
-        Ok(port) => TcpListener::bind(net, (Ipv4Addr::LOCALHOST, port)),
-        Err(_) => Err(io::Error::from(ErrorKind::InvalidInput)),
+    /// Listens no more, on a shared port by its own copy alone.
+    fn end(&mut self)
+        ensures port { self.new.port ≡ self.old.port }
+        ensures idle { self.new.idle ≡ self.old.idle }
+        ensures listens { self.new.listens ≡ false }
+        ensures faults { self.new.faults ≡ self.old.faults }
+    {
+        self.listener = None;
     }
 }
 

@@ -4,8 +4,8 @@ ghost use Rattle.funnel_io.specs.MemGates.{IsUnused};
 
 use crate::streams::source_of;
 use funnel_io::{
-    Connection, End, Gate, Got, MemConn, MemGate, MemSink, Memory, Next, ServedConn, WriteFailed,
-    write_all,
+    Connection, End, Gate, Got, MemConn, MemGate, MemSink, Memory, Next, Opening, ServedConn,
+    WriteFailed, write_all,
 };
 use std::alloc::Global;
 use std::process::Abort;
@@ -69,5 +69,24 @@ fn a_gate_hands_out_its_connections_in_order(rt: HostRuntime) -> Result<(), Fail
     let (first, second) = (Some((End::Done, b'a')), Some((End::Done, b'b')));
     expect_serves(&rt, &mut gate, &[first, None, second, None]);
     expect_replies(&rt, gate.served(), 2);
+    Ok(())
+}
+
+/// What two openings of a gate give, which is ended after each.
+fn openings<G: Gate>(gate: &mut G) -> [Opening; 2] {
+    let first = gate.open();
+    gate.end();
+    let second = gate.open();
+    gate.end();
+    [first, second]
+}
+
+#[test]
+fn a_gate_opens_unless_it_refuses(rt: HostRuntime) -> Result<(), Fail> {
+    let mut gate = gate_of_two(rt.alloc())?;
+    assert_eq!(rt; openings(&mut gate), [Opening::Open; 2]);
+    let mut gate = gate.refusing();
+    assert_eq!(rt; openings(&mut gate), [Opening::Fault; 2]);
+    assert_eq!(rt; (gate.opened(), gate.ended()), (4, 4));
     Ok(())
 }

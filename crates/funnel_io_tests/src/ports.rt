@@ -1,7 +1,8 @@
 //! A gate on a port.
 use crate::network::{Network, Seen};
 use funnel_io::{
-    Connection, End, Gate, Got, Line, LineReader, Memory, Next, Put, TcpGate, write_all,
+    Connection, End, Gate, Got, Line, LineReader, Memory, Next, Opening, Put, SharedPort, TcpGate,
+    write_all,
 };
 use std::alloc::Global;
 use std::io::{ErrorKind, Read, Write};
@@ -79,8 +80,11 @@ fn echo<G: Gate>(gate: &mut G, reader: &mut LineReader) -> Line {
     line
 }
 
-/// Whether the lines of the next two connections are answered to their end.
+/// Whether a gate that is opened answers the lines of the next two connections to their end.
 fn echo_twice<G: Gate>(gate: &mut G, alloc: Global) -> Result<bool, Memory> {
+    if gate.open() == Opening::Fault {
+        return Ok(false);
+    }
     let first = echo(gate, &mut LineReader::new(alloc)?);
     let second = echo(gate, &mut LineReader::new(alloc)?);
     Ok((first, second) == (Line::Finished, Line::Finished))
@@ -100,12 +104,17 @@ fn lines_are_answered_over_tcp(rt: HostRuntime) -> Result<(), Fail> {
     Ok(())
 }
 
-/// Whether the next call of the gate fails.
-fn fails<G: Gate>(gate: &mut G) -> bool
-where
-    G::Conn: Drop,
-{
-    matches!(gate.next(), Next::Fault)
+/// Whether the gate does not open.
+fn fails<G: Gate>(gate: &mut G) -> bool {
+    gate.open() == Opening::Fault
+}
+
+/// What the gate gives next, once it is opened.
+fn opened_next<G: Gate>(gate: &mut G) -> Next<G::Conn> {
+    match gate.open() {
+        Opening::Open => gate.next(),
+        Opening::Fault => Next::Fault,
+    }
 }
 
 /// Whether a gate on the port fails twice.
@@ -150,7 +159,7 @@ fn a_call_that_failed_is_not_made_again(rt: HostRuntime) {
 /// Takes the next connection of a gate on the port 7000 and is done with it. Gives whether a small reply goes out at once.
 fn take_one(network: &Network<'_>) -> io::Result<bool> {
     let mut gate = TcpGate::new(network, 7000, 0);
-    let Next::Conn(conn) = gate.next() else {
+    let Next::Conn(conn) = opened_next(&mut gate) else {
         return Ok(false);
     };
     let at_once = network.seen.is_at_once();
@@ -195,7 +204,8 @@ fn taken_after(rt: &HostRuntime, code: i32) -> io::Result<(bool, Duration)> {
         refusal: Some(code),
         seen: &seen,
     };
-    let taken = matches!(TcpGate::new(&network, 7000, 0).next(), Next::Conn(_));
+    let mut gate = TcpGate::new(&network, 7000, 0);
+    let taken = matches!(opened_next(&mut gate), Next::Conn(_));
     Ok((taken, seen.waited.get()))
 }
 
@@ -254,7 +264,8 @@ fn idle_answers(rt: &HostRuntime) -> io::Result<(Got, Put)> {
         refusal: None,
         seen: &seen,
     };
-    match TcpGate::new(&network, 7000, 1).next() {
+    let mut gate = TcpGate::new(&network, 7000, 1);
+    match opened_next(&mut gate) {
         Next::Conn(mut conn) => Ok((read_from_silent(&mut conn), write_to_deaf(&mut conn))),
         Next::Closed | Next::Fault => Err(io::Error::from(ErrorKind::NotConnected)),
     }
@@ -263,5 +274,47 @@ fn idle_answers(rt: &HostRuntime) -> io::Result<(Got, Put)> {
 #[test]
 fn an_idle_client_is_a_fault_of_its_connection(rt: HostRuntime) -> Result<(), Fail> {
     assert_eq!(rt; idle_answers(&rt)?, (Got::Failed, Put::Failed));
+    Ok(())
+}
+
+/// Whether the gate fails where it is asked for a connection before it is opened, and after its end.
+fn fails_while_closed<G: Gate>(gate: &mut G) -> (bool, bool)
+where
+    G::Conn: Drop,
+{
+    let before = matches!(gate.next(), Next::Fault);
+    let opened = gate.open() == Opening::Open;
+    gate.end();
+    (before, opened && matches!(gate.next(), Next::Fault))
+}
+
+#[test]
+fn a_gate_listens_from_its_opening_to_its_end(rt: HostRuntime) -> Result<(), Fail> {
+    let port = free_port(&rt)?;
+    let mut gate = TcpGate::new(&rt, u32::from(port), 0);
+    assert_eq!(rt; fails_while_closed(&mut gate), (true, true));
+    // The port is free again.
+    let _listener = TcpListener::bind(&rt, (Ipv4Addr::LOCALHOST, port))?;
+    Ok(())
+}
+
+/// Whether each of two gates on a shared port, the first of which ends between, takes a connection.
+fn share(rt: &HostRuntime, port: u16) -> io::Result<[bool; 2]> {
+    let shared = SharedPort::new();
+    let mut one = TcpGate::on(rt, u32::from(port), 0, Some(&shared));
+    let mut other = TcpGate::on(rt, u32::from(port), 0, Some(&shared));
+    if fails(&mut one) || fails(&mut other) {
+        return Ok([false, false]);
+    }
+    let _first = connect(rt, port)?;
+    let by_one = matches!(one.next(), Next::Conn(_));
+    one.end();
+    let _second = connect(rt, port)?;
+    Ok([by_one, matches!(other.next(), Next::Conn(_))])
+}
+
+#[test]
+fn gates_share_a_port(rt: HostRuntime) -> Result<(), Fail> {
+    assert_eq!(rt; share(&rt, free_port(&rt)?)?, [true, true]);
     Ok(())
 }

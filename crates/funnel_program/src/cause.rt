@@ -1,6 +1,6 @@
 //! What a program was refused for, or what failed, in words for the person who reads standard error.
+use crate::spoken_gate::SpokenGate;
 use funnel::{Ended, MOST_PORT, Misfit, Why, usage_fault};
-use funnel_io::TcpGate;
 use funnel_model::{MOST_COLUMNS, MOST_ROW_WORDS};
 use funnel_stats::{ConfigFault, Key};
 use std::io;
@@ -17,7 +17,7 @@ pub(crate) struct Errors {
 pub(crate) fn say_cause(
     rt: &HostRuntime,
     words: &[&str],
-    ended: &Ended<TcpGate<'_, HostRuntime>>,
+    ended: &Ended<SpokenGate<'_>>,
     errors: &Errors,
 ) -> io::Result<()> {
     match &ended.why {
@@ -28,7 +28,7 @@ pub(crate) fn say_cause(
             say_error(rt, "reading standard input", errors.input)
         }
         Why::WriteFault => say_error(rt, "writing standard output", errors.output),
-        Why::GateFault => say_gates(rt, ended.gates.as_slice()),
+        Why::GateFault => say_gates(ended.gates.as_slice()),
         Why::Misfit(misfit) => say_misfit(rt, *misfit),
         Why::Done | Why::Memory | Why::ByteLimit(_) => Ok(()),
     }
@@ -50,15 +50,10 @@ fn say_usage(rt: &HostRuntime, words: &[&str]) -> io::Result<()> {
     }
 }
 
-/// Says of each worker that its gate ended on which port, and why.
-fn say_gates(rt: &HostRuntime, gates: &[TcpGate<'_, HostRuntime>]) -> io::Result<()> {
-    for (worker, gate) in gates.iter().enumerate() {
-        if let Some(error) = gate.error() {
-            eprintln!(rt;
-                "funnel: worker {worker} ended, on port {}: {error}",
-                gate.port()
-            )?;
-        }
+/// Says of each gate that failed why it did.
+fn say_gates(gates: &[SpokenGate<'_>]) -> io::Result<()> {
+    for gate in gates {
+        gate.say_error()?;
     }
     Ok(())
 }

@@ -4,14 +4,20 @@
 
 mod cause;
 mod closed;
+mod spoken_gate;
 
 use cause::{Errors, say_cause, say_error};
 use closed::hold_closed;
-use funnel::{Command, Why, funnel_main, gates_on, idle, ports, read_command, tell_asked};
-use funnel_io::{FileSource, StdinSource, StdoutSink};
+use funnel::{
+    Command, Why, funnel_main, gates_on, idle, ports, read_command, shares_port, tell_asked,
+};
+use funnel_io::{FileSource, SharedPort, StdinSource, StdoutSink};
+use funnel_model::Memory;
+use spoken_gate::{SpokenGate, spoken};
 use std::alloc::Global;
 use std::env;
 use std::io::{ErrorKind, IsTerminal};
+use std::net::TcpListener;
 use std::process::ExitCode;
 
 /// The configuration, in the folder in which the program is started.
@@ -32,13 +38,8 @@ fn main(rt: HostRuntime) -> ExitCode {
     if let Some(why) = tell_asked(words, &mut output) {
         return report_text(&rt, &why, &output);
     }
-    let Ok(ports) = ports(alloc, words) else {
-        return report(&rt, &Why::Memory);
-    };
-    let Ok(idle) = idle(alloc, words) else {
-        return report(&rt, &Why::Memory);
-    };
-    let Ok(gates) = gates_on(&rt, alloc, ports.as_slice(), idle) else {
+    let shared = SharedPort::new();
+    let Ok(gates) = gates(&rt, alloc, words, &shared) else {
         return report(&rt, &Why::Memory);
     };
     say_what_begins(&rt, alloc, words);
@@ -73,7 +74,25 @@ fn args(rt: &HostRuntime) -> Result<Vec<String>, Why> {
     }
 }
 
-/// Says on standard error, where that is a terminal, that a load or a serve begins: neither says anything until it ends.
+/// A gate for each port that the words ask for, or, where these are one, a gate for each worker on the shared port.
+fn gates<'a>(
+    rt: &'a HostRuntime,
+    alloc: Global,
+    words: &[&str],
+    shared: &'a SharedPort<TcpListener>,
+) -> Result<Vec<SpokenGate<'a>>, Memory> {
+    let ports = ports(alloc, words)?;
+    let idle = idle(alloc, words)?;
+    let shared = if shares_port(alloc, words)? {
+        Some(shared)
+    } else {
+        None
+    };
+    let gates = gates_on(rt, alloc, ports.as_slice(), idle, shared)?;
+    Ok(spoken(rt, alloc, gates)?)
+}
+
+/// Says on standard error, where that is a terminal, that a load begins, which says nothing until it ends.
 fn say_what_begins(rt: &HostRuntime, alloc: Global, words: &[&str]) {
     if !rt.stderr().is_terminal() {
         return;
@@ -83,10 +102,6 @@ fn say_what_begins(rt: &HostRuntime, alloc: Global, words: &[&str]) {
         Ok(Command::Load(load)) => eprintln!(rt;
             "funnel: a load of {} documents begins; its summary comes when it is done",
             load.docs
-        ),
-        Ok(Command::Serve(serve)) => eprintln!(rt;
-            "funnel: a serve begins on 127.0.0.1, on {} ports from {} up",
-            serve.workers, serve.port
         ),
         _ => Ok(()),
     };

@@ -1,5 +1,5 @@
 -- A worker's turns, one after another.
-use Rattle.std.proofs.Common.{◌≡◌, ◌<◌, ◌⊎◌, true, false, List, [], ◌∷◌, refl, sym, ap, ◌∙◌, subst, inl, inr, arith}
+use Rattle.std.proofs.Common.{◌≡◌, ◌<◌, ◌⊎◌, true, false, List, [], ◌∷◌, reverse, refl, sym, ap, ◌∙◌, subst, inl, inr, arith}
 use Rattle.std.proofs.lemmas.List.{reverse-append}
 use Rattle.funnel_io.specs.Calls.{Leads, Read, Write}
 use Rattle.funnel_io.specs.Streams.{Incoming, Outgoing}
@@ -10,8 +10,8 @@ use Rattle.funnel_io.specs.declared.gate.Next.TheVariants as next
 use Rattle.funnel_server.proofs.Visits.{serves_none, serves_one, stops_at_limit, stops_without}
 use Rattle.funnel_server.specs.Gates.{sides_of}
 use Rattle.funnel_server.specs.GateTurns.{AsksNoMore, GetsNoMore, TakesTurn, WorksInTurns, none_by}
-use Rattle.funnel_server.specs.Turns.{AsksInVain, ServesInTurn, WorksOnInTurns}
-use Rattle.funnel_server.specs.Workers.{HasMetNoFault, Visit, WorkerWithGate, sides_after, sides_before}
+use Rattle.funnel_server.specs.Turns.{AsksInVain, ServesInTurn, StopsInTurns, WorksOnInTurns}
+use Rattle.funnel_server.specs.Workers.{HasMetNoFault, Visit, WorkerState, WorkerWithGate, Works, sides_after, sides_before}
 
 module _ {G C : Type 0} (next_gives : G → Next C → G → Type 0) (done_gives : G → C → End → G → Type 0)
     (read_gives : C → Read → C → Type 0) (write_gives : C → Write → C → Type 0) (incoming : C → Incoming) (outgoing : C → Outgoing) where
@@ -34,41 +34,60 @@ module _ {G C : Type 0} (next_gives : G → Next C → G → Type 0) (done_gives
 
   -- it asked once more, and got no connection
   pub stops_in_vain : (start before after : WorkerWithGate G) → WorksOnInTurns next_gives done_gives read_gives write_gives incoming outgoing start before →
-      AsksInVain next_gives before after → WorksInTurns next_gives done_gives read_gives write_gives incoming outgoing start after
+      AsksInVain next_gives before after → StopsInTurns next_gives done_gives read_gives write_gives incoming outgoing start after
   stops_in_vain start before after on then = record {
     works = stops_without start.state before.state after.state on.so_far then.gets;
-    in_turns = record {
-      served = before.gate;
-      turns = on.turns;
-      stops = inr (record { some_left = subst (λ n. 0 < n) (sym (ap (λ w. w.left) then.gets.others)) then.gets.some_left; asked = then.asked });
-    };
+    served = before.gate;
+    turns = on.turns;
+    stops = inr (record { some_left = subst (λ n. 0 < n) (sym (ap (λ w. w.left) then.gets.others)) then.gets.some_left; asked = then.asked });
   }
 
   -- it may serve no more
   pub stops_in_time : (start now : WorkerWithGate G) → WorksOnInTurns next_gives done_gives read_gives write_gives incoming outgoing start now →
-      now.state.left ≡ 0 → WorksInTurns next_gives done_gives read_gives write_gives incoming outgoing start now
+      now.state.left ≡ 0 → StopsInTurns next_gives done_gives read_gives write_gives incoming outgoing start now
   stops_in_time start now on none = record {
     works = stops_at_limit start.state now.state on.so_far none;
-    in_turns = record { served = now.gate; turns = on.turns; stops = inl (record { none_left = none; no_fault = on.so_far.no_fault; same = refl }) };
+    served = now.gate;
+    turns = on.turns;
+    stops = inl (record { none_left = none; no_fault = on.so_far.no_fault; same = refl });
   }
 
   -- a turn that touched nothing leaves the sides as they came
   pub sides_stay : (before after : G) (visit : Visit) → Turn before visit after → visit.end ≡ end_of.Memory → sides_after visit ≡ sides_before visit
   sides_stay before after visit turn none = turn.went ∙ ap (sides_of incoming outgoing) (turn.untouched none) ∙ sym turn.came
 
+-- once it has stopped and its gate is ended, which tells what it told before, all its calls are told
+module _ {G C : Type 0} (next_gives : G → Next C → G → Type 0) (done_gives : G → C → End → G → Type 0) (end_gives : G → G → Type 0)
+    (read_gives : C → Read → C → Type 0) (write_gives : C → Write → C → Type 0) (incoming : C → Incoming) (outgoing : C → Outgoing) where
+  -- what it served up to here, by what a worker tells of itself
+  record Stopped (start : WorkerWithGate G) (served stopped : G) (state : WorkerState) : Type 0 where
+    works : Works start.state state
+    turns : Leads (TakesTurn next_gives done_gives read_gives write_gives incoming outgoing) start.gate (reverse works.visits) served
+    stops : AsksNoMore served stopped state ⊎ GetsNoMore next_gives served stopped state
+
+  pub ends_in_turns : (start now after : WorkerWithGate G) → StopsInTurns next_gives done_gives read_gives write_gives incoming outgoing start now →
+      now.state ≡ after.state → end_gives now.gate after.gate → WorksInTurns next_gives done_gives end_gives read_gives write_gives incoming outgoing start after
+  ends_in_turns start now after stops same ended =
+      let told : Stopped start stops.served now.gate after.state =
+      subst (Stopped start stops.served now.gate) same (record { works = stops.works; turns = stops.turns; stops = stops.stops }) in
+      record { works = told.works; in_turns = record { served = stops.served; turns = told.turns; stopped = now.gate; stops = told.stops; ended = ended } }
+
   -- what its gate answered a worker that asked for no connection in vain
-  module _ (before after : WorkerWithGate G) (works : WorksInTurns next_gives done_gives read_gives write_gives incoming outgoing before after) where
+  module _ (before after : WorkerWithGate G) (works : WorksInTurns next_gives done_gives end_gives read_gives write_gives incoming outgoing before after) where
     abbrev served : G
     served = works.in_turns.served
 
-    pub asked_again : 0 < after.state.left → next_gives served (none_by after.state.fault) after.gate
+    abbrev stopped : G
+    stopped = works.in_turns.stopped
+
+    pub asked_again : 0 < after.state.left → next_gives served (none_by after.state.fault) stopped
     asked_again more = by_stop works.in_turns.stops where
-      by_stop : AsksNoMore served after ⊎ GetsNoMore next_gives served after → next_gives served (none_by after.state.fault) after.gate
+      by_stop : AsksNoMore served stopped after.state ⊎ GetsNoMore next_gives served stopped after.state → next_gives served (none_by after.state.fault) stopped
       by_stop (inl no_more) = absurd (omega (arith, no_more.none_left, more))
       by_stop (inr none) = none.asked
 
-    pub asked_in_vain : after.state.fault ≡ true → next_gives served next.Fault after.gate
+    pub asked_in_vain : after.state.fault ≡ true → next_gives served next.Fault stopped
     asked_in_vain fault = by_stop works.in_turns.stops where
-      by_stop : AsksNoMore served after ⊎ GetsNoMore next_gives served after → next_gives served next.Fault after.gate
+      by_stop : AsksNoMore served stopped after.state ⊎ GetsNoMore next_gives served stopped after.state → next_gives served next.Fault stopped
       by_stop (inl no_more) = let both : true ≡ false = sym fault ∙ no_more.no_fault in cc
-      by_stop (inr none) = subst (λ b. next_gives served (none_by b) after.gate) fault none.asked
+      by_stop (inr none) = subst (λ b. next_gives served (none_by b) stopped) fault none.asked

@@ -10,7 +10,7 @@ use Rattle.funnel_io.specs.declared.gate.Next.TheVariants as next
 use Rattle.session.specs.Turns.{StopsReading}
 use Rattle.session.specs.declared.serving.TheConstants.{MOST_BYTES}
 use Rattle.funnel_server.specs.Gates.{sides_of}
-use Rattle.funnel_server.specs.Workers.{Visit, WorkerWithGate, Works, sides_after, sides_before}
+use Rattle.funnel_server.specs.Workers.{Visit, WorkerState, WorkerWithGate, Works, sides_after, sides_before}
 
 -- A turn: the gate handed out a connection; a session led it, line by line, from there to where it went back; it read nothing once it had
 -- taken as many bytes as it may, with Done its last read found the end, and where there was no memory it touched nothing; the gate was given
@@ -34,27 +34,29 @@ none_by true = next.Fault
 none_by false = next.Closed
 
 -- a worker that may serve no more asked for no further connection
-pub record AsksNoMore {G : Type 0} (served : G) (worker : WorkerWithGate G) : Type 0 where
-  pub none_left : worker.state.left ≡ 0
-  pub no_fault : worker.state.fault ≡ false
-  pub same : worker.gate ≡ served
+pub record AsksNoMore {G : Type 0} (served stopped : G) (worker : WorkerState) : Type 0 where
+  pub none_left : worker.left ≡ 0
+  pub no_fault : worker.fault ≡ false
+  pub same : stopped ≡ served
 
 -- a worker that may serve more asked once more, and its gate answered that it is closed, or that it failed
-pub record GetsNoMore {G C : Type 0} (next_gives : G → Next C → G → Type 0) (served : G) (worker : WorkerWithGate G) : Type 0 where
-  pub some_left : 0 < worker.state.left
-  pub asked : next_gives served (none_by worker.state.fault) worker.gate
+pub record GetsNoMore {G C : Type 0} (next_gives : G → Next C → G → Type 0) (served stopped : G) (worker : WorkerState) : Type 0 where
+  pub some_left : 0 < worker.left
+  pub asked : next_gives served (none_by worker.fault) stopped
 
--- all calls of a worker on its gate and its connections: one turn for each visit, and what comes after the last one
-pub record CallsInTurns {G C : Type 0} (next_gives : G → Next C → G → Type 0) (done_gives : G → C → End → G → Type 0)
+-- all calls of a worker on its gate and its connections: one turn for each visit, what comes after the last one, and the gate's end
+pub record CallsInTurns {G C : Type 0} (next_gives : G → Next C → G → Type 0) (done_gives : G → C → End → G → Type 0) (end_gives : G → G → Type 0)
     (read_gives : C → Read → C → Type 0) (write_gives : C → Write → C → Type 0) (incoming : C → Incoming) (outgoing : C → Outgoing)
     (before : G) (visits : List Visit) (after : WorkerWithGate G) : Type 0 where
   pub served : G
   pub turns : Leads (TakesTurn next_gives done_gives read_gives write_gives incoming outgoing) before (reverse visits) served
-  pub stops : AsksNoMore served after ⊎ GetsNoMore next_gives served after
+  pub stopped : G
+  pub stops : AsksNoMore served stopped after.state ⊎ GetsNoMore next_gives served stopped after.state
+  pub ended : end_gives stopped after.gate
 
 -- a worker served some connections and stopped, and these are its calls
-pub record WorksInTurns {G C : Type 0} (next_gives : G → Next C → G → Type 0) (done_gives : G → C → End → G → Type 0)
+pub record WorksInTurns {G C : Type 0} (next_gives : G → Next C → G → Type 0) (done_gives : G → C → End → G → Type 0) (end_gives : G → G → Type 0)
     (read_gives : C → Read → C → Type 0) (write_gives : C → Write → C → Type 0) (incoming : C → Incoming) (outgoing : C → Outgoing)
     (before after : WorkerWithGate G) : Type 0 where
   pub works : Works before.state after.state
-  pub in_turns : CallsInTurns next_gives done_gives read_gives write_gives incoming outgoing before.gate works.visits after
+  pub in_turns : CallsInTurns next_gives done_gives end_gives read_gives write_gives incoming outgoing before.gate works.visits after

@@ -6,8 +6,8 @@ use Rattle.funnel_io.specs.Calls.{Leads, Read, Write}
 use Rattle.funnel_io.specs.Streams.{Incoming, Outgoing}
 use Rattle.funnel_io.specs.declared.end.End.{End}
 use Rattle.funnel_io.specs.declared.gate.Next.{Next}
-use Rattle.funnel_server.specs.GateTurns.{TakesTurn, none_by}
-use Rattle.funnel_server.specs.Workers.{GivesNoMore, HasServedVisits, IsVisit, Visit, WorkerState, WorkerWithGate, is_memory, served_by, sides_before}
+use Rattle.funnel_server.specs.GateTurns.{AsksNoMore, GetsNoMore, TakesTurn, none_by}
+use Rattle.funnel_server.specs.Workers.{GivesNoMore, HasServedVisits, IsVisit, Visit, WorkerState, WorkerWithGate, Works, is_memory, served_by, sides_before}
 
 -- a worker served the first of the connections that waited
 pub record ServesNext (before after : WorkerState) : Type 0 where
@@ -56,3 +56,12 @@ pub record WorksOnInTurns {G C : Type 0} (next_gives : G → Next C → G → Ty
     (before now : WorkerWithGate G) : Type 0 where
   pub so_far : WorksOn before.state now.state
   pub turns : Leads (TakesTurn next_gives done_gives read_gives write_gives incoming outgoing) before.gate (reverse so_far.visits) now.gate
+
+-- a worker served some connections, one in each turn, and stopped; its gate is not ended yet
+pub record StopsInTurns {G C : Type 0} (next_gives : G → Next C → G → Type 0) (done_gives : G → C → End → G → Type 0)
+    (read_gives : C → Read → C → Type 0) (write_gives : C → Write → C → Type 0) (incoming : C → Incoming) (outgoing : C → Outgoing)
+    (before now : WorkerWithGate G) : Type 0 where
+  pub works : Works before.state now.state
+  pub served : G
+  pub turns : Leads (TakesTurn next_gives done_gives read_gives write_gives incoming outgoing) before.gate (reverse works.visits) served
+  pub stops : AsksNoMore served now.gate now.state ⊎ GetsNoMore next_gives served now.gate now.state

@@ -55,11 +55,11 @@ pub fn turns_without_memory_leave_the_connection<G: Gate>()
 /// answer of it.
 pub fn workers_ask_until_they_get_none<G: Gate>()
     ensures more { (before after : WorkerWithGate G)
-        (works : WorksInTurns G.next_gives G.done_gives G.Conn.read_gives G.Conn.write_gives G.Conn.incoming G.Conn.outgoing before after) →
-        0 < after.state.left → G.next_gives works.in_turns.served (none_by after.state.fault) after.gate }
+        (works : WorksInTurns G.next_gives G.done_gives G.end_gives G.Conn.read_gives G.Conn.write_gives G.Conn.incoming G.Conn.outgoing before after) →
+        0 < after.state.left → G.next_gives works.in_turns.served (none_by after.state.fault) works.in_turns.stopped }
     ensures failed { (before after : WorkerWithGate G)
-        (works : WorksInTurns G.next_gives G.done_gives G.Conn.read_gives G.Conn.write_gives G.Conn.incoming G.Conn.outgoing before after) →
-        after.state.fault ≡ true → G.next_gives works.in_turns.served Next.Fault after.gate }
+        (works : WorksInTurns G.next_gives G.done_gives G.end_gives G.Conn.read_gives G.Conn.write_gives G.Conn.incoming G.Conn.outgoing before after) →
+        after.state.fault ≡ true → G.next_gives works.in_turns.served Next.Fault works.in_turns.stopped }
 {}
 
 /// A worker that puts its share of a load asks the calls of all three parts one after another, as a lone caller does: what it

@@ -4,7 +4,7 @@ ghost use Rattle.session.specs.Ends.{Serves};
 ghost use Rattle.session.specs.Turns.{StopsReading};
 ghost use Rattle.session.specs.declared.serving.TheConstants.{MOST_BYTES};
 ghost use Rattle.funnel_server.specs.GateTurns.{WorksInTurns};
-ghost use Rattle.funnel_server.specs.Turns.{AsksInVain, ServesInTurn};
+ghost use Rattle.funnel_server.specs.Turns.{AsksInVain, ServesInTurn, StopsInTurns};
 ghost use Rattle.funnel_server.specs.Workers.{HasMetNoFault, is_memory};
 
 use engine::{Client, PoolName};
@@ -47,10 +47,19 @@ impl<'a, G: Gate, N: PoolName, R: Wait> Model for Worker<'a, G, N, R> {
 }
 
 impl<'a, G: Gate, N: PoolName, R: Wait> Worker<'a, G, N, R> {
-    /// Serves the connections of its gate, until it stops.
+    /// Serves the connections of its gate, until it stops, and ends the gate.
     pub(crate) fn work(&mut self)
         requires { HasMetNoFault self.old.state }
-        ensures { WorksInTurns G.next_gives G.done_gives G.Conn.read_gives G.Conn.write_gives G.Conn.incoming G.Conn.outgoing self.old self.new }
+        ensures { WorksInTurns G.next_gives G.done_gives G.end_gives G.Conn.read_gives G.Conn.write_gives G.Conn.incoming G.Conn.outgoing self.old self.new }
+    {
+        self.serve_all();
+        self.gate.end();
+    }
+
+    /// Serves the connections of its gate, until it stops.
+    fn serve_all(&mut self)
+        requires { HasMetNoFault self.old.state }
+        ensures { StopsInTurns G.next_gives G.done_gives G.Conn.read_gives G.Conn.write_gives G.Conn.incoming G.Conn.outgoing self.old self.new }
     {
         while self.left > 0 {
             if !self.serve_next() {

@@ -20,7 +20,7 @@ where
     requires ready { All (λ worker. HasMetNoFault worker.state) workers.items }
     ensures all { length result.items ≡ length workers.entry.items }
     ensures work { (k : ℕ) (d : _) → k < length workers.entry.items →
-        WorksInTurns G.next_gives G.done_gives G.Conn.read_gives G.Conn.write_gives G.Conn.incoming G.Conn.outgoing
+        WorksInTurns G.next_gives G.done_gives G.end_gives G.Conn.read_gives G.Conn.write_gives G.Conn.incoming G.Conn.outgoing
         (slice_index_or workers.entry.items k d) (slice_index_or result.items k d) }
 {
     let threads = workers.len();
@@ -31,7 +31,7 @@ where
             threads,
             &|_, worker: &mut Worker<G, N, R>|
                 requires { HasMetNoFault worker.old.state }
-                ensures { WorksInTurns G.next_gives G.done_gives G.Conn.read_gives G.Conn.write_gives G.Conn.incoming G.Conn.outgoing worker.old worker.new }
+                ensures { WorksInTurns G.next_gives G.done_gives G.end_gives G.Conn.read_gives G.Conn.write_gives G.Conn.incoming G.Conn.outgoing worker.old worker.new }
             { worker.work() },
         );
     }

@@ -1,13 +1,13 @@
 //! Which commands words are, on which ports a serve listens, and which number of a command doesn't fit.
 use crate::setting::{UNREAD, end_of, expect};
-use funnel::{Command, LoadCommand, Misfit, ServeCommand, Why, ports, read_command};
+use funnel::{Command, LoadCommand, Misfit, ServeCommand, Why, ports, read_command, shares_port};
 use funnel_io::{MemGate, MemSink};
 use std::alloc::{AllocError, Global};
 use std::process::Abort;
 use std::test::Fail;
 
 // What the rows of the gate don't show: the numbers that are meant where none are given, and those of a serve.
-static COMMANDS: [(&[&str], Command); 7] = [
+static COMMANDS: [(&[&str], Command); 8] = [
     (&["run"], Command::Run),
     (
         &["load", "--docs", "5"],
@@ -34,6 +34,7 @@ static COMMANDS: [(&[&str], Command); 7] = [
             workers: 2,
             connections: 4_294_967_296,
             idle: 0,
+            one_port: false,
         }),
     ),
     (
@@ -43,6 +44,7 @@ static COMMANDS: [(&[&str], Command); 7] = [
             workers: 1,
             connections: 1,
             idle: 0,
+            one_port: false,
         }),
     ),
     (
@@ -60,6 +62,7 @@ static COMMANDS: [(&[&str], Command); 7] = [
             workers: 64,
             connections: 4_294_967_296,
             idle: 0,
+            one_port: false,
         }),
     ),
     (
@@ -78,6 +81,17 @@ static COMMANDS: [(&[&str], Command); 7] = [
             workers: 5,
             connections: 9,
             idle: 86_400,
+            one_port: false,
+        }),
+    ),
+    (
+        &["serve", "--one-port", "--port=9", "--workers=3"],
+        Command::Serve(ServeCommand {
+            port: 9,
+            workers: 3,
+            connections: 4_294_967_296,
+            idle: 0,
+            one_port: true,
         }),
     ),
 ];
@@ -89,7 +103,7 @@ fn words_are_read_as_their_command(rt: HostRuntime) {
     }
 }
 
-static PORTS: [(&[&str], &[u32]); 6] = [
+static PORTS: [(&[&str], &[u32]); 7] = [
     (
         &["serve", "--port", "7000", "--workers", "2"],
         &[7_000, 7_001],
@@ -99,6 +113,11 @@ static PORTS: [(&[&str], &[u32]); 6] = [
     (
         &["serve", "--port", "65535", "--workers", "3"],
         &[65_535, 65_536, 65_537],
+    ),
+    // or the one port for each
+    (
+        &["serve", "--port", "7000", "--workers", "3", "--one-port"],
+        &[7_000, 7_000, 7_000],
     ),
     (&["serve", "--port", "7000"], &[]),
     (&["run"], &[]),
@@ -119,6 +138,21 @@ fn expect_ports<R: Abort>(
     );
     expect(rt, ports.into_inner().as_slice(), numbers);
     Ok(())
+}
+
+/// Whether the words let all workers listen on one port.
+static SHARES: [(&[&str], bool); 4] = [
+    (&["serve", "--port=7", "--workers=2", "--one-port"], true),
+    (&["serve", "--port=7", "--workers=2"], false),
+    (&["serve", "--port=7", "--one-port"], false),
+    (&["run"], false),
+];
+
+#[test]
+fn one_port_is_asked_for(rt: HostRuntime) {
+    for (words, shares) in &SHARES {
+        expect(&rt, shares_port(rt.alloc(), words), Ok(*shares));
+    }
 }
 
 #[test]

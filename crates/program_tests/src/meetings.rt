@@ -1,7 +1,7 @@
 //! Connections of a serve that wait for each other.
 use crate::setting::{UNREAD, end_of, expect, source_of};
 use funnel_io::{
-    Borrower, Connection, End, Gate, Got, MemSink, MemSource, Next, Put, Sink, Source,
+    Borrower, Connection, End, Gate, Got, MemSink, MemSource, Next, Opening, Put, Sink, Source,
 };
 use std::alloc::Global;
 use std::marker::Model;
@@ -121,6 +121,10 @@ impl<'a> Gate for MeetingGate<'a> {
 
     ghost served = { λ _. None };
 
+    fn open(&mut self) -> Opening {
+        Opening::Open
+    }
+
     fn next(&mut self) -> Next<Meeting<'a>> {
         match self.waiting.take() {
             Some(conn) => Next::Conn(conn),
@@ -131,6 +135,8 @@ impl<'a> Gate for MeetingGate<'a> {
     fn done(&mut self, conn: Meeting<'a>, end: End) {
         self.served = Some((conn, end));
     }
+
+    fn end(&mut self) {}
 }
 
 fn meeting_gate<'a>(

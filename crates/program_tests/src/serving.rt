@@ -196,3 +196,40 @@ fn expect_many<R: Abort>(rt: &R, gates: &[MemGate]) -> Result<(), Fail> {
     );
     Ok(())
 }
+
+/// Which of the gates of a serve refuse to be opened, its status, how many calls of `open` each gets, and how many connections each
+/// has served. Each is ended once.
+static OPENINGS: [(&[bool], u8, &[(u64, usize)]); 4] = [
+    (&[false, false], 0, &[(1, 1), (1, 1)]),
+    (&[true, false], 6, &[(1, 0), (0, 0)]),
+    (&[false, true], 6, &[(1, 0), (1, 0)]),
+    (&[true, true], 6, &[(1, 0), (0, 0)]),
+];
+
+/// Gates with a connection each, some of which refuse to be opened.
+fn refusing_gates(alloc: Global, refuse: &[bool]) -> Result<Vec<MemGate>, Fail> {
+    let mut gates = Vec::new(alloc);
+    for refuses in refuse {
+        let gate = gate_of(alloc, LINES, &[WHOLE], &[])?;
+        gates.push(if *refuses { gate.refusing() } else { gate })?;
+    }
+    Ok(gates)
+}
+
+#[test]
+fn a_serve_opens_all_gates_or_serves_none(rt: HostRuntime) -> Result<(), Fail> {
+    for (refuse, status, called) in &OPENINGS {
+        let ended = serve(&rt, rt.alloc(), TWO, refusing_gates(rt.alloc(), refuse)?)?;
+        expect(&rt, (refuse, ended.status()), (refuse, *status));
+        expect(&rt, ended.closed.is_some(), *status == 0);
+        expect(&rt, ended.gates.len(), called.len());
+        for (gate, (opened, served)) in ended.gates.iter().zip(*called) {
+            expect(
+                &rt,
+                (gate.opened(), gate.served().len(), gate.ended()),
+                (*opened, *served, 1),
+            );
+        }
+    }
+    Ok(())
+}

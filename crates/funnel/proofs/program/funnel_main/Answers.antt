@@ -4,33 +4,11 @@ use Rattle.funnel_server.specs.Gates.{gate_state}
 use Rattle.funnel.specs.Ends.{why_of_config}
 use Rattle.funnel.specs.Misfits.{misfit_of}
 use Rattle.funnel.specs.Programs.{Streams}
-use Rattle.funnel.specs.Turns.{EndsInTurns}
 use Rattle.funnel.specs.declared.command.Command.TheVariants as command
 use Rattle.funnel.specs.declared.ended.Why.TheVariants as why_of
-use Rattle.funnel.proofs.Endings.{ends_without_engine, serve_in_turns, unopened_in_turns}
+use Rattle.funnel.proofs.Endings.{serve_in_turns}
 use Rattle.funnel.proofs.Turns.{refused_not_done, runs_nowhere}
 use Rattle.funnel.proofs.program.funnel_main.Goals as goal
-
-pub returns-in_default-new-clause-ends : goal.returns-in_default-new-clause-ends
-returns-in_default-new-clause-ends g c =
-    let state = gate_state g.G.Gate.is_closed g.G.Gate.gate_faults g.G.Gate.waiting g.G.Conn.Source.incoming g.G.Conn.Sink.outgoing g.G.Gate.served in
-    let asked = c.in-Ok.command in
-    let config = c.in-Ok-read_config.config in
-    let words : List (List _) = map (λ word. word.now) c.args.words.now in
-    let before : Streams = record {
-      config = g.C.Source.incoming c.args.config.now;
-      input = g.S.Source.incoming c.args.input.now;
-      output = g.K.Sink.outgoing c.args.output.now;
-      gates = map state c.args.gates.items;
-    } in
-    let after : Streams = record before { config = g.C.Source.incoming c.read_config.new.source } in
-    let fits : misfit_of asked (length c.args.gates.items) config ≡ None = search rules in
-    subst (λ e. EndsInTurns g.G.Gate.next_gives g.G.Gate.done_gives g.G.Conn.Source.read_gives g.G.Conn.Sink.write_gives g.G.Conn.Source.incoming g.G.Conn.Sink.outgoing
-    words before (record after { gates = map state e.gates.items }) e.why e.closed c.args.gates.items e.gates.items) (sym c.unopened-in_default-new.ensures)
-    (unopened_in_turns g.G.Gate.next_gives g.G.Gate.done_gives g.G.Conn.Source.read_gives g.G.Conn.Sink.write_gives g.G.Conn.Source.incoming g.G.Conn.Sink.outgoing
-    words before after why_of.Memory c.args.gates.items c.args.gates.items
-    (ends_without_engine words before after asked config (record { words_are = search rules; read = search rules; faults = search rules })
-    (subst (λ n. misfit_of asked n config ≡ None) (sym (length-map c.args.gates.items state)) fits) refl refl refl))
 
 pub returns-in-Err-Memory-clause-in_turns : goal.returns-in-Err-Memory-clause-in_turns
 returns-in-Err-Memory-clause-in_turns g c is_run =
@@ -41,11 +19,6 @@ pub returns-in-Err-clause-in_turns : goal.returns-in-Err-clause-in_turns
 returns-in-Err-clause-in_turns g c is_run =
     runs_nowhere g.S.Source.read_gives g.K.Sink.write_gives (c.args.input.now, c.args.output.now) c.unopened-in-Err.result.why (why_of_config c.in-Err.fault)
     (ap (λ ended. ended.why) c.unopened-in-Err.ensures ∙ c.from.ensures) (refused_not_done c.in-Err.fault)
-
-pub returns-in_default-new-clause-in_turns : goal.returns-in_default-new-clause-in_turns
-returns-in_default-new-clause-in_turns g c is_run =
-    runs_nowhere g.S.Source.read_gives g.K.Sink.write_gives (c.args.input.now, c.args.output.now) c.unopened-in_default-new.result.why why_of.Memory
-    (ap (λ ended. ended.why) c.unopened-in_default-new.ensures) (λ is. cc)
 
 pub returns-in-Serve-clause-ends : goal.returns-in-Serve-clause-ends
 returns-in-Serve-clause-ends g c =
@@ -59,9 +32,9 @@ returns-in-Serve-clause-ends g c =
       output = g.K.Sink.outgoing c.args.output.now;
       gates = map state c.args.gates.items;
     } in
-    let after : Streams = record before { config = g.C.Source.incoming c.read_config.new.source; gates = map state c.serve_gates.result.gates.items } in
+    let after : Streams = record before { config = g.C.Source.incoming c.read_config.new.source; gates = map state c.serve_command.result.gates.items } in
     let fits : misfit_of (command.Serve serve) (length c.args.gates.items) config ≡ None = search rules in
-    serve_in_turns g.G.Gate.next_gives g.G.Gate.done_gives g.G.Conn.Source.read_gives g.G.Conn.Sink.write_gives g.G.Conn.Source.incoming g.G.Conn.Sink.outgoing
-    state words before after c.serve_gates.result.why c.serve_gates.result.closed c.args.gates.items c.serve_gates.result.gates.items serve config refl refl
+    serve_in_turns g.G.Gate.open_gives g.G.Gate.next_gives g.G.Gate.done_gives g.G.Gate.end_gives g.G.Conn.Source.read_gives g.G.Conn.Sink.write_gives g.G.Conn.Source.incoming g.G.Conn.Sink.outgoing
+    state words before after c.serve_command.result.why c.serve_command.result.closed c.args.gates.items c.serve_command.result.gates.items serve config refl refl
     (record { words_are = search rules; read = search rules; faults = search rules })
-    (subst (λ n. misfit_of (command.Serve serve) n config ≡ None) (sym (length-map c.args.gates.items state)) fits) refl refl c.serve_gates.ensures.ends c.serve_gates.ensures.kept
+    (subst (λ n. misfit_of (command.Serve serve) n config ≡ None) (sym (length-map c.args.gates.items state)) fits) refl refl c.serve_command.ensures.ends c.serve_command.ensures.kept

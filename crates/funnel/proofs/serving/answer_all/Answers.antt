@@ -38,7 +38,7 @@ returns g c =
     let cause : c.why_of_workers-why.result ≡ why_of_workers (states_of workers) =
     why ∙ ap₂ (λ fault memory. cond fault why_of.GateFault (cond memory why_of.Memory why_of.Done))
     (any_of_states (λ (w : WorkerState). w.fault) workers) (any_of_states (λ (w : WorkerState). w.memory) workers) in
-    have_worked g.G.Gate.next_gives g.G.Gate.done_gives g.G.Conn.Source.read_gives g.G.Conn.Sink.write_gives g.G.Conn.Source.incoming g.G.Conn.Sink.outgoing
+    have_worked g.G.Gate.next_gives g.G.Gate.done_gives g.G.Gate.end_gives g.G.Conn.Source.read_gives g.G.Conn.Sink.write_gives g.G.Conn.Source.incoming g.G.Conn.Sink.outgoing
     (gate_state g.G.Gate.is_closed g.G.Gate.gate_faults g.G.Gate.waiting g.G.Conn.Source.incoming g.G.Conn.Sink.outgoing g.G.Gate.served) _ c.args.engine.now c.args.connections
     c.args.gates.items c.equip.new.gates.items c.take_back.new.gates.items c.why_of_workers-why.result c.equip.new.passes.items c.take_back.new.passes.items
     c.equip.new.workers.items c.run_workers-workers.result.items c.requires.named c.equip.ensures.workers c.equip.ensures.theirs c.equip.ensures.gates

@@ -32,7 +32,7 @@ returns-clause-ends g c =
     let config_is = opened_config pool c.args.blank c.args.config.now c.in-Ok-open.ensures.engine c.requires.made_with in
     let counted = opened_counted pool c.args.blank c.args.config.now c.in-Ok-open.ensures.engine c.requires.made_with c.requires.limits in
     let enough = subst (λ (k : Config). length c.args.gates.items ≤ k.passes) (sym (opened_config pool c.args.blank c.args.config.now c.in-Ok-open.ensures.engine c.requires.made_with)) c.requires.enough in
-    has_served g.G.Gate.next_gives g.G.Gate.done_gives g.G.Conn.Source.read_gives g.G.Conn.Sink.write_gives g.G.Conn.Source.incoming g.G.Conn.Sink.outgoing
+    has_served g.G.Gate.next_gives g.G.Gate.done_gives g.G.Gate.end_gives g.G.Conn.Source.read_gives g.G.Conn.Sink.write_gives g.G.Conn.Source.incoming g.G.Conn.Sink.outgoing
     (gate_state g.G.Gate.is_closed g.G.Gate.gate_faults g.G.Gate.waiting g.G.Conn.Source.incoming g.G.Conn.Sink.outgoing g.G.Gate.served)
     pool c.args.config.now c.args.connections c.args.gates.items c.answer_all-why.result.1.items c.answer_all-why.result.0 c.answer_all-why.result.2.items
     c.close.result limits_are config_is counted

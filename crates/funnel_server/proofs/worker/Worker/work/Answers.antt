@@ -1,21 +1,28 @@
-use Rattle.std.proofs.Common.{◌≡◌, arith, subst}
-use Rattle.funnel_server.proofs.GateTurns.{no_turn, one_turn, stops_in_time, stops_in_vain}
+use Rattle.std.proofs.Common.{◌≡◌, map, ap, sym, ◌∙◌, subst}
+use Rattle.std.specs.Option.{option_map}
+use Rattle.engine.specs.Clients.{caller_of}
+use Rattle.funnel_server.specs.Gates.{GateState, gate_state, sides_of}
+use Rattle.funnel_server.specs.Workers.{WorkerState, WorkerWithGate}
+use Rattle.funnel_server.proofs.GateTurns.{ends_in_turns}
 use Rattle.funnel_server.proofs.worker.Worker.work.Goals as goal
-
-pub loop-self-init : goal.loop-self-init
-loop-self-init g c = no_turn g.G.Gate.next_gives g.G.Gate.done_gives g.G.Conn.Source.read_gives g.G.Conn.Sink.write_gives g.G.Conn.Source.incoming g.G.Conn.Sink.outgoing _ c.requires
-
-pub loop-self-preserved : goal.loop-self-preserved
-loop-self-preserved g c =
-    one_turn g.G.Gate.next_gives g.G.Gate.done_gives g.G.Conn.Source.read_gives g.G.Conn.Sink.write_gives g.G.Conn.Source.incoming g.G.Conn.Sink.outgoing _ _ _
-    c.loop-self.invariant c.if-not-serve_next.ensures
-
-pub returns-then-not-serve_next : goal.returns-then-not-serve_next
-returns-then-not-serve_next g c =
-    stops_in_vain g.G.Gate.next_gives g.G.Gate.done_gives g.G.Conn.Source.read_gives g.G.Conn.Sink.write_gives g.G.Conn.Source.incoming g.G.Conn.Sink.outgoing _ _ _
-    c.loop-self.invariant c.if-not-serve_next.ensures
 
 pub returns : goal.returns
 returns g c =
-    stops_in_time g.G.Gate.next_gives g.G.Gate.done_gives g.G.Conn.Source.read_gives g.G.Conn.Sink.write_gives g.G.Conn.Source.incoming g.G.Conn.Sink.outgoing _ _
-    c.loop-self.invariant (subst (λ w. w.state.left ≡ 0) c.self.view_is (omega (arith, c.loop-self-test.false)))
+    let state = gate_state g.G.Gate.is_closed g.G.Gate.gate_faults g.G.Gate.waiting g.G.Conn.Source.incoming g.G.Conn.Sink.outgoing g.G.Gate.served in
+    let gate : state c.self.inside.gate ≡ state c.end.new.self = λ i. record {
+      is_closed = sym c.end.ensures.is_closed i;
+      faults = sym c.end.ensures.faults i;
+      waiting = option_map (map (sides_of g.G.Conn.Source.incoming g.G.Conn.Sink.outgoing)) (sym c.end.ensures.waiting i);
+      served = sym c.end.ensures.served i;
+    } in
+    let worker : GateState → WorkerState = λ told. record {
+      gate = told;
+      caller = caller_of c.self.inside.client;
+      front = c.self.inside.client.front;
+      left = c.self.inside.left;
+      fault = c.self.inside.fault;
+      memory = c.self.inside.memory;
+    } in
+    ends_in_turns g.G.Gate.next_gives g.G.Gate.done_gives g.G.Gate.end_gives g.G.Conn.Source.read_gives g.G.Conn.Sink.write_gives g.G.Conn.Source.incoming g.G.Conn.Sink.outgoing
+    _ _ _ c.serve_all.ensures (sym (ap (λ (w : WorkerWithGate _). w.state) c.self.view_is) ∙ ap worker gate)
+    (subst (λ (w : WorkerWithGate _). g.G.Gate.end_gives w.gate c.end.new.self) c.self.view_is c.end.ensures.gives)
