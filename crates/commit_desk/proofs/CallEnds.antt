@@ -2,7 +2,6 @@
 use Rattle.std.proofs.Common.{◌≡◌, ℕ, ◌<◌, false, List, [], ◌∷◌, ◌++◌, Result, Ok, Err, Some, IfOk, MatchResult, sym, refl, ap, ◌∙◌, subst, append-nil}
 use Rattle.std.specs.Prelude.{IfSome}
 use Rattle.funnel_model.specs.declared.claim.Claim.{Claim}
-use Rattle.funnel_model.specs.declared.claim.ClearJob.{ClearJob}
 use Rattle.funnel_model.specs.declared.claim.Token.{Token}
 use Rattle.funnel_model.specs.declared.commit.Commit.{Commit}
 use Rattle.funnel_model.specs.declared.call.Call.TheVariants as call
@@ -30,6 +29,7 @@ use Rattle.commit_desk.specs.declared.answers.JournalFault.TheVariants as journa
 use Rattle.commit_desk.specs.declared.answers.Spent.{Spent}
 use Rattle.commit_desk.specs.declared.answers.Taken.{Taken}
 use Rattle.commit_desk.specs.declared.answers.Taken.TheVariants as taken
+use Rattle.commit_desk.specs.declared.answers.ToClear.{ToClear}
 use Rattle.commit_desk.specs.Desks.{DeskState, Makes, NothingUnderLast, NothingYet}
 use Rattle.commit_desk.specs.Passes.{IsFinding, IsResting, IsSeated, IsToClear, IsToDo, IsToWrite}
 
@@ -97,9 +97,13 @@ module _ (pool : PoolId) (before after : DeskState) (seat next : PassState) (her
             in_range = subst (λ (p : PoolId). slice < p.limits.slices) of in';
           }
 
-      pub clears_or_rests : (answer : Result ClearJob ClearRefusal) → AnswersClear most before.pool.limits before.history seat.number answer → Makes (events_of_clear seat.number answer) before after seat next →
-          MatchResult answer (λ job. IsToClear pool job next) (λ _. IsResting pool next)
-      clears_or_rests (Ok job) may made = to_clear job.slice may.1.in_range made
+      -- it has as many old slots as a slice of the pool has columns
+      old_slots : (work : ToClear) → work.slots ≡ before.pool.limits.columns → work.slots ≡ pool.limits.columns
+      old_slots work are = are ∙ ap (λ (p : PoolId). p.limits.columns) of
+
+      pub clears_or_rests : (answer : Result ToClear ClearRefusal) → AnswersClear most before.pool.limits before.history seat.number answer → Makes (events_of_clear seat.number answer) before after seat next →
+          MatchResult answer (λ work. IsToClear pool work.job next × (work.slots ≡ pool.limits.columns)) (λ _. IsResting pool next)
+      clears_or_rests (Ok work) may made = (to_clear work.job.slice may.1.in_range made, old_slots work may.2)
       clears_or_rests (Err (clear.Spent events)) may made = rests_none idle made
       clears_or_rests (Err clear.NoneRetired) may made = rests_one (event.No seat.number call.Recycle) refl refl made
       clears_or_rests (Err (clear.Guarded slice guard opened_at)) may made = rests_one (event.No seat.number call.Recycle) refl refl made
@@ -130,7 +134,7 @@ module _ (pool : PoolId) (before after : DeskState) (seat next : PassState) (her
           let e = event.Take seat.number claim.slice claim.column in
           to_write (e ∷ []) claim.slice claim.column may.1.in_range (taken_within claim.slice claim.column made)
           (last_made before after seat next e refl made ∙ ap (λ n. Some (event.Take n claim.slice claim.column)) (sym made.number)) nothing made
-      is_to_do id text (taken.Clear job) may nothing made = to_clear job.slice may.2.in_range made
+      is_to_do id text (taken.Clear work) may nothing made = (to_clear work.job.slice may.2.in_range made, old_slots work may.3)
       is_to_do id text (taken.Refused (add.Spent events)) may nothing made = rests_none idle made
       is_to_do id text (taken.Refused (add.Present added)) may nothing made = rests_one (event.No seat.number (call.Add id text)) refl refl made
       is_to_do id text (taken.Refused (add.Full blocks)) may nothing made = rests_one (event.No seat.number (call.Add id text)) refl refl made

@@ -4,7 +4,6 @@ use Rattle.std.proofs.lemmas.Bool.{both_ways, false≢true, or_from, or_parts}
 use Rattle.std.proofs.lemmas.List.Folds.{list_any-append}
 use Rattle.std.specs.List.{fold, list_any, range_with_len}
 use Rattle.std.specs.Prelude.{count_by}
-use Rattle.document_store.specs.Slots.{slot_at}
 use Rattle.funnel_model.specs.declared.event.Event.{Event}
 use Rattle.funnel_model.specs.declared.event.Event.TheVariants as event
 use Rattle.funnel_model.specs.Events.{deletes_or_drops, drops_on, moves, opens, takes_off}
@@ -13,10 +12,9 @@ use Rattle.funnel_model.specs.Reserve.{IsSource}
 use Rattle.funnel_model.specs.Slices.{ColumnState, Deleted, Dropped, Live, Pending, Unclaimed, IsDeletedOn, IsInState, is_claimed, span}
 use Rattle.funnel_model.proofs.CausedMoves.{uncaused}
 use Rattle.slice_rule.specs.Pools.{PoolId}
+use Rattle.funnel_model.proofs.Columns.{some_state}
 use Rattle.commit_desk.specs.Kept.{Books, IsDesk}
-use Rattle.commit_desk.specs.Records.{state_of}
 use Rattle.commit_desk.proofs.Emptying.{one_more}
-use Rattle.commit_desk.proofs.RecordFacts.{is_column}
 
 -- where fewer than all pass, one doesn't
 some_fails : (p : ℕ → Bool) (n : ℕ) → count_by p (range_with_len 0 n) < n → (k : ℕ) × (k < n) × (p k ≡ false)
@@ -108,6 +106,5 @@ source_is_caused pool most history books slice held desk source = by (list_any d
   by true is = is
   by false is =
       let none = none_acts history is (uncaused history desk.kept.caused is) in
-      let recorded = desk.kept.recorded in
-      let column = is_column pool.limits history books.table desk.kept.legal recorded slice at.0 source.in_range at.1 in
-      absurd (by_state none (state_of (slot_at books.table slice at.0)) (recorded.each slice at.0 column).state)
+      let state = some_state pool.limits history slice at.0 desk.kept.legal in
+      absurd (by_state none state.0 state.1)

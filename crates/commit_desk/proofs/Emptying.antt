@@ -1,6 +1,6 @@
 -- How many columns are spare, ready and held, by what is kept of the slices.
 use Rattle.std.proofs.Common.{◌≡◌, ⊎_elim, inl, inr, ℕ, zero, suc, ◌+◌, ◌-◌, ◌<◌, ◌≤◌, Bool, true, false, not, cond, List, [], ◌∷◌, length, get_or, take, map, count_by, Option, Some, None, sym, refl, ap, ◌∙◌, subst, add-one, ltb-false, ltb-true, arith}
-use Rattle.std.proofs.lemmas.Bool.{both_ways, cases_lt, false≢true}
+use Rattle.std.proofs.lemmas.Bool.{both_ways, cases_lt, false_from_ne_true, false≢true}
 use Rattle.std.proofs.lemmas.Bool.Decides.{leb_tells}
 use Rattle.std.proofs.lemmas.List.{get_or-map, length-map, take_all}
 use Rattle.std.proofs.lemmas.List.Sums.{sum_by-cons, sum_by_more}
@@ -8,14 +8,14 @@ use Rattle.std.specs.List.{list_any, range_with_len, sum, sum_by}
 use Rattle.std.specs.Prelude.{MatchOption, ◌==◌}
 use Rattle.document_store.proofs.SlotLemmas.{length-slots_of, slot_at-slots_of}
 use Rattle.document_store.specs.Slots.{IsColumn, Table, free_slot, slot_at, slots_of, is_over}
-use Rattle.document_store.specs.declared.records.Slot.{Slot}
+use Rattle.document_store.specs.declared.slots.Slot.{Slot}
 use Rattle.funnel_model.specs.Blocks.{IsHeld}
 use Rattle.funnel_model.specs.declared.event.Event.{Event}
 use Rattle.funnel_model.specs.Legal.{IsLegal, Limits}
 use Rattle.funnel_model.specs.Reserve.{CanBeEmptied, HasReadyColumns, HasReadyIn, HasSpareColumns, HasSpareIn, HoldsColumns, IsSource, unclaimed_in}
-use Rattle.funnel_model.specs.Slices.{AllOver, ColumnState, Deleted, Dropped, Live, Pending, Unclaimed, IsFilled, IsInState, IsOver, claimed, is_claimed}
+use Rattle.funnel_model.specs.Slices.{AllOver, ColumnState, Deleted, Dropped, Live, Pending, Unclaimed, IsFilled, IsInState, IsOver, claimed, is_claimed, is_clearing}
 use Rattle.funnel_model.proofs.ClaimLemmas.{any_in_range, filled_by, none_in_range, unclaimed_next}
-use Rattle.funnel_model.proofs.Columns.{clearing_is_over}
+use Rattle.funnel_model.proofs.Columns.{clearing_is_over, one_state, some_state}
 use Rattle.funnel_model.proofs.Ranges.{count_by-range_more}
 use Rattle.funnel_model.proofs.ReserveLemmas.{emptied_holds, one_held_count}
 use Rattle.slice_stages.specs.Stages.{StageTable, IsUsed, empty_stage, ready_in, ready_of, spare_in, spare_of, stage_of}
@@ -26,7 +26,7 @@ use Rattle.commit_desk.specs.Moving.{HasLive, IsPartlyHeld, is_fewer}
 use Rattle.commit_desk.specs.Records.{AreRecorded, state_of}
 use Rattle.commit_desk.proofs.Marks.{IsNextMark, after_mark, by_mark}
 use Rattle.commit_desk.proofs.Slots.{column_by_over}
-use Rattle.commit_desk.proofs.StageFacts.{by_is_clearing, count_by_over, in_table, retired_since, state_is, used_by_stage}
+use Rattle.commit_desk.proofs.StageFacts.{by_is_clearing, in_table, retired_since, state_is, used_by_stage}
 use Rattle.commit_desk.proofs.StageReadings.{none_left, not_over_by_state}
 
 -- ---- sums
@@ -37,6 +37,14 @@ sum-map f (x ∷ xs) = sum_by-cons (λ (n : ℕ). n) (f x) (map f xs) ∙ ap (λ
 
 pub one_more : (p : ℕ → Bool) (n : ℕ) → count_by p (range_with_len 0 (suc n)) ≡ count_by p (range_with_len 0 n) + cond (p n) 1 0
 one_more p n = ap (λ k. count_by p (range_with_len 0 k)) (sym (add-one n)) ∙ count_by-range_more p n
+
+-- where none passes the test none is counted
+none_counted : (p : ℕ → Bool) (n : ℕ) → ((k : ℕ) → k < n → p k ≡ false) → count_by p (range_with_len 0 n) ≡ 0
+none_counted p zero none = refl
+none_counted p (suc n) none =
+    let before = none_counted p n (λ k low. none k (omega (arith, low))) in
+    let last : cond {A = ℕ} (p n) 1 0 ≡ 0 = ap (λ b. cond {A = ℕ} b 1 0) (none n (omega arith)) in
+    omega (arith, one_more p n, before, last)
 
 -- the columns past the first ones, which are claimed
 unclaimed_past : (slice first : ℕ) (history : List Event) → claimed slice history ≡ range_with_len 0 first → (n : ℕ) → unclaimed_in n slice history ≡ n - first
@@ -144,8 +152,8 @@ module _ (limits : Limits) (history : List Event) (table : Table) (tokens : List
   not_false false is = refl
 
   -- in a filled slice those columns are held that aren't over
-  pub holds_others : (slice : ℕ) → slice < limits.slices → IsFilled limits.columns slice history → HoldsColumns limits.columns history slice (limits.columns - count_by is_over (slots_of table slice))
-  holds_others slice in' filled =
+  pub holds_others : (slice : ℕ) → slice < limits.slices → is_clearing slice history ≡ false → IsFilled limits.columns slice history → HoldsColumns limits.columns history slice (limits.columns - count_by is_over (slots_of table slice))
+  holds_others slice in' uncleared filled =
       let slots = slots_of table slice in
       let long : length slots ≡ limits.columns = length-slots_of table slice (let h = recorded.slices_are in omega arith) recorded.size ∙ recorded.columns_are in
       record {
@@ -153,7 +161,7 @@ module _ (limits : Limits) (history : List Event) (table : Table) (tokens : List
         tells = λ column below.
             let at' = in_table limits history table legal recorded slice column in' below in
             let at : IsColumn table slice column = record { slice_in_range = at'.slice_in_range; column_in_range = at'.column_in_range } in
-            let is = recorded.each slice column at' in
+            let is = recorded.each slice column at' uncleared in
             let same : is_over (slot_at table slice column) ≡ is_over (get_or slots column free_slot) = ap is_over (slot_at-slots_of table slice column at.column_in_range) in
             let x = state_of (slot_at table slice column) in (
               λ free. (
@@ -164,8 +172,8 @@ module _ (limits : Limits) (history : List Event) (table : Table) (tokens : List
                     (sym same ∙ column_by_over (slot_at table slice column) is.fits over)),
               ),
               λ held.
-                  let state = state_is limits history table legal recorded slice column held.0 in' below held.1 in
-                  ap not (sym same ∙ not_over_by_state limits history table legal recorded slice column at held.0 state (held_not_over held.0 held.2)),
+                  let state = state_is limits history table legal recorded slice column held.0 in' below uncleared held.1 in
+                  ap not (sym same ∙ not_over_by_state limits history table legal recorded slice column at uncleared held.0 state (held_not_over held.0 held.2)),
             );
         count =
             let both = over_and_others slots limits.columns (omega (arith, long)) in
@@ -183,7 +191,7 @@ module _ (limits : Limits) (history : List Event) (table : Table) (tokens : List
       let left = used.some_left in
       record {
         filled = filled;
-        holds = subst (λ n. HoldsColumns limits.columns history slice (limits.columns - n)) (sym used.count) (holds_others slice in' filled);
+        holds = subst (λ n. HoldsColumns limits.columns history slice (limits.columns - n)) (sym used.count) (holds_others slice in' used.not_clearing filled);
         some = omega (arith, left);
         fewer = omega (arith, left, some);
       }
@@ -193,29 +201,38 @@ module _ (limits : Limits) (history : List Event) (table : Table) (tokens : List
   all_over_by slice in' (stage.InUse first over) at unused = absurd (unused tt)
   all_over_by slice in' (stage.Retired number) at unused = (retired_since limits.columns slice number history at).over
   all_over_by slice in' (stage.Clearing pass) at unused = λ column below.
-      let at' = in_table limits history table legal recorded slice column in' below in
-      let x = state_of (slot_at table slice column) in
-      let is = (recorded.each slice column at').state in
-      (x, is, clearing_is_over limits history slice column x legal (by_is_clearing pass slice history at) below is)
+      let state = some_state limits history slice column legal in
+      (state.0, state.1, clearing_is_over limits history slice column state.0 legal (by_is_clearing pass slice history at) below state.1)
 
   pub not_partly : (slice held : ℕ) → slice < limits.slices → IsPartlyHeld limits.columns history slice held →
       (first : ℕ) × (over : ℕ) × (stage_of stages slice ≡ stage.InUse first over) × (first ≡ limits.columns) × (0 < over) × (held ≡ limits.columns - over)
   not_partly slice held in' partly = by_stage (stage_of stages slice) refl (at_stage slice in') where
-    holds : HoldsColumns limits.columns history slice (limits.columns - count_by is_over (slots_of table slice))
-    holds = holds_others slice in' partly.filled
+    one : is_clearing slice history ≡ false → held ≡ limits.columns - count_by is_over (slots_of table slice)
+    one uncleared =
+        one_held_count limits.columns history slice held (limits.columns - count_by is_over (slots_of table slice)) partly.holds (holds_others slice in' uncleared partly.filled)
 
-    one : held ≡ limits.columns - count_by is_over (slots_of table slice)
-    one = one_held_count limits.columns history slice held (limits.columns - count_by is_over (slots_of table slice)) partly.holds holds
+    none_held : AllOver limits.columns slice history → (column : ℕ) → column < limits.columns → partly.holds.is_held column ≡ false
+    none_held over column below =
+        false_from_ne_true (partly.holds.is_held column)
+        (λ held_there.
+        let state = (partly.holds.tells column below).0 held_there in
+        let was = over column below in
+        held_not_over state.0 state.2 (subst IsOver (one_state limits history slice column was.0 state.0 legal was.1 state.1) was.2))
 
     by_over : AllOver limits.columns slice history → ⊥
-    by_over over = let all = count_by_over limits history table legal recorded slice in' over in let some = partly.some in omega (arith, all, one, some)
+    by_over over =
+        let none = none_counted partly.holds.is_held limits.columns (none_held over) in
+        let count = partly.holds.count in
+        let some = partly.some in
+        omega (arith, none, count, some)
 
     by_stage : (s : Stage) → stage_of stages slice ≡ s → IsAtStage limits.columns history table slice s →
         (first : ℕ) × (over : ℕ) × (stage_of stages slice ≡ stage.InUse first over) × (first ≡ limits.columns) × (0 < over) × (held ≡ limits.columns - over)
     by_stage (stage.InUse first over) is at =
         let within = at.within in
         let counted = at.count in
-        let fewer = partly.fewer in (
+        let fewer = partly.fewer in
+        let one = one at.not_clearing in (
           first,
           over,
           is,

@@ -85,7 +85,7 @@ module _ (pool : PoolId) (most : ℕ) (history : List Event) (books : Books) (is
           columns_are = kept.columns_are;
           events_are = sym (length-append history (e ∷ []));
           journal_is = journal-silent pool.limits.commits history (history ++ e ∷ []) books.journal (commits-silent history e silent.commit) kept.journal_is;
-          recorded = recorded-same pool.limits history e kept.legal allowed books.table silent.stays kept.recorded;
+          recorded = recorded-same pool.limits history e kept.legal allowed books.table silent.stays (λ slice. ((silent.leaves slice).opens, (silent.leaves slice).clears)) kept.recorded;
           listed = kept.listed;
           tokens_are = tokens_are;
           staged = record {

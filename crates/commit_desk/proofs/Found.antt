@@ -1,6 +1,6 @@
 -- What a find finds of its candidates by the records is what they give by the history before it, although other passes made events since.
-use Rattle.std.proofs.Common.{◌≡◌, ◌↔◌, ⊎_elim, ℕ, ◌+◌, ◌<◌, Bool, true, false, cond, ◌&&◌, List, [], ◌∷◌, ◌++◌, length, get_or, map, filter, filter_map, Option, Some, None, refl, sym, ap, ◌∙◌, subst, arith, append_assoc, Contains, IsSorted, IsPermutation}
-use Rattle.std.proofs.lemmas.Bool.{and_from, and_parts, eqb-true, false_from_ne_true, lt-ltb, ltb-true, or_from, or_parts}
+use Rattle.std.proofs.Common.{◌≡◌, ◌↔◌, ℕ, ◌+◌, ◌<◌, Bool, true, false, cond, ◌&&◌, List, [], ◌∷◌, ◌++◌, length, filter_map, Option, Some, None, refl, sym, ap, ◌∙◌, subst, arith, append_assoc, Contains}
+use Rattle.std.proofs.lemmas.Bool.{and_from, and_parts, false_from_ne_true, lt-ltb, ltb-true, or_from, or_parts}
 use Rattle.std.proofs.lemmas.List.Folds.{list_any-append}
 use Rattle.std.specs.List.{list_any}
 use Rattle.std.specs.Option.{is_some}
@@ -22,11 +22,11 @@ use Rattle.funnel_model.specs.History.{Document, live}
 use Rattle.funnel_model.specs.Legal.{IsLegal, Limits}
 use Rattle.funnel_model.specs.RowWords.{IsCommitted}
 use Rattle.funnel_model.specs.Sizes.{words_of_slice}
-use Rattle.funnel_model.specs.Slices.{ColumnState, Live, IsInState, IsInUse, IsLiveOn, is_clearing}
+use Rattle.funnel_model.specs.Slices.{Live, IsInState, IsInUse, IsLiveOn, is_clearing}
 use Rattle.funnel_model.specs.Tokens.{HasToken, seen_by}
 use Rattle.funnel_model.specs.Words.{AreWordsOf, meets, words}
 use Rattle.funnel_model.proofs.AnswerLemmas.{Contains-cons, kept_by_filter}
-use Rattle.funnel_model.proofs.Clears.{read_later}
+use Rattle.funnel_model.proofs.Clears.{read_later, read_not_clearing}
 use Rattle.funnel_model.proofs.Columns.{clearing_is_over, not_retired_by, one_state}
 use Rattle.funnel_model.proofs.Histories.{legal_before}
 use Rattle.funnel_model.proofs.LiveColumns.{live_column_is_live, live_has_column, live_on_one_column}
@@ -129,6 +129,10 @@ module _ (config : Config) (limits : Limits) (history : List Event) (table : Tab
         in_use = used;
       })).0
 
+  -- nor is it being cleared
+  open_now : (slice : ℕ) → IsInUse limits.columns slice token.earlier → is_clearing slice history ≡ false
+  open_now slice used = read_not_clearing limits history pass slice legal (record { number = number; token = token; in_use = used })
+
   -- the slice of a live column was in use
   live_in_use : (slice column : ℕ) (d : Document) (since : ℕ) → column < limits.columns → IsLiveOn token.earlier slice column d since → IsInUse limits.columns slice token.earlier
   live_in_use slice column d since below is = record {
@@ -173,7 +177,7 @@ module _ (config : Config) (limits : Limits) (history : List Event) (table : Tab
       (given : Option (ℕ × ℕ)) → found_at table set number (slice, column) ≡ given → Gives token.earlier token.query (slice, column) given
   table_gives set slice column of_query in_table used (Some found) gives =
       let slot = slot_at table slice column in
-      let rec = recorded.each slice column in_table in
+      let rec = recorded.each slice column in_table (open_now slice used) in
       let is = found_in-tells slot set number found gives in
       let d = document_added_at found.0 is.doc in
       let was =
@@ -187,7 +191,7 @@ module _ (config : Config) (limits : Limits) (history : List Event) (table : Tab
   table_gives set slice column of_query in_table used None none = λ d since lives.
       false_from_ne_true (meets d.text token.query) (λ met.
       let slot = slot_at table slice column in
-      let rec = recorded.each slice column in_table in
+      let rec = recorded.each slice column in_table (open_now slice used) in
       let seen = sees_all_that_was_live limits history pass number d legal token (live_column_is_live token.earlier slice column d since lives) in
       let one = live_on_one_column limits token.earlier seen.0 seen.1 slice column seen.2 since d d legal_earlier seen.6 lives refl in
       let here : IsInState history slice column seen.3 = subst (λ s. IsInState history s column seen.3) one.0 (subst (λ k. IsInState history seen.0 k seen.3) one.1 seen.9) in

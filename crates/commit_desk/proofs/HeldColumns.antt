@@ -28,29 +28,29 @@ held_in became.Dropped doc fits not_live not_pending held = held
 
 -- one more column that isn't recorded as live or pending
 pub none_held-next : (limits : Limits) (history : List Event) (table : Table) (slice column : ℕ) → IsLegal limits history → AreRecorded limits history table → slice < limits.slices →
-    column < limits.columns → ((added since : ℕ) → (slot_at table slice column).column ≡ became.Live added since → ⊥) → ((pass : ℕ) → (slot_at table slice column).column ≡ became.Pending pass → ⊥) →
+    column < limits.columns → is_clearing slice history ≡ false → ((added since : ℕ) → (slot_at table slice column).column ≡ became.Live added since → ⊥) → ((pass : ℕ) → (slot_at table slice column).column ≡ became.Pending pass → ⊥) →
     NoneHeldBelow history slice column → NoneHeldBelow history slice (column + 1)
-none_held-next limits history table slice column legal recorded in' below not_live not_pending before lower low other is held =
+none_held-next limits history table slice column legal recorded in' below uncleared not_live not_pending before lower low other is held =
     ⊎_elim
     (λ (less : lower < column). before lower less other is held)
     (λ (high : column ≤ lower).
     let same : lower ≡ column = omega arith in
     let slot = slot_at table slice column in
-    let at = recorded.each slice column (in_table limits history table legal recorded slice column in' below) in
+    let at = recorded.each slice column (in_table limits history table legal recorded slice column in' below) uncleared in
     let here : IsInState history slice column other = subst (λ k. IsInState history slice k other) same is in
     held_in slot.column slot.doc at.fits not_live not_pending (subst IsHeld (one_state limits history slice column other (state_of slot) legal here at.state) held))
     (cases_lt lower column)
 
 -- none of the first columns of a slice is that are recorded as over
-pub none_held-over : (limits : Limits) (history : List Event) (table : Table) (slice column : ℕ) → IsLegal limits history → AreRecorded limits history table →
+pub none_held-over : (limits : Limits) (history : List Event) (table : Table) (slice column : ℕ) → IsLegal limits history → AreRecorded limits history table → is_clearing slice history ≡ false →
     ((at : ℕ) → IsColumn table slice at → at < column → is_over (slot_at table slice at) ≡ true) → NoneHeldBelow history slice column
-none_held-over limits history table slice column legal recorded over lower low other is held =
+none_held-over limits history table slice column legal recorded uncleared over lower low other is held =
     let claimed =
     true_from_ne_false (is_claimed slice lower history) (λ unclaimed. subst IsHeld (one_state limits history slice lower other Unclaimed legal is unclaimed) held) in
     let in' = claimed_in_range limits history slice lower legal claimed in
     let here = in_table limits history table legal recorded slice lower in'.0 in'.1 in
     let slot = slot_at table slice lower in
-    let at = recorded.each slice lower here in
+    let at = recorded.each slice lower here uncleared in
     held_in slot.column slot.doc at.fits
     (λ added since live. both_ways (is_over slot) (ap is_over_in live) (over lower here low))
     (λ pass pending. both_ways (is_over slot) (ap is_over_in pending) (over lower here low))

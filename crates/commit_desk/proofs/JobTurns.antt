@@ -1,6 +1,6 @@
 -- A call of a pass that holds a job: it catches up, and opens the slice that it cleared.
 use Rattle.std.proofs.Common.{◌≡◌, ℕ, ◌+◌, ◌<◌, ◌≤◌, Bool, true, false, List, [], ◌∷◌, ◌++◌, length, Some, sym, ap, ◌∙◌, subst, arith}
-use Rattle.document_store.specs.Slots.{Table, with_free_slice}
+use Rattle.document_store.specs.Slots.{Table, is_out, with_slice}
 use Rattle.funnel_model.specs.declared.claim.ClearJob.{ClearJob}
 use Rattle.funnel_model.specs.declared.event.Event.{Event}
 use Rattle.funnel_model.specs.declared.event.Event.TheVariants as event
@@ -8,7 +8,7 @@ use Rattle.funnel_model.specs.History.{IsFrontOf, last_by}
 use Rattle.funnel_model.specs.Legal.{IsAllowed, Limits}
 use Rattle.funnel_model.proofs.Clears.{last_by-front}
 use Rattle.funnel_model.proofs.Histories.{legal-push}
-use Rattle.funnel_model.proofs.LastEvents.{last_is_clearer}
+use Rattle.funnel_model.proofs.LastEvents.{last_is_clearer, last_is_clearing}
 use Rattle.funnel_model.proofs.NextEvents.{clears_in_range}
 use Rattle.funnel_model.proofs.Progress.{allowed_by}
 use Rattle.row_layout.proofs.BitLemmas.{columns-positive}
@@ -69,6 +69,17 @@ module _ (before : DeskState) (most : ℕ) (caught : HomeState) (books : Books) 
   pub slice_in_range : slice < caught.pool.limits.slices
   slice_in_range = clears_in_range caught.pool.limits caught.history turn.desk.kept.legal pass slice turn.last
 
+  -- its slots were taken out
+  pub slice_out : is_out books.table slice ≡ true
+  slice_out =
+      let kept = turn.desk.kept in
+      let in' = slice_in_range in
+      kept.recorded.out slice (let h = kept.recorded.slices_are in omega (arith, h, in')) ∙ last_is_clearing caught.pool.limits caught.history pass slice kept.legal turn.last
+
+  -- and as many come back as it has columns
+  pub slots_back : (slots : ℕ) → slots ≡ before.pool.limits.columns → slots ≡ books.table.columns
+  slots_back slots are = are ∙ ap (λ (d : DeskState). d.pool.limits.columns) (sym turn.view) ∙ sym turn.desk.kept.recorded.columns_are
+
   -- it is at the stage Clearing
   pub slice_clearing : (clearer : ℕ) × (stage_of books.stages slice ≡ stage.Clearing clearer)
   slice_clearing =
@@ -86,13 +97,13 @@ module _ (before : DeskState) (most : ℕ) (caught : HomeState) (books : Books) 
 
     -- what is kept then
     pub opened_kept : (home : HomeState) (events : ℕ) (table : Table) (stages : StageTable) → IsSameHome (after_append caught (event.Opened pass slice alone)) home → events ≡ length caught.history + 1 →
-        table ≡ with_free_slice books.table slice → stages ≡ with_stage books.stages slice empty_stage →
+        table ≡ with_slice books.table slice → stages ≡ with_stage books.stages slice empty_stage →
         AreBooksOf caught.pool.config caught.pool.limits most home.history (books_after books events table stages)
     opened_kept home events table stages same events_are table_is stages_are =
         let e = event.Opened pass slice alone in
         let few = few-next most caught.pool.limits.passes caught.history e (event.Clear pass slice) turn.desk.kept.few opened_allowed.pass turn.last (few_left alone) in
         kept-as caught.pool.config caught.pool.limits most (caught.history ++ e ∷ []) home.history
-        (books_after books (length caught.history + 1) (with_free_slice books.table slice) (with_stage books.stages slice empty_stage))
+        (books_after books (length caught.history + 1) (with_slice books.table slice) (with_stage books.stages slice empty_stage))
         events table stages same.history events_are table_is stages_are
         (kept-opened caught.pool.config caught.pool.limits most caught.history books turn.desk.kept pass slice alone
         (some_column caught.pool most caught.history books turn.desk) opened_allowed few) where

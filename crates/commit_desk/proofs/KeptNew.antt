@@ -1,5 +1,6 @@
 -- What is kept beside the empty history.
-use Rattle.std.proofs.Common.{◌≡◌, ℕ, zero, suc, ◌+◌, ◌*◌, ◌-◌, ◌^◌, ◌%◌, ◌<◌, ◌≤◌, List, [], length, take, drop, get_or, count_by, Option, Some, None, sym, refl, ap, ◌∙◌, subst, arith}
+use Rattle.std.proofs.Common.{◌≡◌, ℕ, zero, suc, ◌+◌, ◌*◌, ◌-◌, ◌^◌, ◌%◌, ◌<◌, ◌≤◌, false, List, [], length, take, drop, get_or, count_by, Option, Some, None, sym, refl, ap, ◌∙◌, subst, arith}
+use Rattle.std.proofs.lemmas.Bool.{false≢true}
 use Rattle.std.proofs.lemmas.List.{drop-replicate, get_or-replicate, length-replicate, take-replicate}
 use Rattle.std.proofs.lemmas.Nat.{mul-le, pow_below, pow_pos}
 use Rattle.std.specs.Prelude.{replicate}
@@ -9,7 +10,7 @@ use Rattle.document_store.specs.Entries.{Entries}
 use Rattle.document_store.specs.Entries.{column_of as entry_of}
 use Rattle.document_store.specs.Slots.{IsColumn, Table, free_slot, slot_at, slots_of, is_over}
 use Rattle.document_store.specs.declared.column.Column.TheVariants as became
-use Rattle.document_store.specs.declared.records.Slot.{Slot}
+use Rattle.document_store.specs.declared.slots.Slot.{Slot}
 use Rattle.funnel_model.specs.declared.config.Config.{Config}
 use Rattle.funnel_model.specs.Configuration.{IsInRange}
 use Rattle.funnel_model.specs.Sizes.{columns_of_slice}
@@ -26,6 +27,7 @@ use Rattle.commit_desk.specs.Kept.{AreStages, AreTokens, Books, IsAtStage, AreBo
 use Rattle.commit_desk.specs.Records.{AreListed, AreRecorded, IsLiveIn, IsRecorded}
 use Rattle.commit_desk.proofs.Few.{few-new}
 use Rattle.commit_desk.proofs.Journals.{journal-new}
+use Rattle.commit_desk.proofs.Slots.{none_over}
 
 none_some : (x : ℕ × ℕ) → None ≡ Some x → ⊥
 none_some x is = cc
@@ -36,12 +38,8 @@ none_is_some x is = cc
 free_not_live : (added since : ℕ) → became.Free ≡ became.Live added since → ⊥
 free_not_live added since is = cc
 
-none_of : (n : ℕ) → count_by is_over (replicate n free_slot) ≡ 0
-none_of zero = refl
-none_of (suc n) = none_of n
-
 module _ (limits : Limits) (table : Table) (live : Entries) (table_slices : table.slices ≡ limits.slices) (table_columns : table.columns ≡ limits.columns)
-    (free : table.slots ≡ replicate (limits.slices * limits.columns) free_slot)
+    (free : table.slots ≡ replicate (limits.slices * limits.columns) free_slot) (all_there : table.out ≡ replicate limits.slices false)
     (no_entry : (id : ℕ) → entry_of live id ≡ None) (live_slices : live.slices ≡ limits.slices) (live_columns : live.columns ≡ limits.columns) where
   size : length table.slots ≡ table.slices * table.columns
   size = ap length free ∙ length-replicate (limits.slices * limits.columns) free_slot ∙ ap (λ n. n * limits.columns) (sym table_slices) ∙ ap (λ n. table.slices * n) (sym table_columns)
@@ -56,12 +54,12 @@ module _ (limits : Limits) (table : Table) (live : Entries) (table_slices : tabl
   none_live : (slice column : ℕ) (doc : Parts) → IsColumn table slice column → IsLiveIn (slot_at table slice column) doc → ⊥
   none_live slice column doc at l = free_not_live l.added l.since (sym (ap (λ (x : Slot). x.column) (slot_free slice column at)) ∙ l.column)
 
-  none_over : (slice : ℕ) → slice < limits.slices → 0 ≡ count_by is_over (slots_of table slice)
-  none_over slice in' =
+  none_over_in : (slice : ℕ) → slice < limits.slices → 0 ≡ count_by is_over (slots_of table slice)
+  none_over_in slice in' =
       sym (ap (λ xs. count_by is_over (take table.columns (drop (slice * table.columns) xs))) free
       ∙ ap (λ xs. count_by is_over (take table.columns xs)) (drop-replicate (slice * table.columns) (limits.slices * limits.columns) free_slot)
       ∙ ap (count_by is_over) (take-replicate table.columns (limits.slices * limits.columns - slice * table.columns) free_slot (room_for table.columns table_columns))
-      ∙ none_of table.columns) where
+      ∙ none_over table.columns) where
         room_for : (n : ℕ) → n ≡ limits.columns → n ≤ limits.slices * limits.columns - slice * n
         room_for n is = subst (λ k. k ≤ limits.slices * limits.columns - slice * k) (sym is)
             (let more : suc slice * limits.columns ≤ limits.slices * limits.columns = mul-le (suc slice) limits.columns limits.slices limits.columns in' (omega arith) in
@@ -75,8 +73,11 @@ module _ (limits : Limits) (table : Table) (live : Entries) (table_slices : tabl
     slices_are = table_slices;
     columns_are = table_columns;
     size = size;
-    each = λ slice column at. subst (IsRecorded [] slice column) (sym (slot_free slice column at))
+    out_size = ap length all_there ∙ length-replicate limits.slices false ∙ sym table_slices;
+    each = λ slice column at uncleared. subst (IsRecorded [] slice column) (sym (slot_free slice column at))
         (record { fits = refl; state = in_state-start slice column; words_of_text = λ doc is. cc });
+    out = λ slice in'. ap (λ xs. get_or xs slice false) all_there ∙ get_or-replicate limits.slices slice false false (let h = table_slices in omega (arith, in', h));
+    cleared = λ slice in' clearing. absurd (false≢true clearing);
   }
 
   listed-new : AreListed table live
@@ -93,7 +94,7 @@ module _ (limits : Limits) (table : Table) (live : Entries) (table_slices : tabl
     count = ap length all ∙ length-replicate limits.slices empty_stage;
     columns_are = columns_are;
     each = λ slice below. subst (IsAtStage limits.columns [] table slice) (sym (ap (λ (xs : List Stage). get_or xs slice empty_stage) all ∙ get_or-replicate limits.slices slice empty_stage empty_stage below))
-        (record { not_clearing = refl; claims = refl; within = omega arith; count = none_over slice below; some_left = some });
+        (record { not_clearing = refl; claims = refl; within = omega arith; count = none_over_in slice below; some_left = some });
     mark_within = omega (arith, mark);
     none_before = λ pass number opened. omega (arith, mark);
   }
@@ -138,10 +139,10 @@ few_columns config is =
 
 -- a desk without events
 pub kept-new : (config : Config) (limits : Limits) (most : ℕ) (books : Books) → 1 ≤ limits.columns → books.slices ≡ limits.slices → books.columns ≡ limits.columns → books.events ≡ 0 → books.journal ≡ record { most = limits.commits; place = 0; kept = [] } →
-    books.table.slices ≡ limits.slices → books.table.columns ≡ limits.columns → books.table.slots ≡ replicate (limits.slices * limits.columns) free_slot →
+    books.table.slices ≡ limits.slices → books.table.columns ≡ limits.columns → books.table.slots ≡ replicate (limits.slices * limits.columns) free_slot → books.table.out ≡ replicate limits.slices false →
     ((id : ℕ) → entry_of books.live id ≡ None) → books.live.slices ≡ limits.slices → books.live.columns ≡ limits.columns → books.tokens ≡ replicate limits.passes None →
     books.stages.columns ≡ limits.columns → books.stages.stages ≡ replicate limits.slices empty_stage → books.stages.mark ≡ 0 → AreBooksOf config limits most [] books
-kept-new config limits most books some slices columns events journal ts tc free no_entry ls lc tokens sc stages mark = record {
+kept-new config limits most books some slices columns events journal ts tc free there no_entry ls lc tokens sc stages mark = record {
   few = few-new most limits.passes;
   legal = tt;
   sound = sound-start config;
@@ -151,8 +152,8 @@ kept-new config limits most books some slices columns events journal ts tc free 
   columns_are = columns;
   events_are = events;
   journal_is = subst (IsJournalOf limits.commits []) (sym journal) (journal-new limits.commits);
-  recorded = recorded-new limits books.table books.live ts tc free no_entry ls lc;
-  listed = listed-new limits books.table books.live ts tc free no_entry ls lc;
+  recorded = recorded-new limits books.table books.live ts tc free there no_entry ls lc;
+  listed = listed-new limits books.table books.live ts tc free there no_entry ls lc;
   tokens_are = tokens-new limits books.tokens tokens;
-  staged = stages-new limits books.table books.live ts tc free no_entry ls lc books.tokens books.stages some tokens sc stages mark;
+  staged = stages-new limits books.table books.live ts tc free there no_entry ls lc books.tokens books.stages some tokens sc stages mark;
 }

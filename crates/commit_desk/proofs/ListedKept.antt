@@ -7,12 +7,12 @@ use Rattle.std.specs.Prelude.{◌==◌, ◌↔◌}
 use Rattle.document_store.specs.Documents.{Parts}
 use Rattle.document_store.specs.Entries.{Entries}
 use Rattle.document_store.specs.Entries.{column_of as entry_of}
-use Rattle.document_store.specs.Slots.{IsColumn, Table, slot_at, with_free_slice, with_slot}
+use Rattle.document_store.specs.Slots.{IsColumn, Table, slot_at, with_slice, with_slot, without_slice}
 use Rattle.document_store.specs.declared.column.Column.TheVariants as became
-use Rattle.document_store.specs.declared.records.Slot.{Slot}
+use Rattle.document_store.specs.declared.slots.Slot.{Slot}
 use Rattle.funnel_model.proofs.ColumnStates.{this_column}
 use Rattle.commit_desk.specs.Records.{AreListed, IsLiveIn}
-use Rattle.commit_desk.proofs.Slots.{free_slice-cases, with_slot-cases}
+use Rattle.commit_desk.proofs.Slots.{with_slot-cases, without_slice-cases}
 
 some_same : (x y : Parts) → Some x ≡ Some y → x ≡ y
 some_same x y is = cc
@@ -67,10 +67,10 @@ module _ (table : Table) (live : Entries) (size : length table.slots ≡ table.s
       ))
       (with_slot-cases table s c y slice column here at size))
 
-  -- a slice without a live document is opened
-  pub listed-opened : (s : ℕ) → s < table.slices → ((column : ℕ) (doc : Parts) → column < table.columns → IsLiveIn (slot_at table s column) doc → ⊥) → AreListed (with_free_slice table s) live
-  listed-opened s in' none_live =
-      listed-same table (with_free_slice table s) live are refl refl
+  -- the slots of a slice without a live document are taken out
+  pub listed-clear : (s : ℕ) → s < table.slices → ((column : ℕ) (doc : Parts) → column < table.columns → IsLiveIn (slot_at table s column) doc → ⊥) → AreListed (without_slice table s) live
+  listed-clear s in' none_live =
+      listed-same table (without_slice table s) live are refl refl
       (λ slice column doc at.
       ⊎_elim
       (λ one. (
@@ -81,7 +81,11 @@ module _ (table : Table) (live : Entries) (size : length table.slots ≡ table.s
         λ new. subst (λ z. IsLiveIn z doc) other.1 new,
         λ old. subst (λ z. IsLiveIn z doc) (sym other.1) old,
       ))
-      (free_slice-cases table s slice column in' at size))
+      (without_slice-cases table s slice column in' at size))
+
+  -- free slots are put back for a slice
+  pub listed-opened : (s : ℕ) → AreListed (with_slice table s) live
+  listed-opened s = listed-same table (with_slice table s) live are refl refl (λ slice column doc at. (λ is. is, λ is. is))
 
   -- a document goes live on a column that has none
   pub listed-add : (s c added since : ℕ) (doc : Parts) (next : Entries) → IsColumn table s c → ((d : Parts) → IsLiveIn (slot_at table s c) d → ⊥) → entry_of live doc.id ≡ None →

@@ -10,7 +10,7 @@ use Rattle.document_store.specs.Entries.{Entries}
 use Rattle.document_store.specs.Entries.{column_of as entry_of}
 use Rattle.document_store.specs.Slots.{IsColumn, slot_at, with_slot, is_over_in}
 use Rattle.document_store.specs.declared.column.Column.TheVariants as became
-use Rattle.document_store.specs.declared.records.Slot.{Slot}
+use Rattle.document_store.specs.declared.slots.Slot.{Slot}
 use Rattle.funnel_model.specs.declared.bit_list.Bit.{Bit}
 use Rattle.funnel_model.specs.declared.config.Config.{Config}
 use Rattle.funnel_model.specs.declared.event.Event.{Event}
@@ -19,7 +19,6 @@ use Rattle.funnel_model.specs.Events.{deletes_or_drops}
 use Rattle.funnel_model.specs.History.{Document}
 use Rattle.funnel_model.specs.Legal.{IsAllowed}
 use Rattle.funnel_model.specs.Sizes.{words_of_slice}
-use Rattle.funnel_model.specs.Slices.{IsInState}
 use Rattle.funnel_model.specs.Words.{AreWordsOf, words}
 use Rattle.funnel_model.proofs.LiveColumns.{live_column_is_live}
 use Rattle.funnel_model.proofs.LiveLemmas.{commits-silent}
@@ -35,9 +34,8 @@ use Rattle.commit_desk.proofs.Few.{few-next}
 use Rattle.commit_desk.proofs.Journals.{journal-silent}
 use Rattle.commit_desk.proofs.ListedKept.{listed-one}
 use Rattle.commit_desk.proofs.MovedRecords.{listed-move, moved_slot, moved_table, over_slot, recorded-move, stages-move}
-use Rattle.commit_desk.proofs.RecordFacts.{none_live_in_pending, taken_is_pending}
+use Rattle.commit_desk.proofs.RecordFacts.{live_recorded, none_live_in_pending, taken_is_pending}
 use Rattle.commit_desk.proofs.RecordsKept.{recorded-void}
-use Rattle.commit_desk.proofs.Slots.{state-live}
 use Rattle.commit_desk.proofs.StagesKept.{stages-void}
 
 module _ (pool : PoolId) (most : ℕ) (history : List Event) (books : Books) (is : IsDesk pool most history books) where
@@ -94,7 +92,7 @@ module _ (pool : PoolId) (most : ℕ) (history : List Event) (books : Books) (is
       let recorded = recorded-move pool.limits history books.table kept.legal kept.recorded f l s c doc new added lives from to same apart pass bits allowed of_text in
       let document = document_added_at lives.added doc in
       let live_there = live_column_is_live history f l document lives.since
-      (subst (IsInState history f l) (state-live (slot_at books.table f l) doc lives) (kept.recorded.each f l from).state) in
+      (live_recorded pool.limits history books.table kept.legal kept.recorded f l doc from lives) in
       desk-with pool most history books is e (record books { events = number; table = table; live = next; stages = with_stage books.stages f ended }) allowed (
         document,
         live_there,

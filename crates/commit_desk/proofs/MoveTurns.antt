@@ -5,7 +5,7 @@ use mathlib.Core.List.{IsPrefix}
 use Rattle.document_store.specs.Documents.{Parts}
 use Rattle.document_store.specs.Slots.{IsColumn, Table, slot_at, with_slot}
 use Rattle.document_store.specs.declared.column.Column.TheVariants as became
-use Rattle.document_store.specs.declared.records.Slot.{Slot}
+use Rattle.document_store.specs.declared.slots.Slot.{Slot}
 use Rattle.funnel_model.specs.declared.bit_list.Bit.{Bit}
 use Rattle.funnel_model.specs.declared.claim.Claim.{Claim}
 use Rattle.funnel_model.specs.declared.event.Event.{Event}
@@ -28,7 +28,7 @@ use Rattle.commit_desk.specs.Records.{AreRecorded, IsLiveIn, document_added_at}
 use Rattle.commit_desk.specs.declared.look.Look.{Look}
 use Rattle.commit_desk.proofs.DocumentEvents.{live_stage, taken_column}
 use Rattle.commit_desk.proofs.MadeEvents.{desk_at}
-use Rattle.commit_desk.proofs.RecordFacts.{is_column, none_live_in_pending, state_is, taken_is_pending}
+use Rattle.commit_desk.proofs.RecordFacts.{is_column, live_not_clearing, none_live_in_pending, state_is, taken_is_pending}
 use Rattle.commit_desk.proofs.Slots.{live_by_state, with_slot-cases}
 
 -- of two ways to take a list apart the first parts and the items after them are the same where the first parts are as long
@@ -74,7 +74,8 @@ movable limits history table slice column d since legal recorded lives =
     let one = live_on_one_column limits history at.0 at.1 slice column at.2 since d d legal at.5 lives refl in
     let here = is_column limits history table legal recorded slice column (subst (λ s. s < limits.slices) one.0 at.3) (subst (λ c. c < limits.columns) one.1 at.4) in
     let from : IsColumn table slice column = record { slice_in_range = here.slice_in_range; column_in_range = here.column_in_range } in
-    let slot = live_by_state (slot_at table slice column) d since (recorded.each slice column here).fits (state_is limits history table legal recorded slice column (Live d since) from lives) in
+    let uncleared = live_not_clearing limits history slice column d since legal (subst (λ c. c < limits.columns) one.1 at.4) lives in
+    let slot = live_by_state (slot_at table slice column) d since (recorded.each slice column here uncleared).fits (state_is limits history table legal recorded slice column (Live d since) from uncleared lives) in
     record { from = from; doc = slot.doc; lives = slot.live; is = slot.is }
 
 module _ (before : DeskState) (home : HomeState) (most : ℕ) (books : Books) (desk : IsDesk home.pool most home.history books) (view : desk_at home most ≡ before) (seat : PassState) (caught : IsCaughtUp before seat)

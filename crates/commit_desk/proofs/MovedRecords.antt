@@ -8,13 +8,13 @@ use Rattle.document_store.specs.Entries.{Entries}
 use Rattle.document_store.specs.Entries.{column_of as entry_of}
 use Rattle.document_store.specs.Slots.{IsColumn, Table, slot_at, with_slot, is_over}
 use Rattle.document_store.specs.declared.column.Column.TheVariants as became
-use Rattle.document_store.specs.declared.records.Slot.{Slot}
+use Rattle.document_store.specs.declared.slots.Slot.{Slot}
 use Rattle.funnel_model.specs.declared.bit_list.Bit.{Bit}
 use Rattle.funnel_model.specs.declared.event.Event.{Event}
 use Rattle.funnel_model.specs.declared.event.Event.TheVariants as event
 use Rattle.funnel_model.specs.History.{Document}
 use Rattle.funnel_model.specs.Legal.{IsAllowed, IsLegal, Limits}
-use Rattle.funnel_model.specs.Slices.{Deleted, Live, IsInState}
+use Rattle.funnel_model.specs.Slices.{Deleted, Live, IsInState, is_clearing}
 use Rattle.funnel_model.specs.Words.{AreWordsOf}
 use Rattle.funnel_model.proofs.ColumnStates.{after-move, after_moved, after_taken_off, document_with}
 use Rattle.funnel_model.proofs.Histories.{legal-push}
@@ -23,8 +23,8 @@ use Rattle.slice_stages.specs.Stages.{StageTable, after_end, stage_of, with_stag
 use Rattle.slice_stages.specs.declared.stage.Stage.TheVariants as stage
 use Rattle.commit_desk.specs.Records.{AreListed, AreRecorded, IsLiveIn, IsRecorded, document_added_at, state_of}
 use Rattle.commit_desk.proofs.ListedKept.{listed-add, listed-delete}
-use Rattle.commit_desk.proofs.RecordFacts.{found_live}
-use Rattle.commit_desk.proofs.RecordsKept.{live_apart, not_taken_off, recorded_now, recorded_still, some_same}
+use Rattle.commit_desk.proofs.RecordFacts.{found_live, live_is_open, live_recorded}
+use Rattle.commit_desk.proofs.RecordsKept.{clearing-still, live_apart, not_taken_off, recorded_now, recorded_still, some_same, taken_is_open}
 use Rattle.commit_desk.proofs.Slots.{count-with_slot, live_not_over, slots_of-other, state-live, with_slot-cases}
 use Rattle.commit_desk.proofs.StageReadings.{AreAtStages, used_slice}
 use Rattle.commit_desk.proofs.StagesKept.{count_over, ends_at, stage-left, stages-one}
@@ -52,8 +52,18 @@ module _ (limits : Limits) (history : List Event) (table : Table) (legal : IsLeg
     abbrev middle : Table
     middle = with_slot table f l (over_slot (slot_at table f l) doc lives (length history + 1))
 
+    -- neither slice is being cleared
+    open_from : is_clearing f history ≡ false
+    open_from = live_is_open limits history table legal recorded f l doc (record { slice_in_range = from.slice_in_range; column_in_range = from.column_in_range }) lives
+
+    open_to : is_clearing s history ≡ false
+    open_to = taken_is_open limits history table legal recorded pass s c allowed.rule.taken
+
+    still : (slice : ℕ) → is_clearing slice (history ++ moves_it ∷ []) ≡ is_clearing slice history
+    still slice = clearing-still history moves_it slice (refl, refl)
+
     live_there : IsInState history f l (Live (document_added_at lives.added doc) lives.since)
-    live_there = subst (IsInState history f l) (state-live (slot_at table f l) doc lives) (recorded.each f l (record { slice_in_range = from.slice_in_range; column_in_range = from.column_in_range })).state
+    live_there = live_recorded limits history table legal recorded f l doc (record { slice_in_range = from.slice_in_range; column_in_range = from.column_in_range }) lives
 
     found : document_with doc.id history ≡ Some (document_added_at lives.added doc)
     found = found_live limits history (document_added_at lives.added doc) legal (live_column_is_live history f l (document_added_at lives.added doc) lives.since live_there)
@@ -62,7 +72,7 @@ module _ (limits : Limits) (history : List Event) (table : Table) (legal : IsLeg
     gone_now : IsRecorded (history ++ moves_it ∷ []) f l (over_slot (slot_at table f l) doc lives (length history + 1))
     gone_now =
         let x = slot_at table f l in
-        let was = recorded.each f l (record { slice_in_range = from.slice_in_range; column_in_range = from.column_in_range }) in
+        let was = recorded.each f l (record { slice_in_range = from.slice_in_range; column_in_range = from.column_in_range }) open_from in
         let document = document_added_at lives.added doc in
         let until = length history + 1 in
         recorded_now limits history moves_it legal allowed f l x (over_slot x doc lives until) was (doc, refl)
@@ -76,17 +86,17 @@ module _ (limits : Limits) (history : List Event) (table : Table) (legal : IsLeg
     there_now =
         let x = slot_at table s c in
         let document = document_added_at lives.added doc in
-        recorded_now limits history moves_it legal allowed s c x (moved_slot added new (length history + 1)) (recorded.each s c (record { slice_in_range = to.slice_in_range; column_in_range = to.column_in_range })) (new, refl)
+        recorded_now limits history moves_it legal allowed s c x (moved_slot added new (length history + 1)) (recorded.each s c (record { slice_in_range = to.slice_in_range; column_in_range = to.column_in_range }) open_to) (new, refl)
         (ap (λ (x : Document). Live x (length history + 1)) same ∙ sym (after-move s c history pass document bits (state_of x) found))
         (λ other is. subst (λ (p : Parts). AreWordsOf p.words p.text) (some_same new other is) of_text)
 
     -- and another column stays as it is
-    other_now : (slice column : ℕ) → IsColumn table slice column → (s == slice && c == column) ≡ false → (f == slice && l == column) ≡ false →
+    other_now : (slice column : ℕ) → IsColumn table slice column → is_clearing slice history ≡ false → (s == slice && c == column) ≡ false → (f == slice && l == column) ≡ false →
         IsRecorded (history ++ moves_it ∷ []) slice column (slot_at table slice column)
-    other_now slice column at not_there not_gone =
+    other_now slice column at uncleared not_there not_gone =
         let x = slot_at table slice column in
         let until = length history + 1 in
-        recorded_still limits history moves_it legal allowed slice column x (recorded.each slice column (record { slice_in_range = at.slice_in_range; column_in_range = at.column_in_range }))
+        recorded_still limits history moves_it legal allowed slice column x (recorded.each slice column (record { slice_in_range = at.slice_in_range; column_in_range = at.column_in_range }) uncleared)
         (cond-false (s == slice && c == column) (after_moved (document_with doc.id history) until (state_of x)) (after_taken_off doc.id until (state_of x)) not_there
         ∙ not_taken_off doc.id until (state_of x)
         (λ other since is same_id. both_ways (f == slice && l == column) not_gone (live_apart limits history table legal recorded f l slice column doc other since from at lives is same_id)))
@@ -113,7 +123,8 @@ module _ (limits : Limits) (history : List Event) (table : Table) (legal : IsLeg
           slices_are = recorded.slices_are;
           columns_are = recorded.columns_are;
           size = length-set middle.slots (s * table.columns + c) z ∙ middle_size;
-          each = λ slice column in'.
+          out_size = recorded.out_size;
+          each = λ slice column in' uncleared.
               let at : IsColumn table slice column = record { slice_in_range = in'.slice_in_range; column_in_range = in'.column_in_range } in
               let at_middle : IsColumn middle slice column = record { slice_in_range = in'.slice_in_range; column_in_range = in'.column_in_range } in
               let to_middle : IsColumn middle s c = record { slice_in_range = to.slice_in_range; column_in_range = to.column_in_range } in
@@ -124,9 +135,16 @@ module _ (limits : Limits) (history : List Event) (table : Table) (legal : IsLeg
               (⊎_elim
               (λ here. subst (IsRecorded h slice column) (sym here.3)
               (subst (λ k. IsRecorded h k column y) (sym here.1) (subst (λ k. IsRecorded h f k y) (sym here.2) gone_now)))
-              (λ apart_too. subst (IsRecorded h slice column) (sym apart_too.1) (other_now slice column at other.0 apart_too.0))
+              (λ apart_too. subst (IsRecorded h slice column) (sym apart_too.1) (other_now slice column at (sym (still slice) ∙ uncleared) other.0 apart_too.0))
               (with_slot-cases table f l y slice column from at recorded.size)))
               (with_slot-cases middle s c z slice column to_middle at_middle middle_size);
+          out = λ slice in'. recorded.out slice in' ∙ sym (still slice);
+          cleared = λ slice in' clearing.
+              let was = sym (still slice) ∙ clearing in
+              let to_middle : IsColumn middle s c = record { slice_in_range = to.slice_in_range; column_in_range = to.column_in_range } in
+              slots_of-other middle s c z slice to_middle in' (λ one. both_ways (is_clearing s history) open_to (ap (λ k. is_clearing k history) (sym one) ∙ was)) middle_size
+              ∙ slots_of-other table f l y slice from in' (λ one. both_ways (is_clearing f history) open_from (ap (λ k. is_clearing k history) (sym one) ∙ was)) recorded.size
+              ∙ recorded.cleared slice in' was;
         }
 
     -- the list of live numbers has its number with the new column

@@ -1,23 +1,27 @@
 -- What follows for a history from the records of its columns and the list of its live numbers.
 use Rattle.std.proofs.Common.{◌≡◌, ◌≢◌, ℕ, zero, suc, ◌<◌, Bool, true, false, cond, List, [], ◌∷◌, length, get_or, Option, Some, None, Contains, sym, refl, ap, ◌∙◌, subst, arith}
-use Rattle.std.proofs.lemmas.Bool.{eq-eqb, ne_eqb}
+use Rattle.std.proofs.lemmas.Bool.{eq-eqb, false_from_ne_true, ne_eqb}
+use Rattle.std.proofs.lemmas.List.{get_or-replicate}
 use Rattle.std.specs.List.{find}
 use Rattle.std.specs.Option.{is_some, option_map}
 use Rattle.std.specs.Prelude.{◌==◌}
+use Rattle.document_store.proofs.SlotLemmas.{slot_at-slots_of}
 use Rattle.document_store.specs.Documents.{Parts}
 use Rattle.document_store.specs.Entries.{Entries}
 use Rattle.document_store.specs.Entries.{column_of as entry_of}
-use Rattle.document_store.specs.Slots.{IsColumn, Table, slot_at}
+use Rattle.document_store.specs.Slots.{FitsColumn, IsColumn, Table, free_slot, is_out, slot_at}
+use Rattle.document_store.specs.declared.column.Column.{Column}
 use Rattle.document_store.specs.declared.column.Column.TheVariants as became
-use Rattle.document_store.specs.declared.records.Slot.{Slot}
+use Rattle.document_store.specs.declared.slots.Slot.{Slot}
 use Rattle.funnel_model.specs.declared.event.Event.{Event}
 use Rattle.funnel_model.specs.declared.event.Event.TheVariants as event
 use Rattle.funnel_model.specs.History.{Document, is_live, last_by, live, live_place}
-use Rattle.funnel_model.specs.Legal.{IsAllowed, IsLegal, Limits}
+use Rattle.funnel_model.specs.Legal.{CanClear, IsAllowed, IsLegal, Limits}
 use Rattle.funnel_model.specs.Slices.{ColumnState, Unclaimed, Pending, Live, IsInState, IsOver, is_clearing}
-use Rattle.funnel_model.proofs.Claims.{take_is_unclaimed}
+use Rattle.funnel_model.proofs.Claims.{take_follows, take_is_unclaimed}
+use Rattle.funnel_model.proofs.Clears.{pending_not_clearing}
 use Rattle.funnel_model.proofs.ColumnStates.{document_with}
-use Rattle.funnel_model.proofs.Columns.{clearing_is_over, last_is_pending, one_state}
+use Rattle.funnel_model.proofs.Columns.{cleared_is_over, clearing_is_over, last_is_pending, one_state}
 use Rattle.funnel_model.proofs.LiveColumns.{live_column_is_live, live_has_column, live_number}
 use Rattle.funnel_model.proofs.LiveLemmas.{is_live-from_place, live_once}
 use Rattle.commit_desk.specs.Records.{AreListed, AreRecorded, IsLiveIn, document_added_at, state_of}
@@ -64,41 +68,83 @@ pending_not_live pass added since is = cc
 free_not_live : (added since : ℕ) → became.Free ≡ became.Live added since → ⊥
 free_not_live added since is = cc
 
+-- the slice of a live column isn't being cleared
+pub live_not_clearing : (limits : Limits) (history : List Event) (slice column : ℕ) (d : Document) (since : ℕ) → IsLegal limits history → column < limits.columns →
+    IsInState history slice column (Live d since) → is_clearing slice history ≡ false
+live_not_clearing limits history slice column d since legal below lives =
+    false_from_ne_true (is_clearing slice history) (λ clearing. clearing_is_over limits history slice column (Live d since) legal clearing below lives)
+
 module _ (limits : Limits) (history : List Event) (table : Table) (legal : IsLegal limits history) (recorded : AreRecorded limits history table) where
   -- a column of the table
   pub is_column : (slice column : ℕ) → slice < limits.slices → column < limits.columns → IsColumn table slice column
   is_column slice column in' below = record { slice_in_range = let h = recorded.slices_are in omega arith; column_in_range = let h = recorded.columns_are in omega arith }
 
+  -- the columns of a slice that is being cleared are recorded as free
+  pub clearing_is_free : (slice column : ℕ) → IsColumn table slice column → is_clearing slice history ≡ true → slot_at table slice column ≡ free_slot
+  clearing_is_free slice column at clearing =
+      slot_at-slots_of table slice column at.column_in_range
+      ∙ ap (λ (slots : List Slot). get_or slots column free_slot) (recorded.cleared slice at.slice_in_range clearing)
+      ∙ get_or-replicate table.columns column free_slot free_slot at.column_in_range
+
+  -- so the slice of one that is recorded as live isn't being cleared
+  column_is_open : (slice column added since : ℕ) → IsColumn table slice column → (slot_at table slice column).column ≡ became.Live added since → is_clearing slice history ≡ false
+  column_is_open slice column added since at lives =
+      false_from_ne_true (is_clearing slice history)
+      (λ clearing. free_not_live added since (sym (ap (λ (slot : Slot). slot.column) (clearing_is_free slice column at clearing)) ∙ lives))
+
+  pub live_is_open : (slice column : ℕ) (doc : Parts) → IsColumn table slice column → IsLiveIn (slot_at table slice column) doc → is_clearing slice history ≡ false
+  live_is_open slice column doc at l = column_is_open slice column l.added l.since at l.column
+
+  -- and it is live
+  pub live_recorded : (slice column : ℕ) (doc : Parts) → IsColumn table slice column → (l : IsLiveIn (slot_at table slice column) doc) →
+      IsInState history slice column (Live (document_added_at l.added doc) l.since)
+  live_recorded slice column doc at l =
+      subst (IsInState history slice column) (state-live (slot_at table slice column) doc l) (recorded.each slice column at (live_is_open slice column doc at l)).state
+
+  -- with its document
+  pub live_has_doc : (slice column added since : ℕ) → IsColumn table slice column → (slot_at table slice column).column ≡ became.Live added since →
+      (doc : Parts) × ((slot_at table slice column).doc ≡ Some doc)
+  live_has_doc slice column added since at lives =
+      let slot = slot_at table slice column in
+      subst (λ (x : Column). FitsColumn x slot.doc) lives (recorded.each slice column at (column_is_open slice column added since at lives)).fits
+
   -- a column is in the state that is recorded
-  pub state_is : (slice column : ℕ) (x : ColumnState) → IsColumn table slice column → IsInState history slice column x → state_of (slot_at table slice column) ≡ x
-  state_is slice column x at holds = one_state limits history slice column (state_of (slot_at table slice column)) x legal (recorded.each slice column at).state holds
+  pub state_is : (slice column : ℕ) (x : ColumnState) → IsColumn table slice column → is_clearing slice history ≡ false → IsInState history slice column x →
+      state_of (slot_at table slice column) ≡ x
+  state_is slice column x at uncleared holds = one_state limits history slice column (state_of (slot_at table slice column)) x legal (recorded.each slice column at uncleared).state holds
 
   -- the column that a pass may take is free
   pub taken_is_free : (pass slice column : ℕ) → IsAllowed limits history (event.Take pass slice column) → IsColumn table slice column → (slot_at table slice column).column ≡ became.Free
   taken_is_free pass slice column allowed at =
-      free_by_state (slot_at table slice column) (recorded.each slice column at).fits
-      (state_is slice column Unclaimed at (take_is_unclaimed limits history pass slice column legal allowed))
+      let uncleared = (take_follows limits history pass slice column legal allowed).not_clearing in
+      free_by_state (slot_at table slice column) (recorded.each slice column at uncleared).fits
+      (state_is slice column Unclaimed at uncleared (take_is_unclaimed limits history pass slice column legal allowed))
 
-  -- and has no live document
+  -- its slice's slots are in the records
+  pub taken_is_there : (pass slice column : ℕ) → IsAllowed limits history (event.Take pass slice column) → IsColumn table slice column → is_out table slice ≡ false
+  taken_is_there pass slice column allowed at = recorded.out slice at.slice_in_range ∙ (take_follows limits history pass slice column legal allowed).not_clearing
+
+  -- and it has no live document
   pub none_live_in_free : (pass slice column : ℕ) → IsAllowed limits history (event.Take pass slice column) → IsColumn table slice column → (doc : Parts) → IsLiveIn (slot_at table slice column) doc → ⊥
   none_live_in_free pass slice column allowed at doc l = free_not_live l.added l.since (sym (taken_is_free pass slice column allowed at) ∙ l.column)
 
   -- the column of a pass's last take is pending by it
   pub taken_is_pending : (pass slice column : ℕ) → last_by pass history ≡ Some (event.Take pass slice column) → IsColumn table slice column → (slot_at table slice column).column ≡ became.Pending pass
   taken_is_pending pass slice column last at =
-      pending_by_state (slot_at table slice column) pass (recorded.each slice column at).fits
-      (state_is slice column (Pending pass) at (last_is_pending limits history slice column pass legal last))
+      let pending = last_is_pending limits history slice column pass legal last in
+      let uncleared = pending_not_clearing limits history slice column pass legal pending in
+      pending_by_state (slot_at table slice column) pass (recorded.each slice column at uncleared).fits (state_is slice column (Pending pass) at uncleared pending)
 
   -- and has no live document
   pub none_live_in_pending : (pass slice column : ℕ) → last_by pass history ≡ Some (event.Take pass slice column) → IsColumn table slice column → (doc : Parts) → IsLiveIn (slot_at table slice column) doc → ⊥
   none_live_in_pending pass slice column last at doc l = pending_not_live pass l.added l.since (sym (taken_is_pending pass slice column last at) ∙ l.column)
 
-  -- a slice that is being cleared has no live document
-  pub none_live_in_cleared : (slice column : ℕ) (doc : Parts) → IsColumn table slice column → is_clearing slice history ≡ true → IsLiveIn (slot_at table slice column) doc → ⊥
-  none_live_in_cleared slice column doc at clearing l =
+  -- a slice that can be cleared has no live document
+  pub none_live_to_clear : (slice column : ℕ) (doc : Parts) → IsColumn table slice column → CanClear limits.columns history slice → IsLiveIn (slot_at table slice column) doc → ⊥
+  none_live_to_clear slice column doc at can l =
       subst IsOver (state-live (slot_at table slice column) doc l)
-      (clearing_is_over limits history slice column (state_of (slot_at table slice column)) legal clearing (let h = at.column_in_range in let k = recorded.columns_are in omega arith)
-      (recorded.each slice column at).state)
+      (cleared_is_over limits history slice column (state_of (slot_at table slice column)) legal can (let h = at.column_in_range in let k = recorded.columns_are in omega arith)
+      (recorded.each slice column at (live_is_open slice column doc at l)).state)
 
   module _ (live_list : Entries) (listed : AreListed table live_list) where
     -- a live number has an entry with its column
@@ -116,7 +162,8 @@ module _ (limits : Limits) (history : List Event) (table : Table) (legal : IsLeg
         let d = (live_number history id).0 some in
         let at = live_has_column limits history d.0 legal d.1 in
         let column = is_column at.0 at.1 at.3 at.4 in
-        let slot = live_by_state (slot_at table at.0 at.1) d.0 at.2 (recorded.each at.0 at.1 column).fits (state_is at.0 at.1 (Live d.0 at.2) column at.5) in
+        let uncleared = live_not_clearing limits history at.0 at.1 d.0 at.2 legal at.4 at.5 in
+        let slot = live_by_state (slot_at table at.0 at.1) d.0 at.2 (recorded.each at.0 at.1 column uncleared).fits (state_is at.0 at.1 (Live d.0 at.2) column uncleared at.5) in
         let same = number_of_slot (slot_at table at.0 at.1) d.0 at.2 slot id d.2 in
         record {
           slice = at.0;
@@ -140,8 +187,7 @@ module _ (limits : Limits) (history : List Event) (table : Table) (legal : IsLeg
     entry_place id slice column found =
         let r = listed.listed id slice column found in
         let d = document_added_at r.live.added r.doc in
-        let holds : IsInState history slice column (Live d r.live.since) =
-        subst (IsInState history slice column) (state-live (slot_at table slice column) r.doc r.live) (recorded.each slice column r.in_table).state in
+        let holds : IsInState history slice column (Live d r.live.since) = live_recorded slice column r.doc r.in_table r.live in
         record {
           in_table = r.in_table;
           added = r.live.added;

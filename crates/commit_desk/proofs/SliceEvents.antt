@@ -1,9 +1,9 @@
 -- What the desk keeps after a take, after a Clear and after an Opened.
 use Rattle.std.proofs.Common.{◌≡◌, ℕ, ◌+◌, ◌<◌, ◌≤◌, Bool, false, List, [], ◌∷◌, ◌++◌, length, None, refl, sym, ap, ◌∙◌, subst, arith}
 use Rattle.std.proofs.lemmas.List.{length-append, length-set}
-use Rattle.document_store.specs.Slots.{IsColumn, Table, with_free_slice, with_slot}
+use Rattle.document_store.specs.Slots.{IsColumn, Table, with_slice, with_slot, without_slice}
 use Rattle.document_store.specs.declared.column.Column.TheVariants as became
-use Rattle.document_store.specs.declared.records.Slot.{Slot}
+use Rattle.document_store.specs.declared.slots.Slot.{Slot}
 use Rattle.funnel_model.specs.declared.config.Config.{Config}
 use Rattle.funnel_model.specs.declared.event.Event.{Event}
 use Rattle.funnel_model.specs.declared.event.Event.TheVariants as event
@@ -12,7 +12,6 @@ use Rattle.funnel_model.specs.Legal.{IsAllowed, Limits, awaited}
 use Rattle.funnel_model.proofs.CausedMoves.{caused-still}
 use Rattle.funnel_model.proofs.Claims.{take_follows, take_within}
 use Rattle.funnel_model.proofs.Histories.{legal-push}
-use Rattle.funnel_model.proofs.LastEvents.{last_is_clearing}
 use Rattle.funnel_model.proofs.LiveLemmas.{commits-silent}
 use Rattle.funnel_model.proofs.NextEvents.{awaited-push, clears_in_range}
 use Rattle.row_layout.proofs.SoundHistories.{sound-push}
@@ -24,10 +23,10 @@ use Rattle.slice_stages.specs.declared.stage.Stage.TheVariants as stage
 use Rattle.commit_desk.specs.Kept.{Books, HasFew, IsDesk, AreBooksOf}
 use Rattle.commit_desk.specs.Records.{AreListed, AreRecorded}
 use Rattle.commit_desk.proofs.Journals.{journal-silent}
-use Rattle.commit_desk.proofs.ListedKept.{listed-one, listed-opened}
+use Rattle.commit_desk.proofs.ListedKept.{listed-clear, listed-one, listed-opened}
 use Rattle.commit_desk.proofs.Marks.{mark-same}
-use Rattle.commit_desk.proofs.RecordFacts.{is_column, none_live_in_cleared, none_live_in_free}
-use Rattle.commit_desk.proofs.RecordsKept.{recorded-opened, recorded-same, recorded-take}
+use Rattle.commit_desk.proofs.RecordFacts.{is_column, none_live_in_free, none_live_to_clear}
+use Rattle.commit_desk.proofs.RecordsKept.{recorded-clear, recorded-opened, recorded-take}
 use Rattle.commit_desk.proofs.StageReadings.{AreAtStages}
 use Rattle.commit_desk.proofs.StagesKept.{stages-clear, stages-opened, stages-take}
 use Rattle.commit_desk.proofs.TokenEvents.{tokens-same}
@@ -91,26 +90,27 @@ module _ (config : Config) (limits : Limits) (most : ℕ) (history : List Event)
 
   -- a pass begins to clear a slice
   pub kept-clear : (pass s : ℕ) → IsAllowed limits history (event.Clear pass s) → HasFew most limits.passes (history ++ event.Clear pass s ∷ []) →
-      AreBooksOf config limits most (history ++ event.Clear pass s ∷ []) (books_after books (length history + 1) books.table (with_stage books.stages s (stage.Clearing pass)))
+      AreBooksOf config limits most (history ++ event.Clear pass s ∷ []) (books_after books (length history + 1) (without_slice books.table s) (with_stage books.stages s (stage.Clearing pass)))
   kept-clear pass s allowed few =
       let e = event.Clear pass s in
-      kept-event e allowed refl (λ p. refl) tt refl refl few books.table (with_stage books.stages s (stage.Clearing pass))
-      (recorded-same limits history e is.legal allowed books.table (λ slice column h x. refl) is.recorded)
-      is.listed (size-with s (stage.Clearing pass)) is.staged.columns_are refl
+      let in' = allowed.rule.in_range in
+      let within : s < books.table.slices = let h = is.recorded.slices_are in omega arith in
+      kept-event e allowed refl (λ p. refl) tt refl refl few (without_slice books.table s) (with_stage books.stages s (stage.Clearing pass))
+      (recorded-clear limits history books.table is.legal is.recorded pass s allowed in')
+      (listed-clear books.table books.live is.recorded.size is.listed s within
+      (λ column doc below l. none_live_to_clear limits history books.table is.legal is.recorded s column doc (record { slice_in_range = within; column_in_range = below }) allowed.rule.can_clear l))
+      (size-with s (stage.Clearing pass)) is.staged.columns_are refl
       (stages-clear limits history books.table books.stages is.legal is.recorded is.staged.count is.staged.each pass s allowed)
 
   -- a pass opens the slice that it cleared
   pub kept-opened : (pass s : ℕ) (alone : Bool) → 0 < limits.columns → IsAllowed limits history (event.Opened pass s alone) → HasFew most limits.passes (history ++ event.Opened pass s alone ∷ []) →
-      AreBooksOf config limits most (history ++ event.Opened pass s alone ∷ []) (books_after books (length history + 1) (with_free_slice books.table s) (with_stage books.stages s empty_stage))
+      AreBooksOf config limits most (history ++ event.Opened pass s alone ∷ []) (books_after books (length history + 1) (with_slice books.table s) (with_stage books.stages s empty_stage))
   kept-opened pass s alone some allowed few =
       let e = event.Opened pass s alone in
       let in' = clears_in_range limits history is.legal pass s allowed.rule.cleared in
-      let within : s < books.table.slices = let h = is.recorded.slices_are in omega arith in
-      let clearing = last_is_clearing limits history pass s is.legal allowed.rule.cleared in
-      kept-event e allowed refl (λ p. refl) tt refl refl few (with_free_slice books.table s) (with_stage books.stages s empty_stage)
+      kept-event e allowed refl (λ p. refl) tt refl refl few (with_slice books.table s) (with_stage books.stages s empty_stage)
       (recorded-opened limits history books.table is.legal is.recorded pass s alone allowed in')
-      (listed-opened books.table books.live is.recorded.size is.listed s within
-      (λ column doc below l. none_live_in_cleared limits history books.table is.legal is.recorded s column doc (record { slice_in_range = within; column_in_range = below }) clearing l))
+      (listed-opened books.table books.live is.recorded.size is.listed s)
       (size-with s empty_stage) is.staged.columns_are refl
       (stages-opened limits history books.table books.stages is.legal is.recorded is.staged.count is.staged.each pass s alone some allowed)
 

@@ -4,12 +4,12 @@ use Rattle.std.proofs.lemmas.Bool.{cases_eq}
 use Rattle.std.proofs.lemmas.Bool.Decides.{eqb_tells}
 use Rattle.std.specs.Prelude.{◌==◌, replicate}
 use Rattle.document_store.proofs.CountLemmas.{count_by-set}
-use Rattle.document_store.proofs.SlotLemmas.{length-slots_of, length-with_free_slice, slot_at-slots_of, slot_at-with_free_slice, slot_at-with_free_slice_other, slot_at-with_slot, slot_at-with_slot_other, slots_of-with_free_slice, slots_of-with_free_slice_other, slots_of-with_slot, slots_of-with_slot_other}
+use Rattle.document_store.proofs.SlotLemmas.{length-slots_of, length-without_slice, slot_at-slots_of, slot_at-without_slice, slot_at-without_slice_other, slot_at-with_slot, slot_at-with_slot_other, slots_of-without_slice_other, slots_of-with_slot, slots_of-with_slot_other}
 use Rattle.document_store.specs.Documents.{Parts}
-use Rattle.document_store.specs.Slots.{FitsColumn, IsColumn, Table, free_slot, slot_at, slots_of, with_slot, with_free_slice, is_over, is_over_in}
+use Rattle.document_store.specs.Slots.{FitsColumn, IsColumn, Table, free_slot, slot_at, slots_of, with_slot, without_slice, is_over, is_over_in}
 use Rattle.document_store.specs.declared.column.Column.{Column}
 use Rattle.document_store.specs.declared.column.Column.TheVariants as became
-use Rattle.document_store.specs.declared.records.Slot.{Slot}
+use Rattle.document_store.specs.declared.slots.Slot.{Slot}
 use Rattle.funnel_model.specs.History.{Document}
 use Rattle.funnel_model.specs.Slices.{ColumnState, Unclaimed, Pending, Live, IsOver}
 use Rattle.commit_desk.specs.Records.{IsLiveIn, document_added_at, state_in, state_of}
@@ -121,22 +121,22 @@ with_slot-cases table s c y slice column here at size =
     ))
     (eqb_tells s slice)
 
--- the slots of one slice are free, and those of the others stay
-pub free_slice-cases : (table : Table) (s slice column : ℕ) → s < table.slices → IsColumn table slice column → length table.slots ≡ table.slices * table.columns →
-    ((slice ≡ s) × (slot_at (with_free_slice table s) slice column ≡ free_slot)) ⊎ ((slice ≢ s) × (slot_at (with_free_slice table s) slice column ≡ slot_at table slice column))
-free_slice-cases table s slice column in' at size =
+-- the slots of one slice were taken out, and those of the others stay
+pub without_slice-cases : (table : Table) (s slice column : ℕ) → s < table.slices → IsColumn table slice column → length table.slots ≡ table.slices * table.columns →
+    ((slice ≡ s) × (slot_at (without_slice table s) slice column ≡ free_slot)) ⊎ ((slice ≢ s) × (slot_at (without_slice table s) slice column ≡ slot_at table slice column))
+without_slice-cases table s slice column in' at size =
     ⊎_elim
-    (λ same. inl (same, subst (λ k. slot_at (with_free_slice table k) slice column ≡ free_slot) same (slot_at-with_free_slice table slice column at size)))
-    (λ ne. inr (ne, slot_at-with_free_slice_other table s slice column in' at.column_in_range size ne))
+    (λ same. inl (same, subst (λ k. slot_at (without_slice table k) slice column ≡ free_slot) same (slot_at-without_slice table slice column at size)))
+    (λ ne. inr (ne, slot_at-without_slice_other table s slice column in' at.column_in_range size ne))
     (cases_eq slice s)
 
 pub slots_of-other : (table : Table) (s c : ℕ) (y : Slot) (slice : ℕ) → IsColumn table s c → slice < table.slices → slice ≢ s → length table.slots ≡ table.slices * table.columns →
     slots_of (with_slot table s c y) slice ≡ slots_of table slice
 slots_of-other table s c y slice here in' ne size = slots_of-with_slot_other table s c slice y here.column_in_range ne
 
-pub slots_of-free_other : (table : Table) (s slice : ℕ) → s < table.slices → slice < table.slices → slice ≢ s → length table.slots ≡ table.slices * table.columns →
-    slots_of (with_free_slice table s) slice ≡ slots_of table slice
-slots_of-free_other table s slice in' below ne size = slots_of-with_free_slice_other table s slice in' size ne
+pub slots_of-without_other : (table : Table) (s slice : ℕ) → s < table.slices → slice < table.slices → slice ≢ s → length table.slots ≡ table.slices * table.columns →
+    slots_of (without_slice table s) slice ≡ slots_of table slice
+slots_of-without_other table s slice in' below ne size = slots_of-without_slice_other table s slice in' size ne
 
 -- the count of the columns that are over, where one column's slot is another
 pub count-with_slot : (table : Table) (s c : ℕ) (y : Slot) (before after : Bool) → IsColumn table s c → length table.slots ≡ table.slices * table.columns →
@@ -148,13 +148,10 @@ count-with_slot table s c y before after here size was is =
     ∙ count_by-set is_over (slots_of table s) c y free_slot (let h = length-slots_of table s here.slice_in_range size in let k = here.column_in_range in omega arith)
     ∙ ap (λ b. count_by is_over (slots_of table s) + cond b 1 0) is
 
-none_of : (n : ℕ) → count_by is_over (replicate n free_slot) ≡ 0
-none_of zero = refl
-none_of (suc n) = none_of n
+-- no free column is over
+pub none_over : (n : ℕ) → count_by is_over (replicate n free_slot) ≡ 0
+none_over zero = refl
+none_over (suc n) = none_over n
 
--- no column of a slice that was freed is over
-pub none_over : (table : Table) (s : ℕ) → s < table.slices → length table.slots ≡ table.slices * table.columns → count_by is_over (slots_of (with_free_slice table s) s) ≡ 0
-none_over table s in' size = ap (count_by is_over) (slots_of-with_free_slice table s in' size) ∙ none_of table.columns
-
-pub size-free : (table : Table) (s : ℕ) → s < table.slices → length table.slots ≡ table.slices * table.columns → length (with_free_slice table s).slots ≡ table.slices * table.columns
-size-free table s in' size = length-with_free_slice table s in' size ∙ size
+pub size-without : (table : Table) (s : ℕ) → s < table.slices → length table.slots ≡ table.slices * table.columns → length (without_slice table s).slots ≡ table.slices * table.columns
+size-without table s in' size = length-without_slice table s in' size ∙ size

@@ -1,5 +1,5 @@
 -- How far a slice is by the history, told from what is kept of it.
-use Rattle.std.proofs.Common.{◌≡◌, ◌↔◌, ℕ, ◌<◌, true, List, [], ◌∷◌, ◌++◌, length, count_by, refl, sym, ap, ◌∙◌, subst, arith, append_assoc, Option, Contains}
+use Rattle.std.proofs.Common.{◌≡◌, ◌↔◌, ℕ, ◌<◌, true, List, [], ◌∷◌, ◌++◌, false, length, count_by, refl, sym, ap, ◌∙◌, subst, arith, append_assoc, Option, Contains}
 use Rattle.std.specs.List.{list_any}
 use Rattle.std.specs.Prelude.{◌==◌, ◌&&◌}
 use Rattle.std.proofs.lemmas.Bool.{and_parts, both_ways, or_parts}
@@ -7,7 +7,7 @@ use Rattle.std.proofs.lemmas.List.Elements.{All-from_get_or}
 use Rattle.document_store.proofs.CountLemmas.{count_by-all}
 use Rattle.document_store.proofs.SlotLemmas.{length-slots_of, slot_at-slots_of}
 use Rattle.document_store.specs.Slots.{IsColumn, Table, free_slot, slot_at, slots_of, is_over}
-use Rattle.document_store.specs.declared.records.Slot.{Slot}
+use Rattle.document_store.specs.declared.slots.Slot.{Slot}
 use Rattle.funnel_model.specs.declared.event.Event.{Event}
 use Rattle.funnel_model.specs.Events.{clears, opens, pass_of}
 use Rattle.funnel_model.specs.Legal.{Limits, IsLegal}
@@ -43,14 +43,15 @@ module _ (limits : Limits) (history : List Event) (table : Table) (legal : IsLeg
   pub in_table : (slice column : ℕ) → slice < limits.slices → column < limits.columns → IsColumn table slice column
   in_table slice column in' below = record { slice_in_range = let h = recorded.slices_are in omega arith; column_in_range = let h = recorded.columns_are in omega arith }
 
-  -- it is recorded with its state
-  pub state_is : (slice column : ℕ) (x : ColumnState) → slice < limits.slices → column < limits.columns → IsInState history slice column x → state_of (slot_at table slice column) ≡ x
-  state_is slice column x in' below holds =
-      one_state limits history slice column (state_of (slot_at table slice column)) x legal (recorded.each slice column (in_table slice column in' below)).state holds
+  -- it is recorded with its state, unless its slice is being cleared
+  pub state_is : (slice column : ℕ) (x : ColumnState) → slice < limits.slices → column < limits.columns → is_clearing slice history ≡ false → IsInState history slice column x →
+      state_of (slot_at table slice column) ≡ x
+  state_is slice column x in' below uncleared holds =
+      one_state limits history slice column (state_of (slot_at table slice column)) x legal (recorded.each slice column (in_table slice column in' below) uncleared).state holds
 
   -- where all columns of a slice are deleted or dropped, so many are recorded as that
-  pub count_by_over : (slice : ℕ) → slice < limits.slices → AllOver limits.columns slice history → count_by is_over (slots_of table slice) ≡ limits.columns
-  count_by_over slice in' over =
+  pub count_by_over : (slice : ℕ) → slice < limits.slices → is_clearing slice history ≡ false → AllOver limits.columns slice history → count_by is_over (slots_of table slice) ≡ limits.columns
+  count_by_over slice in' uncleared over =
       let slices_are = recorded.slices_are in
       let len = length-slots_of table slice (omega arith) recorded.size ∙ recorded.columns_are in
       count_by-all is_over (slots_of table slice)
@@ -59,16 +60,16 @@ module _ (limits : Limits) (history : List Event) (table : Table) (legal : IsLeg
       let below : column < limits.columns = omega arith in
       let at = in_table slice column in' below in
       let state = over column below in
-      let same = state_is slice column state.0 in' below state.1 in
+      let same = state_is slice column state.0 in' below uncleared state.1 in
       ap is_over (sym (slot_at-slots_of table slice column at.column_in_range))
-      ∙ column_by_over (slot_at table slice column) (recorded.each slice column at).fits (subst IsOver (sym same) state.2)))
+      ∙ column_by_over (slot_at table slice column) (recorded.each slice column at uncleared).fits (subst IsOver (sym same) state.2)))
       ∙ len
 
   -- a slice that is retired is kept as such, with the event at which it retired
   pub retired_stage : (slice : ℕ) → slice < limits.slices → (s : Stage) → IsAtStage limits.columns history table slice s → IsRetired limits.columns slice history →
       (number : ℕ) × (s ≡ stage.Retired number) × IsRetiredAt limits.columns slice history number
   retired_stage slice in' (stage.InUse first over) at retired =
-      let all = count_by_over slice in' retired.over in
+      let all = count_by_over slice in' at.not_clearing retired.over in
       let count = at.count in
       let left = at.some_left in
       absurd (omega arith)
@@ -86,7 +87,7 @@ module _ (limits : Limits) (history : List Event) (table : Table) (legal : IsLeg
   pub used_by_stage : (slice : ℕ) → slice < limits.slices → (s : Stage) → IsAtStage limits.columns history table slice s → IsUsed s → IsInUse limits.columns slice history
   used_by_stage slice in' (stage.InUse first over) at used = record {
     not_retired = λ retired.
-        let all = count_by_over slice in' retired.over in
+        let all = count_by_over slice in' at.not_clearing retired.over in
         let count = at.count in
         let left = at.some_left in
         absurd (omega arith);

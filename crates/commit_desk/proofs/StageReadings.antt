@@ -8,7 +8,7 @@ use Rattle.document_store.proofs.CountLemmas.{all_pass-from_count}
 use Rattle.document_store.proofs.SlotLemmas.{length-slots_of, slot_at-slots_of}
 use Rattle.document_store.specs.Documents.{Parts}
 use Rattle.document_store.specs.Slots.{IsColumn, Table, free_slot, slot_at, slots_of, is_over}
-use Rattle.document_store.specs.declared.records.Slot.{Slot}
+use Rattle.document_store.specs.declared.slots.Slot.{Slot}
 use Rattle.funnel_model.specs.declared.event.Event.{Event}
 use Rattle.funnel_model.specs.declared.event.Event.TheVariants as event
 use Rattle.funnel_model.specs.History.{last_by}
@@ -17,13 +17,14 @@ use Rattle.funnel_model.specs.Slices.{AllOver, ColumnState, HasUnclaimed, IsFill
 use Rattle.funnel_model.specs.Tokens.{IsGuarded}
 use Rattle.funnel_model.proofs.ClaimLemmas.{filled_by, unclaimed_next}
 use Rattle.funnel_model.proofs.Clears.{pending_in_range, pending_not_clearing, pending_not_retired}
-use Rattle.funnel_model.proofs.Columns.{clearing_is_over, last_is_pending, not_retired_by}
+use Rattle.funnel_model.proofs.Columns.{last_is_pending, not_retired_by}
 use Rattle.funnel_model.proofs.Retirement.{retires_once}
 use Rattle.slice_stages.specs.Stages.{HasLeft, HoldsOfNone, IsLowest, IsUsed, RetiredBefore, StageTable, empty_stage, stage_of}
 use Rattle.slice_stages.specs.declared.stage.Stage.{Stage}
 use Rattle.slice_stages.specs.declared.stage.Stage.TheVariants as stage
 use Rattle.commit_desk.specs.Kept.{IsAtStage, IsRetiredSlice, IsUsedSlice}
 use Rattle.commit_desk.specs.Records.{AreRecorded, IsLiveIn, state_of}
+use Rattle.commit_desk.proofs.RecordFacts.{live_is_open}
 use Rattle.commit_desk.proofs.Slots.{over_by_column, state-live}
 use Rattle.commit_desk.proofs.StageFacts.{by_is_clearing, in_table, retired_since, used_by_stage, used_stage}
 
@@ -59,10 +60,10 @@ none_left columns slice first history filled unclaimed =
 
 module _ (limits : Limits) (history : List Event) (table : Table) (legal : IsLegal limits history) (recorded : AreRecorded limits history table) where
   -- so many columns of a slice are recorded as deleted or dropped as there are only where each is
-  pub over_by_count : (slice : ℕ) → slice < limits.slices → count_by is_over (slots_of table slice) ≡ limits.columns → AllOver limits.columns slice history
-  over_by_count slice in' all column below =
+  pub over_by_count : (slice : ℕ) → slice < limits.slices → is_clearing slice history ≡ false → count_by is_over (slots_of table slice) ≡ limits.columns → AllOver limits.columns slice history
+  over_by_count slice in' uncleared all column below =
       let at = in_table limits history table legal recorded slice column in' below in
-      let is = recorded.each slice column at in
+      let is = recorded.each slice column at uncleared in
       let slices_are = recorded.slices_are in
       let len = length-slots_of table slice (omega arith) recorded.size ∙ recorded.columns_are in
       let pass = all_pass-from_count is_over (slots_of table slice) (all ∙ sym len) in
@@ -72,10 +73,10 @@ module _ (limits : Limits) (history : List Event) (table : Table) (legal : IsLeg
       (state_of (slot_at table slice column), is.state, over_by_column (slot_at table slice column) is.fits here)
 
   -- a column in a state that is not over isn't recorded as deleted or dropped
-  pub not_over_by_state : (slice column : ℕ) → IsColumn table slice column → (x : ColumnState) → state_of (slot_at table slice column) ≡ x → (IsOver x → ⊥) →
+  pub not_over_by_state : (slice column : ℕ) → IsColumn table slice column → is_clearing slice history ≡ false → (x : ColumnState) → state_of (slot_at table slice column) ≡ x → (IsOver x → ⊥) →
       is_over (slot_at table slice column) ≡ false
-  not_over_by_state slice column at x same not =
-      let fits = (recorded.each slice column (record { slice_in_range = at.slice_in_range; column_in_range = at.column_in_range })).fits in
+  not_over_by_state slice column at uncleared x same not =
+      let fits = (recorded.each slice column (record { slice_in_range = at.slice_in_range; column_in_range = at.column_in_range }) uncleared).fits in
       false_from_ne_true (is_over (slot_at table slice column)) (λ over. not (subst IsOver same (over_by_column (slot_at table slice column) fits over)))
 
   -- the slice of a pending column is in use
@@ -91,11 +92,13 @@ module _ (limits : Limits) (history : List Event) (table : Table) (legal : IsLeg
       let columns_are = recorded.columns_are in
       let below : column < limits.columns = let h = at.column_in_range in omega arith in
       let x = state_of (slot_at table slice column) in
-      let is : IsInState history slice column x = (recorded.each slice column (record { slice_in_range = at.slice_in_range; column_in_range = at.column_in_range })).state in
+      let here : IsColumn table slice column = record { slice_in_range = at.slice_in_range; column_in_range = at.column_in_range } in
+      let uncleared = live_is_open limits history table legal recorded slice column doc here live in
+      let is : IsInState history slice column x = (recorded.each slice column here uncleared).state in
       let not_over : IsOver x → ⊥ = λ over. subst IsOver (state-live (slot_at table slice column) doc live) over in
       record {
         not_retired = not_retired_by limits history slice column x legal below is not_over;
-        not_clearing = false_from_ne_true (is_clearing slice history) (λ clearing. not_over (clearing_is_over limits history slice column x legal clearing below is));
+        not_clearing = uncleared;
       }
 
   module _ (stages : StageTable) (each : AreAtStages limits history table stages) where

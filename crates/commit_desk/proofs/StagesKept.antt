@@ -5,8 +5,8 @@ use Rattle.std.proofs.lemmas.List.{get_or-set_other, get_or-set_same}
 use Rattle.std.specs.List.{range_with_len}
 use Rattle.std.specs.Prelude.{◌==◌}
 use Rattle.document_store.specs.Documents.{Parts}
-use Rattle.document_store.specs.Slots.{IsColumn, Table, slot_at, slots_of, with_free_slice, with_slot, is_over}
-use Rattle.document_store.specs.declared.records.Slot.{Slot}
+use Rattle.document_store.specs.Slots.{IsColumn, Table, slot_at, slots_of, with_slice, with_slot, without_slice, is_over}
+use Rattle.document_store.specs.declared.slots.Slot.{Slot}
 use Rattle.funnel_model.specs.declared.bit_list.Bit.{Bit}
 use Rattle.funnel_model.specs.declared.event.Event.{Event}
 use Rattle.funnel_model.specs.declared.event.Event.TheVariants as event
@@ -17,9 +17,9 @@ use Rattle.funnel_model.specs.Slices.{Pending, Unclaimed, is_clearing, is_cleari
 use Rattle.funnel_model.proofs.ClaimLemmas.{range_with_len-push}
 use Rattle.funnel_model.proofs.Claims.{claimed-opened, claimed-take, take_follows, take_is_unclaimed, take_within}
 use Rattle.funnel_model.proofs.Columns.{last_is_pending}
-use Rattle.funnel_model.proofs.Clears.{pending_in_range}
+use Rattle.funnel_model.proofs.Clears.{pending_in_range, pending_not_clearing}
 use Rattle.funnel_model.proofs.Histories.{legal-push}
-use Rattle.funnel_model.proofs.LastEvents.{not_clearing_opened}
+use Rattle.funnel_model.proofs.LastEvents.{last_is_clearing, not_clearing_opened}
 use Rattle.funnel_model.proofs.NextEvents.{clears_in_range}
 use Rattle.funnel_model.proofs.Retirement.{retired_at-push}
 use Rattle.funnel_model.proofs.Spans.{claimed-other, in_span-push}
@@ -28,7 +28,7 @@ use Rattle.slice_stages.specs.declared.stage.Stage.{Stage}
 use Rattle.slice_stages.specs.declared.stage.Stage.TheVariants as stage
 use Rattle.commit_desk.specs.Kept.{IsAtStage, IsUsedSlice}
 use Rattle.commit_desk.specs.Records.{AreRecorded, IsLiveIn}
-use Rattle.commit_desk.proofs.Slots.{count-with_slot, live_not_over, none_over, slots_of-free_other, slots_of-other}
+use Rattle.commit_desk.proofs.Slots.{count-with_slot, live_not_over, none_over, slots_of-other, slots_of-without_other}
 use Rattle.commit_desk.proofs.StageFacts.{count_by_over, in_table, state_is}
 use Rattle.commit_desk.proofs.StageReadings.{AreAtStages, not_over_by_state, over_by_count, used_slice}
 
@@ -112,11 +112,12 @@ module _ (limits : Limits) (history : List Event) (table : Table) (stages : Stag
   taken_column pass s column last =
       let pending = last_is_pending limits history s column pass legal last in
       let in' = pending_in_range limits history s column pass legal pending in
+      let uncleared = pending_not_clearing limits history s column pass legal pending in
       let at = in_table limits history table legal recorded s column in'.0 in'.1 in (
         in'.0,
         in'.1,
-        not_over_by_state limits history table legal recorded s column (record { slice_in_range = at.slice_in_range; column_in_range = at.column_in_range }) (Pending pass)
-            (state_is limits history table legal recorded s column (Pending pass) in'.0 in'.1 pending) (λ over. over),
+        not_over_by_state limits history table legal recorded s column (record { slice_in_range = at.slice_in_range; column_in_range = at.column_in_range }) uncleared (Pending pass)
+            (state_is limits history table legal recorded s column (Pending pass) in'.0 in'.1 uncleared pending) (λ over. over),
       )
 
   -- the next column of a slice is claimed
@@ -129,8 +130,8 @@ module _ (limits : Limits) (history : List Event) (table : Table) (stages : Stag
       let used = used_slice limits history table legal recorded stages each s first over here is in
       let column = in_table limits history table legal recorded s first here below in
       let at : IsColumn table s first = record { slice_in_range = column.slice_in_range; column_in_range = column.column_in_range } in
-      let was = not_over_by_state limits history table legal recorded s first at Unclaimed
-      (state_is limits history table legal recorded s first Unclaimed here below (take_is_unclaimed limits history pass s first legal allowed)) (λ x. x) in
+      let was = not_over_by_state limits history table legal recorded s first at used.not_clearing Unclaimed
+      (state_is limits history table legal recorded s first Unclaimed here below used.not_clearing (take_is_unclaimed limits history pass s first legal allowed)) (λ x. x) in
       stages-one limits (history ++ e ∷ []) (with_slot table s first y) stages s (stage.InUse (first + 1) over) size here
       (record {
         not_clearing = not_clearing-left s history e refl refl used.not_clearing;
@@ -176,11 +177,11 @@ module _ (limits : Limits) (history : List Event) (table : Table) (stages : Stag
           count = refl;
           stays = or_from (opens s e) false leaves.opens refl;
           not_before = λ over_before.
-              let before = count_by_over limits history table legal recorded s here over_before in
+              let before = count_by_over limits history table legal recorded s here used.not_clearing over_before in
               let count = used.count in
               let left = used.some_left in
               absurd (omega arith);
-          over = over_by_count limits (history ++ e ∷ []) next legal_next recorded_next s here (more ∙ all);
+          over = over_by_count limits (history ++ e ∷ []) next legal_next recorded_next s here (not_clearing-left s history e leaves.opens leaves.clears used.not_clearing) (more ∙ all);
         };
       })
       (λ not_last.
@@ -240,20 +241,26 @@ module _ (limits : Limits) (history : List Event) (table : Table) (stages : Stag
       (λ slice. record { takes = refl; clears = refl; opens = refl }) (legal-push limits history e legal allowed) recorded_next at_stage
 
   -- a pass begins to clear a slice
-  pub stages-clear : (pass s : ℕ) → IsAllowed limits history (event.Clear pass s) → AreAtStages limits (history ++ event.Clear pass s ∷ []) table (with_stage stages s (stage.Clearing pass))
+  pub stages-clear : (pass s : ℕ) → IsAllowed limits history (event.Clear pass s) → AreAtStages limits (history ++ event.Clear pass s ∷ []) (without_slice table s) (with_stage stages s (stage.Clearing pass))
   stages-clear pass s allowed =
       let e = event.Clear pass s in
-      stages-one limits (history ++ e ∷ []) table stages s (stage.Clearing pass) size allowed.rule.in_range
+      let next = without_slice table s in
+      let slices_are = recorded.slices_are in
+      let here = allowed.rule.in_range in
+      let in_table' : s < table.slices = omega arith in
+      stages-one limits (history ++ e ∷ []) next stages s (stage.Clearing pass) size allowed.rule.in_range
       (in_span-push (λ x. pass_of x == pass && clears s x) s history e refl
       ∙ or_right (is_clearing_by pass s history) (pass == pass && s == s) (and_from (pass == pass) (s == s) (eq-eqb pass pass refl) (eq-eqb s s refl)))
-      (λ slice in' apart. stage-left limits.columns slice history e table table (stage_of stages slice) (leaves_other_clear pass s slice apart) refl (each slice in'))
+      (λ slice in' apart.
+      stage-left limits.columns slice history e table next (stage_of stages slice) (leaves_other_clear pass s slice apart)
+      (ap (count_by is_over) (slots_of-without_other table s slice in_table' (omega arith) apart recorded.size)) (each slice in'))
 
   -- the pass opens the slice that it cleared
   pub stages-opened : (pass s : ℕ) (alone : Bool) → 0 < limits.columns → IsAllowed limits history (event.Opened pass s alone) →
-      AreAtStages limits (history ++ event.Opened pass s alone ∷ []) (with_free_slice table s) (with_stage stages s empty_stage)
+      AreAtStages limits (history ++ event.Opened pass s alone ∷ []) (with_slice table s) (with_stage stages s empty_stage)
   stages-opened pass s alone some allowed =
       let e = event.Opened pass s alone in
-      let next = with_free_slice table s in
+      let next = with_slice table s in
       let slices_are = recorded.slices_are in
       let here = clears_in_range limits history legal pass s allowed.rule.cleared in
       let in_table' : s < table.slices = omega arith in
@@ -262,9 +269,8 @@ module _ (limits : Limits) (history : List Event) (table : Table) (stages : Stag
         not_clearing = not_clearing_opened s history e (eq-eqb s s refl);
         claims = claimed-opened pass s alone history;
         within = omega arith;
-        count = sym (none_over table s in_table' recorded.size);
+        count = sym (ap (count_by is_over) (recorded.cleared s in_table' (last_is_clearing limits history pass s legal allowed.rule.cleared)) ∙ none_over table.columns);
         some_left = some;
       })
       (λ slice in' apart.
-      stage-left limits.columns slice history e table next (stage_of stages slice) (leaves_other_opened pass s slice alone apart)
-      (ap (count_by is_over) (slots_of-free_other table s slice in_table' (omega arith) apart recorded.size)) (each slice in'))
+      stage-left limits.columns slice history e table next (stage_of stages slice) (leaves_other_opened pass s slice alone apart) refl (each slice in'))

@@ -14,7 +14,7 @@ use Rattle.commit_desk.specs.Records.{document_added_at}
 use Rattle.commit_desk.specs.declared.look.Look.{Look}
 use Rattle.commit_desk.proofs.MadeEvents.{desk_at}
 use Rattle.commit_desk.proofs.MoveTurns.{movable}
-use Rattle.commit_desk.proofs.RecordFacts.{state_is}
+use Rattle.commit_desk.proofs.RecordFacts.{live_is_open, live_recorded, state_is}
 use Rattle.commit_desk.proofs.Slots.{state-live}
 
 same_since : (d e : Document) (m n : ℕ) → Live d m ≡ Live e n → m ≡ n
@@ -50,7 +50,8 @@ module _ (before : DeskState) (home : HomeState) (most : ℕ) (books : Books) (d
       let slot = slot_at books.table look.slice look.column in
       let since : m.lives.since ≡ look.since = same_since (document_added_at m.lives.added m.doc) here.0 m.lives.since look.since (
       sym (state-live slot m.doc m.lives)
-      ∙ state_is home.pool.limits home.history books.table desk.kept.legal desk.kept.recorded look.slice look.column (Live here.0 look.since) m.from here.2
+      ∙ state_is home.pool.limits home.history books.table desk.kept.legal desk.kept.recorded look.slice look.column (Live here.0 look.since) m.from
+      (live_is_open home.pool.limits home.history books.table desk.kept.legal desk.kept.recorded look.slice look.column m.doc m.from m.lives) here.2
       ) in
       record {
         entry = subst (λ n. entry_of books.live n ≡ Some (look.slice, look.column)) (ap (λ (d : Document). d.id) m.is ∙ here.1)
@@ -63,9 +64,8 @@ module _ (before : DeskState) (home : HomeState) (most : ℕ) (books : Books) (d
       (slot_at books.table look.slice look.column).column ≡ became.Live added look.since → IsThereStill before.history look
   there_by added found column =
       let e = desk.kept.listed.listed look.doc.id look.slice look.column found in
-      let slot = slot_at books.table look.slice look.column in
       let since : e.live.since ≡ look.since = since_in e.live.added added e.live.since look.since (sym e.live.column ∙ column) in
       let state : IsInState home.history look.slice look.column (Live (document_added_at e.live.added e.doc) e.live.since) =
-      subst (IsInState home.history look.slice look.column) (state-live slot e.doc e.live) (desk.kept.recorded.each look.slice look.column e.in_table).state in
+      live_recorded home.pool.limits home.history books.table desk.kept.legal desk.kept.recorded look.slice look.column e.doc e.in_table e.live in
       subst (λ (b : DeskState). IsThereStill b.history look) view
       (document_added_at e.live.added e.doc, e.number, subst (λ n. IsInState home.history look.slice look.column (Live (document_added_at e.live.added e.doc) n)) since state)

@@ -4,7 +4,6 @@ use Rattle.funnel_model.specs.Blocks.{AreBlocks, IsLowestGuard}
 use Rattle.funnel_model.specs.declared.bit_list.Bit.{Bit}
 use Rattle.funnel_model.specs.declared.call.Call.TheVariants as call
 use Rattle.funnel_model.specs.declared.claim.Claim.{Claim}
-use Rattle.funnel_model.specs.declared.claim.ClearJob.{ClearJob}
 use Rattle.funnel_model.specs.declared.claim.Token.{Token}
 use Rattle.funnel_model.specs.declared.commit.Commit.{Commit}
 use Rattle.funnel_model.specs.declared.event.Event.{Event}
@@ -27,6 +26,7 @@ use Rattle.commit_desk.specs.declared.answers.JournalFault.TheVariants as journa
 use Rattle.commit_desk.specs.declared.answers.Spent.{Spent}
 use Rattle.commit_desk.specs.declared.answers.Taken.{Taken}
 use Rattle.commit_desk.specs.declared.answers.Taken.TheVariants as taken
+use Rattle.commit_desk.specs.declared.answers.ToClear.{ToClear}
 
 -- In these, `most` is the number of events from which on no call is taken. Calls are taken where the history has fewer.
 abbrev pub TakesCalls : ℕ → List Event → Type 0
@@ -53,18 +53,19 @@ RefusesAdd most limits history id (add.Present added) = TakesCalls most history 
 RefusesAdd most limits history id (add.Full blocks) = MayEnter most history id × IsFull limits history × AreBlocks limits history blocks
 RefusesAdd most limits history id add.Memory = ⊥
 
--- an add takes the next column of the lowest slice with room; where none has room, it is to clear the lowest slice that can be cleared;
--- else it is refused
+-- an add takes the next column of the lowest slice with room; where none has room, it is to clear the lowest slice that can be cleared,
+-- with as many old slots as a slice has columns; else it is refused
 abbrev pub AnswersTake : ℕ → Limits → List Event → ℕ → ℕ → Taken → Type 0
 AnswersTake most limits history pass id (taken.Claim claim) = MayEnter most history id × MayTake limits history pass claim.slice claim.column
-AnswersTake most limits history pass id (taken.Clear job) =
-    MayEnter most history id × ((slice : ℕ) → slice < limits.slices → HasRoom limits.columns history slice → ⊥) × MayClear limits history pass job.slice
+AnswersTake most limits history pass id (taken.Clear work) =
+    MayEnter most history id × ((slice : ℕ) → slice < limits.slices → HasRoom limits.columns history slice → ⊥) × MayClear limits history pass work.job.slice
+    × (work.slots ≡ limits.columns)
 AnswersTake most limits history pass id (taken.Refused fault) = RefusesAdd most limits history id fault
 
 -- and these are its events
 abbrev pub events_of_take : ℕ → ℕ → List ℕ → Taken → List Event
 events_of_take pass id text (taken.Claim claim) = event.Take pass claim.slice claim.column ∷ []
-events_of_take pass id text (taken.Clear job) = event.Clear pass job.slice ∷ []
+events_of_take pass id text (taken.Clear work) = event.Clear pass work.job.slice ∷ []
 events_of_take pass id text (taken.Refused (add.Spent events)) = []
 events_of_take pass id text (taken.Refused _) = event.No pass (call.Add id text) ∷ []
 
@@ -105,15 +106,15 @@ RefusesClear limits history clear.NoneRetired = NoneRetired limits history
 RefusesClear limits history (clear.Guarded slice guard opened_at) = IsLowestRetired limits history slice × IsLowestGuard limits.columns history slice guard opened_at
 RefusesClear limits history (clear.Spent events) = ⊥
 
--- a recycle is refused first as spent; then it clears the lowest slice that can be cleared; where there is none it is refused because
--- none is retired, or with the lowest that is, its lowest guarding pass and the number of that pass's find
-abbrev pub AnswersClear : ℕ → Limits → List Event → ℕ → Result ClearJob ClearRefusal → Type 0
-AnswersClear most limits history pass (Ok job) = TakesCalls most history × MayClear limits history pass job.slice
+-- a recycle is refused first as spent; then it clears the lowest slice that can be cleared, with as many old slots as a slice has
+-- columns; where there is none it is refused because none is retired, or with the lowest that is, its lowest guarding pass and the number of that pass's find
+abbrev pub AnswersClear : ℕ → Limits → List Event → ℕ → Result ToClear ClearRefusal → Type 0
+AnswersClear most limits history pass (Ok work) = TakesCalls most history × MayClear limits history pass work.job.slice × (work.slots ≡ limits.columns)
 AnswersClear most limits history pass (Err (clear.Spent events)) = IsSpentAt most history events
 AnswersClear most limits history pass (Err fault) = TakesCalls most history × NoneCanClear limits history × RefusesClear limits history fault
 
-abbrev pub events_of_clear : ℕ → Result ClearJob ClearRefusal → List Event
-events_of_clear pass (Ok job) = event.Clear pass job.slice ∷ []
+abbrev pub events_of_clear : ℕ → Result ToClear ClearRefusal → List Event
+events_of_clear pass (Ok work) = event.Clear pass work.job.slice ∷ []
 events_of_clear pass (Err (clear.Spent events)) = []
 events_of_clear pass (Err _) = event.No pass call.Recycle ∷ []
 

@@ -1,5 +1,5 @@
 -- What holds of what a desk keeps, whatever the history.
-use Rattle.std.specs.Prelude.{◌≡◌, ℕ, ◌*◌, ◌≤◌, List, [], ◌++◌, length, replicate, Err, None}
+use Rattle.std.specs.Prelude.{◌≡◌, ℕ, ◌*◌, ◌≤◌, false, List, [], ◌++◌, length, replicate, Err, None}
 use Rattle.document_store.specs.Entries.{column_of}
 use Rattle.document_store.specs.Slots.{free_slot}
 use Rattle.funnel_model.specs.declared.config.Config.{Config}
@@ -26,6 +26,7 @@ pub record AreNew (limits : Limits) (books : Books) : Type 0 where
   pub table_slices : books.table.slices ≡ limits.slices
   pub table_columns : books.table.columns ≡ limits.columns
   pub free : books.table.slots ≡ replicate (limits.slices * limits.columns) free_slot
+  pub all_there : books.table.out ≡ replicate limits.slices false
   pub none_live : (id : ℕ) → column_of books.live id ≡ None
   pub live_slices : books.live.slices ≡ limits.slices
   pub live_columns : books.live.columns ≡ limits.columns

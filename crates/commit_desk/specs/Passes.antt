@@ -59,5 +59,5 @@ pub record HasCleared (pool : PoolId) (job : ClearJob) (seat : PassState) : Type
 -- what the pass is to do after its take
 abbrev pub IsToDo : PoolId → Taken → PassState → Type 0
 IsToDo pool (taken.Claim claim) seat = IsToWrite pool claim seat
-IsToDo pool (taken.Clear job) seat = IsToClear pool job seat
+IsToDo pool (taken.Clear work) seat = IsToClear pool work.job seat × (work.slots ≡ pool.limits.columns)
 IsToDo pool (taken.Refused fault) seat = IsResting pool seat

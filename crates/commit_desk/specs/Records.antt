@@ -1,17 +1,17 @@
 -- How the records of the columns and the list of live numbers stand for a history.
-use Rattle.std.specs.Prelude.{◌≡◌, ℕ, ◌*◌, List, length, Option, Some}
+use Rattle.std.specs.Prelude.{◌≡◌, ℕ, ◌*◌, ◌<◌, true, false, List, length, replicate, Option, Some}
 use Rattle.std.specs.Option.{option_map_or}
 use Rattle.document_store.specs.Documents.{Parts}
 use Rattle.document_store.specs.Entries.{Entries}
 use Rattle.document_store.specs.Entries.{column_of as entry_of}
-use Rattle.document_store.specs.Slots.{Table, FitsColumn, IsColumn, slot_at}
+use Rattle.document_store.specs.Slots.{Table, FitsColumn, IsColumn, free_slot, is_out, slot_at, slots_of}
 use Rattle.document_store.specs.declared.column.Column.{Column}
 use Rattle.document_store.specs.declared.column.Column.TheVariants as became
-use Rattle.document_store.specs.declared.records.Slot.{Slot}
+use Rattle.document_store.specs.declared.slots.Slot.{Slot}
 use Rattle.funnel_model.specs.declared.event.Event.{Event}
 use Rattle.funnel_model.specs.History.{Document}
 use Rattle.funnel_model.specs.Legal.{Limits}
-use Rattle.funnel_model.specs.Slices.{ColumnState, Unclaimed, Pending, Dropped, Live, Deleted, IsInState}
+use Rattle.funnel_model.specs.Slices.{ColumnState, Unclaimed, Pending, Dropped, Live, Deleted, IsInState, is_clearing}
 use Rattle.funnel_model.specs.Words.{AreWordsOf}
 
 -- a document that was added at this place
@@ -42,12 +42,15 @@ pub record IsRecorded (history : List Event) (slice column : ℕ) (slot : Slot) 
   pub state : IsInState history slice column (state_of slot)
   pub words_of_text : (doc : Parts) → slot.doc ≡ Some doc → AreWordsOf doc.words doc.text
 
--- each column of each slice is recorded
+-- each column is recorded, but for those of slices that are being cleared: the slots of these, and of no others, were taken out
 pub record AreRecorded (limits : Limits) (history : List Event) (table : Table) : Type 0 where
   pub slices_are : table.slices ≡ limits.slices
   pub columns_are : table.columns ≡ limits.columns
   pub size : length table.slots ≡ table.slices * table.columns
-  pub each : (slice column : ℕ) → IsColumn table slice column → IsRecorded history slice column (slot_at table slice column)
+  pub out_size : length table.out ≡ table.slices
+  pub each : (slice column : ℕ) → IsColumn table slice column → is_clearing slice history ≡ false → IsRecorded history slice column (slot_at table slice column)
+  pub out : (slice : ℕ) → slice < table.slices → is_out table slice ≡ is_clearing slice history
+  pub cleared : (slice : ℕ) → slice < table.slices → is_clearing slice history ≡ true → slots_of table slice ≡ replicate table.columns free_slot
 
 -- the document with this number is live in the column
 pub record IsEntry (table : Table) (id slice column : ℕ) : Type 0 where

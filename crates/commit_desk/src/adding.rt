@@ -15,7 +15,7 @@ ghost use Rattle.commit_desk.specs.Desks.{IsCaughtUp, IsSeatOf, Makes, NothingUn
 use crate::answers::{AddFault, CommitFault, Taken};
 use crate::desk::Desk;
 use crate::entries::{Adds, Drops, Refuses};
-use document_store::Doc;
+use document_store::{Doc, FreeSlots};
 use funnel_model::{Block, Blocked, Claim, ClearJob, Commit, Event};
 use row_layout::Bits;
 use slice_rule::{PassSeat, Pool};
@@ -47,13 +47,20 @@ impl Desk {
         }
     }
 
-    /// Opens the slice that the pass cleared for an add, and claims its first column. The documents that the slice
-    /// had, which were all deleted or moved away, are dropped.
-    pub fn opened_take(&mut self, pool: &Pool, seat: &mut PassSeat, job: ClearJob) -> Claim
+    /// Opens the slice that the pass cleared for an add, and claims its first column. Its slots, which the pass has emptied,
+    /// come back to the records.
+    pub fn opened_take(
+        &mut self,
+        pool: &Pool,
+        seat: &mut PassSeat,
+        job: ClearJob,
+        slots: FreeSlots,
+    ) -> Claim
         requires pool { pool.now ≡ self.old.pool }
         requires seat { IsSeatOf self.old seat.old }
         requires job { HoldsJob seat.old job }
         requires zero { (word : ℕ) → IsInSlice self.old.pool.limits.slice_words job.slice word → Contains seat.old.own (fact.WordZero (last_number seat.old.number seat.old.front) word) }
+        requires slots { slots ≡ self.old.pool.limits.columns }
         ensures slice { result.slice ≡ job.slice }
         ensures column { result.column ≡ 0 }
         ensures events { Makes (event.Opened seat.old.number job.slice false ∷ event.Take seat.old.number job.slice 0 ∷ []) self.old self.new seat.old seat.new }
@@ -66,7 +73,7 @@ impl Desk {
         let alone = false;
         let opens = Event::Opened { pass, slice, alone };
         pool.make_event(&mut self.home, seat, &opens);
-        self.records.free(slice);
+        self.records.put_back(slice, slots);
         self.stages.open(slice);
         let column = self.stages.claim(slice);
         let takes = Event::Take {
@@ -148,8 +155,8 @@ impl Desk {
         if let Some(slice) = self.stages.with_room() {
             return Taken::Claim(self.claim(pool, seat, slice));
         }
-        if let Some(job) = self.begin_clear(pool, seat) {
-            return Taken::Clear(job);
+        if let Some(work) = self.begin_clear(pool, seat) {
+            return Taken::Clear(work);
         }
         let blocks = self.blocks(room);
         self.refuse_add(pool, seat, doc);

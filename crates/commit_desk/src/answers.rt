@@ -1,4 +1,5 @@
 //! What the calls of the desk answer.
+use document_store::OldSlots;
 use funnel_model::{Blocked, Claim, ClearJob};
 
 /// The history has so many events that no call is taken any more: this many.
@@ -7,13 +8,21 @@ pub struct Spent {
     pub events: u64,
 }
 
+/// A slice that the pass is to clear: the job for its words, and its old slots, which have left the records with the
+/// documents. The pass makes the words zero and empties the slots, and then gives both back.
+#[derive(Debug)]
+pub struct ToClear {
+    pub job: ClearJob,
+    pub slots: OldSlots,
+}
+
 /// What became of an add's wish for a column.
 #[derive(Debug)]
 pub enum Taken {
     /// The pass has claimed this column.
     Claim(Claim),
     /// No slice has a column left, and the pass is to clear this slice. Then `opened_take` claims its first column.
-    Clear(ClearJob),
+    Clear(ToClear),
     /// The add is refused.
     Refused(AddFault),
 }

@@ -1,4 +1,4 @@
-ghost use Rattle.std.specs.Prelude.{◌≡◌, ℕ, ◌<◌, ◌≤◌, true, [], ◌∷◌, MatchOption, MatchResult, Ok, Err, Contains};
+ghost use Rattle.std.specs.Prelude.{◌≡◌, ℕ, ◌<◌, ◌≤◌, true, [], ◌∷◌, MatchOption, MatchResult, Ok, Err, Contains, IfSome};
 ghost use Rattle.funnel_model.specs.declared.event.Event.TheVariants as event;
 ghost use Rattle.funnel_model.specs.Legal.{IsIdle, IsInSlice, MayClear, NoneCanClear};
 ghost use Rattle.slice_rule.specs.declared.view.Fact.TheVariants as fact;
@@ -7,19 +7,16 @@ ghost use Rattle.slice_rule.specs.Seats.{HasNoneOutstanding, HoldsJob};
 ghost use Rattle.commit_desk.specs.Answers.{AnswersClear, TakesCalls, events_of_clear};
 ghost use Rattle.commit_desk.specs.Desks.{IsCaughtUp, IsSeatOf, Makes};
 
-use crate::answers::ClearRefusal;
+use crate::answers::{ClearRefusal, ToClear};
 use crate::desk::Desk;
+use document_store::FreeSlots;
 use funnel_model::{Call, ClearJob, Event};
 use slice_rule::{PassSeat, Pool};
 
 impl Desk {
     /// Begins to clear the lowest slice that is retired and that no running find guards, for a recycle. The pass clears
-    /// the slice's words, and then calls `opened`.
-    pub fn start_clear(
-        &mut self,
-        pool: &Pool,
-        seat: &mut PassSeat,
-    ) -> Result<ClearJob, ClearRefusal>
+    /// the slice's words and empties its slots, and then calls `opened`.
+    pub fn start_clear(&mut self, pool: &Pool, seat: &mut PassSeat) -> Result<ToClear, ClearRefusal>
         requires pool { pool.now ≡ self.old.pool }
         requires seat { IsSeatOf self.old seat.old }
         requires idle { IsIdle seat.old.number seat.old.front }
@@ -31,8 +28,8 @@ impl Desk {
         if self.is_spent() {
             return Err(ClearRefusal::Spent(self.events));
         }
-        if let Some(job) = self.begin_clear(pool, seat) {
-            return Ok(job);
+        if let Some(work) = self.begin_clear(pool, seat) {
+            return Ok(work);
         }
         let refusal = self.clear_refusal();
         let pass = seat.number();
@@ -41,13 +38,20 @@ impl Desk {
         Err(refusal)
     }
 
-    /// Opens the slice that the pass cleared, for a recycle, and gives its number. The documents that it had,
-    /// which were all deleted or moved away, are dropped.
-    pub fn opened(&mut self, pool: &Pool, seat: &mut PassSeat, job: ClearJob) -> u32
+    /// Opens the slice that the pass cleared, for a recycle, and gives its number. Its slots, which the pass has emptied, come
+    /// back to the records.
+    pub fn opened(
+        &mut self,
+        pool: &Pool,
+        seat: &mut PassSeat,
+        job: ClearJob,
+        slots: FreeSlots,
+    ) -> u32
         requires pool { pool.now ≡ self.old.pool }
         requires seat { IsSeatOf self.old seat.old }
         requires job { HoldsJob seat.old job }
         requires zero { (word : ℕ) → IsInSlice self.old.pool.limits.slice_words job.slice word → Contains seat.old.own (fact.WordZero (last_number seat.old.number seat.old.front) word) }
+        requires slots { slots ≡ self.old.pool.limits.columns }
         ensures slice { result ≡ job.slice }
         ensures events { Makes (event.Opened seat.old.number job.slice true ∷ []) self.old self.new seat.old seat.new }
         ensures none_outstanding { HasNoneOutstanding seat.new }
@@ -58,21 +62,22 @@ impl Desk {
         let alone = true;
         let entry = Event::Opened { pass, slice, alone };
         self.events = pool.make_event(&mut self.home, seat, &entry);
-        self.records.free(slice);
+        self.records.put_back(slice, slots);
         self.stages.open(slice);
         slice
     }
 
-    // The pass begins to clear the lowest slice that can be cleared, where there is one.
-    pub(crate) fn begin_clear(&mut self, pool: &Pool, seat: &mut PassSeat) -> Option<ClearJob>
+    // The pass begins to clear the lowest slice that can be cleared, where there is one. The slice's slots leave the records.
+    pub(crate) fn begin_clear(&mut self, pool: &Pool, seat: &mut PassSeat) -> Option<ToClear>
         requires pool { pool.now ≡ self.old.pool }
         requires caught_up { IsCaughtUp self.old seat.old }
         requires takes_calls { TakesCalls self.old.events_limit self.old.history }
         requires idle { IsIdle seat.old.number self.old.history }
         ensures may { MatchOption result (NoneCanClear self.old.pool.limits self.old.history)
-            (λ job. MayClear self.old.pool.limits self.old.history seat.old.number job.slice) }
+            (λ work. MayClear self.old.pool.limits self.old.history seat.old.number work.job.slice) }
+        ensures slots { IfSome result (λ work. work.slots ≡ self.old.pool.limits.columns) }
         ensures made { MatchOption result ((self.new ≡ self.old) × (seat.new ≡ seat.old))
-            (λ job. Makes (event.Clear seat.old.number job.slice ∷ []) self.old self.new seat.old seat.new) }
+            (λ work. Makes (event.Clear seat.old.number work.job.slice ∷ []) self.old self.new seat.old seat.new) }
         ensures none_outstanding { HasNoneOutstanding seat.new }
     {
         let _ = &self.home;
@@ -87,6 +92,8 @@ impl Desk {
         let pass = seat.number();
         self.events = pool.make_event(&mut self.home, seat, &Event::Clear { pass, slice });
         self.stages.clear(slice, pass);
-        Some(ClearJob { slice })
+        let slots = self.records.take_out(slice);
+        let job = ClearJob { slice };
+        Some(ToClear { job, slots })
     }
 }

@@ -23,7 +23,9 @@ mod named;
 mod reading;
 mod refusing;
 
-pub use answers::{AddFault, ClearRefusal, CommitFault, DeleteFault, JournalFault, Spent, Taken};
+pub use answers::{
+    AddFault, ClearRefusal, CommitFault, DeleteFault, JournalFault, Spent, Taken, ToClear,
+};
 pub use desk::Desk;
 pub use look::{Look, Looks};
 pub use named::Named;

@@ -1,7 +1,8 @@
 //! A pass between its calls, and in the middle of each.
 use crate::draft::Draft;
+use commit_desk::ToClear;
 use document_store::{Doc, Found};
-use funnel_model::{Candidates, Claim, ClearJob, Token, WordSet};
+use funnel_model::{Candidates, Claim, Token, WordSet};
 use row_layout::Bits;
 use slice_rule::{PassSeat, PoolName};
 use std::marker::{Model, PhantomData};
@@ -63,18 +64,19 @@ impl<N: PoolName> Model for Written<N> {
 /// A pass that is to clear a slice.
 pub(crate) struct Clearing<N: PoolName> {
     pub seat: PassSeat,
-    pub job: ClearJob,
+    pub to_clear: ToClear,
     pub of: PhantomData<N>,
 }
 
 impl<N: PoolName> Model for Clearing<N> {
+    ghost use Rattle.std.specs.Prelude.{◌≡◌};
     ghost use Rattle.commit_desk.specs.Passes.{IsToClear};
 
     ghost Value = { Unit {0} };
 
     ghost view = { λ _. tt };
 
-    ghost invariant = { λ c. IsToClear N.pool c.job c.seat };
+    ghost invariant = { λ c. IsToClear N.pool c.to_clear.job c.seat × (c.to_clear.slots ≡ N.pool.limits.columns) };
 }
 
 /// A pass that has begun a find of no words.

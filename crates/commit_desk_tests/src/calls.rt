@@ -3,7 +3,9 @@ use crate::caller::{Caller, Claiming, Clearing, Finding, Written};
 use crate::draft::Draft;
 use crate::setting::Setting;
 use column_writer::write_column;
-use commit_desk::{AddFault, ClearRefusal, CommitFault, DeleteFault, JournalFault, Spent, Taken};
+use commit_desk::{
+    AddFault, ClearRefusal, CommitFault, DeleteFault, JournalFault, Spent, Taken, ToClear,
+};
 use funnel_model::Commits;
 use slice_recycler::clear_slice;
 use slice_rule::PoolName;
@@ -51,7 +53,10 @@ impl<N: PoolName> Setting<N> {
                 draft,
                 cleared,
             }),
-            Taken::Clear(job) => Ok(self.open_and_claim(Clearing { seat, job, of }, draft)),
+            Taken::Clear(to_clear) => {
+                let clearing = Clearing { seat, to_clear, of };
+                Ok(self.open_and_claim(clearing, draft))
+            }
             Taken::Refused(fault) => Err((Caller { seat, of }, fault)),
         }
     }
@@ -60,11 +65,14 @@ impl<N: PoolName> Setting<N> {
     fn open_and_claim(&mut self, clearing: Clearing<N>, draft: Draft<N>) -> Claiming<N> {
         let Clearing {
             mut seat,
-            job,
+            to_clear,
             of: _,
         } = clearing;
+        let ToClear { job, slots } = to_clear;
         clear_slice(&self.pool, &mut seat, &self.layout, &job);
-        let claim = self.desk.opened_take(&self.pool, &mut seat, job);
+        let claim = self
+            .desk
+            .opened_take(&self.pool, &mut seat, job, slots.empty());
         let cleared = true;
         Claiming {
             seat,
@@ -129,16 +137,21 @@ impl<N: PoolName> Setting<N> {
     pub fn start(&mut self, caller: Caller<N>) -> Result<Clearing<N>, (Caller<N>, ClearRefusal)> {
         let Caller { mut seat, of } = caller;
         match self.desk.start_clear(&self.pool, &mut seat) {
-            Ok(job) => Ok(Clearing { seat, job, of }),
+            Ok(to_clear) => Ok(Clearing { seat, to_clear, of }),
             Err(refusal) => Err((Caller { seat, of }, refusal)),
         }
     }
 
-    /// Clears each word of the slice, and opens it for a recycle: its number.
+    /// Clears each word of the slice, empties its slots, and opens it for a recycle: its number.
     pub fn open(&mut self, clearing: Clearing<N>) -> (Caller<N>, u32) {
-        let Clearing { mut seat, job, of } = clearing;
+        let Clearing {
+            mut seat,
+            to_clear,
+            of,
+        } = clearing;
+        let ToClear { job, slots } = to_clear;
         clear_slice(&self.pool, &mut seat, &self.layout, &job);
-        let slice = self.desk.opened(&self.pool, &mut seat, job);
+        let slice = self.desk.opened(&self.pool, &mut seat, job, slots.empty());
         (Caller { seat, of }, slice)
     }
 }

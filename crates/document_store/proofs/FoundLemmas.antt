@@ -1,17 +1,14 @@
 -- What a find makes of a candidate: the pair by the test is that of the document found.
-use Rattle.std.proofs.Common.{◌≡◌, ◌↔◌, ℕ, zero, suc, ◌+◌, ◌<◌, ◌≤◌, Bool, true, false, cond, ltb, List, [], ◌∷◌, ◌++◌, length, get_or, take, Option, Some, None, refl, sym, ap, ◌∙◌, subst, ⊎_elim, inl, inr, ◌⊎◌, arith, filter_map, Contains}
+use Rattle.std.proofs.Common.{◌≡◌, ℕ, suc, ◌<◌, ◌≤◌, Bool, true, false, cond, ltb, List, [], ◌∷◌, length, Option, Some, None, refl, ap, ◌∙◌, subst, arith, filter_map}
 use Rattle.std.specs.List.{cons_option}
 use Rattle.std.specs.Option.{option_and_then}
 use Rattle.std.proofs.lemmas.Bool.{cond-true, ltb-true, lt-ltb, and_parts, and_from}
-use Rattle.std.proofs.lemmas.List.{length-take, take_more}
-use Rattle.std.proofs.lemmas.List.Elements.{filter_map-append}
 use Rattle.std.proofs.lemmas.Option.{option_and_then_some}
-use Rattle.funnel_model.proofs.AnswerLemmas.{Contains-cons}
 use Rattle.document_store.specs.Documents.{HasEvery, Parts}
 use Rattle.document_store.specs.Finding.{place_if_live, found_in, has_every}
 use Rattle.document_store.specs.declared.column.Column.{Column}
 use Rattle.document_store.specs.declared.column.Column.TheVariants as column
-use Rattle.document_store.specs.declared.records.Slot.{Slot}
+use Rattle.document_store.specs.declared.slots.Slot.{Slot}
 use Rattle.document_store.proofs.WordSets.{has_every-decides}
 
 -- the column's document was live in it as the event with this number came: an event before that put it there, and none took it off

@@ -8,4 +8,6 @@ pub mod TreeLemmas
 pub mod ColumnLemmas
 pub mod RemovalLemmas
 pub mod TableLemmas
+pub mod HeldLemmas
+pub mod ChangeLemmas
 pub mod TurnLemmas

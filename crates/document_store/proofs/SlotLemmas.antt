@@ -5,8 +5,8 @@ use Rattle.std.proofs.Math.Seq.{take-set-lt}
 use Rattle.std.proofs.lemmas.Bool.{cases_lt}
 use Rattle.std.proofs.lemmas.List.{append_assoc, drop-drop, drop-set-add, drop-set-lt, drop-take, drop_at, get_or-drop, get_or-replicate, get_or-set_other, get_or-set_same, get_or-take, length-append, length-drop, length-replicate, length-set, length-take, length-take-le, take-set-le, take-take, take_at}
 use Rattle.std.proofs.lemmas.Nat.{mul-add-lt}
-use Rattle.document_store.specs.Slots.{IsColumn, Table, free_slot, slot_at, slots_of, with_free_slice, with_slot}
-use Rattle.document_store.specs.declared.records.Slot.{Slot}
+use Rattle.document_store.specs.Slots.{IsColumn, Table, free_slot, slot_at, slots_of, without_slice, with_slot}
+use Rattle.document_store.specs.declared.slots.Slot.{Slot}
 
 -- where each slice has its slots, a column of the table has one
 pub column_within : (table : Table) (slice at : ℕ) → IsColumn table slice at → length table.slots ≡ table.slices * table.columns →
@@ -63,10 +63,10 @@ length-slots_of table slice in' every =
 pub length-with_slot : (table : Table) (slice at : ℕ) (slot : Slot) → length (with_slot table slice at slot).slots ≡ length table.slots
 length-with_slot table slice at slot = length-set table.slots (slice * table.columns + at) slot
 
--- nor does a slice that is made free
-pub length-with_free_slice : (table : Table) (slice : ℕ) → slice < table.slices → length table.slots ≡ table.slices * table.columns →
-    length (with_free_slice table slice).slots ≡ length table.slots
-length-with_free_slice table slice in' every =
+-- nor does a slice whose slots are taken out
+pub length-without_slice : (table : Table) (slice : ℕ) → slice < table.slices → length table.slots ≡ table.slices * table.columns →
+    length (without_slice table slice).slots ≡ length table.slots
+length-without_slice table slice in' every =
     let within = slice_within table slice in' every in
     let start = slice * table.columns in
     let rest = drop ((slice + 1) * table.columns) table.slots in
@@ -125,10 +125,10 @@ slots_of-with_slot_other table slice at other slot low differ =
     (drop-set-lt ((slice + 1) * table.columns) table.slots (slice * table.columns + at) slot (omega arith))
     differ
 
--- the slots of a slice that was made free
-pub slots_of-with_free_slice : (table : Table) (slice : ℕ) → slice < table.slices → length table.slots ≡ table.slices * table.columns →
-    slots_of (with_free_slice table slice) slice ≡ replicate table.columns free_slot
-slots_of-with_free_slice table slice in' every =
+-- the slots of a slice from which they were taken out
+pub slots_of-without_slice : (table : Table) (slice : ℕ) → slice < table.slices → length table.slots ≡ table.slices * table.columns →
+    slots_of (without_slice table slice) slice ≡ replicate table.columns free_slot
+slots_of-without_slice table slice in' every =
     let within = slice_within table slice in' every in
     let start = slice * table.columns in
     let rest = drop ((slice + 1) * table.columns) table.slots in
@@ -136,9 +136,9 @@ slots_of-with_free_slice table slice in' every =
     ∙ take_at (replicate table.columns free_slot) rest table.columns (length-replicate table.columns free_slot)
 
 -- any other slice keeps its slots
-pub slots_of-with_free_slice_other : (table : Table) (slice other : ℕ) → slice < table.slices → length table.slots ≡ table.slices * table.columns →
-    other ≢ slice → slots_of (with_free_slice table slice) other ≡ slots_of table other
-slots_of-with_free_slice_other table slice other in' every differ =
+pub slots_of-without_slice_other : (table : Table) (slice other : ℕ) → slice < table.slices → length table.slots ≡ table.slices * table.columns →
+    other ≢ slice → slots_of (without_slice table slice) other ≡ slots_of table other
+slots_of-without_slice_other table slice other in' every differ =
     let within = slice_within table slice in' every in
     let start = slice * table.columns in
     let end = (slice + 1) * table.columns in
@@ -151,19 +151,19 @@ slots_of-with_free_slice_other table slice other in' every differ =
     ∙ drop_at (front ++ free) rest end (omega (arith, length-append front free, length-take-le start table.slots (omega arith), length-replicate table.columns free_slot)))
     differ
 
--- each column of a slice that was made free is free
-pub slot_at-with_free_slice : (table : Table) (slice at : ℕ) → IsColumn table slice at → length table.slots ≡ table.slices * table.columns →
-    slot_at (with_free_slice table slice) slice at ≡ free_slot
-slot_at-with_free_slice table slice at in' every =
-    slot_at-slots_of (with_free_slice table slice) slice at in'.column_in_range
-    ∙ ap (λ slots. get_or slots at free_slot) (slots_of-with_free_slice table slice in'.slice_in_range every)
+-- each column of a slice whose slots were taken out is free
+pub slot_at-without_slice : (table : Table) (slice at : ℕ) → IsColumn table slice at → length table.slots ≡ table.slices * table.columns →
+    slot_at (without_slice table slice) slice at ≡ free_slot
+slot_at-without_slice table slice at in' every =
+    slot_at-slots_of (without_slice table slice) slice at in'.column_in_range
+    ∙ ap (λ slots. get_or slots at free_slot) (slots_of-without_slice table slice in'.slice_in_range every)
     ∙ get_or-replicate table.columns at free_slot free_slot in'.column_in_range
 
 -- each column of another slice keeps its slot
-pub slot_at-with_free_slice_other : (table : Table) (slice other at : ℕ) → slice < table.slices → at < table.columns →
+pub slot_at-without_slice_other : (table : Table) (slice other at : ℕ) → slice < table.slices → at < table.columns →
     length table.slots ≡ table.slices * table.columns → other ≢ slice →
-    slot_at (with_free_slice table slice) other at ≡ slot_at table other at
-slot_at-with_free_slice_other table slice other at in' low every differ =
-    slot_at-slots_of (with_free_slice table slice) other at low
-    ∙ ap (λ slots. get_or slots at free_slot) (slots_of-with_free_slice_other table slice other in' every differ)
+    slot_at (without_slice table slice) other at ≡ slot_at table other at
+slot_at-without_slice_other table slice other at in' low every differ =
+    slot_at-slots_of (without_slice table slice) other at low
+    ∙ ap (λ slots. get_or slots at free_slot) (slots_of-without_slice_other table slice other in' every differ)
     ∙ sym (slot_at-slots_of table other at low)

@@ -1,5 +1,5 @@
 -- What a find makes of its candidates.
-use Rattle.std.specs.Prelude.{ℕ, ◌+◌, ◌<◌, ◌≤◌, ◌≡◌, Bool, ◌&&◌, nat_lt, if◌then◌else◌, List, length, sum_by, Option, Some, None}
+use Rattle.std.specs.Prelude.{ℕ, ◌+◌, ◌<◌, ◌≤◌, Bool, ◌&&◌, nat_lt, if◌then◌else◌, List, length, sum_by, Option, Some, None}
 use Rattle.std.specs.List.{list_all, list_any, slice_range}
 use Rattle.std.specs.Option.{option_and_then, option_map_or}
 use Rattle.std.specs.Ordering.{nat_cmp, ordering_then}
@@ -9,7 +9,7 @@ use Rattle.document_store.specs.Documents.{Parts}
 use Rattle.document_store.specs.Slots.{Table, slot_at}
 use Rattle.document_store.specs.declared.column.Column.{Column}
 use Rattle.document_store.specs.declared.column.Column.TheVariants as column
-use Rattle.document_store.specs.declared.records.Slot.{Slot}
+use Rattle.document_store.specs.declared.slots.Slot.{Slot}
 use Rattle.document_store.specs.declared.resolving.TheConstants.{MOST_LOOK_UPS, MOST_LOOKED_FOR}
 
 -- the place of the add, and the document's number; and the room that is left for more

@@ -1,16 +1,19 @@
 -- What is kept of each column of each slice.
-use Rattle.std.specs.Prelude.{ℕ, ◌+◌, ◌*◌, ◌<◌, ◌≡◌, ⊤, Bool, true, false, List, ◌++◌, length, take, drop, replicate, slice_set, slice_index, slice_index_or, Option, None, Some}
-use Rattle.std.specs.List.{All}
+use Rattle.std.specs.Prelude.{ℕ, ◌+◌, ◌*◌, ◌<◌, ◌≡◌, ⊤, Bool, true, false, List, ◌++◌, length, take, drop, replicate, map, slice_set, slice_index, slice_index_or, Option, None, Some}
+use Rattle.std.specs.List.{All, flat_map}
+use Rattle.std.specs.Option.{is_none}
 use Rattle.document_store.specs.Documents.{Parts}
 use Rattle.document_store.specs.declared.column.Column.{Column}
 use Rattle.document_store.specs.declared.column.Column.TheVariants as column
-use Rattle.document_store.specs.declared.records.Slot.{Slot}
+use Rattle.document_store.specs.declared.slots.Slot.{Slot}
 
--- so many slices of so many columns; the slots stand slice after slice, in the order of the columns
+-- so many slices of so many columns; the slots stand slice after slice, in the order of the columns; and for each slice whether its
+-- slots were taken out
 pub record Table : Type 0 where
   pub slices : ℕ
   pub columns : ℕ
   pub slots : List Slot
+  pub out : List Bool
 
 -- the column is one of the table
 pub record IsColumn (table : Table) (slice at : ℕ) : Type 0 where
@@ -33,10 +36,20 @@ slots_of table slice = take table.columns (drop (slice * table.columns) table.sl
 abbrev pub with_slot : Table → ℕ → ℕ → Slot → Table
 with_slot table slice at slot = record table { slots = slice_set table.slots (slice * table.columns + at) slot }
 
--- the table with all columns of a slice free
-abbrev pub with_free_slice : Table → ℕ → Table
-with_free_slice table slice =
-    record table { slots = take (slice * table.columns) table.slots ++ (replicate table.columns free_slot ++ drop ((slice + 1) * table.columns) table.slots) }
+-- whether the slots of the slice were taken out
+abbrev pub is_out : Table → ℕ → Bool
+is_out table slice = slice_index_or table.out slice false
+
+-- the table with the slots of a slice taken out: all its columns are free
+abbrev pub without_slice : Table → ℕ → Table
+without_slice table slice = record table {
+  slots = take (slice * table.columns) table.slots ++ (replicate table.columns free_slot ++ drop ((slice + 1) * table.columns) table.slots);
+  out = slice_set table.out slice true;
+}
+
+-- the table with free slots put back for the slice
+abbrev pub with_slice : Table → ℕ → Table
+with_slice table slice = record table { out = slice_set table.out slice false }
 
 -- the columns of which a document is kept: its document is live, or was deleted or moved away
 abbrev pub KeepsDoc : Column → Type 0
@@ -69,3 +82,17 @@ pub record IsTable (table : Table) (first_over : List ℕ) : Type 0 where
   pub docs : All HasDocRightly table.slots
   pub every_slice : length first_over ≡ table.slices
   pub over : (slice at : ℕ) → IsColumn table slice at → at < slice_index first_over slice → is_over (slot_at table slice at) ≡ true
+
+-- the slots of a slice, by those that are held for it: where they were taken out, all are free
+abbrev pub shown : ℕ → Option (List Slot) → List Slot
+shown columns None = replicate columns free_slot
+shown columns (Some slots) = slots
+
+-- the table that is held so, slice by slice
+abbrev pub table_of : ℕ → ℕ → List (Option (List Slot)) → Table
+table_of slices columns held = record { slices = slices; columns = columns; slots = flat_map (shown columns) held; out = map is_none held }
+
+-- each slice has its slots, or they were taken out
+pub record AreHeld (slices columns : ℕ) (held : List (Option (List Slot))) : Type 0 where
+  pub every_slice : length held ≡ slices
+  pub every_column : All (λ slots. length (shown columns slots) ≡ columns) held

@@ -9,10 +9,12 @@ mod found;
 mod live_list;
 mod records;
 mod resolving;
+mod slots;
 
 pub use column::Column;
 pub use doc::{Doc, verify};
 pub use found::Found;
 pub use live_list::LiveList;
-pub use records::{Records, Slot};
+pub use records::Records;
 pub use resolving::{MOST_LOOK_UPS, MOST_LOOKED_FOR, resolve_part};
+pub use slots::{FreeSlots, OldSlots, Slot};

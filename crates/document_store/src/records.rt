@@ -1,41 +1,40 @@
-ghost use Rattle.std.specs.Prelude.{◌≡◌, ◌↔◌, ℕ, ◌+◌, ◌*◌, ◌<◌, ◌≤◌, ◌++◌, length, take, drop, replicate, map, true, IfOk, IsSome, IsTrue};
+ghost use Rattle.std.specs.Prelude.{◌≡◌, ◌↔◌, ℕ, ◌*◌, ◌<◌, length, replicate, false, true, IfOk, IsSome};
 ghost use Rattle.std.specs.declared.option.Option.TheVariants.{Some, None};
 ghost use Rattle.std.specs.Option.{option_map};
-ghost use Rattle.document_store.specs.Documents.{Parts};
-ghost use Rattle.document_store.specs.Slots.{FitsColumn, IsColumn, KeepsDoc, free_slot, is_over, slot_at, with_free_slice, with_slot};
+ghost use Rattle.document_store.specs.Slots.{FitsColumn, HasDocRightly, IsColumn, KeepsDoc, free_slot, is_out, is_over, is_over_in, slot_at, with_slice, with_slot, without_slice};
 ghost use Rattle.document_store.specs.declared.column.Column.TheVariants.{Dropped, Free, Live, Over, Pending};
 
 use crate::column::Column;
 use crate::doc::Doc;
+use crate::slots::{FreeSlots, OldSlots, Slot, Slots};
 use funnel_model::Memory;
 use std::alloc::Global;
 use std::marker::Model;
 
-/// What is kept of a column: what became of it, and its document.
-#[derive(Debug, Drop)]
-pub struct Slot {
-    pub column: Column,
-    pub doc: Option<Doc>,
-}
-
-/// What is kept of each column of each slice. Slices and columns count from 0. Only `new` takes memory.
+/// What is kept of each column of each slice. Slices and columns count from 0. Only `new` takes memory. While a slice is
+/// cleared its slots are out of the records.
 #[derive(Debug, Drop)]
 pub struct Records {
     slices: u32,
     columns: u32,
-    slots: Vec<Slot>,
+    // The slots of each slice, or none where they were taken out.
+    held: Vec<Option<Slots>>,
     // So many of the first columns of each slice are known to be over.
     first_over: Vec<u32>,
+    // What is kept of each column of a slice whose slots were taken out.
+    free: Slot,
 }
 
 impl Model for Records {
-    ghost use Rattle.document_store.specs.Slots.{IsTable, Table};
+    ghost use Rattle.std.specs.Prelude.{◌≡◌};
+    ghost use Rattle.document_store.specs.Slots.{AreHeld, IsTable, Table, free_slot, table_of};
 
     ghost Value = { Table };
 
-    ghost view = { λ r. record { slices = r.slices; columns = r.columns; slots = r.slots.items } };
+    ghost view = { λ r. table_of r.slices r.columns r.held.items };
 
-    ghost invariant = { λ r. IsTable (record { slices = r.slices; columns = r.columns; slots = r.slots.items }) r.first_over.items };
+    ghost invariant = { λ r. AreHeld r.slices r.columns r.held.items
+        × IsTable (table_of r.slices r.columns r.held.items) r.first_over.items × (r.free ≡ free_slot) };
 }
 
 impl Records {
@@ -44,17 +43,18 @@ impl Records {
         ensures slices { IfOk result (λ r. r.slices ≡ slices) }
         ensures columns { IfOk result (λ r. r.columns ≡ columns) }
         ensures free { IfOk result (λ r. r.slots ≡ replicate (slices * columns) free_slot) }
+        ensures all_there { IfOk result (λ r. r.out ≡ replicate slices false) }
     {
-        let count = slices as usize * columns as usize;
-        let mut slots = Vec::with_capacity(alloc, count)?;
-        for _ in 0..count {
-            slots.push_reserved(free_slot());
+        let mut held = Vec::with_capacity(alloc, slices as usize)?;
+        for _ in 0..slices {
+            held.push_reserved(Some(Slots::free(alloc, columns)?));
         }
         Ok(Records {
             slices,
             columns,
-            slots,
+            held,
             first_over: vec![in alloc; 0; slices as usize]?,
+            free: Slot::free(),
         })
     }
 
@@ -86,7 +86,10 @@ impl Records {
         ensures fits { FitsColumn (slot_at self.now slice column).column (slot_at self.now slice column).doc }
         ensures every_column { length self.now.slots ≡ self.now.slices * self.now.columns }
     {
-        &self.slots[self.index(slice, column)]
+        match &self.held[slice as usize] {
+            Some(slots) => slots.slot(column),
+            None => &self.free,
+        }
     }
 
     /// So many of the slice's first columns are over: as many as there are, though no contract says that.
@@ -120,14 +123,18 @@ impl Records {
         )
     }
 
-    /// A pass claims a free column.
+    /// A pass claims a free column of a slice whose slots are there.
     pub fn claim(&mut self, slice: u32, column: u32, pass: u32)
         requires in_range { IsColumn self.old slice column }
+        requires there { is_out self.old slice ≡ false }
         requires free { (slot_at self.old slice column).column ≡ Free }
         ensures { self.new ≡ with_slot self.old slice column (record { column = Pending pass; doc = None }) }
     {
-        let index = self.index(slice, column);
-        self.slots[index].column = Column::Pending(pass);
+        let slot = Slot {
+            column: Column::Pending(pass),
+            doc: None,
+        };
+        self.set(slice, column, slot);
     }
 
     /// The document of a pending column goes live: it was added at this place, and the event with this number puts it here.
@@ -136,11 +143,11 @@ impl Records {
         requires pending { (pass : ℕ) × ((slot_at self.old slice column).column ≡ Pending pass) }
         ensures { self.new ≡ with_slot self.old slice column (record { column = Live place since; doc = Some doc }) }
     {
-        let index = self.index(slice, column);
-        self.slots[index] = Slot {
+        let slot = Slot {
             column: Column::Live { place, since },
             doc: Some(doc),
         };
+        self.set(slice, column, slot);
     }
 
     /// A pending column gets no document after all.
@@ -149,8 +156,11 @@ impl Records {
         requires pending { (pass : ℕ) × ((slot_at self.old slice column).column ≡ Pending pass) }
         ensures { self.new ≡ with_slot self.old slice column (record { column = Dropped; doc = None }) }
     {
-        let index = self.index(slice, column);
-        self.slots[index].column = Column::Dropped;
+        let slot = Slot {
+            column: Column::Dropped,
+            doc: None,
+        };
+        self.set(slice, column, slot);
         self.pass_over(slice);
     }
 
@@ -161,61 +171,72 @@ impl Records {
         ensures { (place since : ℕ) → (slot_at self.old slice column).column ≡ Live place since →
             self.new ≡ with_slot self.old slice column (record { column = Over place since until; doc = (slot_at self.old slice column).doc }) }
     {
-        let index = self.index(slice, column);
-        let Column::Live { place, since } = self.slots[index].column else {
+        let Column::Live { place, since } = self.state(slice, column) else {
             unreachable!()
         };
-        self.slots[index].column = Column::Over {
-            place,
-            since,
-            until,
-        };
+        self.set_column(
+            slice,
+            column,
+            Column::Over {
+                place,
+                since,
+                until,
+            },
+        );
         self.pass_over(slice);
     }
 
-    /// Makes every column of the slice free, and drops their documents.
-    pub fn free(&mut self, slice: u32)
-        requires { slice < self.old.slices }
-        ensures { self.new ≡ with_free_slice self.old slice }
+    // Makes this what is kept of a column that is not over. Where it is free, its slice's slots are there.
+    fn set(&mut self, slice: u32, column: u32, slot: Slot)
+        requires in_range { IsColumn self.old slice column }
+        requires there { (slot_at self.old slice column).column ≡ Free → is_out self.old slice ≡ false }
+        requires not_over { is_over (slot_at self.old slice column) ≡ false }
+        requires fits { HasDocRightly slot }
+        ensures { self.new ≡ with_slot self.old slice column slot }
     {
-        let columns = self.columns as usize;
-        free_part(&mut self.slots, slice as usize * columns, columns);
+        let Some(slots) = &mut self.held[slice as usize] else {
+            unreachable!()
+        };
+        slots.set(column, slot);
+    }
+
+    // Says what became of a column that is not over, whose document stays. Where it is free, its slice's slots are there.
+    fn set_column(&mut self, slice: u32, column: u32, became: Column)
+        requires in_range { IsColumn self.old slice column }
+        requires there { (slot_at self.old slice column).column ≡ Free → is_out self.old slice ≡ false }
+        requires not_over { is_over (slot_at self.old slice column) ≡ false }
+        requires fits { FitsColumn became (slot_at self.old slice column).doc }
+        ensures { self.new ≡ with_slot self.old slice column (record { column = became; doc = (slot_at self.old slice column).doc }) }
+    {
+        let Some(slots) = &mut self.held[slice as usize] else {
+            unreachable!()
+        };
+        slots.set_column(column, became);
+    }
+
+    /// Takes the slots of a slice out, with its documents: all its columns are free from then on, and none of them is claimed
+    /// until `put_back`.
+    pub fn take_out(&mut self, slice: u32) -> OldSlots
+        requires in_range { slice < self.old.slices }
+        requires there { is_out self.old slice ≡ false }
+        ensures table { self.new ≡ without_slice self.old slice }
+        ensures columns { result ≡ self.old.columns }
+    {
+        let Some(slots) = self.held[slice as usize].take() else {
+            unreachable!()
+        };
         self.first_over[slice as usize] = 0;
+        OldSlots { slots }
     }
 
-    /// Where the slot of the column stands.
-    fn index(&self, slice: u32, column: u32) -> usize
-        requires { IsColumn self.now slice column }
-        ensures index { result ≡ slice * self.now.columns + column }
-        ensures within { result < length self.now.slots }
+    /// Puts free slots back for a slice whose slots were taken out: as many as a slice has columns.
+    pub fn put_back(&mut self, slice: u32, slots: FreeSlots)
+        requires in_range { slice < self.old.slices }
+        requires out { is_out self.old slice ≡ true }
+        requires columns { slots ≡ self.old.columns }
+        ensures { self.new ≡ with_slice self.old slice }
     {
-        slice as usize * self.columns as usize + column as usize
-    }
-}
-
-/// Makes so many columns free from this one on.
-fn free_part(slots: &mut Vec<Slot>, start: usize, columns: usize)
-    requires { start + columns ≤ length slots.old.items }
-    ensures { slots.new.items ≡ take start slots.old.items ++ (replicate columns free_slot ++ drop (start + columns) slots.old.items) }
-{
-    free_all(&mut slots[start..start + columns]);
-}
-
-/// Makes each of the columns free.
-fn free_all(slots: &mut [Slot])
-    ensures { slots.new ≡ replicate (length slots.old) free_slot }
-{
-    for slot in slots.iter_mut() {
-        *slot = free_slot();
-    }
-}
-
-/// What is kept of a free column.
-fn free_slot() -> Slot
-    ensures { result ≡ free_slot }
-{
-    Slot {
-        column: Column::Free,
-        doc: None,
+        let FreeSlots { slots } = slots;
+        self.held[slice as usize] = Some(slots);
     }
 }

@@ -6,7 +6,8 @@ ghost use Rattle.document_store.specs.Slots.{IsColumn, slot_at};
 use crate::column::Column;
 use crate::doc::verify;
 use crate::found::Found;
-use crate::records::{Records, Slot};
+use crate::records::Records;
+use crate::slots::Slot;
 use funnel_model::{Candidates, WordSet};
 
 /// A turn looks up so many candidates at most.

@@ -5,7 +5,6 @@ use Rattle.std.proofs.lemmas.List.Elements.{All-contains}
 use Rattle.column_writer.specs.Written.{IsBitOf}
 use Rattle.funnel_model.specs.declared.bit_list.Bit.{Bit}
 use Rattle.funnel_model.specs.declared.claim.Claim.{Claim}
-use Rattle.funnel_model.specs.declared.claim.ClearJob.{ClearJob}
 use Rattle.funnel_model.specs.declared.config.Config.{Config}
 use Rattle.funnel_model.specs.declared.event.Event.{Event}
 use Rattle.funnel_model.specs.declared.event.Event.TheVariants as event
@@ -25,6 +24,7 @@ use Rattle.commit_desk.specs.Answers.{AnswersCommit, events_of_commit}
 use Rattle.commit_desk.specs.Passes.{HasWritten, IsToWrite}
 use Rattle.commit_desk.specs.declared.answers.CommitFault.{CommitFault}
 use Rattle.commit_desk.specs.declared.answers.Taken.TheVariants as taken
+use Rattle.commit_desk.specs.declared.answers.ToClear.{ToClear}
 use Rattle.commit_desk.proofs.CallEnds.{seated_still}
 use Rattle.slice_recycler.specs.Turns.{IsTurn}
 use Rattle.engine.specs.Adds.{ClaimTurns, ClearsFirst, CommitTurns, TakeTurn}
@@ -63,16 +63,17 @@ has_written pool claim set bits seat next of_config start is has document inside
 }
 
 -- the turns of a claim that cleared a slice between them
-pub cleared_first : (limits : Limits) (pass id : ℕ) (text : List ℕ) (before after : List Event) (job : ClearJob) (claim : Claim) (seat next : PassState) →
-    TakeTurn limits pass id text before seat.front (taken.Clear job) → seat.number ≡ pass → next ≡ record seat { own = next.own } →
-    IsTurn next.number next.front after (λ history. Unit {0}) (event.Opened next.number job.slice false ∷ event.Take next.number job.slice 0 ∷ []) → claim.slice ≡ job.slice → claim.column ≡ 0 →
+pub cleared_first : (limits : Limits) (pass id : ℕ) (text : List ℕ) (before after : List Event) (to_clear : ToClear) (claim : Claim) (seat next : PassState) →
+    TakeTurn limits pass id text before seat.front (taken.Clear to_clear) → to_clear.slots ≡ limits.columns → seat.number ≡ pass → next ≡ record seat { own = next.own } →
+    IsTurn next.number next.front after (λ history. Unit {0}) (event.Opened next.number to_clear.job.slice false ∷ event.Take next.number to_clear.job.slice 0 ∷ []) → claim.slice ≡ to_clear.job.slice → claim.column ≡ 0 →
     ClearsFirst limits pass id text before after claim
-cleared_first limits pass id text before after job claim seat next cleared number is opened slice first = record {
+cleared_first limits pass id text before after to_clear claim seat next cleared slots number is opened slice first = record {
   middle = seat.front;
-  cleared = subst (λ (s : ℕ). TakeTurn limits pass id text before seat.front (taken.Clear (record { slice = s }))) (sym slice) cleared;
+  cleared = subst (λ (s : ℕ). TakeTurn limits pass id text before seat.front (taken.Clear (record { job = record { slice = s }; slots = limits.columns }))) (sym slice)
+      (subst (λ (n : ℕ). TakeTurn limits pass id text before seat.front (taken.Clear (record to_clear { slots = n }))) slots cleared);
   opened = subst (λ (s : ℕ). IsTurn pass seat.front after (λ history. Unit {0}) (event.Opened pass s false ∷ event.Take pass s 0 ∷ [])) (sym slice)
-      (subst (λ (n : ℕ). IsTurn n seat.front after (λ history. Unit {0}) (event.Opened n job.slice false ∷ event.Take n job.slice 0 ∷ [])) number
-      (subst (λ (p : PassState). IsTurn p.number p.front after (λ history. Unit {0}) (event.Opened p.number job.slice false ∷ event.Take p.number job.slice 0 ∷ [])) is opened));
+      (subst (λ (n : ℕ). IsTurn n seat.front after (λ history. Unit {0}) (event.Opened n to_clear.job.slice false ∷ event.Take n to_clear.job.slice 0 ∷ [])) number
+      (subst (λ (p : PassState). IsTurn p.number p.front after (λ history. Unit {0}) (event.Opened p.number to_clear.job.slice false ∷ event.Take p.number to_clear.job.slice 0 ∷ [])) is opened));
   first = first;
 }
 

@@ -1,5 +1,5 @@
 -- A find between its turns.
-use Rattle.std.proofs.Common.{◌≡◌, false, Option, None, ℕ, ◌+◌, ◌<◌, ◌≤◌, List, [], ◌∷◌, ◌++◌, length, take, map, refl, sym, ap, ◌∙◌, subst, arith, append-nil, append_assoc, IsSorted, IsPermutation}
+use Rattle.std.proofs.Common.{◌≡◌, false, Option, None, ℕ, ◌+◌, ◌≤◌, List, [], ◌∷◌, ◌++◌, length, take, map, refl, sym, ap, ◌∙◌, subst, arith, append-nil, append_assoc, IsSorted, IsPermutation}
 use Rattle.std.proofs.lemmas.List.{take_all}
 use Rattle.std.specs.List.{list_any, slice_range}
 use mathlib.Core.List.{IsPrefix}
@@ -10,12 +10,11 @@ use Rattle.funnel_model.specs.declared.event.Event.{Event}
 use Rattle.funnel_model.specs.declared.event.Event.TheVariants as event
 use Rattle.funnel_model.specs.Events.{finds_or_ends}
 use Rattle.funnel_model.specs.History.{IsFrontOf, answer}
-use Rattle.funnel_model.specs.Legal.{IsLegal, Limits}
+use Rattle.funnel_model.specs.Legal.{IsLegal}
 use Rattle.funnel_model.specs.Tokens.{HasToken}
 use Rattle.funnel_model.specs.Words.{AreWordsOf}
 use Rattle.slice_rule.specs.Pools.{PoolId}
-use Rattle.slice_rule.specs.Seats.{HasNoneOutstanding, HoldsToken, PassState}
-use Rattle.commit_desk.specs.Answers.{found_of}
+use Rattle.slice_rule.specs.Seats.{PassState}
 use Rattle.commit_desk.specs.Desks.{DeskState, Makes}
 use Rattle.commit_desk.specs.Passes.{IsFinding}
 use Rattle.commit_desk.specs.Resolving.{AreGiven, GiveAll}

@@ -27,7 +27,7 @@ TakeTurn limits pass id text before after answer =
 -- the pass cleared a slice, opened it, and took its first column
 pub record ClearsFirst (limits : Limits) (pass id : ℕ) (text : List ℕ) (before after : List Event) (claim : Claim) : Type 0 where
   pub middle : List Event
-  pub cleared : TakeTurn limits pass id text before middle (taken.Clear (record { slice = claim.slice }))
+  pub cleared : TakeTurn limits pass id text before middle (taken.Clear (record { job = record { slice = claim.slice }; slots = limits.columns }))
   pub opened : IsTurn pass middle after (λ history. Unit {0}) (event.Opened pass claim.slice false ∷ event.Take pass claim.slice 0 ∷ [])
   pub first : claim.column ≡ 0
 

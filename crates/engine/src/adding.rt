@@ -13,9 +13,9 @@ ghost use Rattle.row_layout.specs.Orders.{HasRowsOf};
 
 use crate::engine::Engine;
 use crate::work::{Direct, Work};
-use commit_desk::{AddFault, CommitFault, Taken};
+use commit_desk::{AddFault, CommitFault, Taken, ToClear};
 use document_store::Doc;
-use funnel_model::{Block, Claim, ClearJob, Memory, Text};
+use funnel_model::{Block, Claim, Memory, Text};
 use row_layout::{Bits, bits_of};
 use slice_rule::{PassSeat, PoolName};
 use std::alloc::Global;
@@ -32,7 +32,7 @@ impl<N: PoolName> Engine<N> {
     /// it. It takes memory for a copy of it and for its bits; where there is none it moves no more, and goes on.
     ///
     /// For its own document it waits for the lock twice, or three times where it clears a slice; where it is refused in the first
-    /// of these turns, once.
+    /// of these turns, once. The documents of a slice that it clears are dropped while the lock is free.
     pub fn add<R: Wait>(
         &self,
         rt: &R,
@@ -146,9 +146,10 @@ impl<N: PoolName> Engine<N> {
     {
         match self.take(rt, pass, doc, room) {
             Taken::Claim(claim) => Ok(claim),
-            Taken::Clear(job) => {
+            Taken::Clear(to_clear) => {
+                let ToClear { job, slots } = to_clear;
                 work.clear(&self.pool, pass, &self.layout, &job);
-                Ok(self.opened_take(rt, pass, job))
+                Ok(self.opened_take(rt, pass, job, slots.empty()))
             }
             Taken::Refused(fault) => Err(fault),
         }

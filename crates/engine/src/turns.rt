@@ -9,7 +9,7 @@ ghost use Rattle.slice_recycler.specs.Turns.{IsTurn};
 
 use crate::engine::Engine;
 use commit_desk::{CommitFault, Spent, Taken};
-use document_store::{Doc, Found};
+use document_store::{Doc, Found, FreeSlots};
 use funnel_model::{Block, Candidates, Claim, ClearJob, Token, WordSet};
 use row_layout::Bits;
 use slice_rule::{PassSeat, PoolName};
@@ -38,8 +38,15 @@ impl<N: PoolName> Engine<N> {
     }
 
     // The turn of an add that cleared a slice.
-    pub(crate) fn opened_take<R: Wait>(&self, rt: &R, pass: &mut PassSeat, job: ClearJob) -> Claim
+    pub(crate) fn opened_take<R: Wait>(
+        &self,
+        rt: &R,
+        pass: &mut PassSeat,
+        job: ClearJob,
+        slots: FreeSlots,
+    ) -> Claim
         requires cleared { HasCleared self.now job pass.old }
+        requires slots { slots ≡ self.now.limits.columns }
         ensures slice { result.slice ≡ job.slice }
         ensures column { result.column ≡ 0 }
         ensures turn { IsTurn pass.old.number pass.old.front pass.new.front (λ history. Unit {0})
@@ -49,7 +56,10 @@ impl<N: PoolName> Engine<N> {
         ensures legal { IsLegal self.now.limits pass.new.front }
     {
         let _ = &self.pool;
-        self.desk.lock(rt).desk.opened_take(&self.pool, pass, job)
+        self.desk
+            .lock(rt)
+            .desk
+            .opened_take(&self.pool, pass, job, slots)
     }
 
     // The last turn of an add.

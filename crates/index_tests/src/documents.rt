@@ -65,13 +65,13 @@ struct Columns {
 }
 
 impl Model for Columns {
-    ghost use Rattle.std.specs.Prelude.{◌≡◌};
+    ghost use Rattle.std.specs.Prelude.{◌≡◌, false, replicate};
 
     ghost Value = { Unit {0} };
 
     ghost view = { λ _. tt };
 
-    ghost invariant = { λ c. (c.records.slices ≡ 2) × (c.records.columns ≡ 4) };
+    ghost invariant = { λ c. (c.records.slices ≡ 2) × (c.records.columns ≡ 4) × (c.records.out ≡ replicate 2 false) };
 }
 
 impl Columns {
@@ -124,13 +124,18 @@ impl Columns {
         }
     }
 
-    /// Frees the columns of the second slice.
-    fn free_second(&mut self) {
-        self.records.free(1);
+    /// Takes the slots of the second slice out, empties them and puts them back: the state of its first column meanwhile.
+    fn empty_second(&mut self) -> (Column, bool) {
+        let slots = self.records.take_out(1);
+        let kept = self.records.doc(1, 0).is_some();
+        let meanwhile = (self.records.state(1, 0), kept);
+        self.records.put_back(1, slots.empty());
+        meanwhile
     }
 
-    /// The states of two columns: one is claimed, gets a document that is deleted later, and is freed; and the other is dropped.
-    fn lead(&mut self, doc: Doc) -> [(Column, bool); 7] {
+    /// The states of two columns: one is claimed, gets a document that is deleted later, and is freed as its slice is emptied;
+    /// and the other is dropped.
+    fn lead(&mut self, doc: Doc) -> [(Column, bool); 8] {
         let free = self.state(1, 0);
         self.claim(1, 0);
         let pending = self.state(1, 0);
@@ -141,13 +146,14 @@ impl Columns {
         self.claim(0, 1);
         self.refuse(0, 1);
         let dropped = self.state(0, 1);
-        self.free_second();
+        let meanwhile = self.empty_second();
         [
             free,
             pending,
             live,
             over,
             dropped,
+            meanwhile,
             self.state(1, 0),
             self.state(0, 1),
         ]
@@ -155,7 +161,7 @@ impl Columns {
 }
 
 /// The states of the two columns, step by step.
-fn states(alloc: Global) -> Result<[(Column, bool); 7], Fail> {
+fn states(alloc: Global) -> Result<[(Column, bool); 8], Fail> {
     let doc = document(alloc, 7, "cat")?;
     let mut columns = Columns::new(alloc)?;
     Ok(columns.lead(doc))
@@ -176,6 +182,7 @@ fn a_column_goes_through_its_states(rt: HostRuntime) -> Result<(), Fail> {
             true,
         ),
         (Column::Dropped, false),
+        (Column::Free, false),
         (Column::Free, false),
         (Column::Dropped, false),
     ];

@@ -1,5 +1,5 @@
 -- What a recycle is answered, from its turns.
-use Rattle.std.proofs.Common.{◌≡◌, ◌⊎◌, ◌↔◌, ℕ, List, [], ◌∷◌, true, refl, sym, ap, subst, inr}
+use Rattle.std.proofs.Common.{◌≡◌, ◌⊎◌, ◌↔◌, ℕ, List, [], ◌∷◌, Ok, true, refl, sym, ap, subst, inr}
 use Rattle.std.specs.List.{Contains}
 use Rattle.funnel_model.specs.declared.call.Call.TheVariants as call
 use Rattle.funnel_model.specs.declared.claim.ClearJob.{ClearJob}
@@ -14,12 +14,15 @@ use Rattle.slice_rule.specs.declared.view.Fact.TheVariants as fact
 use Rattle.slice_rule.specs.Numbers.{last_number}
 use Rattle.slice_rule.specs.Pools.{PoolId}
 use Rattle.slice_rule.specs.Seats.{HoldsJob, PassState}
+use Rattle.commit_desk.specs.Answers.{AnswersClear}
 use Rattle.commit_desk.specs.Passes.{HasCleared, IsToClear}
 use Rattle.commit_desk.specs.declared.answers.ClearRefusal.{ClearRefusal}
 use Rattle.commit_desk.specs.declared.answers.ClearRefusal.TheVariants as clear
+use Rattle.commit_desk.specs.declared.answers.ToClear.{ToClear}
 use Rattle.commit_desk.proofs.CallEnds.{seated_still}
 use Rattle.slice_recycler.specs.Cleared.{IsZeroOf}
 use Rattle.slice_recycler.specs.Recycles.{IsRefusedTurn, RecycleTurns, refused_as, reply_of_recycle}
+use Rattle.slice_recycler.specs.declared.recycling.Recycled.TheVariants as recycled
 use Rattle.slice_recycler.specs.Turns.{IsTurn}
 use Rattle.slice_recycler.proofs.Steps.{own-unanswered, quiet_turn, step_made_after, step_made_by_turn, step_spent_turn}
 
@@ -70,3 +73,14 @@ pub opened_turn : {answers : List Event → Type 0} (pass slice : ℕ) (seat nex
 opened_turn {answers = answers} pass slice seat next after is number turn =
     subst (λ n. IsTurn n seat.front after answers (event.Opened n slice true ∷ [])) number
     (subst (λ (p : PassState). IsTurn p.number p.front after answers (event.Opened p.number slice true ∷ [])) is turn)
+
+-- the two turns of a recycle that is done
+pub done_turns : (limits : Limits) (pass : ℕ) (before middle after : List Event) (to_clear : ToClear) (slice : ℕ) →
+    IsTurn pass before middle (λ history. AnswersClear limits.events limits history pass (Ok to_clear)) (event.Clear pass to_clear.job.slice ∷ []) → to_clear.slots ≡ limits.columns →
+    slice ≡ to_clear.job.slice → IsTurn pass middle after (λ history. Unit {0}) (event.Opened pass to_clear.job.slice true ∷ []) → RecycleTurns limits pass before after (recycled.Done slice)
+done_turns limits pass before middle after to_clear slice first slots same second = (
+  middle,
+  subst (λ (s : ℕ). IsTurn pass before middle (λ history. AnswersClear limits.events limits history pass (Ok (record { job = record { slice = s }; slots = limits.columns }))) (event.Clear pass s ∷ [])) (sym same)
+      (subst (λ (n : ℕ). IsTurn pass before middle (λ history. AnswersClear limits.events limits history pass (Ok (record to_clear { slots = n }))) (event.Clear pass to_clear.job.slice ∷ [])) slots first),
+  subst (λ (s : ℕ). IsTurn pass middle after (λ history. Unit {0}) (event.Opened pass s true ∷ [])) (sym same) second,
+)

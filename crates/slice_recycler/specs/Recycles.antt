@@ -33,7 +33,7 @@ IsRefusedTurn limits pass before after refusal =
 -- A recycle clears the slice that the desk names in a first turn, and opens it in a second one; a refused one has one turn.
 abbrev pub RecycleTurns : Limits → ℕ → List Event → List Event → Recycled → Type 0
 RecycleTurns limits pass before after (recycled.Done slice) =
-    (middle : List Event) × IsTurn pass before middle (λ history. AnswersClear limits.events limits history pass (Ok (record { slice = slice }))) (event.Clear pass slice ∷ [])
+    (middle : List Event) × IsTurn pass before middle (λ history. AnswersClear limits.events limits history pass (Ok (record { job = record { slice = slice }; slots = limits.columns }))) (event.Clear pass slice ∷ [])
     × IsTurn pass middle after (λ history. Unit {0}) (event.Opened pass slice true ∷ [])
 RecycleTurns limits pass before after recycled.NoneRetired = IsRefusedTurn limits pass before after clear.NoneRetired
 RecycleTurns limits pass before after (recycled.Guarded slice guard opened_at) = IsRefusedTurn limits pass before after (clear.Guarded slice guard opened_at)

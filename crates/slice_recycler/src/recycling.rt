@@ -7,7 +7,7 @@ ghost use Rattle.slice_recycler.specs.Recycles.{RecycleTurns, refused_as, reply_
 
 use crate::clearing::{Clearer, clear_slice};
 use crate::turns::{open, start};
-use commit_desk::{ClearRefusal, Named};
+use commit_desk::{ClearRefusal, Named, ToClear};
 use funnel_model::ClearJob;
 use row_layout::Layout;
 use slice_rule::{PassSeat, Pool, PoolName};
@@ -52,7 +52,7 @@ impl From<ClearRefusal> for Recycled {
 }
 
 /// Clears the lowest slice that is retired and that no running find guards, and opens it. It waits for the lock, and takes
-/// no memory.
+/// no memory. While the lock is free it makes the slice's words zero, and drops its documents.
 pub fn recycle<N: PoolName, R: Wait>(
     rt: &R,
     pool: &Pool,
@@ -71,7 +71,7 @@ pub fn recycle<N: PoolName, R: Wait>(
     recycle_by(rt, pool, desk, layout, seat, &mut InPlace)
 }
 
-/// A recycle whose slice is cleared by `work`, while the pass does not hold the lock.
+/// A recycle whose slice's words are cleared by `work`, while the pass does not hold the lock.
 pub fn recycle_by<N: PoolName, R: Wait, W: Clearer>(
     rt: &R,
     pool: &Pool,
@@ -89,9 +89,10 @@ pub fn recycle_by<N: PoolName, R: Wait, W: Clearer>(
     ensures number { seat.new.number ≡ seat.old.number }
 {
     match start(rt, pool, desk, seat) {
-        Ok(job) => {
+        Ok(to_clear) => {
+            let ToClear { job, slots } = to_clear;
             work.clear(pool, seat, layout, &job);
-            Recycled::Done(open(rt, pool, desk, seat, job))
+            Recycled::Done(open(rt, pool, desk, seat, job, slots.empty()))
         }
         Err(refusal) => Recycled::from(refusal),
     }

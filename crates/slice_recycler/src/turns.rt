@@ -6,7 +6,8 @@ ghost use Rattle.commit_desk.specs.Answers.{AnswersClear, events_of_clear};
 ghost use Rattle.commit_desk.specs.Passes.{HasCleared, IsResting, IsToClear};
 ghost use Rattle.slice_recycler.specs.Turns.{IsTurn};
 
-use commit_desk::{ClearRefusal, Named};
+use commit_desk::{ClearRefusal, Named, ToClear};
+use document_store::FreeSlots;
 use funnel_model::ClearJob;
 use slice_rule::{PassSeat, Pool, PoolName};
 use std::sync::{Mutex, Wait};
@@ -17,33 +18,35 @@ pub(crate) fn start<N: PoolName, R: Wait>(
     pool: &Pool,
     desk: &Mutex<Named<N>>,
     seat: &mut PassSeat,
-) -> Result<ClearJob, ClearRefusal>
+) -> Result<ToClear, ClearRefusal>
     requires named { pool.now ≡ N.pool }
     requires rests { IsResting pool.now seat.old }
     ensures turn { IsTurn seat.old.number seat.old.front seat.new.front
         (λ history. AnswersClear pool.now.limits.events pool.now.limits history seat.old.number result) (events_of_clear seat.old.number result) }
-    ensures next { MatchResult result (λ job. IsToClear pool.now job seat.new) (λ _. IsResting pool.now seat.new) }
+    ensures next { MatchResult result (λ work. IsToClear pool.now work.job seat.new × (work.slots ≡ pool.now.limits.columns)) (λ _. IsResting pool.now seat.new) }
     ensures number { seat.new.number ≡ seat.old.number }
     ensures legal { IsLegal pool.now.limits seat.new.front }
 {
     desk.lock(rt).desk.start_clear(pool, seat)
 }
 
-// The second turn: the slice, whose words are zero, is opened.
+// The second turn: the slice, whose words are zero and whose slots are free, is opened.
 pub(crate) fn open<N: PoolName, R: Wait>(
     rt: &R,
     pool: &Pool,
     desk: &Mutex<Named<N>>,
     seat: &mut PassSeat,
     job: ClearJob,
+    slots: FreeSlots,
 ) -> u32
     requires named { pool.now ≡ N.pool }
     requires cleared { HasCleared pool.now job seat.old }
+    requires slots { slots ≡ pool.now.limits.columns }
     ensures slice { result ≡ job.slice }
     ensures turn { IsTurn seat.old.number seat.old.front seat.new.front (λ history. Unit {0}) (event.Opened seat.old.number job.slice true ∷ []) }
     ensures rests { IsResting pool.now seat.new }
     ensures number { seat.new.number ≡ seat.old.number }
     ensures legal { IsLegal pool.now.limits seat.new.front }
 {
-    desk.lock(rt).desk.opened(pool, seat, job)
+    desk.lock(rt).desk.opened(pool, seat, job, slots)
 }

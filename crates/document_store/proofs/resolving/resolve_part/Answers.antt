@@ -3,7 +3,7 @@ use Rattle.std.proofs.lemmas.List.Elements.{Contains-get_or}
 use Rattle.std.specs.List.{cons_option}
 use Rattle.document_store.specs.Finding.{FoundState, found_in, looked_for}
 use Rattle.document_store.specs.Slots.{Table, slot_at}
-use Rattle.document_store.specs.declared.records.Slot.{Slot}
+use Rattle.document_store.specs.declared.slots.Slot.{Slot}
 use Rattle.document_store.proofs.TurnLemmas.{IsTurnTo, turn_goes_on, turn_is_over}
 use Rattle.document_store.proofs.resolving.resolve_part.Goals as goal
 

@@ -1,4 +1,5 @@
-use Rattle.std.proofs.Common.{◌≡◌, ℕ, ◌+◌, ◌<◌, [], ◌∷◌, ◌++◌, length, MatchOption, Option, inl, inr, refl, sym, ap, ◌∙◌, subst}
+use Rattle.std.proofs.Common.{◌≡◌, ℕ, ◌+◌, ◌<◌, [], ◌∷◌, ◌++◌, length, MatchOption, Option, inl, inr, refl, sym, ap, ◌∙◌, subst, arith}
+use Rattle.document_store.specs.Slots.{without_slice}
 use Rattle.funnel_model.specs.declared.event.Event.TheVariants as event
 use Rattle.funnel_model.specs.Legal.{IsAllowed, IsIdle, MayClear, NoneCanClear}
 use Rattle.funnel_model.proofs.Histories.{legal-push}
@@ -79,27 +80,43 @@ make_event-self-inside-requires-clause-allowed c =
     let same : i.home.pool ≡ c.args.pool.now = ap (λ (d : DeskState). d.pool) c.self.view_is ∙ sym c.requires.pool in
     subst (λ (p : PoolId). IsAllowed p.limits i.home.history (event.Clear c.number-pass.result c.in-Some-clearable.slice)) same (allowed_now c.before.before.before)
 
+pub take_out-slots-requires-clause-in_range : goal.take_out-slots-requires-clause-in_range
+take_out-slots-requires-clause-in_range c =
+    let in' = (may_now c.before.before.before.before.before.before.before.before.before).in_range in
+    let slices_are = c.self.invariant.kept.recorded.slices_are in
+    omega (arith, in', slices_are)
+
+pub take_out-slots-requires-clause-there : goal.take_out-slots-requires-clause-there
+take_out-slots-requires-clause-there c =
+    let may = may_now c.before.before.before.before.before.before.before.before.before in
+    let recorded = c.self.invariant.kept.recorded in
+    let in' = may.in_range in
+    let slices_are = recorded.slices_are in
+    recorded.out c.in-Some-clearable.slice (omega (arith, in', slices_are)) ∙ may.can_clear.retired.not_clearing
+
 pub invariant_of-self-2 : goal.invariant_of-self-2
 invariant_of-self-2 c =
     let i = c.self.inside in
     let e = event.Clear c.number-pass.result c.in-Some-clearable.slice in
     let made = c.make_event-self-inside.ensures in
     let home = c.make_event-self-inside.new.home in
-    let number = c.before.before.before.before.before.before.before.before in
+    let number = c.before.before.before.before.before.before.before.before.before.before in
     let desk = desk_now number.before.before in
     let before = looked number.before.before in
     let few = few-start i.events_limit i.home.pool.limits.passes i.home.history e
     (subst (λ (d : DeskState). TakesCalls d.events_limit d.history) (sym c.self.view_is) c.requires.takes_calls) in
-    let stages = with_stage c.look.new.self c.in-Some-clearable.slice (stage.Clearing c.number-pass.result) in
-    desk-with i.home.pool home.pool i.events_limit i.home.history i.home.history home.history before (books_after before c.make_event-self-inside.result i.records c.clear.new.self) e
+    let slice = c.in-Some-clearable.slice in
+    let stages = with_stage c.look.new.self slice (stage.Clearing c.number-pass.result) in
+    let table = without_slice i.records slice in
+    desk-with i.home.pool home.pool i.events_limit i.home.history i.home.history home.history before (books_after before c.make_event-self-inside.result c.take_out-slots.new.self c.clear.new.self) e
     made.home.pool made.home.history refl desk
-    (kept-as i.home.pool.config i.home.pool.limits i.events_limit (i.home.history ++ e ∷ []) home.history (books_after before (length i.home.history + 1) i.records stages)
-    c.make_event-self-inside.result i.records c.clear.new.self made.home.history (number_is i.home home e c.make_event-self-inside.result made.home made.number) refl c.clear.ensures
+    (kept-as i.home.pool.config i.home.pool.limits i.events_limit (i.home.history ++ e ∷ []) home.history (books_after before (length i.home.history + 1) table stages)
+    c.make_event-self-inside.result c.take_out-slots.new.self c.clear.new.self made.home.history (number_is i.home home e c.make_event-self-inside.result made.home made.number) c.take_out-slots.ensures.table c.clear.ensures
     (kept-clear i.home.pool.config i.home.pool.limits i.events_limit i.home.history before desk.kept c.number-pass.result c.in-Some-clearable.slice (allowed_now number) few))
 
 pub returns-clause-may : goal.returns-clause-may
 returns-clause-may c =
-    let number = c.before.before.before.before.before.before.before.before in
+    let number = c.before.before.before.before.before.before.before.before.before.before in
     subst (λ n. MayClear c.args.self.now.pool.limits c.args.self.now.history n c.in-Some-clearable.slice) c.number-pass.ensures.number
     (subst (λ (d : DeskState). MayClear d.pool.limits d.history c.number-pass.result c.in-Some-clearable.slice) c.self.view_is (may_now number))
 
@@ -110,7 +127,7 @@ returns-clause-made c =
     let made = c.make_event-self-inside.ensures in
     let home = c.make_event-self-inside.new.home in
     let seat = c.make_event-self-inside.new.seat in
-    let number = c.before.before.before.before.before.before.before.before in
+    let number = c.before.before.before.before.before.before.before.before.before.before in
     subst (λ n. Makes (event.Clear n c.in-Some-clearable.slice ∷ []) c.args.self.now (desk_at home i.events_limit) c.args.seat.now seat) c.number-pass.ensures.number
     (made_one c.args.self.now i.home home i.events_limit c.args.seat.now seat e c.self.view_is c.requires.caught_up made.home
     (legal-push i.home.pool.limits i.home.history e c.self.invariant.kept.legal (allowed_now number)) made.seat)

@@ -15,7 +15,7 @@ use Rattle.commit_desk.specs.Desks.{DeskState, Makes}
 use Rattle.commit_desk.proofs.Few.{few-start}
 use Rattle.commit_desk.proofs.Inside.{books_of}
 use Rattle.commit_desk.proofs.MadeEvents.{desk_at, made_one, number_is}
-use Rattle.commit_desk.proofs.RecordFacts.{is_column, taken_is_free}
+use Rattle.commit_desk.proofs.RecordFacts.{is_column, taken_is_free, taken_is_there}
 use Rattle.commit_desk.proofs.SliceEvents.{books_after, desk-with, kept-as, kept-take}
 use Rattle.commit_desk.proofs.StageReadings.{claimed_count, in_use_stage, room_has_left, used_slice}
 use Rattle.commit_desk.proofs.desk.Desk.claim.Goals as goal
@@ -85,6 +85,13 @@ column_now c =
 
 pub claim-requires-clause-in_range : goal.claim-requires-clause-in_range
 claim-requires-clause-in_range c = column_now c.before.before.before.before.before.before
+
+pub claim-requires-clause-there : goal.claim-requires-clause-there
+claim-requires-clause-there c =
+    let i = c.self.inside in
+    let kept = c.self.invariant.kept in
+    let then = c.before.before.before.before.before.before in
+    taken_is_there i.home.pool.limits i.home.history i.records kept.legal kept.recorded c.number-pass.result c.args.slice c.claim-column.result (allowed_now then) (column_now then)
 
 pub claim-requires-clause-free : goal.claim-requires-clause-free
 claim-requires-clause-free c =

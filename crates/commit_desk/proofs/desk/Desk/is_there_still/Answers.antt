@@ -3,7 +3,7 @@ use Rattle.std.proofs.lemmas.Bool.{false≢true, eq-eqb, eqb-true}
 use Rattle.document_store.specs.Entries.{column_of as entry_of}
 use Rattle.document_store.specs.Slots.{slot_at}
 use Rattle.document_store.specs.declared.column.Column.TheVariants as became
-use Rattle.document_store.specs.declared.records.Slot.{Slot}
+use Rattle.document_store.specs.declared.slots.Slot.{Slot}
 use Rattle.commit_desk.specs.Moving.{IsThereStill}
 use Rattle.commit_desk.proofs.Inside.{books_of}
 use Rattle.commit_desk.proofs.RecordFacts.{entry_place}

@@ -1,5 +1,6 @@
-use Rattle.std.proofs.Common.{◌≡◌, ◌+◌, ◌<◌, sym, ap, ◌∙◌, subst, arith}
+use Rattle.std.proofs.Common.{◌≡◌, ◌+◌, ◌<◌, false, sym, ap, ◌∙◌, subst, arith}
 use Rattle.funnel_model.specs.Legal.{IsLegal}
+use Rattle.funnel_model.specs.Slices.{is_clearing}
 use Rattle.commit_desk.specs.Desks.{DeskState}
 use Rattle.commit_desk.proofs.HeldColumns.{NoneHeldBelow, none_held-next, none_held-over, retired_unless_held}
 use Rattle.commit_desk.proofs.desk.Desk.lowest_held.Goals as goal
@@ -9,7 +10,8 @@ loop-column-init c =
     let i = c.self.inside in
     let kept = c.self.invariant.kept in
     subst (λ (d : DeskState). NoneHeldBelow d.history c.args.slice c.first_over-column.result) c.self.view_is
-    (none_held-over i.home.pool.limits i.home.history i.records c.args.slice c.first_over-column.result kept.legal kept.recorded c.first_over-column.ensures)
+    (none_held-over i.home.pool.limits i.home.history i.records c.args.slice c.first_over-column.result kept.legal kept.recorded
+    (subst (λ (d : DeskState). is_clearing c.args.slice d.history ≡ false) (sym c.self.view_is) c.requires.not_clearing) c.first_over-column.ensures)
 
 pub loop-column-preserved : goal.loop-column-preserved
 loop-column-preserved c =
@@ -22,6 +24,7 @@ loop-column-preserved c =
     subst (λ (d : DeskState). NoneHeldBelow d.history slice (column + 1)) c.self.view_is
     (none_held-next i.home.pool.limits i.home.history i.records slice column kept.legal kept.recorded
     (subst (λ (d : DeskState). slice < d.pool.limits.slices) (sym c.self.view_is) c.requires.in_range) (omega arith)
+    (subst (λ (d : DeskState). is_clearing c.args.slice d.history ≡ false) (sym c.self.view_is) c.requires.not_clearing)
     (λ added since is. c.in_default.not-Live added since (c.state.ensures.state ∙ is))
     (λ pass is. c.in_default.not-Pending pass (c.state.ensures.state ∙ is))
     (subst (λ (d : DeskState). NoneHeldBelow d.history slice column) (sym c.self.view_is) c.loop-column.invariant))

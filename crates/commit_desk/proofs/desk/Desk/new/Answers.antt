@@ -35,7 +35,7 @@ invariant_of-result c =
           (subst (λ (l : Limits). AreBooksOf config l c.args.events_limit c.args.home.history books) (sym c.requires.sizes)
           (subst (λ (h : List Event). AreBooksOf config limits c.args.events_limit h books) (sym c.requires.empty)
           (kept-new config limits c.args.events_limit books (some_columns config c.requires.config) refl columns refl c.in_ok-new.ensures
-          c.in_ok-new-2.ensures.slices (c.in_ok-new-2.ensures.columns ∙ columns) (c.in_ok-new-2.ensures.free ∙ ap (λ n. replicate (config.slices * n) free_slot) columns) c.in_ok-new-3.ensures.empty c.in_ok-new-3.ensures.slices (c.in_ok-new-3.ensures.slice_columns ∙ columns)
+          c.in_ok-new-2.ensures.slices (c.in_ok-new-2.ensures.columns ∙ columns) (c.in_ok-new-2.ensures.free ∙ ap (λ n. replicate (config.slices * n) free_slot) columns) c.in_ok-new-2.ensures.all_there c.in_ok-new-3.ensures.empty c.in_ok-new-3.ensures.slices (c.in_ok-new-3.ensures.slice_columns ∙ columns)
           c.in_ok-new-4.ensures (c.in_ok-new-5.ensures.columns ∙ columns) c.in_ok-new-5.ensures.stages c.in_ok-new-5.ensures.mark)));
     }
 

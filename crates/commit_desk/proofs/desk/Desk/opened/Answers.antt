@@ -5,7 +5,7 @@ use Rattle.slice_rule.specs.Pools.{PoolId}
 use Rattle.commit_desk.specs.Desks.{Makes}
 use Rattle.commit_desk.proofs.CaughtUp.{zero_caught}
 use Rattle.commit_desk.proofs.Inside.{books_of}
-use Rattle.commit_desk.proofs.JobTurns.{JobTurn, job_turn, opened_allowed, opened_kept, opened_made, pool_now, slice_clearing, slice_in_range}
+use Rattle.commit_desk.proofs.JobTurns.{JobTurn, job_turn, opened_allowed, opened_kept, opened_made, pool_now, slice_clearing, slice_in_range, slice_out, slots_back}
 use Rattle.commit_desk.proofs.MadeEvents.{desk_at, number_is}
 use Rattle.commit_desk.proofs.SliceEvents.{books_after, desk-with}
 use Rattle.commit_desk.proofs.Turns.{makes_later}
@@ -38,12 +38,18 @@ make_event-self-inside-requires-clause-ready c =
 in_range_now : (c : After-number-pass) → c.args.job.slice < c.catch_up.new.home.pool.limits.slices
 in_range_now c = slice_in_range c.args.self.now c.self.inside.events_limit c.catch_up.new.home (books_of c.self.inside) c.args.seat.now c.catch_up.new.seat c.number-pass.result c.args.job.slice (turn_now c)
 
-pub free-requires : goal.free-requires
-free-requires c =
+pub put_back-requires-clause-in_range : goal.put_back-requires-clause-in_range
+put_back-requires-clause-in_range c =
     let number = c.before.before.before.before.before.before in
     let in' = in_range_now number in
     let slices_are = (turn_now number).desk.kept.recorded.slices_are in
     omega arith
+
+pub put_back-requires-clause-out : goal.put_back-requires-clause-out
+put_back-requires-clause-out c = slice_out c.args.self.now c.self.inside.events_limit c.catch_up.new.home (books_of c.self.inside) c.args.seat.now c.catch_up.new.seat c.number-pass.result c.args.job.slice (turn_now c.before.before.before.before.before.before)
+
+pub put_back-requires-clause-columns : goal.put_back-requires-clause-columns
+put_back-requires-clause-columns c = slots_back c.args.self.now c.self.inside.events_limit c.catch_up.new.home (books_of c.self.inside) c.args.seat.now c.catch_up.new.seat c.number-pass.result c.args.job.slice (turn_now c.before.before.before.before.before.before) c.args.slots c.requires.slots
 
 pub open-requires-clause-in_range : goal.open-requires-clause-in_range
 open-requires-clause-in_range c =
@@ -64,9 +70,9 @@ invariant_of-self c =
     let made = c.make_event-self-inside.ensures in
     let home = c.make_event-self-inside.new.home in
     desk-with caught.pool home.pool i.events_limit caught.history caught.history home.history (books_of i)
-    (books_after (books_of i) c.make_event-self-inside.result c.free.new.self c.open.new.self) e made.home.pool made.home.history refl (turn_now number).desk
-    (opened_kept c.args.self.now c.self.inside.events_limit c.catch_up.new.home (books_of c.self.inside) c.args.seat.now c.catch_up.new.seat c.number-pass.result c.args.job.slice (turn_now number) true home c.make_event-self-inside.result c.free.new.self c.open.new.self made.home
-    (number_is caught home e c.make_event-self-inside.result made.home made.number) c.free.ensures c.open.ensures)
+    (books_after (books_of i) c.make_event-self-inside.result c.put_back.new.self c.open.new.self) e made.home.pool made.home.history refl (turn_now number).desk
+    (opened_kept c.args.self.now c.self.inside.events_limit c.catch_up.new.home (books_of c.self.inside) c.args.seat.now c.catch_up.new.seat c.number-pass.result c.args.job.slice (turn_now number) true home c.make_event-self-inside.result c.put_back.new.self c.open.new.self made.home
+    (number_is caught home e c.make_event-self-inside.result made.home made.number) c.put_back.ensures c.open.ensures)
 
 pub returns-clause-events : goal.returns-clause-events
 returns-clause-events c =

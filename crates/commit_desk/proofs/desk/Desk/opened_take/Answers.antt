@@ -5,7 +5,7 @@ use Rattle.slice_rule.specs.Pools.{PoolId}
 use Rattle.commit_desk.specs.Desks.{Makes}
 use Rattle.commit_desk.proofs.CaughtUp.{zero_caught}
 use Rattle.commit_desk.proofs.Inside.{books_of}
-use Rattle.commit_desk.proofs.JobTurns.{JobTurn, job_turn, opened_allowed, opened_kept, opened_made, pool_now, slice_clearing, slice_in_range, some_column}
+use Rattle.commit_desk.proofs.JobTurns.{JobTurn, job_turn, opened_allowed, opened_kept, opened_made, pool_now, slice_clearing, slice_in_range, slice_out, slots_back, some_column}
 use Rattle.commit_desk.proofs.MadeEvents.{caught_after, desk_at, made_one, number_is}
 use Rattle.commit_desk.proofs.SliceEvents.{books_after, desk-with, kept-as, kept-take}
 use Rattle.commit_desk.proofs.Turns.{makes_later, makes_more}
@@ -23,7 +23,7 @@ use Rattle.slice_stages.specs.Stages.{HasLeft, StageTable, empty_stage, stage_of
 use Rattle.slice_stages.specs.declared.stage.Stage.TheVariants as stage
 use Rattle.commit_desk.specs.Kept.{Books, AreBooksOf}
 use Rattle.commit_desk.proofs.Few.{few-next}
-use Rattle.commit_desk.proofs.RecordFacts.{is_column, taken_is_free}
+use Rattle.commit_desk.proofs.RecordFacts.{is_column, taken_is_free, taken_is_there}
 use Rattle.commit_desk.proofs.desk.Desk.opened_take.Goals as goal
 use Rattle.commit_desk.proofs.desk.Desk.opened_take.Goals.{After-number-pass, After-open, After-claim-column}
 
@@ -53,12 +53,18 @@ make_event-self-inside-requires-clause-ready c =
 in_range_now : (c : After-number-pass) → c.args.job.slice < c.catch_up.new.home.pool.limits.slices
 in_range_now c = slice_in_range c.args.self.now c.self.inside.events_limit c.catch_up.new.home (books_of c.self.inside) c.args.seat.now c.catch_up.new.seat c.number-pass.result c.args.job.slice (turn_now c)
 
-pub free-requires : goal.free-requires
-free-requires c =
+pub put_back-requires-clause-in_range : goal.put_back-requires-clause-in_range
+put_back-requires-clause-in_range c =
     let number = c.before.before.before.before.before in
     let in' = in_range_now number in
     let slices_are = (turn_now number).desk.kept.recorded.slices_are in
     omega arith
+
+pub put_back-requires-clause-out : goal.put_back-requires-clause-out
+put_back-requires-clause-out c = slice_out c.args.self.now c.self.inside.events_limit c.catch_up.new.home (books_of c.self.inside) c.args.seat.now c.catch_up.new.seat c.number-pass.result c.args.job.slice (turn_now c.before.before.before.before.before)
+
+pub put_back-requires-clause-columns : goal.put_back-requires-clause-columns
+put_back-requires-clause-columns c = slots_back c.args.self.now c.self.inside.events_limit c.catch_up.new.home (books_of c.self.inside) c.args.seat.now c.catch_up.new.seat c.number-pass.result c.args.job.slice (turn_now c.before.before.before.before.before) c.args.slots c.requires.slots
 
 pub open-requires-clause-in_range : goal.open-requires-clause-in_range
 open-requires-clause-in_range c =
@@ -71,13 +77,13 @@ pub open-requires-clause-clearing : goal.open-requires-clause-clearing
 open-requires-clause-clearing c = slice_clearing c.args.self.now c.self.inside.events_limit c.catch_up.new.home (books_of c.self.inside) c.args.seat.now c.catch_up.new.seat c.number-pass.result c.args.job.slice (turn_now c.before.before.before.before.before.before.before)
 
 abbrev books_opened : After-open → Books
-books_opened c = books_after (books_of c.self.inside) (length c.catch_up.new.home.history + 1) c.free.new.self c.open.new.self
+books_opened c = books_after (books_of c.self.inside) (length c.catch_up.new.home.history + 1) c.put_back.new.self c.open.new.self
 
 -- what is kept after the slice is opened
 kept_opened : (c : After-open) → AreBooksOf c.catch_up.new.home.pool.config c.catch_up.new.home.pool.limits c.self.inside.events_limit c.make_event-self-inside.new.home.history (books_opened c)
 kept_opened c =
     opened_kept c.args.self.now c.self.inside.events_limit c.catch_up.new.home (books_of c.self.inside) c.args.seat.now c.catch_up.new.seat c.number-pass.result c.args.job.slice (turn_now c.before.before.before.before.before.before.before.before) false c.make_event-self-inside.new.home
-    (length c.catch_up.new.home.history + 1) c.free.new.self c.open.new.self c.make_event-self-inside.ensures.home refl c.free.ensures c.open.ensures
+    (length c.catch_up.new.home.history + 1) c.put_back.new.self c.open.new.self c.make_event-self-inside.ensures.home refl c.put_back.ensures c.open.ensures
 
 pub claim-column-requires-clause-in_range : goal.claim-column-requires-clause-in_range
 claim-column-requires-clause-in_range c =
@@ -137,22 +143,29 @@ make_event-self-inside-requires-2-clause-allowed c =
     subst (λ (p : PoolId). IsAllowed p.limits c.make_event-self-inside.new.home.history (event.Take c.number-pass.result c.args.job.slice c.claim-column.result))
     (pool_now c.args.self.now c.self.inside.events_limit c.catch_up.new.home (books_of c.self.inside) c.args.seat.now c.catch_up.new.seat c.number-pass.result c.args.job.slice (turn_now then.before.before.before.before.before.before.before.before.before.before) c.args.pool.now c.requires.pool) (take_allowed then)
 
-column_now : (c : After-claim-column) → IsColumn c.free.new.self c.args.job.slice c.claim-column.result
+column_now : (c : After-claim-column) → IsColumn c.put_back.new.self c.args.job.slice c.claim-column.result
 column_now c =
     let home = c.make_event-self-inside.new.home in
     let limits = c.catch_up.new.home.pool.limits in
     let kept = kept_opened c.before.before in
-    is_column limits home.history c.free.new.self kept.legal kept.recorded c.args.job.slice c.claim-column.result (in_range_now c.before.before.before.before.before.before.before.before.before.before)
+    is_column limits home.history c.put_back.new.self kept.legal kept.recorded c.args.job.slice c.claim-column.result (in_range_now c.before.before.before.before.before.before.before.before.before.before)
     (take_within limits home.history c.number-pass.result c.args.job.slice c.claim-column.result kept.legal (take_allowed c))
 
 pub claim-requires-clause-in_range : goal.claim-requires-clause-in_range
 claim-requires-clause-in_range c = column_now c.before.before.before.before.before.before
 
+pub claim-requires-clause-there : goal.claim-requires-clause-there
+claim-requires-clause-there c =
+    let then = c.before.before.before.before.before.before in
+    let kept = kept_opened then.before.before in
+    taken_is_there c.catch_up.new.home.pool.limits c.make_event-self-inside.new.home.history c.put_back.new.self kept.legal kept.recorded c.number-pass.result c.args.job.slice c.claim-column.result
+    (take_allowed then) (column_now then)
+
 pub claim-requires-clause-free : goal.claim-requires-clause-free
 claim-requires-clause-free c =
     let then = c.before.before.before.before.before.before in
     let kept = kept_opened then.before.before in
-    taken_is_free c.catch_up.new.home.pool.limits c.make_event-self-inside.new.home.history c.free.new.self kept.legal kept.recorded c.number-pass.result c.args.job.slice c.claim-column.result
+    taken_is_free c.catch_up.new.home.pool.limits c.make_event-self-inside.new.home.history c.put_back.new.self kept.legal kept.recorded c.number-pass.result c.args.job.slice c.claim-column.result
     (take_allowed then) (column_now then)
 
 pub invariant_of-self : goal.invariant_of-self
@@ -173,7 +186,7 @@ invariant_of-self c =
     let opened = books_opened then.before.before in
     let kept = kept_opened then.before.before in
     let few = few-next i.events_limit caught.pool.limits.passes middle.history e (event.Opened pass slice false) kept.few (take_allowed then).pass (last_opened then) (omega arith) in
-    let table = with_slot c.free.new.self slice column (record { column = became.Pending pass; doc = None }) in
+    let table = with_slot c.put_back.new.self slice column (record { column = became.Pending pass; doc = None }) in
     let stages = with_stage c.open.new.self slice (stage.InUse (column + 1) 0) in
     let told_stage : stage_of c.open.new.self slice ≡ stage.InUse column 0 = stage_now then.before.before ∙ ap (λ n. stage.InUse n 0) (sym (told then).0) in
     desk-with caught.pool home.pool i.events_limit caught.history middle.history home.history before (books_after before c.make_event-self-inside-2.result c.claim.new.self c.claim-column.new.self) e

@@ -3,7 +3,6 @@ use Rattle.std.specs.List.{slice_range}
 use Rattle.document_store.specs.Finding.{found_at}
 use Rattle.funnel_model.specs.History.{IsFrontOf}
 use Rattle.slice_rule.specs.Pools.{PoolId}
-use Rattle.slice_rule.specs.Seats.{PassState}
 use Rattle.commit_desk.specs.Desks.{DeskState}
 use Rattle.commit_desk.specs.Scans.{WereScanned}
 use Rattle.commit_desk.proofs.FindEnds.{candidates_give_all, part_gives, scanned_in_table, were_scanned}

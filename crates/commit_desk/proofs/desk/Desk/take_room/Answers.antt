@@ -42,7 +42,7 @@ no_room c =
     (none_has_room i.home.pool.limits i.home.history i.records kept.legal kept.recorded i.stages kept.staged.each kept.staged.count (none_left c))
 
 pub returns-in-Some-begin_clear-clause-answer : goal.returns-in-Some-begin_clear-clause-answer
-returns-in-Some-begin_clear-clause-answer c = (c.requires.may, no_room c.before.before.before.before.before, c.in-Some-begin_clear.ensures.may)
+returns-in-Some-begin_clear-clause-answer c = (c.requires.may, no_room c.before.before.before.before.before, c.in-Some-begin_clear.ensures.may, c.in-Some-begin_clear.ensures.slots)
 
 full_now : (c : In_default-begin_clear) → IsFull c.args.self.now.pool.limits c.args.self.now.history
 full_now c =

@@ -1,4 +1,4 @@
-use Rattle.std.proofs.Common.{◌≡◌, [], refl, ◌∙◌, subst}
+use Rattle.std.proofs.Common.{refl, ◌∙◌, subst}
 use Rattle.engine.proofs.FoundUpTo.{all_found_later, ends_from}
 use Rattle.engine.proofs.Moves.{front_goes_on, front_refl, silent_turn}
 use Rattle.funnel_model.specs.History.{IsFrontOf}

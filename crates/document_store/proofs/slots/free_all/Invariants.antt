@@ -1,6 +1,6 @@
 use Rattle.std.proofs.Common.{◌≡◌, ◌++◌, replicate, drop}
 use Rattle.document_store.specs.Slots.{free_slot}
-use Rattle.document_store.proofs.records.free_all.Given as goal
+use Rattle.document_store.proofs.slots.free_all.Given as goal
 
 -- those so far are free
 abbrev pub invariant-loop-slot : goal.invariant-loop-slot
