@@ -1,7 +1,8 @@
 -- One bit more.
-use Rattle.std.proofs.Common.{◌≡◌, ◌⊎◌, ◌↔◌, ⊎_elim, inl, inr, ℕ, zero, suc, ◌<◌, List, [], ◌∷◌, ◌++◌, refl, sym, ap, ◌∙◌, subst, arith}
-use Rattle.std.proofs.lemmas.List.Elements.{Contains-append_cases, Contains-append_left, Contains-append_right}
-use Rattle.std.specs.List.{Contains, slice_index_or}
+use Rattle.std.proofs.Common.{◌≡◌, ◌⊎◌, ◌↔◌, ⊎_elim, inl, inr, ℕ, zero, suc, ◌<◌, List, [], ◌∷◌, ◌++◌, get_or, refl, sym, ap, ◌∙◌, subst, arith}
+use Rattle.std.proofs.lemmas.List.{get_or_default}
+use Rattle.std.proofs.lemmas.List.Elements.{All-contains, Contains-append_cases, Contains-append_left, Contains-append_right}
+use Rattle.std.specs.List.{All, Contains, slice_index_or}
 use Rattle.funnel_model.specs.declared.bit_list.Bit.{Bit}
 use Rattle.slice_rule.specs.declared.view.Fact.{Fact}
 use Rattle.slice_rule.specs.declared.view.Fact.TheVariants as fact
@@ -38,3 +39,16 @@ set_more number before after bits b so_far f = (
       (subst (Contains (fact.BitSet number b ∷ [])) (ap (fact.BitSet number) (only b set.0 last) ∙ sym set.2) (here (fact.BitSet number b) [])))
       (Contains-append_cases bits (b ∷ []) set.0 set.1)),
 )
+
+-- what was set of some bits was set of others with the same members
+pub set_same : (number : ℕ) (before after : List Fact) (bits others : List Bit) → ((b : Bit) → Contains bits b ↔ Contains others b) → HasSet number before bits after →
+    HasSet number before others after
+set_same number before after bits others same set f = (
+  λ has. ⊎_elim (λ old. inl old) (λ new. inr (new.0, (same new.0).0 new.1, new.2)) ((set f).0 has),
+  λ has. (set f).1 (⊎_elim (λ old. inl old) (λ new. inr (new.0, (same new.0).1 new.1, new.2)) has),
+)
+
+-- what holds of each bit holds of each of a list with no other members
+pub all_of_part : (P : Bit → Type 0) (bits others : List Bit) → ((b : Bit) → Contains bits b → Contains others b) → All P others → All P bits
+all_of_part P bits others part all k none within =
+    All-contains P others (get_or bits k none) all (part (get_or bits k none) (k, within, get_or_default bits k (get_or bits k none) none within))

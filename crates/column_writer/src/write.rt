@@ -21,7 +21,7 @@ pub fn write_column(pool: &Pool, seat: &mut PassSeat, claim: &Claim, bits: &Bits
     ensures bits { (f : Fact) → Contains seat.new.own f ↔
         (Contains seat.old.own f ⊎ IsBitOf (last_number seat.old.number seat.old.front) bits.now.bits f) }
 {
-    set_bits(pool, seat, claim, bits.list().as_slice())
+    set_bits(pool, seat, claim, bits.as_slice())
 }
 
 pub(crate) fn set_bits(pool: &Pool, seat: &mut PassSeat, claim: &Claim, bits: &[Bit])

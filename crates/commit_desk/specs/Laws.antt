@@ -1,13 +1,13 @@
 -- What holds of what a desk keeps, whatever the history.
-use Rattle.std.specs.Prelude.{◌≡◌, ℕ, ◌*◌, ◌≤◌, false, List, [], ◌++◌, length, replicate, Err, None}
+use Rattle.std.specs.Prelude.{◌≡◌, ℕ, ◌*◌, ◌≤◌, false, List, [], ◌++◌, length, replicate, Err, Option, None}
 use Rattle.document_store.specs.Entries.{column_of}
 use Rattle.document_store.specs.Slots.{free_slot}
 use Rattle.funnel_model.specs.declared.config.Config.{Config}
 use Rattle.funnel_model.specs.declared.event.Event.{Event}
 use Rattle.funnel_model.specs.declared.bit_list.Bit.{Bit}
 use Rattle.funnel_model.specs.declared.claim.Claim.{Claim}
-use Rattle.funnel_model.specs.History.{base, commits_after, live, place}
-use Rattle.funnel_model.specs.Legal.{Limits}
+use Rattle.funnel_model.specs.History.{Document, base, commits_after, live, place}
+use Rattle.funnel_model.specs.Legal.{IsLegal, Limits}
 use Rattle.slice_stages.specs.Stages.{empty_stage}
 use Rattle.commit_desk.specs.Answers.{events_of_clear, events_of_commit, events_of_delete, events_of_take}
 use Rattle.commit_desk.specs.declared.answers.AddFault.{AddFault}
@@ -15,7 +15,9 @@ use Rattle.commit_desk.specs.declared.answers.ClearRefusal.{ClearRefusal}
 use Rattle.commit_desk.specs.declared.answers.CommitFault.{CommitFault}
 use Rattle.commit_desk.specs.declared.answers.DeleteFault.{DeleteFault}
 use Rattle.commit_desk.specs.declared.answers.Taken.TheVariants as taken
+use Rattle.commit_desk.specs.declared.look.Look.{Look}
 use Rattle.commit_desk.specs.Kept.{Books, AreBooksOf}
+use Rattle.commit_desk.specs.Moving.{AnswersTakeMove, IsNextLook, LooksState}
 
 -- nothing is kept yet: every column is free, no number is live, no find runs and no column of a slice is claimed
 pub record AreNew (limits : Limits) (books : Books) : Type 0 where
@@ -57,3 +59,19 @@ pub record RefusedCallsKeepDocuments : Type 0 where
       KeepsDocuments history (events_of_commit pass id text claim bits (Err fault))
   pub delete : (history : List Event) (pass id : ℕ) (fault : DeleteFault) → KeepsDocuments history (events_of_delete pass id (Err fault))
   pub clear : (history : List Event) (pass : ℕ) (fault : ClearRefusal) → KeepsDocuments history (events_of_clear pass (Err fault))
+
+-- one document is to be moved next, and it stands in one column, where one event put it
+abbrev pub NextLookIsOne : Type 0
+NextLookIsOne =
+    (reserve most : ℕ) (limits : Limits) (looks : LooksState) (history : List Event) (id slice column other at : ℕ) (document another : Document) (since from : ℕ) →
+    IsLegal limits history → IsNextLook reserve most limits looks history id slice column document since →
+    IsNextLook reserve most limits looks history id other at another from → (slice ≡ other) × (column ≡ at) × (document ≡ another) × (since ≡ from)
+
+-- and one answer is that of taking a column for it
+abbrev pub TakeOfMoveIsOne : Type 0
+TakeOfMoveIsOne = (most : ℕ) (limits : Limits) (history : List Event) (pass : ℕ) (look : Look) (answer other : Option (Claim × Look)) →
+    AnswersTakeMove most limits history pass look answer → AnswersTakeMove most limits history pass look other → answer ≡ other
+
+-- so it is with both turns
+abbrev pub MovesAreOne : Type 0
+MovesAreOne = NextLookIsOne × TakeOfMoveIsOne

@@ -230,7 +230,7 @@ impl Desk {
             pass,
             doc: &doc,
             claim: &claim,
-            bits: bits.list(),
+            bits,
         };
         let number = pool.make_event(&mut self.home, seat, &entry);
         let Claim { slice, column } = claim;

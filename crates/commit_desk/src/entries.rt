@@ -3,7 +3,8 @@ ghost use Rattle.funnel_model.specs.declared.call.Call.TheVariants as call;
 ghost use Rattle.funnel_model.specs.declared.event.Event.TheVariants as event;
 
 use document_store::Doc;
-use funnel_model::{BitList, Claim};
+use funnel_model::Claim;
+use row_layout::Bits;
 use slice_rule::Entry;
 
 /// A document is added to the column that was claimed for it.
@@ -12,11 +13,11 @@ pub struct Adds<'a> {
     pub pass: u32,
     pub doc: &'a Doc,
     pub claim: &'a Claim,
-    pub bits: &'a BitList,
+    pub bits: &'a Bits,
 }
 
 impl<'a> Entry for Adds<'a> {
-    ghost event = { λ e. event.Add e.pass e.doc.now.id e.doc.now.text e.claim.now.slice e.claim.now.column e.bits.now };
+    ghost event = { λ e. event.Add e.pass e.doc.now.id e.doc.now.text e.claim.now.slice e.claim.now.column e.bits.now.bits };
 }
 
 /// A document is dropped for the column that was claimed for it.
@@ -37,11 +38,11 @@ pub struct Moves<'a> {
     pub pass: u32,
     pub id: u64,
     pub claim: &'a Claim,
-    pub bits: &'a BitList,
+    pub bits: &'a Bits,
 }
 
 impl<'a> Entry for Moves<'a> {
-    ghost event = { λ e. event.Move e.pass e.id e.claim.now.slice e.claim.now.column e.bits.now };
+    ghost event = { λ e. event.Move e.pass e.id e.claim.now.slice e.claim.now.column e.bits.now.bits };
 }
 
 /// An add of a document is refused.

@@ -1,5 +1,5 @@
 //! What holds of what a desk keeps, whatever the history. Each is the contract of a function that does nothing.
-ghost use Rattle.commit_desk.specs.Laws.{DesksHaveTheirCommits, NewDesksAreKept, RefusedCallsKeepDocuments};
+ghost use Rattle.commit_desk.specs.Laws.{DesksHaveTheirCommits, MovesAreOne, NewDesksAreKept, RefusedCallsKeepDocuments};
 
 /// A desk that keeps nothing yet stands for the history without events, so what is kept of a history can be met.
 pub fn new_desks_are_kept()
@@ -15,4 +15,10 @@ pub fn desks_have_their_commits()
 /// A call that is refused changes no live document, whatever the fault.
 pub fn refused_calls_keep_documents()
     ensures { RefusedCallsKeepDocuments }
+{}
+
+/// Over one history a move has one answer: it is one document that is to be moved next, and no other column is taken for it, nor is
+/// one refused where one may be taken.
+pub fn moves_have_one_answer()
+    ensures { MovesAreOne }
 {}

@@ -332,7 +332,7 @@ impl Desk {
             pass,
             id,
             claim: &claim,
-            bits: bits.list(),
+            bits,
         };
         let number = pool.make_event(&mut self.home, seat, &entry);
         let Claim { slice, column } = claim;

@@ -1,11 +1,12 @@
-ghost use Rattle.std.specs.Prelude.{◌≡◌, ◌^◌};
+ghost use Rattle.std.specs.Prelude.{◌≡◌, ◌*◌, ◌^◌, length};
 
 use crate::desk::Desk;
 use crate::look::Looks;
 use slice_rule::PoolName;
 use std::marker::PhantomData;
 
-/// The desk of the pool that `N` names, with the engine's limit of events: what an engine's lock holds.
+/// The desk of the pool that `N` names, with the engine's limit of events, and a mark for each of its columns: what an engine's lock
+/// holds.
 #[derive(Drop)]
 pub struct Named<N: PoolName> {
     pub desk: Desk,
@@ -14,4 +15,6 @@ pub struct Named<N: PoolName> {
     pub ghost of_pool: { desk.pool ≡ N.pool },
     pub ghost limit: { desk.events_limit ≡ 2 ^ 62 },
     pub ghost pool_limit: { desk.pool.limits.events ≡ 2 ^ 62 },
+    pub ghost columns: { looks.columns ≡ desk.pool.limits.columns },
+    pub ghost marks: { length looks.marks ≡ desk.pool.limits.slices * desk.pool.limits.columns },
 }

@@ -79,24 +79,31 @@ impl Case for Moving {
     }
 }
 
-/// Deletes document 2 and adds it anew, with another word, when a column is written first.
-#[derive(Drop)]
-struct Replacing<'e, N: PoolName, R: Wait> {
-    other: Caller<'e, N, R>,
-    replaced: Option<(Deleted, Added)>,
+/// What one pass does while another one moves its first document.
+trait Meanwhile {
+    type Answer: Drop;
+
+    fn call<N: PoolName, R: Wait>(caller: &mut Caller<'_, N, R>) -> Self::Answer
+        ensures { caller.new ≡ caller.old };
 }
 
-impl<'e, N: PoolName, R: Wait> Clearer for Replacing<'e, N, R> {
+/// Has the other pass make its calls when a column is written first.
+#[derive(Drop)]
+struct Interrupted<'e, N: PoolName, R: Wait, M: Meanwhile> {
+    other: Caller<'e, N, R>,
+    answer: Option<M::Answer>,
+}
+
+impl<'e, N: PoolName, R: Wait, M: Meanwhile> Clearer for Interrupted<'e, N, R, M> {
     fn clear(&mut self, pool: &Pool, seat: &mut PassSeat, layout: &Layout, job: &ClearJob) {
         Direct.clear(pool, seat, layout, job)
     }
 }
 
-impl<'e, N: PoolName, R: Wait> Work for Replacing<'e, N, R> {
+impl<'e, N: PoolName, R: Wait, M: Meanwhile> Work for Interrupted<'e, N, R, M> {
     fn write(&mut self, pool: &Pool, seat: &mut PassSeat, claim: &Claim, bits: &Bits) {
-        if self.replaced.is_none() {
-            let deleted = self.other.delete(2);
-            self.replaced = Some((deleted, self.other.add(2, "z")));
+        if self.answer.is_none() {
+            self.answer = Some(M::call(&mut self.other));
         }
         Direct.write(pool, seat, claim, bits)
     }
@@ -110,6 +117,79 @@ impl<'e, N: PoolName, R: Wait> Work for Replacing<'e, N, R> {
         out: &mut Candidates,
     ) -> Result<(), Memory> {
         Direct.scan(rows, layout, plan, slice, out)
+    }
+}
+
+/// Adds a document, while the other pass makes its calls. What both were answered.
+fn add_meanwhile<'e, N: PoolName, R: Wait, M: Meanwhile>(
+    caller: &mut Caller<'_, N, R>,
+    id: u64,
+    other: Caller<'e, N, R>,
+) -> (Caller<'e, N, R>, Added, Option<M::Answer>) {
+    let mut work = Interrupted::<N, R, M> {
+        other,
+        answer: None,
+    };
+    let added = caller.add_by(id, "y", &mut work);
+    let Interrupted { other, answer } = work;
+    (other, added, answer)
+}
+
+/// Deletes document 2 and adds it anew, with another word.
+struct Replace;
+
+impl Meanwhile for Replace {
+    type Answer = (Deleted, Added);
+
+    fn call<N: PoolName, R: Wait>(caller: &mut Caller<'_, N, R>) -> Self::Answer {
+        (caller.delete(2), caller.add(2, "z"))
+    }
+}
+
+/// Adds document 200.
+struct AddOne;
+
+impl Meanwhile for AddOne {
+    type Answer = Added;
+
+    fn call<N: PoolName, R: Wait>(caller: &mut Caller<'_, N, R>) -> Self::Answer {
+        caller.add(200, "y")
+    }
+}
+
+/// Two adds move at the same time, each other documents. Both together move all that is left in the first slice.
+#[test]
+fn two_passes_move_at_the_same_time(rt: HostRuntime) -> Result<(), Fail> {
+    let alloc = rt.alloc();
+    let (turned, adds, recycled, found) = run::<Both, _>(&rt, alloc, &with_reserve(alloc, 3))?;
+    assert_eq!(rt; turned, (true, true));
+    assert_eq!(rt; adds, (Ok(195), Some(Ok(194))));
+    assert_eq!(rt; recycled, Recycled::Done(0));
+    assert_eq!(rt; found, (true, true));
+    Ok(())
+}
+
+struct Both;
+
+impl Case for Both {
+    type Seen = (
+        (bool, bool),
+        (Added, Option<Added>),
+        Recycled,
+        (bool, bool),
+    );
+
+    fn run<N: PoolName, R: Wait>(callers: Callers<'_, N, R>) -> Self::Seen {
+        let Callers {
+            mut first,
+            mut second,
+            ..
+        } = callers;
+        let turned = (first.add_all((1, 130), 0), delete_odd(&mut first, 129));
+        let (mut first, added, answer) = add_meanwhile::<_, _, AddOne>(&mut second, 201, first);
+        let recycled = first.recycle();
+        let found = (finds_even(&mut first, 2), first.finds("y", (200, 202)));
+        (turned, (added, answer), recycled, found)
     }
 }
 
@@ -147,25 +227,11 @@ impl Case for Late {
             ..
         } = callers;
         let turned = (first.add_all((1, 130), 0), delete_odd(&mut first, 129));
-        let (mut first, adds) = add_replacing(&mut second, first);
+        let (mut first, added, answer) = add_meanwhile::<_, _, Replace>(&mut second, 200, first);
         let recycled = first.recycle();
         let found = (finds_even(&mut first, 4), first.finds("z", (2, 3)));
-        (turned, adds, recycled, found)
+        (turned, (added, answer), recycled, found)
     }
-}
-
-/// Adds document 200, while the other pass replaces document 2. What both were answered.
-fn add_replacing<'e, N: PoolName, R: Wait>(
-    caller: &mut Caller<'_, N, R>,
-    other: Caller<'e, N, R>,
-) -> (Caller<'e, N, R>, (Added, Option<(Deleted, Added)>)) {
-    let mut work = Replacing {
-        other,
-        replaced: None,
-    };
-    let added = caller.add_by(200, "y", &mut work);
-    let Replacing { other, replaced } = work;
-    (other, (added, replaced))
 }
 
 /// Of five slices one is kept free. The others, less a column each, have room for the documents and a sixteenth more: these

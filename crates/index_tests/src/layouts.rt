@@ -34,12 +34,14 @@ fn rows(alloc: Global, layout: &Layout, word: &str) -> Result<Vec<(u8, u32, u16)
     Ok(rows)
 }
 
-/// The bits as pairs of word and bit.
+/// The bits as pairs of word and bit, in rising order, each once.
 fn pairs(alloc: Global, bits: &Bits) -> Result<Vec<(u32, u32)>, AllocError> {
     let mut pairs = Vec::new(alloc);
-    for bit in bits.list().as_slice() {
+    for bit in bits.as_slice() {
         pairs.push((bit.word, bit.bit))?;
     }
+    pairs.sort_unstable();
+    pairs.dedup();
     Ok(pairs)
 }
 
@@ -151,9 +153,9 @@ fn a_document_has_a_bit_in_each_of_its_rows(rt: HostRuntime) -> Result<(), Fail>
         430, 432, 434, 449, 453, 457, 459, 469, 481, 487, 496, 497, 500, 501, 508, 511,
     ];
     let mut words = Vec::new(rt.alloc());
-    for bit in bits.list().as_slice() {
-        assert_eq!(rt; bit.bit, 0);
-        words.push(bit.word)?;
+    for (word, bit) in pairs(rt.alloc(), &bits)? {
+        assert_eq!(rt; bit, 0);
+        words.push(word)?;
     }
     assert!(rt; words.as_slice() == wanted.as_slice());
     Ok(())

@@ -12,10 +12,10 @@ ghost use Rattle.slice_rule.specs.Seats.{HasNoneOutstanding, HoldsClaim, HoldsTo
 
 use crate::setting::{Opened, config, open_two};
 use column_writer::write_column;
-use funnel_model::{Bit, BitList, Claim, Event, MOST_ROW_WORDS, SliceSet, Text, Token};
+use funnel_model::{Bit, Claim, Event, MOST_ROW_WORDS, SliceSet, Text, Token};
 use row_layout::{Bits, Layout, bits_of};
 use row_read::{Rows, Shared};
-use slice_rule::{Home, PassSeat, Pool};
+use slice_rule::{Entry, Home, PassSeat, Pool};
 use std::alloc::Global;
 use std::test::Fail;
 use std::thread::{Threads, join};
@@ -59,24 +59,37 @@ fn take_second(pool: &Pool, home: &mut Home, seat: &mut PassSeat)
     pool.make_event(home, seat, &entry);
 }
 
+/// A pass adds a document in slice 0.
+#[derive(Drop)]
+struct Adds<'a> {
+    pass: u32,
+    id: u64,
+    text: &'a Text,
+    column: u32,
+    bits: &'a Bits,
+}
+
+impl<'a> Entry for Adds<'a> {
+    ghost event = { λ e. event.Add e.pass e.id e.text.now 0 e.column e.bits.now.bits };
+}
+
 /// Pass 0 adds its document.
-fn add_first(pool: &Pool, home: &mut Home, seat: &mut PassSeat, text: Text, bits: BitList)
+fn add_first(pool: &Pool, home: &mut Home, seat: &mut PassSeat, text: &Text, bits: &Bits)
     requires sizes { (0 < pool.now.limits.passes) × (0 < pool.now.limits.commits) }
     requires home { (home.old.pool ≡ pool.now) × (home.old.history ≡ event.Take 0 0 0 ∷ event.Take 1 0 1 ∷ []) }
     requires seat { (seat.old.pool ≡ pool.now) × (seat.old.number ≡ 0) × HasNoneOutstanding seat.old }
-    requires own { (f : Fact) → Contains seat.old.own f ↔ (Contains [] f ⊎ IsBitOf 1 bits f) }
-    requires inside { All (λ b. IsInSlice pool.now.limits.slice_words 0 b.word) bits }
-    requires in_word { All (λ b. b.bit < 64) bits }
+    requires own { (f : Fact) → Contains seat.old.own f ↔ (Contains [] f ⊎ IsBitOf 1 bits.now.bits f) }
+    requires inside { All (λ b. IsInSlice pool.now.limits.slice_words 0 b.word) bits.now.bits }
+    requires in_word { All (λ b. b.bit < 64) bits.now.bits }
     ensures home { (home.new.pool ≡ pool.now)
-        × (home.new.history ≡ event.Take 0 0 0 ∷ event.Take 1 0 1 ∷ event.Add 0 4 text 0 0 bits ∷ []) }
+        × (home.new.history ≡ event.Take 0 0 0 ∷ event.Take 1 0 1 ∷ event.Add 0 4 text.now 0 0 bits.now.bits ∷ []) }
     ensures seat { (seat.new.pool ≡ pool.now) × (seat.new.number ≡ 0) × HasNoneOutstanding seat.new }
 {
     pool.catch_up(home, seat);
-    let entry = Event::Add {
+    let entry = Adds {
         pass: 0,
         id: 4,
         text,
-        slice: 0,
         column: 0,
         bits,
     };
@@ -84,23 +97,22 @@ fn add_first(pool: &Pool, home: &mut Home, seat: &mut PassSeat, text: Text, bits
 }
 
 /// Pass 1 adds its document.
-fn add_second(pool: &Pool, home: &mut Home, seat: &mut PassSeat, text: Text, bits: BitList)
+fn add_second(pool: &Pool, home: &mut Home, seat: &mut PassSeat, text: &Text, bits: &Bits)
     requires first { (t : List ℕ) × (bs : List Bit)
         × (home.old.history ≡ event.Take 0 0 0 ∷ event.Take 1 0 1 ∷ event.Add 0 4 t 0 0 bs ∷ []) }
     requires sizes { (1 < pool.now.limits.passes) × (1 < pool.now.limits.commits) }
     requires home { home.old.pool ≡ pool.now }
     requires seat { (seat.old.pool ≡ pool.now) × (seat.old.number ≡ 1) × HasNoneOutstanding seat.old }
-    requires own { (f : Fact) → Contains seat.old.own f ↔ (Contains [] f ⊎ IsBitOf 2 bits f) }
-    requires inside { All (λ b. IsInSlice pool.now.limits.slice_words 0 b.word) bits }
-    requires in_word { All (λ b. b.bit < 64) bits }
-    ensures home { (home.new.pool ≡ pool.now) × (home.new.history ≡ home.old.history ++ event.Add 1 5 text 0 1 bits ∷ []) }
+    requires own { (f : Fact) → Contains seat.old.own f ↔ (Contains [] f ⊎ IsBitOf 2 bits.now.bits f) }
+    requires inside { All (λ b. IsInSlice pool.now.limits.slice_words 0 b.word) bits.now.bits }
+    requires in_word { All (λ b. b.bit < 64) bits.now.bits }
+    ensures home { (home.new.pool ≡ pool.now) × (home.new.history ≡ home.old.history ++ event.Add 1 5 text.now 0 1 bits.now.bits ∷ []) }
 {
     pool.catch_up(home, seat);
-    let entry = Event::Add {
+    let entry = Adds {
         pass: 1,
         id: 5,
         text,
-        slice: 0,
         column: 1,
         bits,
     };
@@ -234,18 +246,16 @@ fn layout(alloc: Global) -> Result<Layout, Fail>
     Ok(Layout::new(alloc, &config)?)
 }
 
-/// The bits of a document at a column, and a copy of them.
-fn bits_at(alloc: Global, layout: &Layout, column: u32) -> Result<(Bits, BitList), Fail>
+/// The bits of a document at a column.
+fn bits_at(alloc: Global, layout: &Layout, column: u32) -> Result<Bits, Fail>
     requires slices { layout.now.slices ≡ 1 }
     requires column { column < columns_of_slice layout.now }
-    ensures inside { IfOk result (λ made. All (λ b. IsInSlice (words_of_slice layout.now) 0 b.word) made.0.bits) }
-    ensures in_word { IfOk result (λ made. All (λ b. b.bit < 64) made.0.bits) }
-    ensures copied { IfOk result (λ made. made.1 ≡ made.0.bits) }
+    ensures inside { IfOk result (λ bits. All (λ b. IsInSlice (words_of_slice layout.now) 0 b.word) bits.bits) }
+    ensures in_word { IfOk result (λ bits. All (λ b. b.bit < 64) bits.bits) }
 {
     let mut bits = bits_of(alloc, layout, &words(alloc, "a black cat")?)?;
     bits.place(layout, 0, column);
-    let copied = BitList::new(bits.list().as_slice().to_vec(alloc)?);
-    Ok((bits, copied))
+    Ok(bits)
 }
 
 /// Each pass takes a column, writes it in a thread of its own, and adds its document. Whether a find then reads both bits in
@@ -254,26 +264,24 @@ fn write_and_find<R: Threads + Sync>(
     rt: &R,
     alloc: Global,
     opened: Opened,
-    low: (Bits, BitList),
-    high: (Bits, BitList),
+    low: Bits,
+    high: Bits,
 ) -> bool
     requires sizes { opened.0.limits ≡ sizes_of 1 opened.0.limits.slice_words }
     requires home { opened.1 ≡ new_home_state opened.0 }
     requires first { opened.2 ≡ new_pass_state opened.0 0 }
     requires second { opened.3 ≡ new_pass_state opened.0 1 }
-    requires low { All (λ b. IsInSlice opened.0.limits.slice_words 0 b.word) low.0.bits × All (λ b. b.bit < 64) low.0.bits × (low.1 ≡ low.0.bits) }
-    requires high { All (λ b. IsInSlice opened.0.limits.slice_words 0 b.word) high.0.bits × All (λ b. b.bit < 64) high.0.bits × (high.1 ≡ high.0.bits) }
+    requires low { All (λ b. IsInSlice opened.0.limits.slice_words 0 b.word) low.bits × All (λ b. b.bit < 64) low.bits }
+    requires high { All (λ b. IsInSlice opened.0.limits.slice_words 0 b.word) high.bits × All (λ b. b.bit < 64) high.bits }
 {
     let (pool, mut home, mut first, mut second) = opened;
-    let (low, low_list) = low;
-    let (high, high_list) = high;
     take_first(&pool, &mut home, &mut first);
     take_second(&pool, &mut home, &mut second);
     let (mut first, mut second) = write_both(rt, &pool, first, second, &low, &high);
     let text = || Text::new(String::new(alloc));
-    add_first(&pool, &mut home, &mut first, text(), low_list);
-    add_second(&pool, &mut home, &mut second, text(), high_list);
-    find_both(&pool, &mut home, &mut first, text(), low.list().as_slice())
+    add_first(&pool, &mut home, &mut first, &text(), &low);
+    add_second(&pool, &mut home, &mut second, &text(), &high);
+    find_both(&pool, &mut home, &mut first, text(), low.as_slice())
 }
 
 fn both_columns<R: Threads + Sync>(rt: &R, alloc: Global) -> Result<bool, Fail> {

@@ -1,15 +1,10 @@
--- The bits of rows in rising order are those of a document with the words whose rows they are.
-use Rattle.std.proofs.Common.{◌≡◌, ℕ, true, ◌+◌, ◌*◌, ◌/◌, ◌%◌, ◌^◌, ◌<◌, ◌≤◌, ⊎_elim, List, [], ◌∷◌, ◌++◌, length, map, take, get_or, Contains, sym, ap, ◌∙◌, subst, arith}
-use Rattle.std.specs.Cmp.{nat_cmp_is}
-use Rattle.std.specs.List.{All, AllByRecursion, AllPass, list_any}
-use Rattle.std.specs.List.Sorted.{IsStrictlySortedBy}
-use Rattle.std.specs.Ordering.{nat_cmp, ordering_then}
+-- The bits of rows are those of a document with the words whose rows they are.
+use Rattle.std.proofs.Common.{◌≡◌, ℕ, true, ◌+◌, ◌*◌, ◌/◌, ◌%◌, ◌^◌, ◌<◌, ◌≤◌, List, [], ◌∷◌, ◌++◌, length, map, take, get_or, Contains, sym, ap, ◌∙◌, subst, arith}
+use Rattle.std.specs.List.{All, AllPass, list_any}
 use Rattle.std.specs.Str.{bytes_eq}
-use Rattle.std.specs.declared.cmp.Ordering.TheVariants.{Less}
-use Rattle.std.proofs.lemmas.Cmp.{ranked}
 use Rattle.std.proofs.lemmas.Nat.{mul-le, pow_pos}
 use Rattle.std.proofs.lemmas.List.{map-append, take_all, take_more}
-use Rattle.std.proofs.lemmas.List.Elements.{All-contains, All-head, All-tail, All-map, All-weaker}
+use Rattle.std.proofs.lemmas.List.Elements.{All-contains, All-map, All-weaker}
 use Rattle.std.proofs.lemmas.List.Sums.{AllPass-from_list_all}
 use Rattle.funnel_model.proofs.AnswerLemmas.{Contains-map}
 use Rattle.funnel_model.proofs.WordLemmas.{Contains-has}
@@ -19,13 +14,14 @@ use Rattle.funnel_model.specs.Sizes.{columns_of_slice, words_of_pool, words_of_s
 use Rattle.funnel_model.specs.Words.{words}
 use Rattle.funnel_model.specs.declared.bit_list.Bit.{Bit}
 use Rattle.funnel_model.specs.declared.config.Config.{Config}
-use Rattle.row_layout.specs.DocumentBits.{CanPlace, AreDocumentBits, bit_of_row, bit_cmp, slice_start}
+use Rattle.row_layout.specs.DocumentBits.{AreDocumentBits, bit_of_row, in_order, slice_start}
 use Rattle.row_layout.specs.Laws.{DocumentsHaveBitsOfParts, TextsHaveBitsOfQueries}
-use Rattle.row_layout.specs.Orders.{HasRowsOf, IsRisingByStart, start_cmp}
+use Rattle.row_layout.specs.Orders.{HasRowsOf}
 use Rattle.row_layout.specs.Rows.{IsRowOf, rows_of_word, rows_of_words}
 use Rattle.row_layout.specs.declared.row.Row.{Row}
+use Rattle.row_layout.proofs.InOrder.{in_order-all, in_order-has, in_order-rises}
 use Rattle.row_layout.proofs.Lists.{Contains-flat_map, Contains-from_flat_map, Contains-from_map}
-use Rattle.row_layout.proofs.Spans.{row-span, rows_apart, offset-below, slice-within}
+use Rattle.row_layout.proofs.Spans.{row-span, offset-below, slice-within}
 
 -- the rows of a set of words are rows of each larger one
 pub rows-of_part : (config : Config) (part whole : List (List ℕ)) → ((word : List ℕ) → Contains part word → Contains whole word) → (row : Row) → Contains (rows_of_words config part) row → Contains (rows_of_words config whole) row
@@ -42,43 +38,20 @@ bits-of_query config text query meets =
     bits-of_part config (words query) (words text)
     (λ word has. (Contains-has word (words text)).1 (All-contains (λ w. list_any (bytes_eq w) (words text) ≡ true) (words query) word passes has))
 
--- the bit of a row that stands before another is below the other's
-less_by_start : (config : Config) → IsInRange config → (slice column : ℕ) → column < columns_of_slice config → (a b : Row) → IsRowOf config a → IsRowOf config b → start_cmp a b ≡ Less → bit_cmp (bit_of_row (words_of_slice config) slice column a) (bit_of_row (words_of_slice config) slice column b) ≡ Less
-less_by_start config range slice column in_slice a b laid laid' less =
-    let below : a.start < b.start = ranked a.start b.start Less (sym less) in
-    let span = row-span config a laid in
-    let offset = offset-below config a.rank column span.rank in_slice in
-    let word : (bit_of_row (words_of_slice config) slice column a).word < (bit_of_row (words_of_slice config) slice column b).word =
-    ⊎_elim
-    (λ (same : a ≡ b). absurd (let s = ap (λ row. row.start) same in omega arith))
-    (λ (before : a.start + a.width ≤ b.start). omega (arith, span.width))
-    (rows_apart config range a b laid laid' (omega arith)) in
-    ap (λ r. ordering_then r (nat_cmp (column % 64) (column % 64))) (sym (nat_cmp_is (bit_of_row (words_of_slice config) slice column a).word (bit_of_row (words_of_slice config) slice column b).word Less word))
-
-rising_bits : (config : Config) → IsInRange config → (slice column : ℕ) → column < columns_of_slice config → (rows : List Row) → All (IsRowOf config) rows → IsRisingByStart rows → IsStrictlySortedBy bit_cmp (map (bit_of_row (words_of_slice config) slice column) rows)
-unfolding IsStrictlySortedBy
-rising_bits config range slice column in_slice [] laid rising = tt
-rising_bits config range slice column in_slice (x ∷ xs) laid rising =
-    (above xs (All-tail (IsRowOf config) x xs laid) rising.0, rising_bits config range slice column in_slice xs (All-tail (IsRowOf config) x xs laid) rising.1)
-  where
-    above : (ys : List Row) → All (IsRowOf config) ys → AllByRecursion (λ y. start_cmp x y ≡ Less) ys → AllByRecursion (λ b. bit_cmp (bit_of_row (words_of_slice config) slice column x) b ≡ Less) (map (bit_of_row (words_of_slice config) slice column) ys)
-    above [] laid' all = tt
-    above (y ∷ ys) laid' all = (
-      less_by_start config range slice column in_slice x y (All-head (IsRowOf config) x xs laid) (All-head (IsRowOf config) y ys laid') all.0,
-      above ys (All-tail (IsRowOf config) y ys laid') all.1,
-    )
-
--- the bits of exactly the rows of some words are the bits of a document with these words
-pub bits_of_rows : (config : Config) → IsInRange config → (slice column : ℕ) → column < columns_of_slice config → (rows : List Row) → CanPlace config rows → (set : List (List ℕ)) → HasRowsOf config set rows → AreDocumentBits config set slice column (map (bit_of_row (words_of_slice config) slice column) rows)
-bits_of_rows config range slice column in_slice rows can set exactly = record {
-  rising = rising_bits config range slice column in_slice rows can.laid can.rising;
+-- the bits of exactly the rows of some words, in order, are the bits of a document with these words
+pub bits_of_rows : (config : Config) (slice column : ℕ) (rows : List Row) (set : List (List ℕ)) → HasRowsOf config set rows →
+    AreDocumentBits config set slice column (in_order (map (bit_of_row (words_of_slice config) slice column) rows))
+bits_of_rows config slice column rows set exactly = record {
+  rising = in_order-rises (map (bit_of_row (words_of_slice config) slice column) rows);
   exactly = λ bit. (
     λ has.
-        let r = Contains-from_map (bit_of_row (words_of_slice config) slice column) rows bit has in
+        let r = Contains-from_map (bit_of_row (words_of_slice config) slice column) rows bit
+        ((in_order-has (map (bit_of_row (words_of_slice config) slice column) rows) bit).0 has) in
         (r.0, (exactly r.0).0 r.1, r.2),
     λ of_document.
-        subst (Contains (map (bit_of_row (words_of_slice config) slice column) rows)) (sym of_document.2)
-        (Contains-map (bit_of_row (words_of_slice config) slice column) rows of_document.0 ((exactly of_document.0).1 of_document.1)),
+        (in_order-has (map (bit_of_row (words_of_slice config) slice column) rows) bit).1
+        (subst (Contains (map (bit_of_row (words_of_slice config) slice column) rows)) (sym of_document.2)
+        (Contains-map (bit_of_row (words_of_slice config) slice column) rows of_document.0 ((exactly of_document.0).1 of_document.1))),
   );
 }
 
@@ -89,15 +62,17 @@ bit-in_slice config slice column in_slice row laid =
     let offset = offset-below config row.rank column span.rank in_slice in
     record { from = omega arith; to = omega (arith, span.width, span.within) }
 
-pub bits-in_slice : (config : Config) → (slice column : ℕ) → column < columns_of_slice config → (rows : List Row) → All (IsRowOf config) rows → All (λ (b : Bit). IsInSlice (words_of_slice config) slice b.word) (map (bit_of_row (words_of_slice config) slice column) rows)
+pub bits-in_slice : (config : Config) → (slice column : ℕ) → column < columns_of_slice config → (rows : List Row) → All (IsRowOf config) rows → All (λ (b : Bit). IsInSlice (words_of_slice config) slice b.word) (in_order (map (bit_of_row (words_of_slice config) slice column) rows))
 bits-in_slice config slice column in_slice rows laid =
-    All-map (λ (b : Bit). IsInSlice (words_of_slice config) slice b.word) (bit_of_row (words_of_slice config) slice column) rows
-    (All-weaker (IsRowOf config) (λ row. IsInSlice (words_of_slice config) slice (bit_of_row (words_of_slice config) slice column row).word) (bit-in_slice config slice column in_slice) rows laid)
+    in_order-all (λ (b : Bit). IsInSlice (words_of_slice config) slice b.word) (map (bit_of_row (words_of_slice config) slice column) rows)
+    (All-map (λ (b : Bit). IsInSlice (words_of_slice config) slice b.word) (bit_of_row (words_of_slice config) slice column) rows
+    (All-weaker (IsRowOf config) (λ row. IsInSlice (words_of_slice config) slice (bit_of_row (words_of_slice config) slice column row).word) (bit-in_slice config slice column in_slice) rows laid))
 
-pub bits-of_words : (config : Config) → (slice column : ℕ) → (rows : List Row) → All (IsRowOf config) rows → All (λ (b : Bit). b.bit < 64) (map (bit_of_row (words_of_slice config) slice column) rows)
+pub bits-of_words : (config : Config) → (slice column : ℕ) → (rows : List Row) → All (IsRowOf config) rows → All (λ (b : Bit). b.bit < 64) (in_order (map (bit_of_row (words_of_slice config) slice column) rows))
 bits-of_words config slice column rows laid =
-    All-map (λ (b : Bit). b.bit < 64) (bit_of_row (words_of_slice config) slice column) rows
-    (All-weaker (IsRowOf config) (λ _. column % 64 < 64) (λ _ _. omega arith) rows laid)
+    in_order-all (λ (b : Bit). b.bit < 64) (map (bit_of_row (words_of_slice config) slice column) rows)
+    (All-map (λ (b : Bit). b.bit < 64) (bit_of_row (words_of_slice config) slice column) rows
+    (All-weaker (IsRowOf config) (λ _. column % 64 < 64) (λ _ _. omega arith) rows laid))
 
 -- the bit of a row, from the first word of its slice on, fits its word
 pub bit-fits : (config : Config) → words_of_pool config ≤ 33554432 → IsInRange config → (slice column first : ℕ) → slice < config.slices → column < columns_of_slice config → first ≡ slice_start (words_of_slice config) slice → (row : Row) → IsRowOf config row → first + row.start + column / (64 * 2 ^ row.rank) < 2 ^ 32

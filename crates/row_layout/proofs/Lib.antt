@@ -9,3 +9,4 @@ pub mod Owners
 pub mod SoundHistories
 pub mod SetBits
 pub mod OneList
+pub mod InOrder

@@ -57,7 +57,7 @@ same_members {A = A} c order (x ∷ xs) (y ∷ ys) rising_xs rising_ys into from
     ap (λ w. w ∷ xs) first ∙ ap (λ ws. y ∷ ws) rest
 
 -- of two bits one is below the other at most
-bit_order : IsTotalOrder bit_cmp
+pub bit_order : IsTotalOrder bit_cmp
 bit_order = then_total (on_total (λ (b : Bit). b.word) nat_cmp_total) (on_total (λ (b : Bit). b.bit) nat_cmp_total)
 
 -- so the bits of a document are one list

@@ -15,7 +15,7 @@ use Rattle.std.proofs.lemmas.List.Kept.{Contains-dedup, Contains-from_dedup}
 use Rattle.std.proofs.lemmas.List.Sorted.{sorted_far, ranks_by, All-permutation, Contains-permutation, IsPermutation-sym}
 use Rattle.funnel_model.specs.Configuration.{IsInRange}
 use Rattle.funnel_model.specs.declared.config.Config.{Config}
-use Rattle.row_layout.specs.Orders.{start_cmp, plan_cmp}
+use Rattle.row_layout.specs.Orders.{plan_cmp}
 use Rattle.row_layout.specs.Rows.{IsRowOf}
 use Rattle.row_layout.specs.declared.row.Row.{Row}
 use Rattle.row_layout.proofs.Spans.{same_row}
@@ -115,12 +115,6 @@ module _ (config : Config) (range : IsInRange config) where
   eq_from_start : (a b : Row) → IsRowOf config a → IsRowOf config b → a.start ≡ b.start → row_eq a b ≡ true
   eq_from_start a b laid laid' e = subst (λ row. row_eq a row ≡ true) (same_row config range a b laid laid' e) (row_eq-equiv.refl a)
 
-  start_ties : (a b : Row) → IsRowOf config a → IsRowOf config b → row_eq a b ≡ eq_by_cmp start_cmp a b
-  start_ties a b laid laid' =
-      same_bools (row_eq a b) (eq_by_cmp start_cmp a b)
-      (λ e. ap is_eq (numbers_tie a.start b.start (starts_of_same a b (same_from_eq a b e)).0))
-      (λ e. eq_from_start a b laid laid' (tied_numbers a.start b.start e))
-
   plan_ties : (a b : Row) → IsRowOf config a → IsRowOf config b → row_eq a b ≡ eq_by_cmp plan_cmp a b
   plan_ties a b laid laid' =
       same_bools (row_eq a b) (eq_by_cmp plan_cmp a b)
@@ -128,10 +122,6 @@ module _ (config : Config) (range : IsInRange config) where
       let same = starts_of_same a b (same_from_eq a b e) in
       ap (λ r. is_eq (ordering_then r (nat_cmp a.start b.start))) (numbers_tie b.rank a.rank same.1) ∙ ap is_eq (numbers_tie a.start b.start same.0))
       (λ e. eq_from_start a b laid laid' (tied_numbers a.start b.start (later_ties (nat_cmp b.rank a.rank) (nat_cmp a.start b.start) e)))
-
-  -- rows sorted by start, each once
-  pub rising_from_sorted : (rows : List Row) → All (IsRowOf config) rows → IsSorted start_cmp rows → IsStrictlySortedBy start_cmp (dedup row_eq rows)
-  rising_from_sorted rows all sorted = strict_from_sorted (on_total (λ (row : Row). row.start) nat_cmp_total) (IsRowOf config) start_ties rows all sorted
 
   -- rows sorted by falling rank and then by start, each once
   pub planned_from_sorted : (rows : List Row) → All (IsRowOf config) rows → IsSorted plan_cmp rows → IsStrictlySortedBy plan_cmp (dedup row_eq rows)

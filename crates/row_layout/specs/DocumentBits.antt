@@ -1,12 +1,11 @@
 -- The bits that a document sets: one for each of its words and each row of that word, at the document's column.
-use Rattle.std.specs.Prelude.{◌≡◌, ℕ, ◌+◌, ◌*◌, ◌/◌, ◌%◌, ◌^◌, ◌↔◌, List, Contains, All}
+use Rattle.std.specs.Prelude.{◌≡◌, ℕ, ◌+◌, ◌*◌, ◌/◌, ◌%◌, ◌^◌, ◌↔◌, List, [], ◌∷◌, Contains, All}
 use Rattle.std.specs.List.Sorted.{IsStrictlySortedBy}
-use Rattle.std.specs.Ordering.{nat_cmp, ordering_then}
+use Rattle.std.specs.Ordering.{match_ordering, nat_cmp, ordering_then}
 use Rattle.std.specs.declared.cmp.Ordering.{Ordering}
 use Rattle.funnel_model.specs.Sizes.{words_of_slice}
 use Rattle.funnel_model.specs.declared.bit_list.Bit.{Bit}
 use Rattle.funnel_model.specs.declared.config.Config.{Config}
-use Rattle.row_layout.specs.Orders.{IsRisingByStart}
 use Rattle.row_layout.specs.Rows.{IsRowOf, rows_of_words}
 use Rattle.row_layout.specs.declared.row.Row.{Row}
 
@@ -45,12 +44,21 @@ pub record AreDocumentBitsIn (room : ℕ) (config : Config) (words : List (List 
 abbrev pub AreDocumentBits : Config → List (List ℕ) → ℕ → ℕ → List Bit → Type 0
 AreDocumentBits config words slice column bits = AreDocumentBitsIn (words_of_slice config) config words slice column bits
 
--- What `Bits` is seen as: rows of which it has the bits, and those bits.
+-- bits in rising order with one more, in its place; one that is among them stays once
+abbrev pub with_bit : List Bit → Bit → List Bit
+with_bit [] bit = bit ∷ []
+with_bit (first ∷ rest) bit = match_ordering (bit_cmp bit first) (bit ∷ first ∷ rest) (first ∷ rest) (first ∷ with_bit rest bit)
+
+-- these bits in rising order, each once
+unfoldable pub in_order : List Bit → List Bit
+in_order [] = []
+in_order (bit ∷ bits) = with_bit (in_order bits) bit
+
+-- What `Bits` is seen as: rows of which it has the bits, and those bits in rising order, each once.
 pub record RowBits : Type 0 where
   pub rows : List Row
   pub bits : List Bit
 
--- the rows are rows of the configuration in rising order, so that they can be moved to any column
-pub record CanPlace (config : Config) (rows : List Row) : Type 0 where
-  pub rising : IsRisingByStart rows
-  pub laid : All (IsRowOf config) rows
+-- the rows are rows of the configuration, so that their bits can be put at any column
+abbrev pub CanPlace : Config → List Row → Type 0
+CanPlace config rows = All (IsRowOf config) rows

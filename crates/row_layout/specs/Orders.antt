@@ -1,4 +1,4 @@
--- Lists of rows, in the two orders in which they are kept.
+-- Lists of rows, and the order of those of a plan.
 use Rattle.std.specs.Prelude.{◌≡◌, ℕ, ◌≤◌, ◌↔◌, nat_eq, nat_le, nat_lt, List, Contains, filter, length, slice_index}
 use Rattle.std.specs.List.Sorted.{IsStrictlySortedBy}
 use Rattle.std.specs.Ordering.{nat_cmp, ordering_then}
@@ -7,17 +7,9 @@ use Rattle.funnel_model.specs.declared.config.Config.{Config}
 use Rattle.row_layout.specs.Rows.{rows_of_words}
 use Rattle.row_layout.specs.declared.row.Row.{Row}
 
--- by where rows start
-abbrev pub start_cmp : Row → Row → Ordering
-start_cmp a b = nat_cmp a.start b.start
-
 -- by falling rank, and within a rank by where rows start
 abbrev pub plan_cmp : Row → Row → Ordering
 plan_cmp a b = ordering_then (nat_cmp b.rank a.rank) (nat_cmp a.start b.start)
-
--- rows in rising order of where they start, each once
-abbrev pub IsRisingByStart : List Row → Type 0
-IsRisingByStart = IsStrictlySortedBy start_cmp
 
 -- rows in the order of a plan, each once
 abbrev pub IsInPlanOrder : List Row → Type 0

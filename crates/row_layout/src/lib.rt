@@ -12,7 +12,6 @@ mod layout;
 mod listed_rows;
 mod plan;
 mod row;
-mod rows;
 mod word_rows;
 
 pub use bits::{Bits, bits_of};

@@ -8,4 +8,4 @@ pub make_event-requires-clause-ready : goal.make_event-requires-clause-ready
 make_event-requires-clause-ready c =
     let seat = c.catch_up.new.seat in
     let front : seat.front ≡ event.Take 0 0 0 ∷ event.Take 1 0 1 ∷ [] = c.catch_up.ensures.front ∙ c.catch_up.ensures.home.history ∙ c.requires.home.1 in
-    just_set 1 (last_number 0 seat.front) c.args.bits c.args.bits c.args.seat.now.own seat.own (ap (last_number 0) front) refl c.catch_up.ensures.seat.own c.requires.own
+    just_set 1 (last_number 0 seat.front) c.args.bits.now.bits c.args.bits.now.bits c.args.seat.now.own seat.own (ap (last_number 0) front) refl c.catch_up.ensures.seat.own c.requires.own

@@ -1,14 +1,8 @@
-use Rattle.std.proofs.Common.{◌⊎◌, ◌↔◌, List, [], sym, subst}
-use Rattle.std.specs.List.{Contains}
 use Rattle.funnel_model.specs.declared.bit_list.Bit.{Bit}
-use Rattle.slice_rule.specs.declared.view.Fact.{Fact}
-use Rattle.column_writer.specs.Written.{IsBitOf}
+use Rattle.funnel_model.specs.Legal.{IsInSlice}
+use Rattle.column_writer.proofs.Writing.{all_of_part}
 use Rattle.pool_tests.proofs.writing.write_and_find.Goals as goal
 
-pub add_first-requires-clause-own : goal.add_first-requires-clause-own
-add_first-requires-clause-own g c =
-    subst (λ (bs : List Bit). (f : Fact) → Contains c.write_both-first.result.0.own f ↔ (Contains [] f ⊎ IsBitOf 1 bs f)) (sym c.requires.low.2) c.write_both-first.ensures.low
-
-pub add_second-requires-clause-own : goal.add_second-requires-clause-own
-add_second-requires-clause-own g c =
-    subst (λ (bs : List Bit). (f : Fact) → Contains c.write_both-first.result.1.own f ↔ (Contains [] f ⊎ IsBitOf 2 bs f)) (sym c.requires.high.2) c.write_both-first.ensures.high
+pub find_both-requires-clause-inside : goal.find_both-requires-clause-inside
+find_both-requires-clause-inside g c =
+    all_of_part (λ (b : Bit). IsInSlice c.args.opened.0.limits.slice_words 0 b.word) c.as_slice.result.now c.args.low.bits (λ b has. (c.as_slice.ensures b).0 has) c.requires.low.0

@@ -26,8 +26,8 @@ use Rattle.commit_desk.proofs.desk.Desk.make_add.Goals as goal
 
 pub make_event-number-requires-clause-ready : goal.make_event-number-requires-clause-ready
 make_event-number-requires-clause-ready c =
-    subst (λ n. (b : Bit) → Contains c.list.result.now b ↔ Contains c.args.seat.now.own (fact.BitSet (last_number n c.args.seat.now.front) b)) (sym c.number-pass.ensures.number)
-    (subst (λ (bits : List Bit). (b : Bit) → Contains bits b ↔ Contains c.args.seat.now.own (fact.BitSet (last_number c.args.seat.now.number c.args.seat.now.front) b)) (sym c.list.ensures) c.requires.set)
+    subst (λ n. (b : Bit) → Contains c.args.bits.now.bits b ↔ Contains c.args.seat.now.own (fact.BitSet (last_number n c.args.seat.now.front) b)) (sym c.number-pass.ensures.number)
+    c.requires.set
 
 abbrev books : goal.After-live-arg-1 → Books
 books c =
@@ -106,7 +106,7 @@ number_now : (c : goal.After-live-arg-1) → c.make_event-number.result ≡ leng
 number_now c =
     let made = c.make_event-number.ensures in
     made.number ∙ ap length made.home.history
-    ∙ length-append c.self.inside.home.history (event.Add c.number-pass.result c.args.doc.id c.args.doc.text c.args.claim.slice c.args.claim.column c.list.result.now ∷ [])
+    ∙ length-append c.self.inside.home.history (event.Add c.number-pass.result c.args.doc.id c.args.doc.text c.args.claim.slice c.args.claim.column c.args.bits.now.bits ∷ [])
 
 place_now : (c : goal.After-live-arg-1) → c.place-place.result + 1 ≡ place c.self.inside.home.history + 1
 place_now c = ap (λ n. n + 1) (c.place-place.ensures ∙ c.self.invariant.kept.journal_is.place_is)
@@ -148,7 +148,7 @@ invariant_of-self c =
     (subst (λ (d : DeskState). AreDocumentBits d.pool.config doc.words s k bits) (sym c.self.view_is) c.requires.bits)
     (λ other. c.add.ensures.columns other ∙ ap (λ n. cond (other == n) (Some (s, k)) (column_of i.live other)) id)
     c.add.ensures.slices c.add.ensures.slice_columns)
-    made.home.pool (made.home.history ∙ ap (λ (bs : List Bit). i.home.history ++ event.Add pass doc.id doc.text s k bs ∷ []) c.list.ensures)
+    made.home.pool made.home.history
     (number_now earlier)
     (c.push.ensures ∙ ap (λ n. with_commit i.journal (record { add = true; id = n })) id)
     (c.live.ensures ∙ ap (λ n. with_slot i.records s k (record { column = became.Live n c.make_event-number.result; doc = Some doc })) (place_now earlier)
@@ -166,8 +166,7 @@ returns-clause-made c =
     let k = c.args.claim.column in
     let now : DeskState = record { pool = i.home.pool; events_limit = i.events_limit; history = i.home.history } in
     let next : DeskState = record { pool = home.pool; events_limit = i.events_limit; history = home.history } in
-    subst (λ (bits : List Bit). Makes (event.Add c.args.seat.now.number doc.id doc.text s k bits ∷ []) c.args.self.now next c.args.seat.now seat) c.list.ensures
-    (subst (λ n. Makes (event.Add n doc.id doc.text s k c.list.result.now ∷ []) c.args.self.now next c.args.seat.now seat) c.number-pass.ensures.number
-    (subst (λ (d : DeskState). Makes (event.Add c.number-pass.result doc.id doc.text s k c.list.result.now ∷ []) d next c.args.seat.now seat) c.self.view_is
-    (makes_one now next c.args.seat.now seat (event.Add c.number-pass.result doc.id doc.text s k c.list.result.now)
-    (subst (λ (d : DeskState). IsCaughtUp d c.args.seat.now) (sym c.self.view_is) c.requires.caught_up) made.home.pool refl made.home.history (invariant_of-self c).kept.legal made.seat)))
+    subst (λ n. Makes (event.Add n doc.id doc.text s k c.args.bits.now.bits ∷ []) c.args.self.now next c.args.seat.now seat) c.number-pass.ensures.number
+    (subst (λ (d : DeskState). Makes (event.Add c.number-pass.result doc.id doc.text s k c.args.bits.now.bits ∷ []) d next c.args.seat.now seat) c.self.view_is
+    (makes_one now next c.args.seat.now seat (event.Add c.number-pass.result doc.id doc.text s k c.args.bits.now.bits)
+    (subst (λ (d : DeskState). IsCaughtUp d c.args.seat.now) (sym c.self.view_is) c.requires.caught_up) made.home.pool refl made.home.history (invariant_of-self c).kept.legal made.seat))

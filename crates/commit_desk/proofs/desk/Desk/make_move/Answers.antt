@@ -28,14 +28,13 @@ make_event-number-requires-clause-allowed c =
     let i = c.self.inside in
     let same : i.home.pool ≡ c.args.pool.now = ap (λ (d : DeskState). d.pool) c.self.view_is ∙ sym c.requires.pool in
     let allowed = allowed_now c.args.self.now i.home i.events_limit (books_of i) c.self.invariant c.self.view_is c.args.seat.now c.requires.caught_up c.number-pass.result c.number-pass.ensures.number c.args.claim c.requires.claim c.args.look c.requires.look c.requires.there c.args.bits.now.bits c.requires.inside c.requires.of_words in
-    subst (λ (p : PoolId). IsAllowed p.limits i.home.history (event.Move c.number-pass.result c.id-id.result c.args.claim.slice c.args.claim.column c.list.result.now)) same
-    (subst (λ n. IsAllowed i.home.pool.limits i.home.history (event.Move c.number-pass.result n c.args.claim.slice c.args.claim.column c.list.result.now)) (sym c.id-id.ensures)
-    (subst (λ (bs : List Bit). IsAllowed i.home.pool.limits i.home.history (event.Move c.number-pass.result c.args.look.doc.id c.args.claim.slice c.args.claim.column bs)) (sym c.list.ensures) allowed))
+    subst (λ (p : PoolId). IsAllowed p.limits i.home.history (event.Move c.number-pass.result c.id-id.result c.args.claim.slice c.args.claim.column c.args.bits.now.bits)) same
+    (subst (λ n. IsAllowed i.home.pool.limits i.home.history (event.Move c.number-pass.result n c.args.claim.slice c.args.claim.column c.args.bits.now.bits)) (sym c.id-id.ensures) allowed)
 
 pub make_event-number-requires-clause-ready : goal.make_event-number-requires-clause-ready
 make_event-number-requires-clause-ready c =
-    subst (λ n. (b : Bit) → Contains c.list.result.now b ↔ Contains c.args.seat.now.own (fact.BitSet (last_number n c.args.seat.now.front) b)) (sym c.number-pass.ensures.number)
-    (subst (λ (bits : List Bit). (b : Bit) → Contains bits b ↔ Contains c.args.seat.now.own (fact.BitSet (last_number c.args.seat.now.number c.args.seat.now.front) b)) (sym c.list.ensures) c.requires.set)
+    subst (λ n. (b : Bit) → Contains c.args.bits.now.bits b ↔ Contains c.args.seat.now.own (fact.BitSet (last_number n c.args.seat.now.front) b)) (sym c.number-pass.ensures.number)
+    c.requires.set
 
 pub delete-requires-clause-in_range : goal.delete-requires-clause-in_range
 delete-requires-clause-in_range c = let i = c.self.inside in (from_now c.args.self.now i.home i.events_limit (books_of i) c.self.invariant c.self.view_is c.args.seat.now c.requires.caught_up c.number-pass.result c.number-pass.ensures.number c.args.claim c.requires.claim c.args.look c.requires.look c.requires.there).from
@@ -100,7 +99,7 @@ end_column-requires-clause-last c =
     let i = c.self.inside in
     let made = c.make_event-number.ensures in
     none_retired_later i.home.pool i.events_limit i.home.history (books_of i) c.self.invariant c.make_event-number.result
-    (made.number ∙ ap length made.home.history ∙ length-append i.home.history (event.Move c.number-pass.result c.id-id.result c.args.claim.slice c.args.claim.column c.list.result.now ∷ []))
+    (made.number ∙ ap length made.home.history ∙ length-append i.home.history (event.Move c.number-pass.result c.id-id.result c.args.claim.slice c.args.claim.column c.args.bits.now.bits ∷ []))
 
 pub invariant_of-self : goal.invariant_of-self
 invariant_of-self c =
@@ -116,7 +115,7 @@ invariant_of-self c =
     let st = stage_now c.args.self.now i.home i.events_limit (books_of i) c.self.invariant c.self.view_is c.args.seat.now c.requires.caught_up c.number-pass.result c.number-pass.ensures.number c.args.claim c.requires.claim c.args.look c.requires.look c.requires.there in
     let same_id : look.doc.id ≡ at.doc.id = id_now c.args.self.now i.home i.events_limit (books_of i) c.self.invariant c.self.view_is c.args.seat.now c.requires.caught_up c.number-pass.result c.number-pass.ensures.number c.args.claim c.requires.claim c.args.look c.requires.look c.requires.there in
     let number : c.make_event-number.result ≡ length i.home.history + 1 =
-    made.number ∙ ap length made.home.history ∙ length-append i.home.history (event.Move pass c.id-id.result s k c.list.result.now ∷ []) in
+    made.number ∙ ap length made.home.history ∙ length-append i.home.history (event.Move pass c.id-id.result s k c.args.bits.now.bits ∷ []) in
     let last = length i.home.history + 1 in
     let table = moved_table i.records look.slice look.column (over_slot (slot_at i.records look.slice look.column) at.doc at.lives last) s k (moved_slot look.place look.doc last) in
     let stages = with_stage i.stages look.slice (after_end i.home.pool.limits.columns last st.0 st.1) in
@@ -140,8 +139,7 @@ invariant_of-self c =
     })
     c.make_event-number.result i.journal c.live.new.self c.add.new.self c.end_column.new.self moved
     made.home.pool
-    (made.home.history ∙ ap (λ (bs : List Bit). i.home.history ++ event.Move pass c.id-id.result s k bs ∷ []) c.list.ensures
-    ∙ ap (λ n. i.home.history ++ event.Move pass n s k bits ∷ []) (c.id-id.ensures ∙ same_id))
+    (made.home.history ∙ ap (λ n. i.home.history ++ event.Move pass n s k bits ∷ []) (c.id-id.ensures ∙ same_id))
     number refl
     (c.live.ensures ∙ ap (λ t. with_slot t s k (record { column = became.Live look.place c.make_event-number.result; doc = Some look.doc })) gone
     ∙ ap (λ n. with_slot (with_slot i.records look.slice look.column (record { column = became.Over at.lives.added at.lives.since n; doc = (slot_at i.records look.slice look.column).doc })) s k
@@ -161,9 +159,8 @@ returns-clause-made c =
     let k = c.args.claim.column in
     let now : DeskState = record { pool = i.home.pool; events_limit = i.events_limit; history = i.home.history } in
     let next : DeskState = record { pool = home.pool; events_limit = i.events_limit; history = home.history } in
-    subst (λ (bits : List Bit). Makes (event.Move c.args.seat.now.number c.args.look.doc.id s k bits ∷ []) c.args.self.now next c.args.seat.now seat) c.list.ensures
-    (subst (λ n. Makes (event.Move c.args.seat.now.number n s k c.list.result.now ∷ []) c.args.self.now next c.args.seat.now seat) c.id-id.ensures
-    (subst (λ n. Makes (event.Move n c.id-id.result s k c.list.result.now ∷ []) c.args.self.now next c.args.seat.now seat) c.number-pass.ensures.number
-    (subst (λ (d : DeskState). Makes (event.Move c.number-pass.result c.id-id.result s k c.list.result.now ∷ []) d next c.args.seat.now seat) c.self.view_is
-    (makes_one now next c.args.seat.now seat (event.Move c.number-pass.result c.id-id.result s k c.list.result.now)
-    (subst (λ (d : DeskState). IsCaughtUp d c.args.seat.now) (sym c.self.view_is) c.requires.caught_up) made.home.pool refl made.home.history (invariant_of-self c).kept.legal made.seat))))
+    subst (λ n. Makes (event.Move c.args.seat.now.number n s k c.args.bits.now.bits ∷ []) c.args.self.now next c.args.seat.now seat) c.id-id.ensures
+    (subst (λ n. Makes (event.Move n c.id-id.result s k c.args.bits.now.bits ∷ []) c.args.self.now next c.args.seat.now seat) c.number-pass.ensures.number
+    (subst (λ (d : DeskState). Makes (event.Move c.number-pass.result c.id-id.result s k c.args.bits.now.bits ∷ []) d next c.args.seat.now seat) c.self.view_is
+    (makes_one now next c.args.seat.now seat (event.Move c.number-pass.result c.id-id.result s k c.args.bits.now.bits)
+    (subst (λ (d : DeskState). IsCaughtUp d c.args.seat.now) (sym c.self.view_is) c.requires.caught_up) made.home.pool refl made.home.history (invariant_of-self c).kept.legal made.seat)))

@@ -1,16 +1,23 @@
-use Rattle.std.proofs.Common.{[], ◌∷◌, List, Ok, Option, Some, IfSome, sym, ap, subst}
+use Rattle.std.proofs.Common.{◌≡◌, ◌∙◌, [], ◌∷◌, List, Ok, Option, Some, IfSome, sym, ap, subst}
 use Rattle.commit_desk.specs.declared.look.Look.{Look}
 use Rattle.commit_desk.specs.Moving.{AnswersLook, AnswersTakeMove, HoldsLook, LooksState}
 use Rattle.commit_desk.specs.Passes.{HasWritten}
+use Rattle.funnel_model.specs.declared.config.Config.{Config}
 use Rattle.funnel_model.specs.declared.event.Event.{Event}
 use Rattle.funnel_model.specs.declared.event.Event.TheVariants as event
 use Rattle.funnel_model.specs.Words.{words}
+use Rattle.row_layout.specs.DocumentBits.{CanPlace}
 use Rattle.slice_recycler.specs.Turns.{IsTurn}
 use Rattle.slice_recycler.proofs.Steps.{turn_grows}
 use Rattle.slice_rule.specs.Pools.{PoolId}
 use Rattle.engine.proofs.Claims.{rows_of_text}
 use Rattle.engine.proofs.MovePasses.{holds_by_own, holds_on, move_turns, rows_laid}
 use Rattle.engine.proofs.engine.Engine.move_one.Goals as goal
+
+pub write-requires-clause-can_place : goal.write-requires-clause-can_place
+write-requires-clause-can_place g c =
+    let laid : c.self.inside.layout ≡ c.args.self.now.config = c.self.invariant.laid_out ∙ ap (λ (p : PoolId). p.config) c.self.view_is in
+    subst (λ (k : Config). CanPlace k c.in-Ok.bits.rows) laid c.in-Ok.ensures.can_place
 
 pub end_move-requires-clause-written : goal.end_move-requires-clause-written
 end_move-requires-clause-written g c =

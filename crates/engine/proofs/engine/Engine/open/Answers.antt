@@ -1,8 +1,12 @@
-use Rattle.std.proofs.Common.{◌≡◌, ap, ◌∙◌}
-use Rattle.slice_rule.specs.Pools.{PoolId}
+use Rattle.std.proofs.Common.{◌≡◌, ◌*◌, false, length, sym, ap, ap₂, ◌∙◌}
+use Rattle.std.proofs.lemmas.List.{length-replicate}
+use Rattle.slice_rule.specs.Pools.{PoolId, limits_of}
 use Rattle.slice_rule.specs.Seats.{HomeState}
 use Rattle.commit_desk.specs.Desks.{DeskState}
+use Rattle.commit_desk.specs.Moving.{LooksState}
 use Rattle.funnel_model.specs.Legal.{Limits}
+use Rattle.funnel_model.specs.Sizes.{columns_of_slice, words_of_slice}
+use Rattle.funnel_model.specs.declared.config.Config.{Config}
 use Rattle.engine.proofs.engine.Engine.open.Goals as goal
 
 pub invariant_of-new : goal.invariant_of-new
@@ -10,8 +14,18 @@ invariant_of-new g c =
     let made = c.in_ok-desk.ensures in
     let blank = c.blank.invariant in
     let of : c.in_ok-desk.desk.pool ≡ c.blank.inside.pool = ap (λ (d : DeskState). d.pool) made ∙ ap (λ (h : HomeState). h.pool) blank.new_home in
+    let limits : c.in_ok-desk.desk.pool.limits ≡ limits_of c.blank.inside.pool.config (words_of_slice c.blank.inside.pool.config) =
+    ap (λ (p : PoolId). p.limits) of ∙ blank.of_config.limits in
+    let config : c.args.config.now ≡ c.blank.inside.pool.config = sym (ap (λ (p : PoolId). p.config) c.blank.view_is ∙ c.requires.made_with) in
+    let columns : c.columns.result ≡ c.in_ok-desk.desk.pool.limits.columns =
+    c.columns.ensures.value ∙ ap columns_of_slice (c.in_ok-layout.ensures ∙ config) ∙ sym (ap (λ (l : Limits). l.columns) limits) in
+    let slices : c.args.config.now.slices ≡ c.in_ok-desk.desk.pool.limits.slices = ap (λ (k : Config). k.slices) config ∙ sym (ap (λ (l : Limits). l.slices) limits) in
     record {
       of_pool = of ∙ c.blank.view_is ∙ c.requires.named;
       limit = ap (λ (d : DeskState). d.events_limit) made;
       pool_limit = ap (λ (p : PoolId). p.limits.events) of ∙ ap (λ (l : Limits). l.events) blank.of_config.limits;
+      columns = ap (λ (looks : LooksState). looks.columns) c.in_ok-looks.ensures ∙ columns;
+      marks =
+          ap (λ (looks : LooksState). length looks.marks) c.in_ok-looks.ensures ∙ length-replicate (c.args.config.now.slices * c.columns.result) false
+          ∙ ap₂ (λ s k. s * k) slices columns;
     }

@@ -2,6 +2,7 @@ use Rattle.std.proofs.Common.{◌≡◌, ℕ, List, sym, ap, ◌∙◌, subst}
 use Rattle.document_store.specs.Documents.{Parts}
 use Rattle.funnel_model.specs.Words.{AreWordsOf}
 use Rattle.funnel_model.specs.declared.config.Config.{Config}
+use Rattle.row_layout.specs.DocumentBits.{CanPlace}
 use Rattle.row_layout.specs.Orders.{HasRowsOf}
 use Rattle.slice_rule.specs.Pools.{PoolId}
 use Rattle.engine.proofs.engine.Engine.prepare.Goals as goal
@@ -19,3 +20,8 @@ returns-clause-rows g c =
     let laid : c.self.inside.layout ≡ c.args.self.now.config = c.self.invariant.laid_out ∙ ap (λ (p : PoolId). p.config) c.self.view_is in
     subst (λ (set : List (List ℕ)). HasRowsOf c.args.self.now.config set rows) (sym (ap (λ (d : Parts). d.words) c.new.ensures))
     (subst (λ (k : Config). HasRowsOf k c.in-Ok.words rows) laid c.in_ok-bits.ensures.rows)
+
+pub returns-clause-can_place : goal.returns-clause-can_place
+returns-clause-can_place g c =
+    let laid : c.self.inside.layout ≡ c.args.self.now.config = c.self.invariant.laid_out ∙ ap (λ (p : PoolId). p.config) c.self.view_is in
+    subst (λ (k : Config). CanPlace k c.in_ok-bits.bits.rows) laid c.in_ok-bits.ensures.can_place

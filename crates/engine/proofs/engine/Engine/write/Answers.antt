@@ -3,12 +3,17 @@ use Rattle.std.specs.List.{All}
 use Rattle.funnel_model.specs.declared.config.Config.{Config}
 use Rattle.funnel_model.specs.Legal.{IsInSlice}
 use Rattle.funnel_model.specs.Sizes.{words_of_slice}
-use Rattle.row_layout.specs.DocumentBits.{AreDocumentBits}
+use Rattle.row_layout.specs.DocumentBits.{AreDocumentBits, CanPlace}
 use Rattle.row_layout.specs.Orders.{HasRowsOf}
 use Rattle.slice_rule.specs.Pools.{PoolId}
 use Rattle.engine.specs.Engines.{IsOfConfig}
 use Rattle.engine.proofs.Claims.{has_written}
 use Rattle.engine.proofs.engine.Engine.write.Goals as goal
+
+pub place-requires-clause-rows : goal.place-requires-clause-rows
+place-requires-clause-rows g c =
+    let laid : c.self.inside.layout ≡ c.args.self.now.config = c.self.invariant.laid_out ∙ ap (λ (p : PoolId). p.config) c.self.view_is in
+    subst (λ (k : Config). CanPlace k c.args.bits.now.rows) (sym laid) c.requires.can_place
 
 pub returns-clause-written : goal.returns-clause-written
 returns-clause-written g c set rows =

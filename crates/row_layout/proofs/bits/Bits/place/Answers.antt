@@ -3,7 +3,7 @@ use Rattle.std.specs.List.{All}
 use Rattle.funnel_model.specs.Legal.{IsInSlice}
 use Rattle.funnel_model.specs.Sizes.{words_of_slice}
 use Rattle.funnel_model.specs.declared.bit_list.Bit.{Bit}
-use Rattle.row_layout.specs.DocumentBits.{AreDocumentBits}
+use Rattle.row_layout.specs.DocumentBits.{AreDocumentBits, in_order}
 use Rattle.row_layout.specs.Rows.{IsRowOf}
 use Rattle.row_layout.specs.declared.row.Row.{Row}
 use Rattle.row_layout.proofs.BitLemmas.{all_bits, bit-fits, bits-in_slice, bits-of_words, bits_of_rows, rank-small}
@@ -14,7 +14,7 @@ laid_at c =
     let config = c.args.layout.now in
     let row = c.index.result.now in
     let at : row ≡ get_or c.args.self.now.rows c.loop-i.i row = c.index.ensures ∙ ap (λ (rows : List Row). get_or rows c.loop-i.i row) c.loop-i.invariant.rows in
-    subst (IsRowOf config) (sym at) (c.requires.rows.laid c.loop-i.i row (omega (arith, c.loop-i.invariant.end)))
+    subst (IsRowOf config) (sym at) (c.requires.rows c.loop-i.i row (omega (arith, c.loop-i.invariant.end)))
 
 pub bit-requires-clause-rank : goal.bit-requires-clause-rank
 bit-requires-clause-rank c = rank-small c.args.layout.now c.slice_range-first.ensures.in_range c.index.result.now (laid_at c)
@@ -28,23 +28,23 @@ pub returns-clause-inside : goal.returns-clause-inside
 returns-clause-inside c =
     let config = c.args.layout.now in
     let rows = c.args.self.now.rows in
-    let moved = all_bits config c.args.slice c.args.column c.loop-i.i rows c.loop-i.self-inside.list
+    let moved = all_bits config c.args.slice c.args.column c.loop-i.i rows c.loop-i.self-inside.bits.items
     (omega (arith, c.loop-i.invariant.end)) (omega (arith, c.loop-i.invariant.end, c.loop-i.invariant.many)) c.loop-i.invariant.moved in
-    subst (All (λ (b : Bit). IsInSlice (words_of_slice config) c.args.slice b.word)) (sym moved) (bits-in_slice config c.args.slice c.args.column c.requires.column rows c.requires.rows.laid)
+    subst (λ bits. All (λ (b : Bit). IsInSlice (words_of_slice config) c.args.slice b.word) (in_order bits)) (sym moved) (bits-in_slice config c.args.slice c.args.column c.requires.column rows c.requires.rows)
 
 pub returns-clause-document_bits : goal.returns-clause-document_bits
 returns-clause-document_bits c words exactly =
     let config = c.args.layout.now in
     let rows = c.args.self.now.rows in
-    let moved = all_bits config c.args.slice c.args.column c.loop-i.i rows c.loop-i.self-inside.list
+    let moved = all_bits config c.args.slice c.args.column c.loop-i.i rows c.loop-i.self-inside.bits.items
     (omega (arith, c.loop-i.invariant.end)) (omega (arith, c.loop-i.invariant.end, c.loop-i.invariant.many)) c.loop-i.invariant.moved in
-    subst (AreDocumentBits config words c.args.slice c.args.column) (sym moved)
-    (bits_of_rows config c.slice_range-first.ensures.in_range c.args.slice c.args.column c.requires.column rows c.requires.rows words exactly)
+    subst (λ bits. AreDocumentBits config words c.args.slice c.args.column (in_order bits)) (sym moved)
+    (bits_of_rows config c.args.slice c.args.column rows words exactly)
 
 pub returns-clause-of_words : goal.returns-clause-of_words
 returns-clause-of_words c =
     let config = c.args.layout.now in
     let rows = c.args.self.now.rows in
-    let moved = all_bits config c.args.slice c.args.column c.loop-i.i rows c.loop-i.self-inside.list
+    let moved = all_bits config c.args.slice c.args.column c.loop-i.i rows c.loop-i.self-inside.bits.items
     (omega (arith, c.loop-i.invariant.end)) (omega (arith, c.loop-i.invariant.end, c.loop-i.invariant.many)) c.loop-i.invariant.moved in
-    subst (All (λ (b : Bit). b.bit < 64)) (sym moved) (bits-of_words config c.args.slice c.args.column rows c.requires.rows.laid)
+    subst (λ bits. All (λ (b : Bit). b.bit < 64) (in_order bits)) (sym moved) (bits-of_words config c.args.slice c.args.column rows c.requires.rows)

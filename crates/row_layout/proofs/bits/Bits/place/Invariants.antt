@@ -7,7 +7,7 @@ use Rattle.row_layout.proofs.bits.Bits.place.Given as goal
 abbrev pub invariant-loop-i : goal.invariant-loop-i
 invariant-loop-i l = record {
   rows : l.self-inside.rows.items ≡ l.fn.self.rows;
-  many : length l.self-inside.list ≡ length l.fn.self.rows;
+  many : length l.self-inside.bits.items ≡ length l.fn.self.rows;
   end : l.i-end ≡ length l.fn.self.rows;
-  moved : take l.i l.self-inside.list ≡ map (bit_of_row (words_of_slice l.layout) l.slice l.column) (take l.i l.fn.self.rows);
+  moved : take l.i l.self-inside.bits.items ≡ map (bit_of_row (words_of_slice l.layout) l.slice l.column) (take l.i l.fn.self.rows);
 }
