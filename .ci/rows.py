@@ -124,6 +124,19 @@ def reserve_rows():
     yield Row("nothing is moved while as many columns are left as are to be", [*with_two(128), none, third_add, ("recycle", "recycled 0")], kept_free)
 
 
+def fit_rows():
+    """Rows of fits to which there is no configuration."""
+
+    def refused(shows, documents, given, says):
+        return Row(shows, (), None, [["fit", "--documents", documents]], ends="8 does not fit", says=[f"funnel: {says}"], given=given)
+
+    slices = "so many documents need 1090 slices, and there may be 1024: lower `--documents`"
+    yield refused("documents that need too many slices are told", "4194304", b"add 1 x", slices)
+    many = b"add 1" + b"".join(b" w%d" % number for number in range(500))
+    words = "the rows for so many documents like these take 36348466 words, and may take 33554432: lower `--documents`"
+    yield refused("documents that need too many words are told", "3900000", many, words)
+
+
 def long_rows():
     """Rows of long lines, lists, configurations and words, and of an input without a newline at its end."""
     yield Row("no line has no reply", given=b"")
@@ -168,7 +181,7 @@ def text_rows():
 
 def main(program):
     with open(os.path.join(os.path.dirname(__file__), "rows.txt"), encoding="utf-8") as file:
-        rows = [*rows_of(file.read()), *text_rows(), *slice_rows(), *reserve_rows(), *long_rows()]
+        rows = [*rows_of(file.read()), *text_rows(), *slice_rows(), *reserve_rows(), *fit_rows(), *long_rows()]
     failed = sum(row.fails(program) for row in rows)
     print(f"{failed} of {len(rows)} rows failed" if failed else "each row has its replies")
     return 1 if failed else 0

@@ -1,5 +1,5 @@
 -- How programs end.
-use Rattle.std.proofs.Common.{◌≡◌, ℕ, true, List, length, map, Option, None, Some, inl, inr, refl, sym, ap, ◌∙◌, subst}
+use Rattle.std.proofs.Common.{◌≡◌, ℕ, true, false, List, length, map, Option, None, Some, inl, inr, refl, sym, ap, ◌∙◌, subst}
 use Rattle.std.proofs.lemmas.Bool.{false≢true}
 use Rattle.std.specs.List.{AllZip}
 use Rattle.std.specs.Option.{is_some}
@@ -15,7 +15,10 @@ use Rattle.funnel_model.specs.declared.config.Config.{Config}
 use Rattle.funnel_model.specs.History.{base}
 use Rattle.funnel_model.specs.Legal.{Limits}
 use Rattle.slice_rule.specs.Pools.{PoolId}
+use Rattle.funnel.specs.Commands.{command_of, is_fit}
+use Rattle.funnel.specs.declared.command.Command.{Command}
 use Rattle.funnel.specs.declared.command.Command.TheVariants as command
+use Rattle.funnel.specs.declared.command.FitCommand.{FitCommand}
 use Rattle.funnel.specs.declared.command.ServeCommand.{ServeCommand}
 use Rattle.funnel.specs.declared.ended.Why.{Why}
 use Rattle.funnel.specs.declared.ended.Why.TheVariants as why_of
@@ -31,6 +34,17 @@ pub keeps_last : (pool : PoolId) (config : Config) (closed : ClosedState) → po
     closed.base ≡ base pool.limits.commits closed.history → KeepsLast config closed
 keeps_last pool config closed limits_are base_is = base_is ∙ ap (λ (l : Limits). base l.commits closed.history) limits_are
 
+-- words that are another command are no fit
+no_fit_is : (asked : Command) → ((fit : FitCommand) → asked ≡ command.Fit fit → ⊥) → is_fit (Some asked) ≡ false
+no_fit_is command.Run other = refl
+no_fit_is (command.Serve serve) other = refl
+no_fit_is (command.Load load) other = refl
+no_fit_is (command.Fit fit) other = absurd (other fit refl)
+
+pub are_no_fit : (words : List (List ℕ)) (asked : Command) → command_of words ≡ Some asked → ((fit : FitCommand) → asked ≡ command.Fit fit → ⊥) →
+    is_fit (command_of words) ≡ false
+are_no_fit words asked words_are other = ap is_fit words_are ∙ no_fit_is asked other
+
 -- ---- the calls on gates
 
 -- what is told of the calls of a serve aside, an end is an end
@@ -43,7 +57,8 @@ plain_end open_gives next_gives done_gives end_gives read_gives write_gives inco
 plain_end open_gives next_gives done_gives end_gives read_gives write_gives incoming outgoing words before after why closed gates laters (inr (inr (inl ends))) = inr (inr (inl ends))
 plain_end open_gives next_gives done_gives end_gives read_gives write_gives incoming outgoing words before after why closed gates laters (inr (inr (inr (inl ends)))) = inr (inr (inr (inl ends)))
 plain_end open_gives next_gives done_gives end_gives read_gives write_gives incoming outgoing words before after why closed gates laters (inr (inr (inr (inr (inl serve))))) = inr (inr (inr (inr (inl serve.ends))))
-plain_end open_gives next_gives done_gives end_gives read_gives write_gives incoming outgoing words before after why closed gates laters (inr (inr (inr (inr (inr ends))))) = inr (inr (inr (inr (inr ends))))
+plain_end open_gives next_gives done_gives end_gives read_gives write_gives incoming outgoing words before after why closed gates laters (inr (inr (inr (inr (inr (inl ends)))))) = inr (inr (inr (inr (inr (inl ends)))))
+plain_end open_gives next_gives done_gives end_gives read_gives write_gives incoming outgoing words before after why closed gates laters (inr (inr (inr (inr (inr (inr ends)))))) = inr (inr (inr (inr (inr (inr ends)))))
 
 -- a serve ended so between these states of its gates
 record ServedInTurns {G C : Type 0} (open_gives : G → Opening → G → Type 0) (next_gives : G → Next C → G → Type 0) (done_gives : G → C → End → G → Type 0) (end_gives : G → G → Type 0)

@@ -2,6 +2,8 @@
 use Rattle.std.proofs.Common.{◌≡◌, ◌⊎◌, ◌||◌, ℕ, Bool, true, false, cond, List, [], ◌∷◌, Option, Some, None, refl, sym, ◌∙◌, subst, inl, inr, arith, suc}
 use Rattle.std.specs.List.{AllZip, list_any}
 use Rattle.engine.specs.Engines.{ClosedState}
+use Rattle.fit.specs.declared.ends.FitEnd.{FitEnd}
+use Rattle.fit.specs.declared.ends.FitEnd.TheVariants as fit_end
 use Rattle.funnel_io.specs.Calls.{Read, Write}
 use Rattle.funnel_io.specs.Streams.{Incoming, Outgoing}
 use Rattle.funnel_io.specs.declared.end.End.{End}
@@ -21,7 +23,7 @@ use Rattle.funnel.specs.declared.command.LoadCommand.{LoadCommand}
 use Rattle.funnel.specs.declared.ended.Why.{Why}
 use Rattle.funnel.specs.declared.ended.Why.TheVariants as why_of
 use Rattle.funnel.specs.Commands.{command_of}
-use Rattle.funnel.specs.Ends.{why_of_config, why_of_end}
+use Rattle.funnel.specs.Ends.{why_of_config, why_of_end, why_of_fit}
 use Rattle.funnel.specs.Laws.{OneFailed}
 use Rattle.funnel.specs.LoadRuns.{EndsLoad}
 use Rattle.funnel.specs.Programs.{Ends, Streams}
@@ -41,6 +43,14 @@ not_session end_of.ReadFault is = cc
 not_session end_of.WriteFault is = cc
 not_session (end_of.ByteLimit told) is = cc
 not_session end_of.Memory is = cc
+
+not_fit : (end : FitEnd) → why_of_fit end ≡ why_of.GateFault → ⊥
+not_fit fit_end.Done is = cc
+not_fit fit_end.ReadFault is = cc
+not_fit fit_end.WriteFault is = cc
+not_fit (fit_end.ByteLimit told) is = cc
+not_fit fit_end.Memory is = cc
+not_fit (fit_end.Misfit cause) is = cc
 
 not_run : (config : Config) (incoming later_incoming : Incoming) (outgoing later_outgoing : Outgoing) (why : Why) (closed : Option ClosedState) →
     RanOrNot config incoming later_incoming outgoing later_outgoing why closed → why ≡ why_of.GateFault → ⊥
@@ -138,9 +148,10 @@ module _ {G C : Type 0} (open_gives : G → Opening → G → Type 0) (next_give
         absurd (not_run ends.config before.input after.input before.output after.output why closed ends.ran is)
     told_by_gate (inr (inr (inr (inr (inl serve))))) is =
         of_serve serve.ends.config serve.ends.serve.connections before.gates after.gates why closed serve.ends.served gates laters serve.in_turns is
-    told_by_gate (inr (inr (inr (inr (inr ends))))) is =
+    told_by_gate (inr (inr (inr (inr (inr (inl ends)))))) is =
         absurd (not_load ends.config ends.load before.output after.output closed
         (subst (λ (w : Why). EndsLoad ends.config ends.load before.output after.output w closed) is ends.ends))
+    told_by_gate (inr (inr (inr (inr (inr (inr ends)))))) is = absurd (not_fit ends.ends.end (sym ends.ends.cause ∙ is))
 
 -- with no engine it was told as a gate was opened
 of_unopened : (config : Config) (connections : ℕ) (before after : List GateState) → EndsServe config connections before after why_of.GateFault None →
@@ -158,4 +169,5 @@ told_at_opening words before after (inr (inr (inl ends))) = let other : why_of.G
 told_at_opening words before after (inr (inr (inr (inl ends)))) =
     absurd (not_run ends.config before.input after.input before.output after.output why_of.GateFault None ends.ran refl)
 told_at_opening words before after (inr (inr (inr (inr (inl serve))))) = of_unopened serve.config serve.serve.connections before.gates after.gates serve.served
-told_at_opening words before after (inr (inr (inr (inr (inr ends))))) = absurd (not_load ends.config ends.load before.output after.output None ends.ends)
+told_at_opening words before after (inr (inr (inr (inr (inr (inl ends)))))) = absurd (not_load ends.config ends.load before.output after.output None ends.ends)
+told_at_opening words before after (inr (inr (inr (inr (inr (inr ends)))))) = absurd (not_fit ends.ends.end (sym ends.ends.cause))

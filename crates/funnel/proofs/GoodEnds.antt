@@ -1,10 +1,14 @@
 -- Programs whose command is accepted, and whose reads, writes and gates do not fail.
 use Rattle.std.proofs.Common.{◌≡◌, ◌⊎◌, ℕ, ◌+◌, ◌||◌, Bool, true, false, cond, List, [], ◌∷◌, ◌++◌, length, map, Option, Some, None, Result, Ok, Err, IfSome, rules, sym, refl, ap, ◌∙◌, subst, inl, inr, arith, length-append}
 use Rattle.std.proofs.KnownBytes.{Consumes-all}
-use Rattle.std.proofs.lemmas.Bool.{lt-ltb}
+use Rattle.std.proofs.lemmas.Bool.{false≢true, lt-ltb}
 use Rattle.std.specs.Io.KnownBytes.{Consumes, IsAtEnd}
 use Rattle.std.specs.List.{AllZip, list_any}
 use Rattle.engine.specs.Engines.{ClosedState}
+use Rattle.fit.specs.Adds.{texts_added}
+use Rattle.fit.specs.Ends.{Fits, IsFitted, IsMisfit}
+use Rattle.fit.specs.declared.ends.FitEnd.{FitEnd}
+use Rattle.fit.specs.declared.ends.FitEnd.TheVariants as fit_end
 use Rattle.funnel_io.specs.Counts.{Rose}
 use Rattle.funnel_io.specs.Streams.{Incoming, Outgoing, Takes, Writes}
 use Rattle.funnel_io.specs.declared.end.End.{End}
@@ -20,20 +24,22 @@ use Rattle.funnel_stats.specs.declared.fault.ConfigFault.TheVariants as config
 use Rattle.session.specs.Ends.{Serves}
 use Rattle.funnel.specs.declared.command.Command.{Command}
 use Rattle.funnel.specs.declared.command.Command.TheVariants as command
+use Rattle.funnel.specs.declared.command.FitCommand.{FitCommand}
 use Rattle.funnel.specs.declared.command.LoadCommand.{LoadCommand}
 use Rattle.funnel.specs.declared.command.ServeCommand.{ServeCommand}
 use Rattle.funnel.specs.declared.ended.Misfit.{Misfit}
 use Rattle.funnel.specs.declared.ended.Why.{Why}
 use Rattle.funnel.specs.declared.ended.Why.TheVariants as why_of
 use Rattle.session.specs.declared.serving.TheConstants.{MOST_BYTES}
-use Rattle.funnel.specs.Commands.{command_of}
-use Rattle.funnel.specs.Ends.{why_of_config, why_of_end}
+use Rattle.funnel.specs.Commands.{command_of, is_fit}
+use Rattle.funnel.specs.Ends.{why_of_config, why_of_end, why_of_fit}
 use Rattle.line_proto.specs.Forms.{items}
 use Rattle.session.specs.Sessions.{Answers}
-use Rattle.funnel.specs.Laws.{CompletesLoad, CompletesRun, CompletesServe, EndsWell, GateIsServed, IsAccepted, IsServedUnlessFailed, NoStreamFailed, NoneFailed, ServesAllGates, TellsFew}
+use Rattle.funnel.specs.Laws.{CompletesFit, CompletesLoad, CompletesRun, CompletesServe, EndsWell, GateIsServed, IsAccepted, IsServedUnlessFailed, NoStreamFailed, NoneFailed, ServesAllGates, TellsFew}
+use Rattle.funnel.specs.FitRuns.{EndsFit}
 use Rattle.funnel.specs.LoadRuns.{EndsLoad}
 use Rattle.funnel.specs.Misfits.{misfit_of}
-use Rattle.funnel.specs.Programs.{Ends, EndsAtConfig, EndsAtMisfit, EndsAtWords, EndsAfterLoad, EndsAfterRun, EndsAfterServe, Streams}
+use Rattle.funnel.specs.Programs.{Ends, EndsAtConfig, EndsAtMisfit, EndsAtWords, EndsAfterFit, EndsAfterLoad, EndsAfterRun, EndsAfterServe, Streams}
 use Rattle.funnel.specs.Runs.{Ran, RanOrNot, first_caller, limits_by}
 use Rattle.funnel.specs.Served.{AllWork, EndsServe, OneDidNotOpen, new_workers}
 use Rattle.funnel.proofs.ServedGates.{gates_without_a_fault, not_failed, raised_rose}
@@ -126,7 +132,7 @@ no_misfit : (misfit : Misfit) → Some misfit ≡ None → ⊥
 no_misfit misfit is = cc
 
 module _ (words : List (List ℕ)) (before after : Streams) (why : Why) (closed : Option ClosedState) (asked : Command) (value : Config)
-    (none : NoStreamFailed before after) (accepted : IsAccepted words before asked value) where
+    (no_fit : is_fit (Some asked) ≡ false) (none : NoStreamFailed before after) (accepted : IsAccepted words before asked value) where
   at_words : EndsAtWords words before after why closed → why ≡ why_of.Memory
   at_words ends = by_cause ends.cause where
     no_words : command_of words ≡ None → ⊥
@@ -170,14 +176,18 @@ module _ (words : List (List ℕ)) (before after : Streams) (why : Why) (closed 
         (read_as_told before.config after.config accepted.bytes value accepted.told accepted.valid ends.config ends.configured.read) ends.ends;
   }
 
-  -- a command that is accepted is carried out, or memory ran out
+  after_fit : EndsAfterFit words before after why closed → ⊥
+  after_fit ends = false≢true (sym no_fit ∙ ap is_fit (sym accepted.words_are ∙ ends.words_are))
+
+  -- a command that is accepted and no fit is carried out, or memory ran out
   carried_out : Ends words before after why closed → IsCarriedOut before after asked value why closed
   carried_out (inl ends) = inl (record { memory = at_words ends; none = ends.none; gates = ap (λ (s : Streams). s.gates) ends.untouched })
   carried_out (inr (inl ends)) = inl (record { memory = at_config ends; none = ends.none; gates = ap (λ (s : Streams). s.gates) ends.others })
   carried_out (inr (inr (inl ends))) = absurd (at_misfit ends)
   carried_out (inr (inr (inr (inl ends)))) = inr (inl (after_run ends))
   carried_out (inr (inr (inr (inr (inl ends))))) = inr (inr (inl (after_serve ends)))
-  carried_out (inr (inr (inr (inr (inr ends))))) = inr (inr (inr (after_load ends)))
+  carried_out (inr (inr (inr (inr (inr (inl ends)))))) = inr (inr (inr (after_load ends)))
+  carried_out (inr (inr (inr (inr (inr (inr ends)))))) = absurd (after_fit ends)
 
 not_a_load : (load : LoadCommand) → command.Run ≡ command.Load load → ⊥
 not_a_load load is = cc
@@ -239,7 +249,7 @@ pub run_completes : (words : List (List ℕ)) (before after : Streams) (why : Wh
     Ends words before after why closed → NoStreamFailed before after → IsAccepted words before command.Run value → TellsFew before.input bytes →
     CompletesRun value bytes before.output after.output why closed
 run_completes words before after why closed value bytes ends none accepted input =
-    by_case (carried_out words before after why closed command.Run value none accepted ends) where
+    by_case (carried_out words before after why closed command.Run value refl none accepted ends) where
       lacking : (left : Option ClosedState) → why ≡ why_of.Memory → CompletesRun value bytes before.output after.output why left
       lacking left memory = subst (λ (w : Why). CompletesRun value bytes before.output after.output w left) (sym memory) tt
 
@@ -259,7 +269,7 @@ run_completes words before after why closed value bytes ends none accepted input
 pub run_ends_well : (words : List (List ℕ)) (before after : Streams) (why : Why) (closed : Option ClosedState) (value : Config) →
     Ends words before after why closed → NoStreamFailed before after → IsAccepted words before command.Run value → EndsWell why
 run_ends_well words before after why closed value ends none accepted =
-    by_case (carried_out words before after why closed command.Run value none accepted ends) where
+    by_case (carried_out words before after why closed command.Run value refl none accepted ends) where
       of_run : (left : Option ClosedState) → RanOrNot value before.input after.input before.output after.output why left → EndsWell why
       of_run None memory = subst EndsWell (sym memory) tt
       of_run (Some state) ran = ran_well value before after why state none ran
@@ -296,7 +306,7 @@ pub load_completes : (words : List (List ℕ)) (before after : Streams) (why : W
     Ends words before after why closed → NoStreamFailed before after → IsAccepted words before (command.Load load) value →
     CompletesLoad value load before.output after.output why closed
 load_completes words before after why closed value load ends none accepted =
-    by_case (carried_out words before after why closed (command.Load load) value none accepted ends) where
+    by_case (carried_out words before after why closed (command.Load load) value refl none accepted ends) where
       by_case : IsCarriedOut before after (command.Load load) value why closed →
           CompletesLoad value load before.output after.output why closed
       by_case (inl lacks) = subst (λ (w : Why). CompletesLoad value load before.output after.output w closed) (sym lacks.memory) tt
@@ -357,7 +367,7 @@ pub serve_completes : (words : List (List ℕ)) (before after : Streams) (why : 
     Ends words before after why closed → NoStreamFailed before after → IsAccepted words before (command.Serve serve) value →
     CompletesServe value serve.connections before.gates after.gates why closed
 serve_completes words before after why closed value serve ends none accepted =
-    by_case (carried_out words before after why closed (command.Serve serve) value none accepted ends) where
+    by_case (carried_out words before after why closed (command.Serve serve) value refl none accepted ends) where
       by_case : IsCarriedOut before after (command.Serve serve) value why closed → CompletesServe value serve.connections before.gates after.gates why closed
       by_case (inl lacks) =
           subst (λ (c : Option ClosedState). CompletesServe value serve.connections before.gates after.gates why c) (sym lacks.none)
@@ -367,3 +377,68 @@ serve_completes words before after why closed value serve ends none accepted =
           of_serve value serve.connections before.gates after.gates why closed
           (subst (λ (s : ServeCommand). EndsServe value s.connections before.gates after.gates why closed) (sym (same_serve serve served.serve served.is)) served.ends) none.gates
       by_case (inr (inr (inr load))) = absurd (no_load_serves load.load serve (sym load.is))
+
+-- how a fit ends, where no read and no write failed
+module _ (documents : ℕ) (incoming later_incoming : Incoming) (outgoing later_outgoing : Outgoing) (bytes : List ℕ) (input : TellsFew incoming bytes)
+    (no_read : Rose incoming.faults later_incoming.faults → ⊥) (no_write : Rose outgoing.faults later_outgoing.faults → ⊥) where
+  abbrev FitsSo : FitEnd → Type 0
+  FitsSo = Fits documents MOST_BYTES (record { incoming = incoming; outgoing = outgoing }) (record { incoming = later_incoming; outgoing = later_outgoing })
+
+  -- the whole input is what was taken
+  whole : (taken : List ℕ) → Takes taken incoming later_incoming → IsAtEnd later_incoming.left → taken ≡ bytes
+  whole taken takes at_end = all_taken incoming later_incoming taken bytes takes at_end input.told
+
+  of_fit : (end : FitEnd) → FitsSo end → CompletesFit documents bytes outgoing later_outgoing (why_of_fit end)
+  of_fit fit_end.Done fits = (
+    fits.ends.2.0,
+    subst (λ (bs : List ℕ). IsFitted documents (texts_added bs) fits.ends.2.0) (whole fits.taken fits.takes fits.ends.1) fits.ends.2.1,
+    fits.ends.2.2,
+  )
+  of_fit fit_end.ReadFault fits = absurd (no_read (raised_rose incoming.faults later_incoming.faults fits.reads))
+  of_fit fit_end.WriteFault fits = absurd (no_write (raised_rose outgoing.faults later_outgoing.faults fits.writes))
+  of_fit (fit_end.ByteLimit told) fits =
+      let first = first_taken incoming.left later_incoming.left fits.taken bytes fits.takes.left input.told in
+      absurd (omega (arith, fits.ends.1, input.few, ap length first.1, length-append fits.taken first.0))
+  of_fit fit_end.Memory fits = fits.ends.1
+  of_fit (fit_end.Misfit cause) fits = (
+    subst (λ (bs : List ℕ). IsMisfit documents (texts_added bs) cause) (whole fits.taken fits.takes fits.ends.1) fits.ends.2,
+    fits.ends.3,
+  )
+
+-- a fit whose input is short enough writes a configuration, or there is none, or memory ran out
+module _ (words : List (List ℕ)) (before after : Streams) (why : Why) (closed : Option ClosedState) (fit : FitCommand) (bytes : List ℕ)
+    (none : NoStreamFailed before after) (words_are : command_of words ≡ Some (command.Fit fit)) (input : TellsFew before.input bytes) where
+  abbrev Completes : Why → Type 0
+  Completes = CompletesFit fit.documents bytes before.output after.output
+
+  -- the words are no other command
+  no_other : is_fit (command_of words) ≡ false → ⊥
+  no_other is = false≢true (sym is ∙ ap is_fit words_are)
+
+  fit_at_words : EndsAtWords words before after why closed → Completes why
+  fit_at_words ends = by_cause ends.cause where
+    no_words : command_of words ≡ None → ⊥
+    no_words is = let some = words_are in cc
+
+    by_cause : ((why ≡ why_of.Usage) × (command_of words ≡ None)) ⊎ (why ≡ why_of.Memory) → Completes why
+    by_cause (inl usage) = absurd (no_words usage.1)
+    by_cause (inr memory) = subst Completes (sym memory) (ap (λ (s : Streams). s.output.written) ends.untouched)
+
+  same_fit : (other : FitCommand) → Some (command.Fit other) ≡ Some (command.Fit fit) → other ≡ fit
+  same_fit other is = cc
+
+  fit_made : EndsAfterFit words before after why closed → Completes why
+  fit_made ends =
+      let made : EndsFit fit before.input after.input before.output after.output why =
+      subst (λ (f : FitCommand). EndsFit f before.input after.input before.output after.output why) (same_fit ends.fit (sym ends.words_are ∙ words_are)) ends.ends in
+      subst Completes (sym made.cause)
+      (of_fit fit.documents before.input after.input before.output after.output bytes input none.input none.output made.end made.fits)
+
+  pub fit_completes : Ends words before after why closed → Completes why
+  fit_completes (inl ends) = fit_at_words ends
+  fit_completes (inr (inl ends)) = absurd (no_other ends.no_fit)
+  fit_completes (inr (inr (inl ends))) = absurd (no_other ends.configured.no_fit)
+  fit_completes (inr (inr (inr (inl ends)))) = absurd (no_other ends.configured.no_fit)
+  fit_completes (inr (inr (inr (inr (inl ends))))) = absurd (no_other ends.configured.no_fit)
+  fit_completes (inr (inr (inr (inr (inr (inl ends)))))) = absurd (no_other ends.configured.no_fit)
+  fit_completes (inr (inr (inr (inr (inr (inr ends)))))) = fit_made ends

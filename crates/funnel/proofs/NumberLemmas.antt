@@ -13,12 +13,13 @@ use Rattle.clap.specs.Values.{IsSignedIn, read_as}
 use Rattle.clap.specs.Walk.{Row, Rule, Text, one_of, reading_by, rows_of}
 use Rattle.clap.specs.declared.parser.matches.Found.{Found}
 use Rattle.clap.proofs.WalkLemmas.{one_text-rows}
-use Rattle.funnel.specs.Commands.{HasLoadNumbers, HasNumber, HasServeNumbers, IsGivenOrNot, IsLoadInRange, IsServeInRange, is_given, load_of, option_number, serve_of}
+use Rattle.funnel.specs.Commands.{HasFitNumbers, HasLoadNumbers, HasNumber, HasServeNumbers, IsFitInRange, IsGivenOrNot, IsLoadInRange, IsServeInRange, fit_of, is_given, load_of, option_number, serve_of}
+use Rattle.funnel.specs.declared.command.FitCommand.{FitCommand}
 use Rattle.funnel.specs.declared.command.LoadCommand.{LoadCommand}
 use Rattle.funnel.specs.declared.command.ServeCommand.{ServeCommand}
 use Rattle.funnel_model.specs.declared.config.TheConstants.{MOST_PASSES}
 use Rattle.load_gen.specs.declared.limits.TheConstants.{MOST_DOCS, MOST_WORDS}
-use Rattle.funnel.specs.declared.command.TheConstants.{MOST_CONNECTIONS, MOST_IDLE, MOST_PORT}
+use Rattle.funnel.specs.declared.command.TheConstants.{MOST_CONNECTIONS, MOST_FITTED, MOST_IDLE, MOST_PORT}
 use Rattle.funnel.proofs.FoundValues.{HasValue}
 
 without_minus-cond : (t : List ℕ) → without_minus t ≡ cond (starts_with_minus t) (drop 1 t) t
@@ -117,6 +118,11 @@ load_in_range found has =
     let words = number_in_range 0 MOST_WORDS (codes "words") found has.words in
     record { some_docs = docs.0; few_docs = docs.1; some_workers = workers.0; few_workers = workers.1; few_words = words.1 }
 
+pub fit_in_range : (found : List Row) → HasFitNumbers found → IsFitInRange (fit_of found)
+fit_in_range found has =
+    let documents = number_in_range 1 MOST_FITTED (codes "documents") found has.documents in
+    record { some_documents = documents.0; few_documents = documents.1 }
+
 -- a serve with the numbers of its options is the one that was found
 pub serve_is : (found : List Row) (port workers connections idle : ℕ) (one_port : Bool) → port ≡ option_number (codes "port") found → workers ≡ option_number (codes "workers") found →
     connections ≡ option_number (codes "connections") found → idle ≡ option_number (codes "idle") found → one_port ≡ is_given (codes "one-port") found →
@@ -128,3 +134,7 @@ pub load_is : (found : List Row) (docs workers words seed : ℕ) → docs ≡ op
     words ≡ option_number (codes "words") found → seed ≡ option_number (codes "seed") found →
     ◌≡◌ {A = LoadCommand} (record { docs = docs; workers = workers; words = words; seed = seed }) (load_of found)
 load_is found docs workers words seed d k w s = λ i. record { docs = d i; workers = k i; words = w i; seed = s i }
+
+-- and a fit
+pub fit_is : (found : List Row) (documents : ℕ) → documents ≡ option_number (codes "documents") found → ◌≡◌ {A = FitCommand} (record { documents = documents }) (fit_of found)
+fit_is found documents d = λ i. record { documents = d i }

@@ -115,7 +115,7 @@ abbrev GivesCommand : Text → List Text → Shape → Type 0
 GivesCommand name words s = answers_to name (label_of s) ≡ true → IsCommand (Some (rows_at s words))
 
 all_give : (name : Text) (words : List Text) → IsNoHelp name → AllByRecursion (GivesCommand name words) (built funnel_app).subs
-all_give name words no_help = (λ e. refl, (λ e. refl, (λ e. refl, (λ e. absurd (no_help_met name no_help e), tt))))
+all_give name words no_help = (λ e. refl, (λ e. refl, (λ e. refl, (λ e. refl, (λ e. absurd (no_help_met name no_help e), tt)))))
 
 found_command : (name : Text) (words : List Text) (s : Shape) → IsNoHelp name → find (λ s. answers_to name (label_of s)) (built funnel_app).subs ≡ Some s → IsCommand (Some (rows_at s words))
 found_command name words s no_help is =

@@ -17,7 +17,7 @@ use Rattle.clap.specs.declared.builder.value_parser.Reading.TheVariants.{AsWritt
 use Rattle.clap.specs.declared.builder.value_parser.ValueParser.TheVariants as vp
 use Rattle.funnel_model.specs.declared.config.TheConstants.{MOST_PASSES}
 use Rattle.load_gen.specs.declared.limits.TheConstants.{MOST_DOCS, MOST_WORDS}
-use Rattle.funnel.specs.declared.command.TheConstants.{MOST_CONNECTIONS, MOST_IDLE, MOST_PORT}
+use Rattle.funnel.specs.declared.command.TheConstants.{MOST_CONNECTIONS, MOST_FITTED, MOST_IDLE, MOST_PORT}
 use Rattle.clap.specs.Words.{App, HasMatchesOf, subcommand_rows_of}
 use Rattle.clap.specs.declared.parser.matches.ArgMatches.{ArgMatches}
 use Rattle.clap.specs.declared.error.kind.ErrorKind.{ErrorKind}
@@ -26,7 +26,7 @@ use Rattle.funnel.specs.declared.command.Command.{Command}
 use Rattle.funnel.specs.declared.command.CommandFault.{CommandFault}
 use Rattle.funnel.specs.declared.command.CommandFault.TheVariants.{Memory, Usage}
 use Rattle.funnel.proofs.NumberLemmas.{IsNumber, number_in, signed_number}
-use Rattle.funnel.specs.Commands.{HasLoadNumbers, HasNumber, HasNumbers, HasServeNumbers, IsGivenOrNot, call_words, command_of, connections_option, docs_option, fault_by, funnel_app, idle_option, load_form, load_workers_option, numbers_between, one_port_option, port_option, run_form, seed_option, serve_form, subcommand_as, words_option, workers_option}
+use Rattle.funnel.specs.Commands.{HasFitNumbers, HasLoadNumbers, HasNumber, HasNumbers, HasServeNumbers, IsGivenOrNot, call_words, command_of, connections_option, docs_option, documents_option, fault_by, fit_form, funnel_app, idle_option, load_form, load_workers_option, numbers_between, one_port_option, port_option, run_form, seed_option, serve_form, subcommand_as, words_option, workers_option}
 use Rattle.funnel.proofs.Faultless.{all_of_two, both, built_taken, is_open}
 use Rattle.funnel.proofs.FoundValues.{AllFit, Belongs, defaults-fit, defaults-there, found_has, given-there, has_value, settled-fits, walk-fits}
 
@@ -217,6 +217,27 @@ load_numbers words e =
       seed = unsigned load_rules rows found.fit 0 18446744073709551615 seed (codes "seed") refl refl (λ text pass. pass) seed_default;
     }
 
+-- ---- the option of `fit`
+
+abbrev fit_rules : List Rule
+fit_rules = (built_form fit_form).rules
+
+abbrev documents : Rule
+documents = filled documents_option
+
+fit_rules_belong : AllByRecursion (Belongs fit_rules) fit_rules
+fit_rules_belong = (record { own = refl; kind = inl (refl, omega arith) }, (record { own = refl; kind = inr (inr refl) }, tt))
+
+documents_is_given : (rows : List Row) → is_valid (built_form fit_form) rows false ≡ true → is_given (codes "documents") rows ≡ true
+documents_is_given rows e = (both (is_given (codes "documents") rows) _ e).0
+
+fit_numbers : (words : List Text) → level_passes (built_form fit_form) [] nothing_held words false ≡ true → HasFitNumbers (rows_after fit_rules [] words)
+fit_numbers words e =
+    let found = are_found (built_form fit_form) words fit_rules_belong e in
+    let rows = rows_after fit_rules [] words in
+    let there = given-there (codes "documents") rows (documents_is_given rows found.valid) in
+    record { documents = signed fit_rules rows found.fit 1 MOST_FITTED documents (codes "documents") refl refl (λ text pass. pass) there }
+
 -- ---- the subcommand that words name
 
 -- names that begin with other letters are not the same
@@ -230,28 +251,39 @@ run_finds_none : (words : List Text) → FindsNumbers words (built_form run_form
 run_finds_none words e = record {
   serve = λ is. absurd (other_name (codes "run") (codes "serve") (λ same. omega (arith, same)) is);
   load = λ is. absurd (other_name (codes "run") (codes "load") (λ same. omega (arith, same)) is);
+  fit = λ is. absurd (other_name (codes "run") (codes "fit") (λ same. omega (arith, same)) is);
 }
 
 serve_finds : (words : List Text) → FindsNumbers words (built_form serve_form)
 serve_finds words e = record {
   serve = λ is. serve_numbers words e;
   load = λ is. absurd (other_name (codes "serve") (codes "load") (λ same. omega (arith, same)) is);
+  fit = λ is. absurd (other_name (codes "serve") (codes "fit") (λ same. omega (arith, same)) is);
 }
 
 load_finds : (words : List Text) → FindsNumbers words (built_form load_form)
 load_finds words e = record {
   serve = λ is. absurd (other_name (codes "load") (codes "serve") (λ same. omega (arith, same)) is);
   load = λ is. load_numbers words e;
+  fit = λ is. absurd (other_name (codes "load") (codes "fit") (λ same. omega (arith, same)) is);
+}
+
+fit_finds : (words : List Text) → FindsNumbers words (built_form fit_form)
+fit_finds words e = record {
+  serve = λ is. absurd (other_name (codes "fit") (codes "serve") (λ same. omega (arith, same)) is);
+  load = λ is. absurd (other_name (codes "fit") (codes "load") (λ same. omega (arith, same)) is);
+  fit = λ is. fit_numbers words e;
 }
 
 help_finds_none : (words : List Text) → FindsNumbers words (built_leaf help_shape)
 help_finds_none words e = record {
   serve = λ is. absurd (other_name (codes "help") (codes "serve") (λ same. omega (arith, same)) is);
   load = λ is. absurd (other_name (codes "help") (codes "load") (λ same. omega (arith, same)) is);
+  fit = λ is. absurd (other_name (codes "help") (codes "fit") (λ same. omega (arith, same)) is);
 }
 
 all_find : (words : List Text) → AllByRecursion (FindsNumbers words) (built funnel_app).subs
-all_find words = (run_finds_none words, (serve_finds words, (load_finds words, (help_finds_none words, tt))))
+all_find words = (run_finds_none words, (serve_finds words, (load_finds words, (fit_finds words, (help_finds_none words, tt)))))
 
 entered_numbers : (stop : Option (Text × List Text)) → entered_passes (built funnel_app) stop ≡ true → IfSome (entered (built funnel_app) stop) HasNumbers
 entered_numbers None e = tt

@@ -11,9 +11,10 @@ use Rattle.clap.specs.declared.builder.value_parser.ValueParser.{ValueParser}
 use Rattle.clap.specs.declared.builder.value_parser.ValueParser.TheVariants as vp
 use Rattle.funnel.specs.declared.command.Command.{Command}
 use Rattle.funnel.specs.declared.command.Command.TheVariants as command
+use Rattle.funnel.specs.declared.command.FitCommand.{FitCommand}
 use Rattle.funnel.specs.declared.command.LoadCommand.{LoadCommand}
 use Rattle.funnel.specs.declared.command.ServeCommand.{ServeCommand}
-use Rattle.funnel.specs.declared.command.TheConstants.{MOST_CONNECTIONS, MOST_IDLE, MOST_PORT}
+use Rattle.funnel.specs.declared.command.TheConstants.{MOST_CONNECTIONS, MOST_FITTED, MOST_IDLE, MOST_PORT}
 use Rattle.funnel_model.specs.declared.config.TheConstants.{MOST_PASSES}
 use Rattle.load_gen.specs.declared.limits.TheConstants.{MOST_DOCS, MOST_WORDS}
 use Rattle.funnel.specs.declared.command.CommandFault.{CommandFault}
@@ -65,6 +66,10 @@ words_option = record (number_option (codes "words") (numbers_between 0 MOST_WOR
 abbrev pub seed_option : Rule
 seed_option = record (number_option (codes "seed") (vp.Unsigned 0 18446744073709551615)) { defaults = codes "0" ∷ [] }
 
+-- for how many documents a configuration is to have room, which has to be given
+abbrev pub documents_option : Rule
+documents_option = record (number_option (codes "documents") (numbers_between 1 MOST_FITTED)) { required = true }
+
 -- `run`, which has no option
 abbrev pub run_form : Shape
 run_form = new_shape (codes "run")
@@ -75,11 +80,14 @@ serve_form = record (new_shape (codes "serve")) { rules = port_option ∷ worker
 abbrev pub load_form : Shape
 load_form = record (new_shape (codes "load")) { rules = docs_option ∷ load_workers_option ∷ words_option ∷ seed_option ∷ [] }
 
+abbrev pub fit_form : Shape
+fit_form = record (new_shape (codes "fit")) { rules = documents_option ∷ [] }
+
 -- the command line: `funnel`, and one of its subcommands, which has to be there
 abbrev pub funnel_app : App
 funnel_app = record {
   top = record (new_shape (codes "funnel")) { is_leaf = false; subcommand_required = true };
-  subs = run_form ∷ serve_form ∷ load_form ∷ [];
+  subs = run_form ∷ serve_form ∷ load_form ∷ fit_form ∷ [];
 }
 
 -- the option has a value, which is a number from `low` to `high`
@@ -106,10 +114,15 @@ pub record HasLoadNumbers (found : List Row) : Type 0 where
   pub words : HasNumber 0 MOST_WORDS (codes "words") found
   pub seed : HasNumber 0 18446744073709551615 (codes "seed") found
 
+-- the option of `fit` has one
+pub record HasFitNumbers (found : List Row) : Type 0 where
+  pub documents : HasNumber 1 MOST_FITTED (codes "documents") found
+
 -- and so has each option of the subcommand that was found
 pub record HasNumbers (found : Text × List Row) : Type 0 where
   pub serve : found.0 ≡ codes "serve" → HasServeNumbers found.1
   pub load : found.0 ≡ codes "load" → HasLoadNumbers found.1
+  pub fit : found.0 ≡ codes "fit" → HasFitNumbers found.1
 
 -- the number that an option has: the value that was given, or else its default
 abbrev pub option_number : Text → List Row → ℕ
@@ -136,6 +149,9 @@ load_of found = record {
   seed = option_number (codes "seed") found;
 }
 
+abbrev pub fit_of : List Row → FitCommand
+fit_of found = record { documents = option_number (codes "documents") found }
+
 -- the numbers of a serve lie in their ranges
 pub record IsServeInRange (serve : ServeCommand) : Type 0 where
   pub some_port : 1 ≤ serve.port
@@ -154,18 +170,25 @@ pub record IsLoadInRange (load : LoadCommand) : Type 0 where
   pub few_workers : load.workers ≤ MOST_PASSES
   pub few_words : load.words ≤ MOST_WORDS
 
--- and so do those of a command
+-- and so does the number of a fit
+pub record IsFitInRange (fit : FitCommand) : Type 0 where
+  pub some_documents : 1 ≤ fit.documents
+  pub few_documents : fit.documents ≤ MOST_FITTED
+
+-- and those of a command
 abbrev pub HasNumbersInRange : Command → Type 0
 HasNumbersInRange command.Run = ⊤
 HasNumbersInRange (command.Serve serve) = IsServeInRange serve
 HasNumbersInRange (command.Load load) = IsLoadInRange load
+HasNumbersInRange (command.Fit fit) = IsFitInRange fit
 
 -- the command that a subcommand is, with what was found for its options
 abbrev pub subcommand_as : Text × List Row → Option Command
 subcommand_as (name, found) =
     if bytes_eq name (codes "run") then Some command.Run
     else (if bytes_eq name (codes "serve") then Some (command.Serve (serve_of found))
-    else (if bytes_eq name (codes "load") then Some (command.Load (load_of found)) else None))
+    else (if bytes_eq name (codes "load") then Some (command.Load (load_of found))
+    else (if bytes_eq name (codes "fit") then Some (command.Fit (fit_of found)) else None)))
 
 -- the words of a call, after the name of the program
 abbrev pub call_words : List Text → List Text
@@ -180,6 +203,11 @@ command_of words =
 abbrev pub is_serve : Option Command → Bool
 is_serve (Some (command.Serve serve)) = true
 is_serve _ = false
+
+-- the words are a fit, which is the one command that reads no configuration and opens no engine
+abbrev pub is_fit : Option Command → Bool
+is_fit (Some (command.Fit fit)) = true
+is_fit _ = false
 
 -- the port of each worker of a serve: the stated one for all, or from that one up, also where there is no such port
 abbrev pub ports_of_serve : ServeCommand → List ℕ

@@ -1,9 +1,12 @@
 -- How a program of funnel ends.
 use Rattle.std.specs.Prelude.{ℕ}
+use Rattle.fit.specs.declared.ends.FitEnd.{FitEnd}
+use Rattle.fit.specs.declared.ends.FitEnd.TheVariants as fit_end
 use Rattle.funnel_io.specs.declared.end.End.{End}
 use Rattle.funnel_io.specs.declared.end.End.TheVariants as end_of
 use Rattle.funnel_stats.specs.declared.fault.ConfigFault.{ConfigFault}
 use Rattle.funnel_stats.specs.declared.fault.ConfigFault.TheVariants as config
+use Rattle.funnel.specs.declared.ended.Misfit.TheVariants as misfit
 use Rattle.funnel.specs.declared.ended.Why.{Why}
 use Rattle.funnel.specs.declared.ended.Why.TheVariants as why_of
 
@@ -26,6 +29,15 @@ why_of_end end_of.ReadFault = why_of.ReadFault
 why_of_end end_of.WriteFault = why_of.WriteFault
 why_of_end (end_of.ByteLimit count) = why_of.ByteLimit count
 why_of_end end_of.Memory = why_of.Memory
+
+-- how it ends where its fit ends so
+abbrev pub why_of_fit : FitEnd → Why
+why_of_fit fit_end.Done = why_of.Done
+why_of_fit fit_end.ReadFault = why_of.ReadFault
+why_of_fit fit_end.WriteFault = why_of.WriteFault
+why_of_fit (fit_end.ByteLimit count) = why_of.ByteLimit count
+why_of_fit fit_end.Memory = why_of.Memory
+why_of_fit (fit_end.Misfit cause) = why_of.Misfit (misfit.Sample cause)
 
 -- how it ends where its configuration is refused so
 abbrev pub why_of_config : ConfigFault → Why

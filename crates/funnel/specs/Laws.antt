@@ -3,6 +3,9 @@ use Rattle.std.specs.Prelude.{◌≡◌, ◌≢◌, ◌<◌, ◌≤◌, ◌⊎�
 use Rattle.std.specs.List.{AllZip, flat_map}
 use Rattle.std.specs.Option.{IsSomeAnd, option_map}
 use Rattle.engine.specs.Engines.{ClosedState}
+use Rattle.fit.specs.Adds.{texts_added}
+use Rattle.fit.specs.Ends.{IsFitted, IsMisfit}
+use Rattle.fit.specs.Texts.{text_of}
 use Rattle.funnel_io.specs.Counts.{Rose}
 use Rattle.funnel_io.specs.Served.{Served}
 use Rattle.funnel_io.specs.Streams.{Incoming, Outgoing, Writes}
@@ -38,6 +41,7 @@ use Rattle.funnel.specs.Served.{AllWork, HaveAllServed}
 use Rattle.funnel.specs.declared.command.Command.{Command}
 use Rattle.funnel.specs.declared.command.LoadCommand.{LoadCommand}
 use Rattle.session.specs.declared.serving.TheConstants.{MOST_BYTES}
+use Rattle.funnel.specs.declared.ended.Misfit.TheVariants as misfit
 use Rattle.funnel.specs.declared.ended.Why.{Why}
 use Rattle.funnel.specs.declared.ended.Why.TheVariants as why_of
 
@@ -116,6 +120,14 @@ CompletesLoad config load before after why_of.Done closed =
     IsSomeAnd closed (IsWholeLoad config load) × Writes (summary load.docs load.words load.seed) before after
 CompletesLoad config load before after why_of.Memory closed = ⊤
 CompletesLoad config load before after _ closed = ⊥
+
+-- A fit is done when the text of a configuration is written that is fitted to the add lines of the whole input. It ends otherwise where
+-- no configuration fits them, or for want of memory, and has written nothing then
+abbrev pub CompletesFit : ℕ → List ℕ → Outgoing → Outgoing → Why → Type 0
+CompletesFit documents bytes before after why_of.Done = (config : Config) × IsFitted documents (texts_added bytes) config × Writes (text_of config) before after
+CompletesFit documents bytes before after (why_of.Misfit (misfit.Sample cause)) = IsMisfit documents (texts_added bytes) cause × (after.written ≡ before.written)
+CompletesFit documents bytes before after why_of.Memory = after.written ≡ before.written
+CompletesFit documents bytes before after _ = ⊥
 
 -- the calls of the pass in the history are those that these sessions made, one after another, and all that they saw are fronts of it
 pub record CallsAreOfSessions (caller : Caller) (visits : List Visit) (history : List Event) : Type 0 where

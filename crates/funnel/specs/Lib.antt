@@ -1,5 +1,6 @@
 pub mod Commands
 pub mod Ends
+pub mod FitRuns
 pub mod Laws
 pub mod LoadRuns
 pub mod Misfits

@@ -28,8 +28,9 @@ misfit_of_serve serve gates config =
     else (if nat_lt MOST_PORT (last_port_of serve) then Some (misfit.Ports (last_port_of serve)) else None))
     else Some (misfit.Gates serve.workers gates)
 
--- a run fits every configuration, and with a load the gates don't count
+-- a run fits every configuration, with a load the gates don't count, and a fit has no configuration that it would have to fit
 abbrev pub misfit_of : Command → ℕ → Config → Option Misfit
 misfit_of command.Run gates config = None
 misfit_of (command.Serve serve) gates config = misfit_of_serve serve gates config
 misfit_of (command.Load load) gates config = misfit_of_load load config
+misfit_of (command.Fit fit) gates config = None

@@ -1,5 +1,5 @@
 -- What a program of funnel does, from its words to its end. How each end is told stands in `Ends`, and the laws in `Laws`.
-use Rattle.std.specs.Prelude.{◌≡◌, ◌⊎◌, ℕ, List, length, Option, Some, None, IsSome, IfSome, Ok, Err}
+use Rattle.std.specs.Prelude.{◌≡◌, ◌⊎◌, ℕ, false, List, length, Option, Some, None, IsSome, IfSome, Ok, Err}
 use Rattle.engine.specs.Engines.{ClosedState}
 use Rattle.funnel_io.specs.Counts.{counted}
 use Rattle.funnel_io.specs.Streams.{Incoming, Outgoing}
@@ -7,14 +7,16 @@ use Rattle.funnel_model.specs.declared.config.Config.{Config}
 use Rattle.funnel_server.specs.Gates.{GateState}
 use Rattle.funnel_stats.specs.declared.fault.ConfigFault.{ConfigFault}
 use Rattle.funnel_stats.specs.Reading.{IsConfigRead, is_failed_read}
-use Rattle.funnel.specs.Commands.{command_of}
+use Rattle.funnel.specs.Commands.{command_of, is_fit}
 use Rattle.funnel.specs.Ends.{why_of_config}
+use Rattle.funnel.specs.FitRuns.{EndsFit}
 use Rattle.funnel.specs.LoadRuns.{EndsLoad}
 use Rattle.funnel.specs.Misfits.{misfit_of}
 use Rattle.funnel.specs.Runs.{KeepsLast, RanOrNot}
 use Rattle.funnel.specs.Served.{EndsServe}
 use Rattle.funnel.specs.declared.command.Command.{Command}
 use Rattle.funnel.specs.declared.command.Command.TheVariants as command
+use Rattle.funnel.specs.declared.command.FitCommand.{FitCommand}
 use Rattle.funnel.specs.declared.command.LoadCommand.{LoadCommand}
 use Rattle.funnel.specs.declared.command.ServeCommand.{ServeCommand}
 use Rattle.funnel.specs.declared.ended.Misfit.{Misfit}
@@ -34,9 +36,10 @@ pub record EndsAtWords (words : List (List ℕ)) (before after : Streams) (why :
   pub cause : ((why ≡ why_of.Usage) × (command_of words ≡ None)) ⊎ (why ≡ why_of.Memory)
   pub none : closed ≡ None
 
--- the words are a command, and the configuration is refused
+-- the words are a command that reads a configuration, which is refused
 pub record EndsAtConfig (words : List (List ℕ)) (before after : Streams) (why : Why) (closed : Option ClosedState) : Type 0 where
   pub command : IsSome (command_of words)
+  pub no_fit : is_fit (command_of words) ≡ false
   pub fault : ConfigFault
   pub read : IsConfigRead (Err fault) before.config after.config
   pub faults : after.config.faults ≡ counted (is_failed_read fault) before.config.faults
@@ -44,9 +47,10 @@ pub record EndsAtConfig (words : List (List ℕ)) (before after : Streams) (why 
   pub cause : why ≡ why_of_config fault
   pub none : closed ≡ None
 
--- the words are a command, and the configuration is read
+-- the words are a command that reads a configuration, and this one is read
 pub record IsConfigured (words : List (List ℕ)) (before after : Streams) (command : Command) (config : Config) : Type 0 where
   pub words_are : command_of words ≡ Some command
+  pub no_fit : is_fit (command_of words) ≡ false
   pub read : IsConfigRead (Ok config) before.config after.config
   pub faults : after.config.faults ≡ before.config.faults
 
@@ -91,12 +95,20 @@ pub record EndsAfterLoad (words : List (List ℕ)) (before after : Streams) (why
   pub ends : EndsLoad config load before.output after.output why closed
   pub kept : IfSome closed (KeepsLast config)
 
--- a program ends at its words, or at its configuration, or at numbers that don't fit, or after its run, its serve or its load; what is
--- said of a serve is given
+-- the fit that the words ask for is made: it reads no configuration, calls no gate and opens no engine
+pub record EndsAfterFit (words : List (List ℕ)) (before after : Streams) (why : Why) (closed : Option ClosedState) : Type 0 where
+  pub fit : FitCommand
+  pub words_are : command_of words ≡ Some (command.Fit fit)
+  pub ends : EndsFit fit before.input after.input before.output after.output why
+  pub others : after ≡ record before { input = after.input; output = after.output }
+  pub none : closed ≡ None
+
+-- a program ends at its words, or at its configuration, or at numbers that don't fit, or after its run, its serve, its load or its fit;
+-- what is said of a serve is given
 abbrev pub EndsBy : Type 0 → List (List ℕ) → Streams → Streams → Why → Option ClosedState → Type 0
 EndsBy Serve words before after why closed =
     EndsAtWords words before after why closed ⊎ EndsAtConfig words before after why closed ⊎ EndsAtMisfit words before after why closed
-    ⊎ EndsAfterRun words before after why closed ⊎ Serve ⊎ EndsAfterLoad words before after why closed
+    ⊎ EndsAfterRun words before after why closed ⊎ Serve ⊎ EndsAfterLoad words before after why closed ⊎ EndsAfterFit words before after why closed
 
 -- a program ends so
 abbrev pub Ends : List (List ℕ) → Streams → Streams → Why → Option ClosedState → Type 0

@@ -3,8 +3,8 @@
 ghost use Rattle.std.specs.Prelude.{◌≡◌, ◌↔◌, ℕ, List, [], ◌∷◌, map, option_and_then, IfOk, IfSome, IsErrOf, IsSome, Some, None, false, true};
 ghost use Rattle.clap.specs.Words.{app_of, found_of, kind_of, rows_of, rule_of, subcommand_rows_of, takes};
 ghost use Rattle.clap.specs.declared.builder.command.Command.TheViews.{out-Command as fields_of};
-ghost use Rattle.funnel.specs.Commands.{HasLoadNumbers, HasNumbers, HasNumbersInRange, HasServeNumbers, IsLoadInRange, IsServeInRange, call_words, command_of, fault_by};
-ghost use Rattle.funnel.specs.Commands.{connections_option, docs_option, funnel_app, idle_option, load_form, load_of, load_workers_option, number_option, one_port_option, port_option, run_form, seed_option, serve_form, serve_of, subcommand_as, words_option, workers_option};
+ghost use Rattle.funnel.specs.Commands.{HasFitNumbers, HasLoadNumbers, HasNumbers, HasNumbersInRange, HasServeNumbers, IsFitInRange, IsLoadInRange, IsServeInRange, call_words, command_of, fault_by};
+ghost use Rattle.funnel.specs.Commands.{connections_option, docs_option, documents_option, fit_form, fit_of, funnel_app, idle_option, load_form, load_of, load_workers_option, number_option, one_port_option, port_option, run_form, seed_option, serve_form, serve_of, subcommand_as, words_option, workers_option};
 ghost use Rattle.funnel.specs.declared.command.CommandFault.TheVariants.{Memory};
 
 use clap::builder::ValueParser;
@@ -23,6 +23,9 @@ pub const MOST_CONNECTIONS: u64 = 1 << 32;
 /// A connection waits for at most so many seconds.
 pub const MOST_IDLE: u32 = 86_400;
 
+/// A configuration is fitted for at most so many documents, as there may be columns.
+pub const MOST_FITTED: u32 = 4_194_304;
+
 /// What the program is to do.
 #[derive(Clone, Copy, Debug, PartialEq, Eq)]
 pub enum Command {
@@ -32,6 +35,8 @@ pub enum Command {
     Serve(ServeCommand),
     /// Adds, deletes and finds made up documents, and prints a summary.
     Load(LoadCommand),
+    /// Writes a configuration that is fitted to the add lines of standard input on standard output.
+    Fit(FitCommand),
 }
 
 /// Where connections come from, and how many are served.
@@ -60,6 +65,13 @@ pub struct LoadCommand {
     pub words: u32,
     /// Where the generator of the documents starts.
     pub seed: u64,
+}
+
+/// What a configuration is fitted for.
+#[derive(Clone, Copy, Debug, PartialEq, Eq)]
+pub struct FitCommand {
+    /// The number of documents that it is to have room for, from 1 to 4,194,304.
+    pub documents: u32,
 }
 
 /// Why no command was read.
@@ -129,11 +141,12 @@ pub(crate) fn funnel_app<'a>(alloc: Global) -> Result<clap::Command<'a>, AllocEr
     ensures { IfOk result (λ app. app_of app ≡ funnel_app) }
 {
     let load = load_app(alloc)?;
-    without_load(alloc)?.subcommand(load)
+    let fit = fit_app(alloc)?;
+    with_first_two(alloc)?.subcommand(load)?.subcommand(fit)
 }
 
 // `funnel` with its first two subcommands.
-fn without_load<'a>(alloc: Global) -> Result<clap::Command<'a>, AllocError>
+fn with_first_two<'a>(alloc: Global) -> Result<clap::Command<'a>, AllocError>
     ensures app { IfOk result (λ app. app_of app ≡ record funnel_app { subs = run_form ∷ serve_form ∷ [] }) }
     ensures local { IfOk result (λ app. (fields_of app).has_globals ≡ false) }
 {
@@ -240,6 +253,21 @@ fn seed_option<'a>(alloc: Global) -> Arg<'a>
     number_option(alloc, "seed", value_parser!(u64)).default_value("0")
 }
 
+fn fit_app<'a>(alloc: Global) -> Result<clap::Command<'a>, AllocError>
+    ensures app { IfOk result (λ app. (app_of app ≡ record { top = fit_form; subs = [] })) }
+    ensures local { IfOk result (λ app. (fields_of app).has_globals ≡ false) }
+{
+    clap::Command::new(alloc, "fit").arg(documents_option(alloc))
+}
+
+fn documents_option<'a>(alloc: Global) -> Arg<'a>
+    ensures rule { rule_of result ≡ documents_option }
+    ensures local { result.global ≡ false }
+{
+    let numbers = value_parser!(u32).range(1..=i64::from(MOST_FITTED));
+    number_option(alloc, "documents", numbers).required(true)
+}
+
 // `--name` with one value, which is one of these numbers.
 fn number_option<'a>(alloc: Global, name: &'a str, numbers: ValueParser<'a>) -> Arg<'a>
     ensures rule { rule_of result ≡ number_option name.entry.now numbers.entry }
@@ -260,6 +288,7 @@ fn command_in(matches: &ArgMatches) -> Option<Command>
         ("run", _) => Some(Command::Run),
         ("serve", found) => Some(Command::Serve(serve_in(found))),
         ("load", found) => Some(Command::Load(load_in(found))),
+        ("fit", found) => Some(Command::Fit(fit_in(found))),
         _ => None,
     }
 }
@@ -288,5 +317,15 @@ fn load_in(found: &ArgMatches) -> LoadCommand
         workers: found.get_one("workers").unwrap(),
         words: found.get_one("words").unwrap(),
         seed: found.get_one("seed").unwrap(),
+    }
+}
+
+fn fit_in(found: &ArgMatches) -> FitCommand
+    requires { HasFitNumbers (rows_of (found_of found.now)) }
+    ensures fit { result ≡ fit_of (rows_of (found_of found.now)) }
+    ensures in_range { IsFitInRange result }
+{
+    FitCommand {
+        documents: found.get_one("documents").unwrap(),
     }
 }

@@ -1,7 +1,8 @@
 ghost use Rattle.std.specs.Prelude.{◌≡◌, None};
-ghost use Rattle.funnel.specs.Ends.{status_of, why_of_config, why_of_end};
+ghost use Rattle.funnel.specs.Ends.{status_of, why_of_config, why_of_end, why_of_fit};
 
 use engine::Closed;
+use fit::FitEnd;
 use funnel_io::End;
 use funnel_stats::ConfigFault;
 use std::fmt;
@@ -10,7 +11,7 @@ use std::fmt;
 #[derive(Debug, Drop)]
 pub enum Why {
     /// `run`: the input was read to its end and every reply was written. `serve`: each worker's gate has no more connections,
-    /// or the worker served as many as it may. `load`: the whole summary was written.
+    /// or the worker served as many as it may. `load`: the whole summary was written. `fit`: the configuration was written.
     Done,
     /// The words are no command.
     Usage,
@@ -22,17 +23,18 @@ pub enum Why {
     WriteFault,
     /// Memory ran out. A run had read no line then, a load had made none, some or all of its calls, and neither has written anything.
     /// In a serve it ran out before any connection came, or where some sessions began: these read and wrote nothing, and all
-    /// others had theirs.
+    /// others had theirs. A fit had read some lines or all of them, and had written nothing.
     Memory,
     /// A gate of a serve failed.
     GateFault,
     /// So many bytes of the input were read, and no more may be.
     ByteLimit(u64),
-    /// A number of the command doesn't fit.
+    /// A number of the command doesn't fit, or no configuration can be fitted.
     Misfit(Misfit),
 }
 
-/// A number of the command that doesn't fit the configuration or the gates that the program was handed, or is no port.
+/// A number of the command that doesn't fit the configuration or the gates that the program was handed, or is no port. Or what
+/// keeps a fit from a configuration.
 #[derive(Clone, Copy, Debug, PartialEq, Eq)]
 pub enum Misfit {
     /// A serve has another number of workers than there are gates.
@@ -43,6 +45,8 @@ pub enum Misfit {
     Ports { last: u32 },
     /// A load has more documents than there are columns in all slices.
     Columns { docs: u64, columns: u64 },
+    /// No configuration for so many documents is fitted to the add lines of a fit.
+    Sample(fit::Misfit),
 }
 
 impl Why {
@@ -91,6 +95,21 @@ impl From<End> for Why {
             End::WriteFault => Why::WriteFault,
             End::ByteLimit(count) => Why::ByteLimit(count),
             End::Memory => Why::Memory,
+        }
+    }
+}
+
+impl From<FitEnd> for Why {
+    fn from(end: FitEnd) -> Why
+        ensures { result ≡ why_of_fit end }
+    {
+        match end {
+            FitEnd::Done => Why::Done,
+            FitEnd::ReadFault => Why::ReadFault,
+            FitEnd::WriteFault => Why::WriteFault,
+            FitEnd::ByteLimit(count) => Why::ByteLimit(count),
+            FitEnd::Memory => Why::Memory,
+            FitEnd::Misfit(cause) => Why::Misfit(Misfit::Sample(cause)),
         }
     }
 }

@@ -18,6 +18,7 @@ pub(crate) fn misfit(command: Command, gates: usize, config: &Config) -> Option<
         Command::Run => None,
         Command::Serve(serve) => misfit_of_serve(serve, gates, config),
         Command::Load(load) => misfit_of_load(load, config),
+        Command::Fit(_) => None,
     }
 }
 

@@ -9,10 +9,12 @@ ghost use Rattle.funnel_server.specs.Laws.{HasFewBytes};
 ghost use Rattle.line_proto.specs.Forms.{items};
 ghost use Rattle.session.specs.declared.serving.TheConstants.{MOST_BYTES};
 ghost use Rattle.funnel.specs.declared.command.Command.TheVariants as command;
+ghost use Rattle.funnel.specs.declared.command.FitCommand.{FitCommand};
 ghost use Rattle.funnel.specs.declared.command.LoadCommand.{LoadCommand};
 ghost use Rattle.funnel.specs.declared.command.ServeCommand.{ServeCommand};
 ghost use Rattle.funnel.specs.declared.ended.Why.{Why};
-ghost use Rattle.funnel.specs.Laws.{AllCallsAreOfSessions, AnswersInput, AreDue, CompletesLoad, CompletesRun, CompletesServe, EndsWell, GateIsServed};
+ghost use Rattle.funnel.specs.Commands.{command_of};
+ghost use Rattle.funnel.specs.Laws.{AllCallsAreOfSessions, AnswersInput, AreDue, CompletesFit, CompletesLoad, CompletesRun, CompletesServe, EndsWell, GateIsServed};
 ghost use Rattle.funnel.specs.Laws.{IsAccepted, IsServedUnlessFailed, KeepsNoFault, NoStreamFailed, OneFailed, RepliesAreDue, TellsFew};
 ghost use Rattle.funnel.specs.Programs.{Ends, Streams};
 ghost use Rattle.funnel.specs.Runs.{Ran, first_caller, limits_by};
@@ -24,7 +26,8 @@ use funnel_io::{End, Gate};
 /// Let the words be a command, the configuration valid, the command fit it, and no read, no write and no call of a gate fail.
 /// Then a run whose input has fewer bytes than it may take answers all its lines, a serve gives each connection of its gates a session,
 /// and a load is made and told, where none of them runs out of memory. A longer run ends at its limit of bytes. A serve that runs out
-/// of memory gave each connection its session too, some of which found none, or took no connection.
+/// of memory gave each connection its session too, some of which found none, or took no connection. A fit, which has no need of the
+/// configuration, writes one where its input has as few bytes and one can be fitted to it.
 pub fn programs_without_a_fault_end_well()
     ensures run { (words : List (List ℕ)) (before after : Streams) (why : Why) (closed : Option ClosedState) (config : Config) (bytes : List ℕ) →
         Ends words before after why closed → NoStreamFailed before after → IsAccepted words before command.Run config →
@@ -37,6 +40,9 @@ pub fn programs_without_a_fault_end_well()
     ensures load { (words : List (List ℕ)) (before after : Streams) (why : Why) (closed : Option ClosedState) (config : Config) (load : LoadCommand) →
         Ends words before after why closed → NoStreamFailed before after → IsAccepted words before (command.Load load) config →
         CompletesLoad config load before.output after.output why closed }
+    ensures fit { (words : List (List ℕ)) (before after : Streams) (why : Why) (closed : Option ClosedState) (fit : FitCommand) (bytes : List ℕ) →
+        Ends words before after why closed → NoStreamFailed before after → command_of words ≡ Some (command.Fit fit) →
+        TellsFew before.input bytes → CompletesFit fit.documents bytes before.output after.output why }
 {}
 
 /// No reply of a run is that the history is spent, since a run can't take so many bytes. Only the lines that ask for an add, a

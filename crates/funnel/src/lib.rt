@@ -20,14 +20,15 @@ mod listening;
 mod port_list;
 mod program;
 mod running;
+mod sampling;
 mod serving;
 mod text;
 mod usage;
 mod workload;
 
 pub use command::{
-    Command, CommandFault, LoadCommand, MOST_CONNECTIONS, MOST_IDLE, MOST_PORT, ServeCommand,
-    read_command, words_are_a_command_where_clap_takes_them,
+    Command, CommandFault, FitCommand, LoadCommand, MOST_CONNECTIONS, MOST_FITTED, MOST_IDLE,
+    MOST_PORT, ServeCommand, read_command, words_are_a_command_where_clap_takes_them,
 };
 pub use ended::{Ended, Misfit, Why};
 pub use laws::{

@@ -1,7 +1,7 @@
 ghost use Rattle.std.specs.Prelude.{◌≡◌, ◌⊎◌, Some, true, false, length, map, IfNone, IfSome};
 ghost use Rattle.engine.specs.Engines.{IsClosed};
 ghost use Rattle.funnel_server.specs.Gates.{gate_state};
-ghost use Rattle.funnel.specs.Commands.{command_of, is_serve};
+ghost use Rattle.funnel.specs.Commands.{command_of, is_fit, is_serve};
 ghost use Rattle.funnel.specs.Turns.{AreOpenedInVain, EndsInTurns, RunsInTurns};
 ghost use Rattle.funnel.specs.declared.command.Command.TheVariants as command;
 ghost use Rattle.funnel.specs.declared.command.LoadCommand.{LoadCommand};
@@ -10,6 +10,7 @@ use crate::command::{Command, CommandFault, read_command};
 use crate::ended::{Ended, Why};
 use crate::fitting::misfit;
 use crate::running::run_command;
+use crate::sampling::fit_command;
 use crate::serving::serve_command;
 use crate::workload::load_command;
 use funnel_io::{Gate, Sink, Source};
@@ -20,12 +21,13 @@ use std::thread::Threads;
 
 /// Runs the command that the words are, by an engine with the configuration. `run` answers the lines of `input` on `output`.
 /// `serve` opens the gates, and answers the connections of each by a pass and a thread of its own. `load` makes its documents, has its workers
-/// add, delete and find them, each by a pass and a thread of its own, and writes its summary on `output`. The last two read
-/// nothing from `input`. `gates` come back in their order.
+/// add, delete and find them, each by a pass and a thread of its own, and writes its summary on `output`. These two read
+/// nothing from `input`. `fit` reads lines of `input`, and writes the configuration that is fitted to the add lines among them on
+/// `output`; it needs no configuration and no engine. `gates` come back in their order.
 ///
-/// The words are judged first, then the configuration, then whether the command's numbers fit it and the gates, and then a serve
-/// opens its gates, all or none. Nothing is left of an engine where one of these is refused or fails, or where memory ran out
-/// before the engine was open.
+/// The words are judged first, then, unless they are a fit, the configuration, then whether the command's numbers fit it and the
+/// gates, and then a serve opens its gates, all or none. Nothing is left of an engine where one of these is refused or fails, or
+/// where memory ran out before the engine was open.
 pub fn funnel_main<R: Threads + Wait + Sync, C: Source, S: Source, K: Sink, G: Gate + Send + Drop>(
     rt: &R,
     alloc: Global,
@@ -58,12 +60,16 @@ where
     ensures load_reads_nothing { (load : LoadCommand) → command_of (map (λ word. word.now) words.now) ≡ Some (command.Load load) → input.new ≡ input.old }
     ensures serve_uses_gates { is_serve (command_of (map (λ word. word.now) words.now)) ≡ true → (input.new ≡ input.old) × (output.new ≡ output.old) }
 
-    // A run and a load that found no memory read and wrote nothing. A serve uses neither stream; of its sessions tells `ends`.
-    ensures without_memory { is_serve (command_of (map (λ word. word.now) words.now)) ≡ false → result.why ≡ Why.Memory →
-        (input.new ≡ input.old) × (output.new ≡ output.old) }
+    // A run and a load that found no memory read and wrote nothing. A serve uses neither stream; of its sessions, and of what a fit
+    // read, tells `ends`.
+    ensures without_memory { is_serve (command_of (map (λ word. word.now) words.now)) ≡ false → is_fit (command_of (map (λ word. word.now) words.now)) ≡ false →
+        result.why ≡ Why.Memory → (input.new ≡ input.old) × (output.new ≡ output.old) }
     ensures config_untouched { result.why ≡ Why.Usage → config.new ≡ config.old }
-    ensures input_untouched { IfNone result.closed (input.new ≡ input.old) }
-    ensures output_untouched { IfNone result.closed (output.new ≡ output.old) }
+    ensures fit_reads_no_config { is_fit (command_of (map (λ word. word.now) words.now)) ≡ true → config.new ≡ config.old }
+
+    // But for a fit, nothing is read and written without an engine.
+    ensures input_untouched { is_fit (command_of (map (λ word. word.now) words.now)) ≡ false → IfNone result.closed (input.new ≡ input.old) }
+    ensures output_untouched { is_fit (command_of (map (λ word. word.now) words.now)) ≡ false → IfNone result.closed (output.new ≡ output.old) }
 
     // With no engine the gates are as they came, or those of a serve that opened them in vain.
     ensures gates_untouched { IfNone result.closed
@@ -79,6 +85,10 @@ where
         Err(CommandFault::Usage) => return Ended::unopened(Why::Usage, gates),
         Err(CommandFault::Memory) => return Ended::unopened(Why::Memory, gates),
     };
+    if let Command::Fit(fit) = command {
+        let why = fit_command(alloc, fit, input, output);
+        return Ended::unopened(why, gates);
+    }
     let config = match read_config(alloc, config) {
         Ok(config) => config,
         Err(fault) => return Ended::unopened(Why::from(fault), gates),
@@ -96,5 +106,7 @@ where
             let (why, closed) = load_command(rt, alloc, &config, load, output);
             Ended { why, gates, closed }
         }
+        // It has ended already.
+        Command::Fit(_) => unreachable!(),
     }
 }

@@ -36,6 +36,8 @@ Commands:
       --workers W      1 to 64, default 1: threads
       --words L        0 to 1000, default 80: words of a document
       --seed X         0 to 18446744073709551615, default 0: where the generator starts
+  fit        prints a funnel.json that is fitted to the add lines of standard input
+      --documents N    1 to 4194304: documents that there is to be room for
   --help     prints this, as do -h and help
   --version  prints the version, as does -V
 
@@ -56,6 +58,7 @@ Keys of funnel.json, a file with one JSON object in the folder where the program
 Examples:
   printf 'add 7 The cat sat\\nfind CAT\\n' | funnel run
   funnel serve --port 7000 --workers 2
+  sed 's/^/add 1 /' sample.txt | funnel fit --documents 20000 >funnel.json
 ";
 
 impl Text {

@@ -2,7 +2,7 @@
 ghost use Rattle.std.specs.Prelude.{◌≡◌, IfOk, IsSome, MatchOption, None, map};
 ghost use Rattle.funnel.specs.Commands.{command_of};
 
-use crate::command::{MOST_CONNECTIONS, MOST_IDLE, MOST_PORT, call_words, funnel_app};
+use crate::command::{MOST_CONNECTIONS, MOST_FITTED, MOST_IDLE, MOST_PORT, call_words, funnel_app};
 use clap::error::ErrorKind;
 use funnel_model::{MOST_PASSES, Memory};
 use load_gen::{MOST_DOCS, MOST_WORDS};
@@ -74,6 +74,7 @@ fn numbers_untold(text: &str) -> Option<(u64, u64)> {
         "docs" => Some((1, u64::from(MOST_DOCS))),
         "words" => Some((0, u64::from(MOST_WORDS))),
         "seed" => Some((0, u64::MAX)),
+        "documents" => Some((1, u64::from(MOST_FITTED))),
         _ => None,
     }
 }

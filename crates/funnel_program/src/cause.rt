@@ -100,5 +100,24 @@ fn say_misfit(rt: &HostRuntime, misfit: Misfit) -> io::Result<()> {
             "funnel: {docs} documents need a column each, and `slices`, `max_rank` and `blocks` make {columns}: \
              raise one of these in funnel.json, or lower `--docs`"
         ),
+        Misfit::Sample(cause) => say_no_fit(rt, cause),
+    }
+}
+
+/// Says why no configuration is fitted to the input of a fit.
+fn say_no_fit(rt: &HostRuntime, cause: fit::Misfit) -> io::Result<()> {
+    match cause {
+        fit::Misfit::NoAdds => eprintln!(rt;
+            "funnel: standard input has no add line: give one for each document of a sample, such as `add 7 The cat sat`"
+        ),
+        fit::Misfit::Adds { adds, most } => eprintln!(rt;
+            "funnel: standard input has {adds} add lines, and may have {most}: give a smaller sample"
+        ),
+        fit::Misfit::Slices { slices, most } => eprintln!(rt;
+            "funnel: so many documents need {slices} slices, and there may be {most}: lower `--documents`"
+        ),
+        fit::Misfit::Pool { words, most } => eprintln!(rt;
+            "funnel: the rows for so many documents like these take {words} words, and may take {most}: lower `--documents`"
+        ),
     }
 }

@@ -92,7 +92,7 @@ fn gates<'a>(
     Ok(spoken(rt, alloc, gates)?)
 }
 
-/// Says on standard error, where that is a terminal, that a load begins, which says nothing until it ends.
+/// Says on standard error, where that is a terminal, that a load or a fit begins, which say nothing until they end.
 fn say_what_begins(rt: &HostRuntime, alloc: Global, words: &[&str]) {
     if !rt.stderr().is_terminal() {
         return;
@@ -102,6 +102,11 @@ fn say_what_begins(rt: &HostRuntime, alloc: Global, words: &[&str]) {
         Ok(Command::Load(load)) => eprintln!(rt;
             "funnel: a load of {} documents begins; its summary comes when it is done",
             load.docs
+        ),
+        Ok(Command::Fit(fit)) => eprintln!(rt;
+            "funnel: lines are read up to the end of standard input; \
+             the configuration for {} documents that is fitted to them comes then",
+            fit.documents
         ),
         _ => Ok(()),
     };

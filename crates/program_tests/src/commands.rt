@@ -1,13 +1,15 @@
-//! Which commands words are, on which ports a serve listens, and which number of a command doesn't fit.
+//! Which commands words are, on which ports a serve listens, and what doesn't fit.
 use crate::setting::{UNREAD, end_of, expect};
-use funnel::{Command, LoadCommand, Misfit, ServeCommand, Why, ports, read_command, shares_port};
+use funnel::{
+    Command, FitCommand, LoadCommand, Misfit, ServeCommand, Why, ports, read_command, shares_port,
+};
 use funnel_io::{MemGate, MemSink};
 use std::alloc::{AllocError, Global};
 use std::process::Abort;
 use std::test::Fail;
 
 // What the rows of the gate don't show: the numbers that are meant where none are given, and those of a serve.
-static COMMANDS: [(&[&str], Command); 8] = [
+static COMMANDS: [(&[&str], Command); 9] = [
     (&["run"], Command::Run),
     (
         &["load", "--docs", "5"],
@@ -94,6 +96,12 @@ static COMMANDS: [(&[&str], Command); 8] = [
             one_port: true,
         }),
     ),
+    (
+        &["fit", "--documents=4194304"],
+        Command::Fit(FitCommand {
+            documents: 4_194_304,
+        }),
+    ),
 ];
 
 #[test]
@@ -103,7 +111,7 @@ fn words_are_read_as_their_command(rt: HostRuntime) {
     }
 }
 
-static PORTS: [(&[&str], &[u32]); 7] = [
+static PORTS: [(&[&str], &[u32]); 8] = [
     (
         &["serve", "--port", "7000", "--workers", "2"],
         &[7_000, 7_001],
@@ -122,6 +130,7 @@ static PORTS: [(&[&str], &[u32]); 7] = [
     (&["serve", "--port", "7000"], &[]),
     (&["run"], &[]),
     (&["load", "--docs", "7"], &[]),
+    (&["fit", "--documents", "7"], &[]),
 ];
 
 fn expect_ports<R: Abort>(
@@ -164,7 +173,7 @@ fn a_serve_listens_on_a_port_for_each_worker(rt: HostRuntime) -> Result<(), Fail
 }
 
 /// The words of a program, the number of its gates, its configuration, and what is told.
-static MISFITS: [(&[&str], u64, &[u8], Misfit); 9] = [
+static MISFITS: [(&[&str], u64, &[u8], Misfit); 10] = [
     (
         &["serve", "--port", "7000", "--workers", "2"],
         1,
@@ -239,6 +248,12 @@ static MISFITS: [(&[&str], u64, &[u8], Misfit); 9] = [
             docs: 129,
             columns: 128,
         },
+    ),
+    (
+        &["fit", "--documents", "129"],
+        1,
+        b"{",
+        Misfit::Sample(fit::Misfit::NoAdds),
     ),
 ];
 

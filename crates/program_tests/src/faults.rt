@@ -1,4 +1,4 @@
-//! Runs and loads of which a read or a write fails, in the configuration, the input or the output.
+//! Runs, loads and fits of which a read or a write fails, in the configuration, the input or the output.
 use crate::setting::{expect, source_of};
 use funnel::{Why, funnel_main};
 use funnel_io::{MemGate, MemSink};
@@ -10,6 +10,8 @@ use std::thread::Threads;
 const RUN: &[&str] = &["run"];
 
 const LOAD: &[&str] = &["load", "--docs", "1"];
+
+const FIT: &[&str] = &["fit", "--documents", "1"];
 
 // The same lines in one piece, and in one for each.
 const WHOLE: &[&[u8]] = &[b"add 7 The cat sat\nfind CAT\n"];
@@ -25,11 +27,14 @@ const ADDED: &str = "added 1\n";
 
 const FOUND: &str = "added 1\nfound 1 7\n";
 
+const FITTED: &str =
+    "{\"documents\":1,\"max_rank\":0,\"passes\":64,\"reserve\":64,\"slices\":2,\"tail\":1,\"words\":{\"cat\":1,\"sat\":1,\"the\":1}}\n";
+
 const NONE: &[u64] = &[];
 
 /// The words, the pieces of the input, which reads of the configuration and of the input and which writes fail, the status, and
 /// what is written.
-static FAULTS: [(&[&str], &[&[u8]], [&[u64]; 3], u8, &str); 15] = [
+static FAULTS: [(&[&str], &[&[u8]], [&[u64]; 3], u8, &str); 18] = [
     (RUN, PARTS, [NONE, &[1], NONE], 3, ""),
     (RUN, PARTS, [NONE, &[2], NONE], 3, ADDED),
     (RUN, PARTS, [NONE, &[3], NONE], 3, FOUND),
@@ -45,10 +50,13 @@ static FAULTS: [(&[&str], &[&[u8]], [&[u64]; 3], u8, &str); 15] = [
     (RUN, CUT, [NONE, &[3], NONE], 3, "added 1\nfound 1 1\n"),
     (RUN, WHOLE, [&[1], NONE, NONE], 3, ""),
     (LOAD, WHOLE, [NONE, NONE, &[1]], 4, ""),
+    (FIT, PARTS, [NONE, &[2], NONE], 3, ""),
+    (FIT, WHOLE, [NONE, NONE, &[1]], 4, ""),
+    (FIT, WHOLE, [&[1], NONE, &[2]], 0, FITTED),
 ];
 
 #[test]
-fn the_first_fault_ends_a_run_or_a_load(rt: HostRuntime) -> Result<(), Fail> {
+fn the_first_fault_ends_a_command(rt: HostRuntime) -> Result<(), Fail> {
     for (words, pieces, fails, status, written) in &FAULTS {
         let mut output = MemSink::new(rt.alloc(), 1_000, fails[2].to_vec(rt.alloc())?)?;
         let why = end_with_faults(&rt, rt.alloc(), words, pieces, fails, &mut output)?;

@@ -10,6 +10,8 @@ mod commands;
 #[cfg(test)]
 mod faults;
 #[cfg(test)]
+mod fits;
+#[cfg(test)]
 mod meetings;
 #[cfg(test)]
 mod serving;

@@ -1,8 +1,8 @@
 //! What the program tells of itself.
 use crate::setting::expect;
 use funnel::{
-    Command, HELP, MOST_CONNECTIONS, MOST_IDLE, MOST_PORT, VERSION, Why, read_command, tell_asked,
-    text_asked,
+    Command, HELP, MOST_CONNECTIONS, MOST_FITTED, MOST_IDLE, MOST_PORT, VERSION, Why, read_command,
+    tell_asked, text_asked,
 };
 use funnel_io::MemSink;
 use funnel_model::MOST_PASSES;
@@ -97,6 +97,8 @@ fn help_tells_the_numbers_of_each_option(rt: HostRuntime) -> Result<(), Fail> {
     for line in &load_lines(rt.alloc())? {
         expect_told(&rt, line.as_str());
     }
+    let line = format!(in rt.alloc(); "--documents N    1 to {MOST_FITTED}: ")?;
+    expect_told(&rt, line.as_str());
     Ok(())
 }
 
