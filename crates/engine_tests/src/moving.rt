@@ -172,12 +172,7 @@ fn two_passes_move_at_the_same_time(rt: HostRuntime) -> Result<(), Fail> {
 struct Both;
 
 impl Case for Both {
-    type Seen = (
-        (bool, bool),
-        (Added, Option<Added>),
-        Recycled,
-        (bool, bool),
-    );
+    type Seen = ((bool, bool), (Added, Option<Added>), Recycled, (bool, bool));
 
     fn run<N: PoolName, R: Wait>(callers: Callers<'_, N, R>) -> Self::Seen {
         let Callers {

@@ -51,7 +51,7 @@ next_is_one : NextLookIsOne
 next_is_one reserve most limits looks history id slice column other at document another since from legal is is_too =
     let slices = one_source limits history slice other is.held is_too.held is.empties.source is_too.empties.source in
     let next_too : IsNextToMove limits looks history slice at another from =
-        subst (λ s. IsNextToMove limits looks history s at another from) (sym slices) is_too.next in
+    subst (λ s. IsNextToMove limits looks history s at another from) (sym slices) is_too.next in
     let columns = one_next limits looks history slice column at document another since from is.next next_too in
     let live_too : IsInState history slice column (Live another from) = subst (λ c. IsInState history slice c (Live another from)) (sym columns) next_too.live in
     let states = one_state limits history slice column (Live document since) (Live another from) legal is.next.live live_too in
