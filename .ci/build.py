@@ -1,4 +1,7 @@
-"""Proves and builds the program, crates that don't stand on each other side by side: build.py. Says on standard error where it is."""
+"""Proves and builds the program, crates that don't stand on each other side by side: build.py. Says on standard error where it is.
+
+`rt` lets one command at a time work in a crate and in those below it. So each crate is proved in a copy of what it stands on, and
+what was made goes back to its own folder."""
 
 import os
 import shutil
@@ -35,13 +38,51 @@ def lanes():
     return max(1, min(len(os.sched_getaffinity(0)), free // CHECK_BYTES))
 
 
-def build(crate, jobs):
-    """Proves a crate, and gives the status of that and what was said."""
-    words = ["run", "--jobs", str(jobs), "--", "run"] if crate == PROGRAM else ["lib", "--jobs", str(jobs)]
+def link(source, target):
+    """Gives the file a second name, or copies it where that can't be."""
+    try:
+        os.link(source, target)
+    except OSError:
+        shutil.copy2(source, target)
+
+
+def set_apart(crate, below, folder):
+    """Lays a copy of the crate and of what it stands on into the folder, with what was built of these."""
+    crates = needed(crate, below)
+    shutil.copy2(f"{ROOT}/HANDLES", folder)
+    with open(f"{ROOT}/crates.txt", encoding="utf-8") as file, open(f"{folder}/crates.txt", "w", encoding="utf-8") as copy:
+        copy.writelines(line for line in file if line.partition(":")[0].strip() in crates)
+    for it in crates:
+        shutil.copytree(f"{ROOT}/crates/{it}", f"{folder}/crates/{it}", copy_function=link, ignore=shutil.ignore_patterns("out"))
+        kept = "out" if it == crate else "out/rlib"
+        if os.path.isdir(f"{ROOT}/crates/{it}/{kept}"):
+            shutil.copytree(f"{ROOT}/crates/{it}/{kept}", f"{folder}/crates/{it}/{kept}", copy_function=link, symlinks=True)
+
+
+def prove(words, folder):
+    """Runs `rt` with these words in the folder, and gives its status and what was said."""
     with tempfile.TemporaryFile("w+", errors="replace") as log:
-        status = subprocess.call(["rt", *words], cwd=f"{ROOT}/crates/{crate}", stdin=subprocess.DEVNULL, stdout=log, stderr=log)
+        status = subprocess.call(["rt", *words], cwd=folder, stdin=subprocess.DEVNULL, stdout=log, stderr=log)
         log.seek(0)
         return status, log.read()
+
+
+def build(crate, below, jobs):
+    """Proves a crate, and gives the status of that and what was said."""
+    out = f"{ROOT}/crates/{crate}/out"
+    if crate == PROGRAM:
+        return prove(["run", "--jobs", str(jobs), "--", "run"], f"{ROOT}/crates/{crate}")
+    # beside the program, which is on the disk of all others and is never set apart itself
+    beside = f"{ROOT}/crates/{PROGRAM}/out"
+    os.makedirs(beside, exist_ok=True)
+    os.makedirs(out, exist_ok=True)
+    with tempfile.TemporaryDirectory(prefix="apart-", dir=beside) as folder:
+        set_apart(crate, below, folder)
+        status, log = prove(["lib", "--jobs", str(jobs)], f"{folder}/crates/{crate}")
+        for name in os.listdir(f"{folder}/crates/{crate}/out") if status == 0 else []:
+            shutil.rmtree(f"{out}/{name}", ignore_errors=True)
+            os.rename(f"{folder}/crates/{crate}/out/{name}", f"{out}/{name}")
+    return status, log
 
 
 def say(text):
@@ -53,16 +94,18 @@ def build_all(below, left, most):
     count, running, built = len(left), {}, set()
     with ThreadPoolExecutor(most) as pool:
         while left or running:
+            # those that most others wait for come first
             ready = [it for it in left if built.issuperset(below[it])]
+            ready.sort(key=lambda it: -sum(it in needed(other, below) for other in left))
             for at, crate in enumerate(ready):
                 idle = most - sum(jobs for _, jobs in running.values())
                 if idle == 0:
                     break
-                # a crate gets the processors that no other one can use now
-                jobs = max(1, idle // (len(ready) - at))
+                # a crate gets the processors that no other one can use now, the first of them more
+                jobs = max(1, -(-idle // (len(ready) - at)))
                 left.remove(crate)
                 say(f"proving {crate} ({count - len(left)} of {count})")
-                running[pool.submit(build, crate, jobs)] = crate, jobs
+                running[pool.submit(build, crate, below, jobs)] = crate, jobs
             for ended in wait(running, return_when=FIRST_COMPLETED).done:
                 crate, _ = running.pop(ended)
                 status, log = ended.result()

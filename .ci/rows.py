@@ -171,6 +171,19 @@ def long_rows():
         yield Row("a number of many digits, and a load of many documents", (), [f'{{"slices":{slices}}}'], commands, summary)
 
 
+def odd_values():
+    """A row for each key that has a number and each value that it can't have, by the table of the documents."""
+    with open(os.path.join(os.path.dirname(__file__), "../docs/formats.md"), encoding="utf-8") as file:
+        keys = re.findall(r"^\| `(\w+)` \| ([\d,]+) \| ([\d,]+) \| [\d,]+ \|", file.read(), re.M)
+    for key, *range_ in keys:
+        least, most = (int(number.replace(",", "")) for number in range_)
+        outside = [most + 1, *([least - 1] if least else [])]
+        other = ["-1", "1.0", "1e0", "18446744073709551616", "true", "null", '"1"', "[1]", "{}"]
+        for value, told in [*((number, number) for number in outside), *((value, "another value") for value in other)]:
+            says = f"funnel: `{key}` in funnel.json is {told}, and has to be a whole number from {least} to {most}"
+            yield Row(f"{key} is {value}", (), [f'{{"{key}":{value}}}'], ends="2 config 5", says=[says])
+
+
 def text_rows():
     """Rows of the help, which stands in the source as it is told."""
     with open(os.path.join(os.path.dirname(__file__), "../crates/funnel/src/text.rt"), encoding="utf-8") as file:
@@ -181,7 +194,7 @@ def text_rows():
 
 def main(program):
     with open(os.path.join(os.path.dirname(__file__), "rows.txt"), encoding="utf-8") as file:
-        rows = [*rows_of(file.read()), *text_rows(), *slice_rows(), *reserve_rows(), *fit_rows(), *long_rows()]
+        rows = [*rows_of(file.read()), *odd_values(), *text_rows(), *slice_rows(), *reserve_rows(), *fit_rows(), *long_rows()]
     failed = sum(row.fails(program) for row in rows)
     print(f"{failed} of {len(rows)} rows failed" if failed else "each row has its replies")
     return 1 if failed else 0

@@ -1,5 +1,7 @@
 -- What the calls at the desk leave of a pass.
 use Rattle.std.proofs.Common.{◌≡◌, ℕ, ◌<◌, false, List, [], ◌∷◌, ◌++◌, Result, Ok, Err, Some, IfOk, MatchResult, sym, refl, ap, ◌∙◌, subst, append-nil}
+use Rattle.std.proofs.lemmas.List.Elements.{All-weaker}
+use Rattle.std.specs.List.{All}
 use Rattle.std.specs.Prelude.{IfSome}
 use Rattle.funnel_model.specs.declared.claim.Claim.{Claim}
 use Rattle.funnel_model.specs.declared.claim.Token.{Token}
@@ -8,15 +10,19 @@ use Rattle.funnel_model.specs.declared.call.Call.TheVariants as call
 use Rattle.funnel_model.specs.declared.event.Event.{Event}
 use Rattle.funnel_model.specs.declared.event.Event.TheVariants as event
 use Rattle.funnel_model.specs.declared.bit_list.Bit.{Bit}
+use Rattle.funnel_model.specs.declared.config.Config.{Config}
 use Rattle.funnel_model.specs.Events.{leaves_open, pass_of}
 use Rattle.funnel_model.specs.History.{last_by}
 use Rattle.funnel_model.specs.Legal.{IsIdle, IsLegal}
+use Rattle.funnel_model.specs.Sizes.{words_of_slice}
+use Rattle.funnel_model.specs.Tunings.{treat}
 use Rattle.funnel_model.proofs.Claims.{take_within}
 use Rattle.funnel_model.proofs.Clears.{last_by-front}
 use Rattle.funnel_model.proofs.Histories.{allowed_within, legal_before}
 use Rattle.funnel_model.proofs.Spans.{last_by-own}
 use Rattle.slice_rule.specs.Pools.{PoolId}
-use Rattle.slice_rule.specs.Seats.{HasNoneOutstanding, HoldsToken, PassState}
+use Rattle.row_layout.specs.Owners.{IsOwnedOnlyAt, OwnsIn}
+use Rattle.slice_rule.specs.Seats.{HasNoneOutstanding, HoldsToken, KeepsToColumn, PassState}
 use Rattle.commit_desk.specs.Answers.{AnswersClear, AnswersTake, events_of_clear, events_of_commit, events_of_delete, events_of_find, events_of_journal, events_of_place, events_of_take}
 use Rattle.commit_desk.specs.declared.answers.AddFault.TheVariants as add
 use Rattle.commit_desk.specs.declared.answers.ClearRefusal.{ClearRefusal}
@@ -30,7 +36,7 @@ use Rattle.commit_desk.specs.declared.answers.Spent.{Spent}
 use Rattle.commit_desk.specs.declared.answers.Taken.{Taken}
 use Rattle.commit_desk.specs.declared.answers.Taken.TheVariants as taken
 use Rattle.commit_desk.specs.declared.answers.ToClear.{ToClear}
-use Rattle.commit_desk.specs.Desks.{DeskState, Makes, NothingUnderLast, NothingYet}
+use Rattle.commit_desk.specs.Desks.{DeskState, IsUnwritten, Makes, NothingYet}
 use Rattle.commit_desk.specs.Passes.{IsFinding, IsResting, IsSeated, IsToClear, IsToDo, IsToWrite}
 
 -- the last event of the pass is the one that it made
@@ -110,11 +116,12 @@ module _ (pool : PoolId) (before after : DeskState) (seat next : PassState) (her
 
       -- the column that the pass claimed
       pub to_write : (events : List Event) (slice column : ℕ) → slice < before.pool.limits.slices → column < before.pool.limits.columns → last_by next.number next.front ≡ Some (event.Take next.number slice column) →
-          NothingUnderLast next → Makes events before after seat next → IsToWrite pool (record { slice = slice; column = column }) next
+          IsUnwritten next → Makes events before after seat next → IsToWrite pool (record { slice = slice; column = column }) next
       to_write events slice column in' within holds nothing made = record {
         seated = seated_by events made;
         holds = holds;
-        nothing = nothing;
+        nothing = nothing.nothing;
+        treated = subst (λ (k : Config). treat k slice next.front ≡ k) (ap (λ (p : PoolId). p.config) (made.same ∙ here)) (nothing.treated slice);
         in_range = subst (λ (p : PoolId). slice < p.limits.slices) of in';
         column = subst (λ (p : PoolId). column < p.limits.columns) of within;
       }
@@ -139,6 +146,19 @@ module _ (pool : PoolId) (before after : DeskState) (seat next : PassState) (her
       is_to_do id text (taken.Refused (add.Present added)) may nothing made = rests_one (event.No seat.number (call.Add id text)) refl refl made
       is_to_do id text (taken.Refused (add.Full blocks)) may nothing made = rests_one (event.No seat.number (call.Add id text)) refl refl made
       is_to_do id text (taken.Refused add.Memory) may nothing made = rests_one (event.No seat.number (call.Add id text)) refl refl made
+
+-- bits that no column of the slice owns but the claimed one keep to it, since the slice is treated by the pool's configuration
+pub keep_to_column : (pool : PoolId) (claim : Claim) (bits : List Bit) (seat : PassState) → pool.limits.slice_words ≡ words_of_slice pool.config → IsToWrite pool claim seat →
+    All (IsOwnedOnlyAt (words_of_slice pool.config) pool.config claim.slice claim.column) bits → All (KeepsToColumn seat claim) bits
+keep_to_column pool claim bits seat rows start =
+    All-weaker (IsOwnedOnlyAt (words_of_slice pool.config) pool.config claim.slice claim.column) (KeepsToColumn seat claim)
+    (λ b only column owns.
+    let here : OwnsIn pool.limits.slice_words (treat pool.config claim.slice seat.front) claim.slice column b =
+    subst (λ (p : PoolId). OwnsIn p.limits.slice_words (treat p.config claim.slice seat.front) claim.slice column b) start.seated.same owns.treated in
+    only column
+    (subst (λ (k : Config). OwnsIn (words_of_slice pool.config) k claim.slice column b) start.treated
+    (subst (λ n. OwnsIn n (treat pool.config claim.slice seat.front) claim.slice column b) rows here)))
+    bits
 
 -- the pass is seated still after it did something itself
 pub seated_still : (pool : PoolId) (seat next : PassState) → next ≡ record seat { own = next.own } → IsSeated pool seat → IsSeated pool next

@@ -2,9 +2,12 @@
 use Rattle.std.proofs.Common.{◌≡◌, ◌↔◌, ℕ, ◌<◌, false, List, [], ◌∷◌, ◌++◌, filter_map, refl, sym, ap, ◌∙◌, subst, arith, Contains}
 use Rattle.std.specs.List.{list_any}
 use Rattle.std.specs.Option.{is_some}
-use Rattle.std.specs.Prelude.{IsBitSet}
+use Rattle.std.proofs.lemmas.Bool.{or_parts}
+use Rattle.std.proofs.lemmas.List.Folds.{list_any-append}
 use Rattle.document_store.specs.Finding.{found_at}
 use Rattle.document_store.specs.Slots.{IsColumn, Table}
+use Rattle.funnel_model.specs.Configuration.{IsInRange}
+use Rattle.funnel_model.specs.declared.bit_list.Bit.{Bit}
 use Rattle.funnel_model.specs.declared.claim.Token.{Token}
 use Rattle.funnel_model.specs.declared.config.Config.{Config}
 use Rattle.funnel_model.specs.declared.event.Event.{Event}
@@ -13,18 +16,23 @@ use Rattle.funnel_model.specs.Events.{finds_or_ends, tuning_of}
 use Rattle.funnel_model.specs.History.{IsFrontOf}
 use Rattle.funnel_model.specs.Legal.{IsLegal, Limits}
 use Rattle.funnel_model.specs.RowWords.{IsCommitted}
+use Rattle.funnel_model.specs.Sizes.{columns_of_slice, words_of_slice}
 use Rattle.funnel_model.specs.Slices.{IsInUse}
-use Rattle.funnel_model.specs.Tokens.{HasToken}
+use Rattle.funnel_model.specs.Tokens.{HasToken, MayRead}
 use Rattle.funnel_model.specs.Words.{AreWordsOf}
+use Rattle.funnel_model.proofs.Histories.{legal_before}
 use Rattle.funnel_model.proofs.Retirement.{same_split}
+use Rattle.row_layout.proofs.SoundHistories.{sound_before}
+use Rattle.row_layout.specs.Owners.{Owns, StandsOn}
 use Rattle.row_layout.specs.Sound.{IsSound}
 use Rattle.slice_rule.specs.declared.view.Fact.{Fact}
 use Rattle.slice_rule.specs.declared.view.Fact.TheVariants as fact
 use Rattle.slice_rule.specs.Pools.{PoolId}
-use Rattle.slice_rule.specs.Seats.{HoldsToken, IsSamePass, PassState}
+use Rattle.slice_rule.specs.Seats.{HoldsToken, IsSamePass, PassState, WasReadUnder}
 use Rattle.commit_desk.specs.Records.{AreRecorded}
-use Rattle.commit_desk.specs.Resolving.{AreGiven, GiveAll}
+use Rattle.commit_desk.specs.Resolving.{AreGiven, GiveAll, IsRestOf}
 use Rattle.commit_desk.specs.Scans.{AreScanned, IsOfToken, WereScanned}
+use Rattle.commit_desk.proofs.ExactWords.{has_exact}
 use Rattle.commit_desk.proofs.FindTurns.{begun_later}
 use Rattle.commit_desk.proofs.Found.{scan_gives_all, table_gives_each}
 
@@ -53,8 +61,8 @@ scanned_in_table limits history table seat token candidates recorded same holds 
 -- A find whose pass has seen the history up to its front.
 module _ (config : Config) (limits : Limits) (history : List Event) (table : Table) (legal : IsLegal limits history) (sound : IsSound config history)
     (untuned : list_any (λ e. is_some (tuning_of e)) history ≡ false) (recorded : AreRecorded limits history table) (seat : PassState) (same : seat.pool.limits ≡ limits)
-    (goes : IsFrontOf seat.number seat.front history) (token : Token) (holds : HoldsToken seat token) (set : List (List ℕ)) (candidates : List (ℕ × ℕ))
-    (scanned : WereScanned config seat token set candidates) (begun : HasToken seat.front seat.number token.opened_at) (of_query : AreWordsOf set begun.query) where
+    (goes : IsFrontOf seat.number seat.front history) (token : Token) (holds : HoldsToken seat token) (candidates : List (ℕ × ℕ))
+    (scanned : WereScanned config seat token candidates) (begun : HasToken seat.front seat.number token.opened_at) where
   abbrev now : HasToken history seat.number token.opened_at
   now = begun_later seat.number token.opened_at seat.front history begun goes
 
@@ -65,33 +73,61 @@ module _ (config : Config) (limits : Limits) (history : List Event) (table : Tab
       (begun_once seat.front seat.number token.opened_at holds.begun begun).0
       (subst (λ (l : Limits). (slice : ℕ) → Contains token.slices slice ↔ ((slice < l.slices) × IsInUse l.columns slice holds.begun.earlier)) same holds.slices)
 
-  -- what the records give of a part of the candidates is what these give
-  pub part_gives : (part : List (ℕ × ℕ)) → ((candidate : ℕ × ℕ) → Contains part candidate → Contains candidates candidate) →
-      AreGiven begun.earlier begun.query part (filter_map (found_at table set token.opened_at) part)
-  part_gives part among =
-      table_gives_each config limits history table legal sound untuned recorded seat.number token.opened_at now set part of_query
+  -- the history before the find
+  whole : history ≡ begun.earlier ++ event.Find seat.number begun.query ∷ now.later
+  whole = now.whole
+
+  -- what the records give of a part of the candidates is what these give, although only the rest of the words is looked for
+  pub part_gives : IsInRange config → limits.columns ≡ columns_of_slice config → seat.pool.config ≡ config → (rest : List (List ℕ)) → IsRestOf config begun.query rest →
+      (part : List (ℕ × ℕ)) → ((candidate : ℕ × ℕ) → Contains part candidate → Contains candidates candidate) →
+      AreGiven begun.earlier begun.query part (filter_map (found_at table rest token.opened_at) part)
+  part_gives in_range columns_are made rest is_rest part among =
+      let scan = (scanned begun).2 in
+      let used : (slice : ℕ) → Contains token.slices slice → IsInUse limits.columns slice begun.earlier = λ slice has. ((held_are slice).0 has).1 in
+      let later = event.Find seat.number begun.query ∷ now.later in
+      table_gives_each config limits history table legal sound untuned recorded seat.number token.opened_at now rest part is_rest
       (λ candidate has. (
-        scanned_in_table limits history table seat token candidates recorded same holds (scanned begun).of_token candidate.0 candidate.1 (among candidate has),
-        ((held_are candidate.0).0 ((scanned begun).of_token candidate (among candidate has)).slice).1,
+        scanned_in_table limits history table seat token candidates recorded same holds scan.of_token candidate.0 candidate.1 (among candidate has),
+        used candidate.0 (scan.of_token candidate (among candidate has)).slice,
+        has_exact config limits in_range columns_are begun.earlier begun.query
+            (legal_before limits begun.earlier later (subst (IsLegal limits) whole legal))
+            (sound_before config begun.earlier later (subst (IsSound config) whole sound))
+            (or_parts (list_any (λ e. is_some (tuning_of e)) begun.earlier) (list_any (λ e. is_some (tuning_of e)) later)
+            (sym (list_any-append (λ e. is_some (tuning_of e)) begun.earlier later) ∙ ap (list_any (λ e. is_some (tuning_of e))) (sym whole) ∙ untuned)).0
+            seat made same token (scanned begun).0 candidates (scanned begun).1 used scan candidate.0 candidate.1 (among candidate has),
       ))
 
   -- all candidates give all of the answer
   pub candidates_give_all : GiveAll begun.earlier begun.query candidates
   candidates_give_all =
       scan_gives_all config limits history table legal sound untuned recorded seat.number token.opened_at now
-      (record seat { front = begun.earlier ++ event.Find seat.number begun.query ∷ [] }) token set candidates same held_are (scanned begun) of_query refl
+      (record seat { front = begun.earlier ++ event.Find seat.number begun.query ∷ [] }) token (scanned begun).0 candidates same held_are (scanned begun).2 (scanned begun).1 refl
+
+-- what was read is so of a pass which has the same by now
+read_as : (seat next : PassState) (number : ℕ) (bit : Bit) → next.pool ≡ seat.pool → next.number ≡ seat.number → next.front ≡ seat.front → next.own ≡ seat.own →
+    WasReadUnder seat number bit → WasReadUnder next number bit
+read_as seat next number bit pool same front own was = record {
+  value = was.value;
+  read = subst (λ (facts : List Fact). Contains facts (fact.WordRead number bit.word was.value)) (sym own) was.read;
+  set = was.set;
+  owned = λ slice column e may owns stands. was.owned slice column e
+      (subst (λ (p : PoolId). MayRead p.limits.columns seat.front seat.number slice) pool
+      (subst (λ (h : List Event). MayRead next.pool.limits.columns h seat.number slice) front (subst (λ n. MayRead next.pool.limits.columns next.front n slice) same may)))
+      (subst (λ (p : PoolId). Owns p.limits p.config seat.front slice column bit) pool (subst (λ (h : List Event). Owns next.pool.limits next.pool.config h slice column bit) front owns))
+      (subst (λ (h : List Event). StandsOn h slice column e) front stands);
+}
 
 -- what was scanned is that of a pass which has the same by now
-pub scanned_as : (config : Config) (seat next : PassState) (token : Token) (set : List (List ℕ)) (candidates : List (ℕ × ℕ)) → next.pool ≡ seat.pool → next.front ≡ seat.front → next.own ≡ seat.own →
-    AreScanned config seat token set candidates → AreScanned config next token set candidates
-scanned_as config seat next token set candidates pool front own scanned = record {
+pub scanned_as : (config : Config) (seat next : PassState) (token : Token) (set : List (List ℕ)) (candidates : List (ℕ × ℕ)) → next.pool ≡ seat.pool → next.number ≡ seat.number →
+    next.front ≡ seat.front → next.own ≡ seat.own → AreScanned config seat token set candidates → AreScanned config next token set candidates
+scanned_as config seat next token set candidates pool number front own scanned = record {
   of_token = subst (λ (p : PoolId). (candidate : ℕ × ℕ) → Contains candidates candidate → IsOfToken p.limits.columns token candidate) (sym pool) scanned.of_token;
   each_once = scanned.each_once;
   every = λ slice column has below all.
       scanned.every slice column has (subst (λ (p : PoolId). column < p.limits.columns) pool below)
       (λ bit of. subst (λ (h : List Event). IsCommitted h slice bit) front (all bit of));
-  read = λ candidate has bit of.
-      subst (λ (facts : List Fact). (value : ℕ) × Contains facts (fact.WordRead token.opened_at bit.word value) × IsBitSet value bit.bit) (sym own) (scanned.read candidate has bit of);
+  read = λ candidate has bit of. read_as seat next token.opened_at bit pool number front own (scanned.read candidate has bit of);
+  laid = subst (λ (p : PoolId). p.limits.slice_words ≡ words_of_slice config) (sym pool) scanned.laid;
 }
 
 -- the find is the same, once the pass has seen more
@@ -109,13 +145,17 @@ begun_still seat next number same goes first begun =
     begun_once next.front seat.number number also (begun_later seat.number number seat.front next.front first goes)
 
 -- the candidates are those of the scan still, once the pass has seen more
-pub were_scanned : (config : Config) (seat next : PassState) (token : Token) (set : List (List ℕ)) (candidates : List (ℕ × ℕ)) → IsSamePass seat next → IsFrontOf seat.number seat.front next.front →
-    HoldsToken seat token → WereScanned config seat token set candidates → WereScanned config next token set candidates
-were_scanned config seat next token set candidates same goes holds scanned begun =
+pub were_scanned : (config : Config) (seat next : PassState) (token : Token) (candidates : List (ℕ × ℕ)) → IsSamePass seat next → IsFrontOf seat.number seat.front next.front →
+    HoldsToken seat token → WereScanned config seat token candidates → WereScanned config next token candidates
+were_scanned config seat next token candidates same goes holds scanned begun =
     let first = holds.begun in
     let once = begun_still seat next token.opened_at same.number goes first begun in
     let front : (begun.earlier ++ event.Find next.number begun.query ∷ []) ≡ (first.earlier ++ event.Find seat.number first.query ∷ []) =
     ap (λ h. h ++ event.Find next.number begun.query ∷ []) once.0 ∙ ap (λ q. first.earlier ++ event.Find next.number q ∷ []) once.1
     ∙ ap (λ n. first.earlier ++ event.Find n first.query ∷ []) same.number in
-    scanned_as config (record seat { front = first.earlier ++ event.Find seat.number first.query ∷ [] }) (record next { front = begun.earlier ++ event.Find next.number begun.query ∷ [] }) token set candidates
-    same.pool front same.own (scanned first)
+    let scan = scanned first in (
+      scan.0,
+      subst (AreWordsOf scan.0) (sym once.1) scan.1,
+      scanned_as config (record seat { front = first.earlier ++ event.Find seat.number first.query ∷ [] }) (record next { front = begun.earlier ++ event.Find next.number begun.query ∷ [] }) token scan.0 candidates
+          same.pool same.number front same.own scan.2,
+    )

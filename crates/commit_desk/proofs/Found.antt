@@ -1,5 +1,5 @@
 -- What a find finds of its candidates by the records is what they give by the history before it, although other passes made events since.
-use Rattle.std.proofs.Common.{◌≡◌, ◌↔◌, ℕ, ◌+◌, ◌<◌, Bool, true, false, cond, ◌&&◌, List, [], ◌∷◌, ◌++◌, length, filter_map, Option, Some, None, refl, sym, ap, ◌∙◌, subst, arith, append_assoc, Contains}
+use Rattle.std.proofs.Common.{◌≡◌, ◌↔◌, ℕ, ◌+◌, ◌<◌, Bool, true, false, cond, ◌&&◌, List, [], ◌∷◌, ◌++◌, length, filter_map, Option, Some, None, ⊎_elim, refl, sym, ap, ◌∙◌, subst, arith, append_assoc, Contains}
 use Rattle.std.proofs.lemmas.Bool.{and_from, and_parts, false_from_ne_true, lt-ltb, ltb-true, or_from, or_parts}
 use Rattle.std.proofs.lemmas.List.Folds.{list_any-append}
 use Rattle.std.specs.List.{list_any}
@@ -7,7 +7,7 @@ use Rattle.std.specs.Option.{is_some}
 use Rattle.std.specs.Prelude.{◌==◌, nat_lt}
 use Rattle.document_store.proofs.FoundLemmas.{AddedAt, WasLiveAt, found_in-gives, found_in-tells}
 use Rattle.document_store.proofs.WordSets.{meets_by_words}
-use Rattle.document_store.specs.Documents.{Parts}
+use Rattle.document_store.specs.Documents.{HasEvery, Parts}
 use Rattle.document_store.specs.Finding.{found_at}
 use Rattle.document_store.specs.Slots.{FitsColumn, IsColumn, Table, slot_at}
 use Rattle.document_store.specs.declared.column.Column.{Column}
@@ -36,10 +36,11 @@ use Rattle.funnel_model.proofs.TuningLemmas.{treat_untuned}
 use Rattle.row_layout.proofs.BitLemmas.{bits-of_part, bits-of_query}
 use Rattle.row_layout.proofs.Owners.{put_bits}
 use Rattle.row_layout.specs.DocumentBits.{AreDocumentBits, AreDocumentBitsIn, IsDocumentBit}
+use Rattle.row_layout.specs.Owners.{is_exact}
 use Rattle.row_layout.specs.Sound.{IsSound}
 use Rattle.slice_rule.specs.Seats.{PassState}
 use Rattle.commit_desk.specs.Records.{AreRecorded, document_added_at, state_in, state_of}
-use Rattle.commit_desk.specs.Resolving.{AreGiven, GiveAll, Gives}
+use Rattle.commit_desk.specs.Resolving.{AreGiven, GiveAll, Gives, IsRestOf}
 use Rattle.commit_desk.specs.Scans.{AreScanned}
 use Rattle.commit_desk.proofs.LaterStates.{not_cleared_since}
 
@@ -172,23 +173,41 @@ module _ (config : Config) (limits : Limits) (history : List Event) (table : Tab
             ∙ or_from (list_any (clears slice) is.later) (list_any (clears slice) (find ∷ between)) none_before (or_from false (list_any (clears slice) between) refl none_after);
       }
 
+  -- the exact words of the query are those of a document that was live in the column
+  abbrev pub HasExactWords : ℕ → ℕ → Type 0
+  HasExactWords slice column =
+      (word : List ℕ) → is_exact config word ≡ true → Contains (words token.query) word → (d : Document) (since : ℕ) → IsLiveOn token.earlier slice column d since →
+      Contains (words d.text) word
+
+  -- a document that has the exact words of the query meets it where it has the rest
+  rest_met : (rest : List (List ℕ)) (doc : Parts) → AreWordsOf doc.words doc.text → IsRestOf config token.query rest →
+      ((word : List ℕ) → is_exact config word ≡ true → Contains (words token.query) word → Contains (words doc.text) word) → HasEvery doc.words rest → meets doc.text token.query ≡ true
+  rest_met rest doc of_text is_rest exact every =
+      (meets_by_words doc.text token.query doc.words (words token.query) of_text (λ word. (λ has. has, λ has. has))).0
+      (λ word has. ⊎_elim (λ left. every word left) (λ is. (of_text word).1 (exact word is has)) (is_rest.others_exact word has))
+
+  -- and a document that meets it has the rest
+  met_rest : (rest : List (List ℕ)) (doc : Parts) → AreWordsOf doc.words doc.text → IsRestOf config token.query rest → meets doc.text token.query ≡ true → HasEvery doc.words rest
+  met_rest rest doc of_text is_rest met word left =
+      (meets_by_words doc.text token.query doc.words (words token.query) of_text (λ other. (λ has. has, λ has. has))).1 met word (is_rest.part word left)
+
   -- what the table gives of a candidate is what the candidate gives
-  table_gives : (set : List (List ℕ)) (slice column : ℕ) → AreWordsOf set token.query → IsColumn table slice column → IsInUse limits.columns slice token.earlier →
-      (given : Option (ℕ × ℕ)) → found_at table set number (slice, column) ≡ given → Gives token.earlier token.query (slice, column) given
-  table_gives set slice column of_query in_table used (Some found) gives =
+  table_gives : (rest : List (List ℕ)) (slice column : ℕ) → IsRestOf config token.query rest → HasExactWords slice column → IsColumn table slice column → IsInUse limits.columns slice token.earlier →
+      (given : Option (ℕ × ℕ)) → found_at table rest number (slice, column) ≡ given → Gives token.earlier token.query (slice, column) given
+  table_gives rest slice column is_rest exact in_table used (Some found) gives =
       let slot = slot_at table slice column in
       let rec = recorded.each slice column in_table (open_now slice used) in
-      let is = found_in-tells slot set number found gives in
+      let is = found_in-tells slot rest number found gives in
       let d = document_added_at found.0 is.doc in
       let was =
       sees_what_was_live limits history pass number slice column (state_of slot) d legal token used rec.state (seen_then number found.0 is.doc slot.column slot.doc is.was_live is.added is.kept) in (
         d,
         was.0,
         was.1,
-        (meets_by_words is.doc.text token.query is.doc.words set (rec.words_of_text is.doc is.kept) of_query).0 is.every,
+        rest_met rest is.doc (rec.words_of_text is.doc is.kept) is_rest (λ word is_word has. exact word is_word has d was.0 was.1) is.every,
         ap (λ n. (found.0, n)) (sym is.id_is),
       )
-  table_gives set slice column of_query in_table used None none = λ d since lives.
+  table_gives rest slice column is_rest exact in_table used None none = λ d since lives.
       false_from_ne_true (meets d.text token.query) (λ met.
       let slot = slot_at table slice column in
       let rec = recorded.each slice column in_table (open_now slice used) in
@@ -197,9 +216,9 @@ module _ (config : Config) (limits : Limits) (history : List Event) (table : Tab
       let here : IsInState history slice column seen.3 = subst (λ s. IsInState history s column seen.3) one.0 (subst (λ k. IsInState history seen.0 k seen.3) one.1 seen.9) in
       let at = kept_seen number d slot.column slot.doc rec.fits (ap (seen_by number) (one_state limits history slice column (state_of slot) seen.3 legal rec.state here) ∙ seen.10) in
       let text : at.parts.text ≡ d.text = ap (λ (y : Document). y.text) at.is in
-      let every = (meets_by_words at.parts.text token.query at.parts.words set (rec.words_of_text at.parts at.kept) of_query).1 (ap (λ t. meets t token.query) text ∙ met) in
+      let every = met_rest rest at.parts (rec.words_of_text at.parts at.kept) is_rest (ap (λ t. meets t token.query) text ∙ met) in
       let gives =
-      found_in-gives slot set number (d.place, d.id)
+      found_in-gives slot rest number (d.place, d.id)
       (record { doc = at.parts; was_live = at.live_at; added = at.added; kept = at.kept; id_is = ap (λ (y : Document). y.id) at.is; every = every }) in
       none_is_some (sym none ∙ gives))
     where
@@ -207,16 +226,16 @@ module _ (config : Config) (limits : Limits) (history : List Event) (table : Tab
       none_is_some is = cc
 
   -- and the same of several
-  pub table_gives_each : (set : List (List ℕ)) (candidates : List (ℕ × ℕ)) → AreWordsOf set token.query →
-      ((candidate : ℕ × ℕ) → Contains candidates candidate → IsColumn table candidate.0 candidate.1 × IsInUse limits.columns candidate.0 token.earlier) →
-      AreGiven token.earlier token.query candidates (filter_map (found_at table set number) candidates)
-  table_gives_each set [] of_query each = refl
-  table_gives_each set (candidate ∷ later) of_query each =
+  pub table_gives_each : (rest : List (List ℕ)) (candidates : List (ℕ × ℕ)) → IsRestOf config token.query rest →
+      ((candidate : ℕ × ℕ) → Contains candidates candidate → IsColumn table candidate.0 candidate.1 × IsInUse limits.columns candidate.0 token.earlier × HasExactWords candidate.0 candidate.1) →
+      AreGiven token.earlier token.query candidates (filter_map (found_at table rest number) candidates)
+  table_gives_each rest [] is_rest each = refl
+  table_gives_each rest (candidate ∷ later) is_rest each =
       let first = each candidate (0, omega arith, refl) in (
-        found_at table set number candidate,
-        filter_map (found_at table set number) later,
-        table_gives set candidate.0 candidate.1 of_query first.0 first.1 (found_at table set number candidate) refl,
-        table_gives_each set later of_query (λ other has. each other (Contains-cons candidate later other has)),
+        found_at table rest number candidate,
+        filter_map (found_at table rest number) later,
+        table_gives rest candidate.0 candidate.1 is_rest first.2 first.0 first.1 (found_at table rest number candidate) refl,
+        table_gives_each rest later is_rest (λ other has. each other (Contains-cons candidate later other has)),
         refl,
       )
 

@@ -8,6 +8,7 @@ pub mod Emptying
 pub mod FindEnds
 pub mod FindEvents
 pub mod FindTurns
+pub mod ExactWords
 pub mod Found
 pub mod Given
 pub mod HeldClaims

@@ -3,6 +3,7 @@ use Rattle.std.specs.Prelude.{◌≡◌, ℕ, ◌<◌, List, ◌++◌, All}
 use Rattle.funnel_model.specs.declared.event.Event.{Event}
 use Rattle.funnel_model.specs.History.{IsFrontOf}
 use Rattle.funnel_model.specs.Legal.{IsLegal}
+use Rattle.funnel_model.specs.Tunings.{treat}
 use Rattle.slice_rule.specs.Numbers.{last_number}
 use Rattle.slice_rule.specs.Pools.{PoolId}
 use Rattle.slice_rule.specs.Seats.{HasNoneOutstanding, PassState, number_under}
@@ -44,7 +45,12 @@ pub record Makes (events : List Event) (before after : DeskState) (seat next : P
 abbrev pub NothingUnderLast : PassState → Type 0
 NothingUnderLast seat = All (λ f. number_under f < last_number seat.number seat.front) seat.own
 
--- a pass that has claimed a column has set no bit under its claim yet
+-- a pass that just claimed a column has set no bit there yet; and each slice is treated by the opening configuration, as the pass has seen
+pub record IsUnwritten (seat : PassState) : Type 0 where
+  pub nothing : NothingUnderLast seat
+  pub treated : (slice : ℕ) → treat seat.pool.config slice seat.front ≡ seat.pool.config
+
+-- so it is with a pass that has claimed a column
 abbrev pub NothingYet : Taken → PassState → Type 0
-NothingYet (taken.Claim claim) seat = NothingUnderLast seat
+NothingYet (taken.Claim claim) seat = IsUnwritten seat
 NothingYet _ seat = Unit {0}

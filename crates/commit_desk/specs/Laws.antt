@@ -1,5 +1,6 @@
 -- What holds of what a desk keeps, whatever the history.
-use Rattle.std.specs.Prelude.{◌≡◌, ℕ, ◌*◌, ◌≤◌, false, List, [], ◌++◌, length, replicate, Err, Option, None}
+use Rattle.std.specs.Prelude.{◌≡◌, ℕ, ◌*◌, ◌≤◌, ◌↔◌, false, List, [], ◌++◌, length, replicate, Contains, Err, Option, None}
+use mathlib.Core.List.{IsPrefix}
 use Rattle.document_store.specs.Entries.{column_of}
 use Rattle.document_store.specs.Slots.{free_slot}
 use Rattle.funnel_model.specs.declared.config.Config.{Config}
@@ -8,7 +9,10 @@ use Rattle.funnel_model.specs.declared.bit_list.Bit.{Bit}
 use Rattle.funnel_model.specs.declared.claim.Claim.{Claim}
 use Rattle.funnel_model.specs.History.{Document, base, commits_after, live, place}
 use Rattle.funnel_model.specs.Legal.{IsLegal, Limits}
+use Rattle.slice_rule.specs.declared.view.Fact.{Fact}
+use Rattle.slice_rule.specs.Seats.{PassState}
 use Rattle.slice_stages.specs.Stages.{empty_stage}
+use Rattle.commit_desk.specs.Desks.{DeskState, Makes}
 use Rattle.commit_desk.specs.Answers.{events_of_clear, events_of_commit, events_of_delete, events_of_take}
 use Rattle.commit_desk.specs.declared.answers.AddFault.{AddFault}
 use Rattle.commit_desk.specs.declared.answers.ClearRefusal.{ClearRefusal}
@@ -17,7 +21,7 @@ use Rattle.commit_desk.specs.declared.answers.DeleteFault.{DeleteFault}
 use Rattle.commit_desk.specs.declared.answers.Taken.TheVariants as taken
 use Rattle.commit_desk.specs.declared.look.Look.{Look}
 use Rattle.commit_desk.specs.Kept.{Books, AreBooksOf}
-use Rattle.commit_desk.specs.Moving.{AnswersTakeMove, IsNextLook, LooksState}
+use Rattle.commit_desk.specs.Moving.{AnswersTakeMove, HoldsLook, IsNextLook, IsThereStill, LooksState, document_of}
 
 -- nothing is kept yet: every column is free, no number is live, no find runs and no column of a slice is claimed
 pub record AreNew (limits : Limits) (books : Books) : Type 0 where
@@ -75,3 +79,13 @@ TakeOfMoveIsOne = (most : ℕ) (limits : Limits) (history : List Event) (pass : 
 -- so it is with both turns
 abbrev pub MovesAreOne : Type 0
 MovesAreOne = NextLookIsOne × TakeOfMoveIsOne
+
+-- what a pass looked at is live with the text that it saw, in each history in which it is still there
+abbrev pub MovesKeepTexts : Type 0
+MovesKeepTexts = (limits : Limits) (history : List Event) (seat : PassState) (look : Look) → IsLegal limits history → IsPrefix seat.front history →
+    HoldsLook seat look → IsThereStill history look → Contains (live history) (document_of look)
+
+-- what a pass did itself is the same before and after a call
+abbrev pub CallsDoNothingElse : Type 0
+CallsDoNothingElse = (events : List Event) (before after : DeskState) (seat next : PassState) → Makes events before after seat next →
+    (done : Fact) → Contains next.own done ↔ Contains seat.own done

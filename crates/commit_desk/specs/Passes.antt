@@ -5,6 +5,7 @@ use Rattle.funnel_model.specs.declared.claim.Claim.{Claim}
 use Rattle.funnel_model.specs.declared.claim.ClearJob.{ClearJob}
 use Rattle.funnel_model.specs.declared.claim.Token.{Token}
 use Rattle.funnel_model.specs.Legal.{IsIdle, IsInSlice}
+use Rattle.funnel_model.specs.Tunings.{treat}
 use Rattle.row_layout.specs.DocumentBits.{AreDocumentBits}
 use Rattle.slice_rule.specs.declared.view.Fact.TheVariants as fact
 use Rattle.slice_rule.specs.Numbers.{last_number}
@@ -29,11 +30,12 @@ pub record IsFinding (pool : PoolId) (token : Token) (seat : PassState) : Type 0
   pub seated : IsSeated pool seat
   pub holds : HoldsToken seat token
 
--- the pass claimed a column of the pool, and wrote nothing into it yet
+-- the pass claimed a column of the pool, whose slice is treated by the opening configuration, and wrote nothing into it yet
 pub record IsToWrite (pool : PoolId) (claim : Claim) (seat : PassState) : Type 0 where
   pub seated : IsSeated pool seat
   pub holds : HoldsClaim seat claim
   pub nothing : NothingUnderLast seat
+  pub treated : treat pool.config claim.slice seat.front ≡ pool.config
   pub in_range : claim.slice < pool.limits.slices
   pub column : claim.column < pool.limits.columns
 

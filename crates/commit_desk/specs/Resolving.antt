@@ -1,11 +1,18 @@
 -- What a find finds of its candidates, turn by turn. It is told by the history before the find, which later events don't change.
-use Rattle.std.specs.Prelude.{◌≡◌, ℕ, true, false, List, [], ◌∷◌, Option, Some, None, Contains}
+use Rattle.std.specs.Prelude.{◌≡◌, ◌⊎◌, ℕ, true, false, List, [], ◌∷◌, Option, Some, None, Contains}
 use Rattle.std.specs.List.{cons_option}
 use Rattle.funnel_model.specs.declared.event.Event.{Event}
 use Rattle.funnel_model.specs.History.{Document}
 use Rattle.funnel_model.specs.Slices.{IsLiveOn}
-use Rattle.funnel_model.specs.Words.{meets}
+use Rattle.funnel_model.specs.Words.{meets, words}
+use Rattle.funnel_model.specs.declared.config.Config.{Config}
+use Rattle.row_layout.specs.Owners.{is_exact}
 use Rattle.commit_desk.specs.Answers.{found_of}
+
+-- the rest of a query, which is looked for in the documents: words of it, of which each other one is exact under the configuration
+pub record IsRestOf (config : Config) (query : List ℕ) (rest : List (List ℕ)) : Type 0 where
+  pub part : (word : List ℕ) → Contains rest word → Contains (words query) word
+  pub others_exact : (word : List ℕ) → Contains (words query) word → Contains rest word ⊎ (is_exact config word ≡ true)
 
 -- what a candidate gives: the place and the number of the document that was live in the column before the find and meets the query,
 -- where there was one

@@ -1,15 +1,16 @@
 -- What a find hands in when it ends: the candidates that it scanned for.
-use Rattle.std.specs.Prelude.{◌≡◌, ℕ, ◌<◌, List, [], ◌∷◌, ◌++◌, Contains, IsBitSet}
+use Rattle.std.specs.Prelude.{◌≡◌, ℕ, ◌<◌, List, [], ◌∷◌, ◌++◌, Contains}
 use Rattle.std.specs.List.{AllPairs}
 use Rattle.funnel_model.specs.declared.bit_list.Bit.{Bit}
 use Rattle.funnel_model.specs.declared.claim.Token.{Token}
 use Rattle.funnel_model.specs.declared.config.Config.{Config}
 use Rattle.funnel_model.specs.declared.event.Event.TheVariants as event
 use Rattle.funnel_model.specs.RowWords.{IsCommitted}
+use Rattle.funnel_model.specs.Sizes.{words_of_slice}
 use Rattle.funnel_model.specs.Tokens.{HasToken}
+use Rattle.funnel_model.specs.Words.{AreWordsOf}
 use Rattle.row_layout.specs.DocumentBits.{IsDocumentBit}
-use Rattle.slice_rule.specs.declared.view.Fact.TheVariants as fact
-use Rattle.slice_rule.specs.Seats.{PassState}
+use Rattle.slice_rule.specs.Seats.{PassState, WasReadUnder}
 
 -- the column is one of a slice that the find may read
 pub record IsOfToken (columns : ℕ) (token : Token) (candidate : ℕ × ℕ) : Type 0 where
@@ -21,21 +22,19 @@ abbrev pub HasAllCommitted : Config → PassState → List (List ℕ) → ℕ �
 HasAllCommitted config seat words slice column =
     (bit : Bit) → IsDocumentBit config words slice column bit → IsCommitted seat.front slice bit
 
--- the bit was set in a value that the pass read under the token
-abbrev pub WasReadUnder : PassState → Token → Bit → Type 0
-WasReadUnder seat token bit = (value : ℕ) × Contains seat.own (fact.WordRead token.opened_at bit.word value) × IsBitSet value bit.bit
-
 -- The candidates of a find are columns that it may read, each once; each column of which all bits of the words are committed is one
--- of them, and of each of them all bits of the words were read as set.
+-- of them, and of each of them all bits of the words were read as set. The words of a slice are laid out by the configuration.
 pub record AreScanned (config : Config) (seat : PassState) (token : Token) (words : List (List ℕ)) (candidates : List (ℕ × ℕ)) : Type 0 where
   pub of_token : (candidate : ℕ × ℕ) → Contains candidates candidate → IsOfToken seat.pool.limits.columns token candidate
   pub each_once : AllPairs (λ (candidate other : ℕ × ℕ). candidate ≡ other → ⊥) candidates
   pub every : (slice column : ℕ) → Contains token.slices slice → column < seat.pool.limits.columns → HasAllCommitted config seat words slice column →
       Contains candidates (slice, column)
-  pub read : (candidate : ℕ × ℕ) → Contains candidates candidate → (bit : Bit) → IsDocumentBit config words candidate.0 candidate.1 bit → WasReadUnder seat token bit
+  pub read : (candidate : ℕ × ℕ) → Contains candidates candidate → (bit : Bit) → IsDocumentBit config words candidate.0 candidate.1 bit
+      → WasReadUnder seat token.opened_at bit
+  pub laid : seat.pool.limits.slice_words ≡ words_of_slice config
 
--- the candidates are those of a scan by what the pass had seen when the find of its token began
-abbrev pub WereScanned : Config → PassState → Token → List (List ℕ) → List (ℕ × ℕ) → Type 0
-WereScanned config seat token words candidates =
-    (begun : HasToken seat.front seat.number token.opened_at) →
-    AreScanned config (record seat { front = begun.earlier ++ event.Find seat.number begun.query ∷ [] }) token words candidates
+-- the candidates are those of a scan for the words of the query, by what the pass had seen when the find of its token began
+abbrev pub WereScanned : Config → PassState → Token → List (ℕ × ℕ) → Type 0
+WereScanned config seat token candidates =
+    (begun : HasToken seat.front seat.number token.opened_at) → (set : List (List ℕ)) × AreWordsOf set begun.query
+    × AreScanned config (record seat { front = begun.earlier ++ event.Find seat.number begun.query ∷ [] }) token set candidates

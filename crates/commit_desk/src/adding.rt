@@ -10,7 +10,7 @@ ghost use Rattle.slice_rule.specs.declared.view.Fact.TheVariants as fact;
 ghost use Rattle.slice_rule.specs.Numbers.{last_number};
 ghost use Rattle.slice_rule.specs.Seats.{HasNoneOutstanding, HoldsClaim, HoldsJob};
 ghost use Rattle.commit_desk.specs.Answers.{AnswersCommit, AnswersTake, MayEnter, RefusesAdd, TakesCalls, events_of_commit, events_of_take};
-ghost use Rattle.commit_desk.specs.Desks.{IsCaughtUp, IsSeatOf, Makes, NothingUnderLast, NothingYet};
+ghost use Rattle.commit_desk.specs.Desks.{IsCaughtUp, IsSeatOf, IsUnwritten, Makes, NothingYet};
 
 use crate::answers::{AddFault, CommitFault, Taken};
 use crate::desk::Desk;
@@ -65,7 +65,7 @@ impl Desk {
         ensures column { result.column ≡ 0 }
         ensures events { Makes (event.Opened seat.old.number job.slice false ∷ event.Take seat.old.number job.slice 0 ∷ []) self.old self.new seat.old seat.new }
         ensures none_outstanding { HasNoneOutstanding seat.new }
-        ensures nothing_yet { NothingUnderLast seat.new }
+        ensures nothing_yet { IsUnwritten seat.new }
     {
         pool.catch_up(&mut self.home, seat);
         let ClearJob { slice } = job;
@@ -173,7 +173,7 @@ impl Desk {
         ensures column { result.column ≡ length (claimed slice self.old.history) }
         ensures made { Makes (event.Take seat.old.number slice result.column ∷ []) self.old self.new seat.old seat.new }
         ensures none_outstanding { HasNoneOutstanding seat.new }
-        ensures nothing_yet { NothingUnderLast seat.new }
+        ensures nothing_yet { IsUnwritten seat.new }
     {
         let pass = seat.number();
         let column = self.stages.claim(slice);

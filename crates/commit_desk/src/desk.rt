@@ -1,4 +1,4 @@
-ghost use Rattle.std.specs.Prelude.{◌≡◌, ◌≤◌, ◌^◌, [], ◌∷◌, ◌++◌, IfOk, IsTrue, ◌↔◌, length};
+ghost use Rattle.std.specs.Prelude.{◌≡◌, ◌+◌, ◌*◌, ◌≤◌, ◌^◌, [], ◌∷◌, ◌++◌, IfOk, IsTrue, ◌↔◌, length};
 ghost use Rattle.funnel_model.specs.Configuration.{IsInRange};
 ghost use Rattle.funnel_model.specs.History.{MovesAreCaused, base, commits_after, live_place};
 ghost use Rattle.funnel_model.specs.Legal.{IsLegal};
@@ -86,6 +86,7 @@ impl Desk {
     }
 
     /// The home, which has the whole history, how many of the history's commits come before those that the journal keeps, and these.
+    /// After the limit of events each pass made three at most, with which it ended the call that it was in.
     pub fn into_parts(self) -> (Home, u64, Commits)
         ensures pool { result.0.pool ≡ self.pool }
         ensures history { result.0.history ≡ self.history }
@@ -94,6 +95,7 @@ impl Desk {
         ensures legal { IsLegal self.pool.limits self.history }
         ensures sound { IsSound self.pool.config self.history }
         ensures caused { MovesAreCaused self.history }
+        ensures few { length self.history ≤ self.events_limit + 3 * self.pool.limits.passes }
     {
         let Desk { home, journal, .. } = self;
         let (base, commits) = journal.into_parts();

@@ -4,11 +4,10 @@ ghost use Rattle.document_store.specs.declared.resolving.TheConstants.{MOST_LOOK
 ghost use Rattle.funnel_model.specs.declared.event.Event.TheVariants as event;
 ghost use Rattle.funnel_model.specs.Legal.{IsIdle};
 ghost use Rattle.funnel_model.specs.Tokens.{HasToken};
-ghost use Rattle.funnel_model.specs.Words.{AreWordsOf};
 ghost use Rattle.slice_rule.specs.Seats.{HasNoneOutstanding, HoldsToken};
 ghost use Rattle.commit_desk.specs.Answers.{AnswersFind, TakesCalls, events_of_find};
 ghost use Rattle.commit_desk.specs.Desks.{IsCaughtUp, IsSeatOf, Makes};
-ghost use Rattle.commit_desk.specs.Resolving.{AreGiven, GiveAll};
+ghost use Rattle.commit_desk.specs.Resolving.{AreGiven, GiveAll, IsRestOf};
 ghost use Rattle.commit_desk.specs.Scans.{WereScanned};
 
 use crate::answers::Spent;
@@ -45,7 +44,8 @@ impl Desk {
 
     /// A turn of a find that looks at its candidates from this one on, until the turn is over or there are no more, and answers
     /// where the next turn goes on. `out` gets those whose document was live when the find began and has every word, in the order
-    /// of the candidates; it has room for all that are left. It makes no event, and takes no memory.
+    /// of the candidates; it has room for all that are left. The words of the query but for `rest` are exact: the scan has told
+    /// that each candidate's document has them, and only `rest` is looked for. It makes no event, and takes no memory.
     pub fn resolve_part(
         &mut self,
         pool: &Pool,
@@ -53,14 +53,14 @@ impl Desk {
         token: &Token,
         candidates: &Candidates,
         from: usize,
-        words: &WordSet,
+        rest: &WordSet,
         out: &mut Found,
     ) -> usize
         requires pool { pool.now ≡ self.old.pool }
         requires seat { IsSeatOf self.old seat.old }
         requires token { HoldsToken seat.old token.now }
-        requires words { (begun : HasToken seat.old.front seat.old.number token.now.opened_at) → AreWordsOf words.now begun.query }
-        requires scanned { WereScanned self.old.pool.config seat.old token.now words.now candidates.now }
+        requires rest { (begun : HasToken seat.old.front seat.old.number token.now.opened_at) → IsRestOf self.old.pool.config begun.query rest.now }
+        requires scanned { WereScanned self.old.pool.config seat.old token.now candidates.now }
         requires from { from ≤ length candidates.now }
         requires room { length candidates.now ≤ out.old.room + from }
         ensures found { (begun : HasToken seat.old.front seat.old.number token.now.opened_at) → (more : List (ℕ × ℕ)) ×
@@ -73,11 +73,11 @@ impl Desk {
         ensures enough { length candidates.now ≤ out.new.room + result }
         ensures events { Makes [] self.old self.new seat.old seat.new }
         ensures token { HoldsToken seat.new token.now }
-        ensures scanned { WereScanned self.new.pool.config seat.new token.now words.now candidates.now }
+        ensures scanned { WereScanned self.new.pool.config seat.new token.now candidates.now }
         ensures none_outstanding { HasNoneOutstanding seat.new }
     {
         pool.catch_up(&mut self.home, seat);
-        resolve_part(&self.records, candidates, from, words, token.opened_at, out)
+        resolve_part(&self.records, candidates, from, rest, token.opened_at, out)
     }
 
     /// Ends a find, whatever it has found.

@@ -1,5 +1,5 @@
 //! What holds of what a desk keeps, whatever the history. Each is the contract of a function that does nothing.
-ghost use Rattle.commit_desk.specs.Laws.{DesksHaveTheirCommits, MovesAreOne, NewDesksAreKept, RefusedCallsKeepDocuments};
+ghost use Rattle.commit_desk.specs.Laws.{CallsDoNothingElse, DesksHaveTheirCommits, MovesAreOne, MovesKeepTexts, NewDesksAreKept, RefusedCallsKeepDocuments};
 
 /// A desk that keeps nothing yet stands for the history without events, so what is kept of a history can be met.
 pub fn new_desks_are_kept()
@@ -21,4 +21,15 @@ pub fn refused_calls_keep_documents()
 /// one refused where one may be taken.
 pub fn moves_have_one_answer()
     ensures { MovesAreOne }
+{}
+
+/// A document that is moved has the text that is live: where it is still where it was looked at, it is the very document that was
+/// looked at.
+pub fn moves_keep_texts()
+    ensures { MovesKeepTexts }
+{}
+
+/// A call of the desk makes events alone: it sets no bit and reads and clears no word for its pass.
+pub fn calls_do_nothing_else()
+    ensures { CallsDoNothingElse }
 {}

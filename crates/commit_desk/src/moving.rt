@@ -13,7 +13,7 @@ ghost use Rattle.row_layout.specs.DocumentBits.{AreDocumentBits};
 ghost use Rattle.slice_rule.specs.declared.view.Fact.TheVariants as fact;
 ghost use Rattle.slice_rule.specs.Numbers.{last_number};
 ghost use Rattle.slice_rule.specs.Seats.{HasNoneOutstanding, HoldsClaim};
-ghost use Rattle.commit_desk.specs.Desks.{IsCaughtUp, IsSeatOf, Makes, NothingUnderLast};
+ghost use Rattle.commit_desk.specs.Desks.{IsCaughtUp, IsSeatOf, IsUnwritten, Makes};
 ghost use Rattle.commit_desk.specs.Moving.{AnswersLook, AnswersTakeMove, HoldsLook, HasLive, IsLowestFree, IsLowestLive, IsPartlyHeld, document_of, is_fewer, IsFreeToMove, IsNextToMove, IsThereStill, IsToBeEmptied, event_of_move, events_of_take_move, looks_after, looks_after_take, with_mark};
 
 use crate::desk::Desk;
@@ -71,7 +71,7 @@ impl Desk {
         ensures answer { AnswersTakeMove self.old.events_limit self.old.pool.limits self.old.history seat.old.number look result }
         ensures events { Makes (events_of_take_move seat.old.number result) self.old self.new seat.old seat.new }
         ensures looks { looks.new ≡ looks_after_take looks.old look result }
-        ensures nothing_yet { IfSome result (λ _. NothingUnderLast seat.new) }
+        ensures nothing_yet { IfSome result (λ _. IsUnwritten seat.new) }
         ensures none_outstanding { HasNoneOutstanding seat.new }
     {
         pool.catch_up(&mut self.home, seat);

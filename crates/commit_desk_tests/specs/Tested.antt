@@ -2,13 +2,13 @@
 use Rattle.std.specs.Prelude.{◌≡◌, ℕ, ◌+◌, ◌≤◌, List, [], length, map}
 use Rattle.std.specs.List.{range_with_len}
 use Rattle.commit_desk.specs.Passes.{IsFinding}
+use Rattle.commit_desk.specs.Resolving.{IsRestOf}
 use Rattle.commit_desk.specs.Scans.{WereScanned}
 use Rattle.document_store.specs.Finding.{FoundState}
 use Rattle.funnel_model.specs.declared.claim.Token.{Token}
 use Rattle.funnel_model.specs.declared.config.Config.{Config}
 use Rattle.funnel_model.specs.Sizes.{columns_of_slice, words_of_slice}
 use Rattle.funnel_model.specs.Tokens.{HasToken}
-use Rattle.funnel_model.specs.Words.{AreWordsOf}
 use Rattle.row_layout.specs.declared.row.Row.{Row}
 use Rattle.row_layout.specs.DocumentBits.{CanPlace}
 use Rattle.row_layout.specs.Orders.{HasRowsOf}
@@ -39,10 +39,10 @@ pub record IsFindingAll (pool : PoolId) (token : Token) (seat : PassState) : Typ
   pub query : (begun : HasToken seat.front seat.number token.opened_at) → begun.query ≡ []
 
 -- A find of no words between its turns: all columns of the slice are its candidates, and there is room for those that are left.
-pub record IsLookingAtAll (pool : PoolId) (token : Token) (seat : PassState) (words : List (List ℕ)) (columns : List (ℕ × ℕ)) (found : FoundState) (from : ℕ) : Type 0 where
+pub record IsLookingAtAll (pool : PoolId) (token : Token) (seat : PassState) (rest : List (List ℕ)) (columns : List (ℕ × ℕ)) (found : FoundState) (from : ℕ) : Type 0 where
   pub finding : IsFinding pool token seat
-  pub of_query : (begun : HasToken seat.front seat.number token.opened_at) → AreWordsOf words begun.query
-  pub scanned : WereScanned pool.config seat token words columns
+  pub rest_of : (begun : HasToken seat.front seat.number token.opened_at) → IsRestOf pool.config begun.query rest
+  pub scanned : WereScanned pool.config seat token columns
   pub within : from ≤ length columns
   pub room : length columns ≤ found.room + from
 

@@ -100,7 +100,7 @@ impl<N: PoolName> Model for Finding<N> {
 pub(crate) struct Looking<N: PoolName> {
     pub seat: PassSeat,
     pub token: Token,
-    pub words: WordSet,
+    pub rest: WordSet,
     pub columns: Candidates,
     pub found: Found,
     pub from: usize,
@@ -114,5 +114,5 @@ impl<N: PoolName> Model for Looking<N> {
 
     ghost view = { λ _. tt };
 
-    ghost invariant = { λ l. IsLookingAtAll N.pool l.token l.seat l.words l.columns l.found l.from };
+    ghost invariant = { λ l. IsLookingAtAll N.pool l.token l.seat l.rest l.columns l.found l.from };
 }

@@ -51,16 +51,16 @@ fn all_columns(alloc: Global, count: u32) -> Result<Candidates, Memory>
     Ok(columns)
 }
 
-/// No words, all columns of the slice, and room for what they give.
+/// No words to be looked for, all columns of the slice, and room for what they give.
 fn candidates(alloc: Global, layout: &Layout) -> Result<(WordSet, Candidates, Found), Fail>
-    ensures words { IfOk result (λ made. made.0 ≡ []) }
+    ensures rest { IfOk result (λ made. made.0 ≡ []) }
     ensures columns { IfOk result (λ made. made.1 ≡ columns_up_to (columns_of_slice layout.now)) }
     ensures room { IfOk result (λ made. length made.1 ≤ made.2.room) }
 {
-    let words = WordSet::from_sorted(alloc, &[])?;
+    let rest = WordSet::from_sorted(alloc, &[])?;
     let columns = all_columns(alloc, layout.columns())?;
     let found = Found::with_room(alloc, columns.len())?;
-    Ok((words, columns, found))
+    Ok((rest, columns, found))
 }
 
 impl<N: PoolName> Setting<N> {
@@ -83,12 +83,12 @@ impl<N: PoolName> Setting<N> {
             return Err(Fail::new("a slice that it may read"));
         }
         match candidates(self.alloc, &self.layout) {
-            Ok((words, columns, found)) => {
+            Ok((rest, columns, found)) => {
                 let Finding { seat, token, of } = finding;
                 Ok(Looking {
                     seat,
                     token,
-                    words,
+                    rest,
                     columns,
                     found,
                     from: 0,
@@ -107,19 +107,19 @@ impl<N: PoolName> Setting<N> {
         let Looking {
             mut seat,
             token,
-            words,
+            rest,
             columns,
             mut found,
             from,
             of,
         } = looking;
         let from = self.desk.resolve_part(
-            &self.pool, &mut seat, &token, &columns, from, &words, &mut found,
+            &self.pool, &mut seat, &token, &columns, from, &rest, &mut found,
         );
         let next = Looking {
             seat,
             token,
-            words,
+            rest,
             columns,
             found,
             from,
@@ -133,7 +133,7 @@ impl<N: PoolName> Setting<N> {
         let Looking {
             mut seat,
             token,
-            words: _,
+            rest: _,
             columns: _,
             mut found,
             from: _,

@@ -22,7 +22,9 @@ use Rattle.commit_desk.specs.declared.answers.DeleteFault.TheVariants as delete
 use Rattle.commit_desk.specs.declared.answers.JournalFault.{JournalFault}
 use Rattle.commit_desk.specs.declared.answers.JournalFault.TheVariants as journal
 use Rattle.commit_desk.specs.declared.answers.Spent.{Spent}
-use Rattle.commit_desk.specs.Desks.{DeskState, Makes, NothingUnderLast}
+use Rattle.commit_desk.specs.Desks.{DeskState, IsUnwritten, Makes}
+use Rattle.funnel_model.specs.declared.config.Config.{Config}
+use Rattle.funnel_model.specs.Tunings.{treat}
 use Rattle.commit_desk.specs.Passes.{IsToWrite}
 use Rattle.engine.specs.Replies.{reply_of_delete, reply_of_journal, reply_of_place}
 use Rattle.slice_recycler.specs.Turns.{IsTurn}
@@ -74,7 +76,7 @@ module _ (limits : Limits) (pass : ℕ) (before after : List Event) (idle : IsId
 
 -- the first column of a slice that its pass cleared and opened is its to write
 pub claims_first : (pool : PoolId) (before after : DeskState) (seat next : PassState) (slice : ℕ) (claim : Claim) → seat.pool ≡ pool → HasNoneOutstanding next → before.pool ≡ pool → slice < pool.limits.slices →
-    claim.slice ≡ slice → claim.column ≡ 0 → NothingUnderLast next → Makes (event.Opened seat.number slice false ∷ event.Take seat.number slice 0 ∷ []) before after seat next → IsToWrite pool claim next
+    claim.slice ≡ slice → claim.column ≡ 0 → IsUnwritten next → Makes (event.Opened seat.number slice false ∷ event.Take seat.number slice 0 ∷ []) before after seat next → IsToWrite pool claim next
 claims_first pool before after seat next slice claim here none of in' at first nothing made =
     let limits = before.pool.limits in
     let e = event.Take seat.number slice 0 in
@@ -88,7 +90,8 @@ claims_first pool before after seat next slice claim here none of in' at first n
     record {
       seated = record { same = made.same ∙ here; none_outstanding = none };
       holds = last ∙ ap (λ n. Some (event.Take n slice 0)) (sym made.number) ∙ ap (λ s. Some (event.Take next.number s 0)) (sym at) ∙ ap (λ k. Some (event.Take next.number claim.slice k)) (sym first);
-      nothing = nothing;
+      nothing = nothing.nothing;
+      treated = subst (λ (k : Config). treat k claim.slice next.front ≡ k) (ap (λ (p : PoolId). p.config) (made.same ∙ here)) (nothing.treated claim.slice);
       in_range = subst (λ s. s < pool.limits.slices) (sym at) in';
       column = subst (λ k. k < pool.limits.columns) (sym first) (subst (λ (p : PoolId). 0 < p.limits.columns) of within);
     }

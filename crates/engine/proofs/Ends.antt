@@ -16,11 +16,12 @@ use Rattle.slice_rule.specs.Worlds.{LacksAtMostOne, made_by}
 use Rattle.slice_rule.proofs.Prefixes.{front_is, none_since}
 use Rattle.commit_desk.specs.Passes.{IsResting}
 use Rattle.engine.specs.Engines.{EndsIn, HasItsCalls}
+use Rattle.engine.specs.Passes.{PassView, view_of}
 use Rattle.slice_recycler.proofs.Steps.{quiet_adds_none, quiet_front}
 
 -- A pass that met a note has seen more events, none of its own.
 module _ (before after : PassState) (front : List Event) (told : List Fact) (is : after ≡ record before { front = front; told = told }) (goes : IsFrontOf after.number before.front after.front) where
-  same_number : after.number ≡ before.number
+  pub same_number : after.number ≡ before.number
   same_number = ap (λ (p : PassState). p.number) is
 
   pub meets_others : IsFrontOf before.number before.front after.front
@@ -43,23 +44,17 @@ module _ (before after : PassState) (front : List Event) (told : List Fact) (is 
         idle = subst (λ o. IfSome o (λ e. leaves_open e ≡ false)) (sym last) rests.idle;
       }
 
--- passes that rest can end
-pub can_end : (pool other : PoolId) (passes : List PassState) → pool ≡ other → All (IsResting other) passes → All (CanEnd pool) passes
-can_end pool other passes is rest k d less =
-    let seated = (rest k d less).seated in
-    record { same = seated.same ∙ sym is; none_outstanding = seated.none_outstanding }
+-- a pass that rests can end
+pub can_end : (pool named : PoolId) (seat : PassState) → pool ≡ named → IsResting named seat → CanEnd pool seat
+can_end pool named seat is rests = record { same = rests.seated.same ∙ sym is; none_outstanding = rests.seated.none_outstanding }
 
 -- the history has no further event of a pass that ended
-pub ends_in : (pool : PoolId) (history : List Event) (passes : List PassState) → All (IsResting pool) passes → All (HasEnded history) passes → All (EndsIn history) passes
-ends_in pool history passes rest ended k d less =
-    one _ (rest k d less).seated.none_outstanding (ended k d less)
-  where
-    one : (pass : PassState) → HasNoneOutstanding pass → HasEnded history pass → EndsIn history pass
-    one pass none end = front_is pass.number pass.front history end.seen (end.made ∙ none)
+pub ends_in : (history : List Event) (seat : PassState) → HasNoneOutstanding seat → HasEnded history seat → EndsIn history (view_of seat)
+ends_in history seat none end = front_is seat.number seat.front history end.seen (end.made ∙ none)
 
 -- and so each of its calls
-pub has_calls : (history : List Event) (passes : List PassState) → All (EndsIn history) passes → All (HasItsCalls history) passes
+pub has_calls : (history : List Event) (passes : List PassView) → All (EndsIn history) passes → All (HasItsCalls history) passes
 has_calls history passes ends = All-weaker (EndsIn history) (HasItsCalls history) one passes ends
   where
-    one : (pass : PassState) → EndsIn history pass → HasItsCalls history pass
+    one : (pass : PassView) → EndsIn history pass → HasItsCalls history pass
     one pass end = quiet_adds_none pass.number 0 pass.front history (quiet_front pass.number pass.front history end)

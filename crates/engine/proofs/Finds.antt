@@ -1,12 +1,15 @@
 -- How the turns of a find make its step.
-use Rattle.std.proofs.Common.{◌≡◌, ℕ, List, [], ◌∷◌, ◌++◌, sym, refl, ap, subst, ◌∙◌, All}
+use Rattle.std.proofs.Common.{◌≡◌, ◌⊎◌, ℕ, Bool, true, false, not, List, [], ◌∷◌, ◌++◌, filter, inl, inr, sym, refl, ap, subst, ◌∙◌, All, Contains}
 use Rattle.commit_desk.specs.Passes.{IsFinding}
+use Rattle.commit_desk.specs.Resolving.{IsRestOf}
+use Rattle.engine.specs.Passes.{view_of}
 use Rattle.engine.proofs.OpenFinds.{begun_last}
 use Rattle.engine.proofs.Scans.{holds_still}
 use Rattle.engine.specs.declared.finding.FindFault.{FindFault}
 use Rattle.engine.specs.declared.finding.FindFault.TheVariants as find
 use Rattle.engine.specs.Finds.{EndedTurns, FindBegins, FindEnds, FoundTurns, HasJustBegun, IsBegunAt, IsScanFor, RefusedTurns}
 use Rattle.engine.specs.Replies.{reply_of_find_fault}
+use Rattle.funnel_model.proofs.AnswerLemmas.{Contains-filter, Contains-filtered}
 use Rattle.funnel_model.proofs.StepLemmas.{call_by-own}
 use Rattle.funnel_model.specs.declared.call.Call.TheVariants as call
 use Rattle.funnel_model.specs.declared.claim.Token.{Token}
@@ -20,6 +23,7 @@ use Rattle.funnel_model.specs.Steps.{AddsCall, Step}
 use Rattle.funnel_model.specs.Words.{AreWordsOf}
 use Rattle.row_layout.specs.declared.row.Row.{Row}
 use Rattle.row_layout.specs.Orders.{HasRowsOf}
+use Rattle.row_layout.specs.Owners.{is_exact}
 use Rattle.row_layout.specs.Rows.{IsRowOf}
 use Rattle.slice_recycler.proofs.Steps.{IsQuiet, adds_call, own-unanswered, quiet_none, quiet_turn, step_find_without_memory, step_found_without_memory, step_made_within, step_spent_turn}
 use Rattle.slice_rule.specs.Pools.{PoolId}
@@ -39,12 +43,22 @@ pub begun_still : (seat next : PassState) → next ≡ record seat { own = next.
 begun_still seat next is begun = record {
   earlier = begun.earlier;
   query = begun.query;
-  at = subst (λ (s : PassState). IsBegunAt s begun.earlier begun.query) (sym is) begun.at;
+  at = subst (λ (s : PassState). IsBegunAt (view_of s) begun.earlier begun.query) (sym is) begun.at;
 }
 
 -- the end of a find answers no call
 pub end_is_quiet : (pass : ℕ) (before after : List Event) → FindEnds pass before after → IsQuiet pass 0 before after
 end_is_quiet pass before after turn = quiet_turn pass before after (event.End pass ∷ []) turn (own-unanswered pass (event.End pass ∷ []) refl) refl
+
+-- the words that aren't exact are the rest of a query
+rest_is : (config : Config) (set rest : List (List ℕ)) (query : List ℕ) → AreWordsOf set query → rest ≡ filter (λ word. not (is_exact config word)) set → IsRestOf config query rest
+rest_is config set rest query of_query left = record {
+  part = λ word has. (of_query word).0 (Contains-filtered (λ w. not (is_exact config w)) set word (subst (λ ws. Contains ws word) left has)).0;
+  others_exact = λ word has. by_test word ((of_query word).1 has) (is_exact config word) refl;
+} where
+  by_test : (word : List ℕ) → Contains set word → (exact : Bool) → is_exact config word ≡ exact → Contains rest word ⊎ (is_exact config word ≡ true)
+  by_test word has true is = inr is
+  by_test word has false is = inl (subst (λ ws. Contains ws word) (sym left) (Contains-filter (λ w. not (is_exact config w)) set word has (ap not is)))
 
 -- The turn that begins a find.
 module _ (limits : Limits) (pass : ℕ) (query : List ℕ) (before : List Event) where
@@ -52,20 +66,24 @@ module _ (limits : Limits) (pass : ℕ) (query : List ℕ) (before : List Event)
   begins_call after turn = adds_call pass before after (event.Find pass query) (call.Find query) turn (call_by-own pass (event.Find pass query) refl)
 
   -- the pass's last event is that of the turn
-  pub begun_by : (next : PassState) → next.number ≡ pass → (turn : FindBegins limits pass query before next.front) → IsBegunAt next turn.earlier query
+  pub begun_by : (next : PassState) → next.number ≡ pass → (turn : FindBegins limits pass query before next.front) → IsBegunAt (view_of next) turn.earlier query
   begun_by next number turn = subst (λ n. next.front ≡ turn.earlier ++ event.Find n query ∷ []) (sym number) turn.made
 
   -- the find scans for the words of its query
-  pub scan_begun : (pool : PoolId) (layout : Config) (next : PassState) (token : Token) (words : List (List ℕ)) (plan : List Row) → layout ≡ pool.config → next.number ≡ pass →
-      FindBegins limits pass query before next.front → IsFinding pool token next → AreWordsOf words query → HasRowsOf layout words plan → All (IsRowOf layout) plan → IsScanFor pool next token words plan
-  scan_begun pool layout next token words plan laid_out number turn finding of_query rows laid =
+  pub scan_begun : (pool : PoolId) (layout : Config) (next : PassState) (token : Token) (words rest : List (List ℕ)) (plan : List Row) → layout ≡ pool.config → next.number ≡ pass →
+      FindBegins limits pass query before next.front → IsFinding pool token next → AreWordsOf words query → rest ≡ filter (λ word. not (is_exact layout word)) words → HasRowsOf layout words plan →
+      All (IsRowOf layout) plan → IsScanFor pool next token words rest plan
+  scan_begun pool layout next token words rest plan laid_out number turn finding of_query left rows laid =
       let at = begun_by next number turn in
+      let asked : (earlier : List Event) (other : List ℕ) → IsBegunAt (view_of next) earlier other → query ≡ other = λ earlier other at_other.
+      (begun_last next token.opened_at turn.earlier query at finding.holds.begun).1 ∙ sym (begun_last next token.opened_at earlier other at_other finding.holds.begun).1 in
       record {
         finding = finding;
         begun = record { earlier = turn.earlier; query = query; at = at };
-        of_query = λ earlier other at_other.
-            subst (AreWordsOf words)
-            ((begun_last next token.opened_at turn.earlier query at finding.holds.begun).1 ∙ sym (begun_last next token.opened_at earlier other at_other finding.holds.begun).1) of_query;
+        of_query = λ earlier other at_other. subst (AreWordsOf words) (asked earlier other at_other) of_query;
+        rest_of = λ earlier other at_other.
+            subst (λ q. IsRestOf pool.config q rest) (asked earlier other at_other)
+            (subst (λ (config : Config). IsRestOf config query rest) laid_out (rest_is layout words rest query of_query left));
         rows = subst (λ (config : Config). HasRowsOf config words plan) laid_out rows;
         laid = subst (λ (config : Config). All (IsRowOf config) plan) laid_out laid;
       }
@@ -75,7 +93,7 @@ module _ (limits : Limits) (pass : ℕ) (query : List ℕ) (before : List Event)
     abbrev pub ended_turns : EndedTurns limits pass query before after
     ended_turns = record { middle = middle.front; begun = begun; ended = subst (λ n. FindEnds n middle.front after) number ended }
 
-    pub found_turns : (ids : List ℕ) → ((earlier : List Event) (asked : List ℕ) → IsBegunAt middle earlier asked → ids ≡ answer earlier asked) → FoundTurns limits pass query before after ids
+    pub found_turns : (ids : List ℕ) → ((earlier : List Event) (asked : List ℕ) → IsBegunAt (view_of middle) earlier asked → ids ≡ answer earlier asked) → FoundTurns limits pass query before after ids
     found_turns ids found = record { turns = ended_turns; found = found begun.earlier query (begun_by middle number begun) }
 
 -- The step of a find.

@@ -17,28 +17,33 @@ use Rattle.slice_rule.specs.Pools.{PoolId}
 use Rattle.slice_rule.specs.Seats.{PassState}
 use Rattle.commit_desk.specs.Desks.{DeskState, Makes}
 use Rattle.commit_desk.specs.Passes.{IsFinding}
-use Rattle.commit_desk.specs.Resolving.{AreGiven, GiveAll}
+use Rattle.commit_desk.specs.Resolving.{AreGiven, GiveAll, IsRestOf}
 use Rattle.commit_desk.specs.Scans.{AreScanned, WereScanned}
 use Rattle.commit_desk.proofs.FindEnds.{begun_still, scanned_as}
 use Rattle.commit_desk.proofs.FindTurns.{begun_later}
 use Rattle.commit_desk.proofs.Given.{given_both, given_is_answer, numbers_are_answer, take_part}
 use Rattle.slice_recycler.specs.Turns.{IsTurn}
+use Rattle.engine.specs.Passes.{view_of}
 use Rattle.engine.proofs.OpenFinds.{begun_last}
 use Rattle.engine.proofs.Moves.{turn_from}
 use Rattle.engine.specs.Finds.{FindEnds, HasJustBegun, IsAllFound, IsBegunAt, IsFoundUpTo, events_of_turn}
 
 -- before its first turn
-pub found_none : (pool : PoolId) (pass : PassState) (token : Token) (words : List (List ℕ)) (candidates : List (ℕ × ℕ)) (found : FoundState) → IsFinding pool token pass → HasJustBegun pass →
-    ((earlier : List Event) (query : List ℕ) → IsBegunAt pass earlier query → AreWordsOf words query) → AreScanned pool.config pass token words candidates → found.found ≡ [] →
-    length candidates ≤ found.room → IsFoundUpTo pool pass token words candidates found 0
-found_none pool pass token words candidates found finding just of_query scanned empty room =
+pub found_none : (pool : PoolId) (pass : PassState) (token : Token) (words rest : List (List ℕ)) (candidates : List (ℕ × ℕ)) (found : FoundState) → IsFinding pool token pass → HasJustBegun pass →
+    ((earlier : List Event) (query : List ℕ) → IsBegunAt (view_of pass) earlier query → AreWordsOf words query) →
+    ((earlier : List Event) (query : List ℕ) → IsBegunAt (view_of pass) earlier query → IsRestOf pool.config query rest) → AreScanned pool.config pass token words candidates → found.found ≡ [] →
+    length candidates ≤ found.room → IsFoundUpTo pool pass token rest candidates found 0
+found_none pool pass token words rest candidates found finding just of_query rest_of scanned empty room =
     let same = λ (begun : HasToken pass.front pass.number token.opened_at). begun_last pass token.opened_at just.earlier just.query just.at begun in
     record {
       finding = finding;
-      of_query = λ begun. subst (AreWordsOf words) (same begun).1 (of_query just.earlier just.query just.at);
+      rest_of = λ begun. subst (λ q. IsRestOf pool.config q rest) (same begun).1 (rest_of just.earlier just.query just.at);
       scanned = λ begun.
-          let at = begun_of pass just.earlier begun.earlier just.query begun.query just.at (same begun).0 (same begun).1 in
-          scanned_as pool.config pass (record pass { front = begun.earlier ++ event.Find pass.number begun.query ∷ [] }) token words candidates refl (sym at) refl scanned;
+          let at = begun_of pass just.earlier begun.earlier just.query begun.query just.at (same begun).0 (same begun).1 in (
+            words,
+            subst (AreWordsOf words) (same begun).1 (of_query just.earlier just.query just.at),
+            scanned_as pool.config pass (record pass { front = begun.earlier ++ event.Find pass.number begun.query ∷ [] }) token words candidates refl refl (sym at) refl scanned,
+          );
       within = omega arith;
       room = omega (arith, room);
       given = λ begun. empty;
@@ -50,7 +55,7 @@ found_none pool pass token words candidates found finding just of_query scanned 
         at ∙ ap (λ h. h ++ event.Find pass.number query ∷ []) before ∙ ap (λ q. other ++ event.Find pass.number q ∷ []) same
 
 -- What a turn adds to what was found.
-module _ (pool : PoolId) (pass : PassState) (token : Token) (words : List (List ℕ)) (candidates : List (ℕ × ℕ)) (found after : FoundState) (from to : ℕ) (is : IsFoundUpTo pool pass token words candidates found from)
+module _ (pool : PoolId) (pass : PassState) (token : Token) (rest : List (List ℕ)) (candidates : List (ℕ × ℕ)) (found after : FoundState) (from to : ℕ) (is : IsFoundUpTo pool pass token rest candidates found from)
     (low : from ≤ to)
     (adds : (begun : HasToken pass.front pass.number token.opened_at) → (more : List (ℕ × ℕ)) × AreGiven begun.earlier begun.query (slice_range candidates from to) more × (after.found ≡ found.found ++ more)) where
   given_up_to : (begun : HasToken pass.front pass.number token.opened_at) → AreGiven begun.earlier begun.query (take to candidates) after.found
@@ -65,11 +70,11 @@ module _ (pool : PoolId) (pass : PassState) (token : Token) (words : List (List 
   all_found last all begun = (subst (λ cs. AreGiven begun.earlier begun.query cs after.found) (take_all to candidates last) (given_up_to begun), all begun)
 
   -- another comes
-  pub found_on : (next : PassState) (before now : DeskState) → Makes [] before now pass next → IsFinding pool token next → WereScanned pool.config next token words candidates → to ≤ length candidates →
-      length candidates ≤ after.room + to → IsFoundUpTo pool next token words candidates after to
+  pub found_on : (next : PassState) (before now : DeskState) → Makes [] before now pass next → IsFinding pool token next → WereScanned pool.config next token candidates → to ≤ length candidates →
+      length candidates ≤ after.room + to → IsFoundUpTo pool next token rest candidates after to
   found_on next before now made finding scanned within room = record {
     finding = finding;
-    of_query = λ begun. let once = same_find begun in subst (AreWordsOf words) (sym once.1) (is.of_query is.finding.holds.begun);
+    rest_of = λ begun. let once = same_find begun in subst (λ q. IsRestOf pool.config q rest) (sym once.1) (is.rest_of is.finding.holds.begun);
     scanned = scanned;
     within = within;
     room = room;

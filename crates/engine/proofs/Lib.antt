@@ -1,5 +1,5 @@
 pub mod AddSteps
-pub mod Candidates
+pub mod CandidateParts
 pub mod Claims
 pub mod DeskTurns
 pub mod Ends

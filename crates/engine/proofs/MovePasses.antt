@@ -23,8 +23,9 @@ use Rattle.row_layout.specs.Orders.{HasRowsOf}
 use Rattle.slice_rule.specs.Pools.{PoolId}
 use Rattle.slice_rule.specs.Seats.{HasNoneOutstanding, PassState}
 use Rattle.commit_desk.specs.declared.look.Look.{Look}
-use Rattle.commit_desk.specs.Desks.{DeskState, Makes, NothingUnderLast}
+use Rattle.commit_desk.specs.Desks.{DeskState, IsUnwritten, Makes}
 use Rattle.commit_desk.specs.Moving.{AnswersLook, AnswersTakeMove, HoldsLook, IsThereStill, LooksState, event_of_move, events_of_take_move}
+use Rattle.funnel_model.specs.Tunings.{treat}
 use Rattle.commit_desk.specs.Passes.{IsResting, IsToWrite}
 use Rattle.commit_desk.proofs.CallEnds.{rests_one}
 use Rattle.slice_recycler.specs.Turns.{IsTurn}
@@ -63,7 +64,7 @@ module _ (pool : PoolId) (before after : DeskState) (seat next : PassState) (non
 
   module _ (of : before.pool ≡ pool) where
     -- a column that the pass claimed is its to write
-    claims_one : seat.pool ≡ pool → (claim : Claim) → claim.slice < before.pool.limits.slices → NothingUnderLast next →
+    claims_one : seat.pool ≡ pool → (claim : Claim) → claim.slice < before.pool.limits.slices → IsUnwritten next →
         Makes (event.Take seat.number claim.slice claim.column ∷ []) before after seat next → IsToWrite pool claim next
     claims_one here claim in' nothing made =
         let limits = before.pool.limits in
@@ -77,14 +78,15 @@ module _ (pool : PoolId) (before after : DeskState) (seat next : PassState) (non
         record {
           seated = record { same = made.same ∙ here; none_outstanding = none };
           holds = last ∙ ap (λ n. Some (event.Take n claim.slice claim.column)) (sym made.number);
-          nothing = nothing;
+          nothing = nothing.nothing;
+          treated = subst (λ (k : Config). treat k claim.slice next.front ≡ k) (ap (λ (p : PoolId). p.config) (made.same ∙ here)) (nothing.treated claim.slice);
           in_range = subst (λ (p : PoolId). claim.slice < p.limits.slices) of in';
           column = subst (λ (p : PoolId). claim.column < p.limits.columns) of within;
         }
 
     -- what the pass is to do after it took a column for a move, or took none
     pub writes_or_rests : IsResting pool seat → (most : ℕ) (look : Look) (answer : Option (Claim × Look)) → AnswersTakeMove most before.pool.limits before.history seat.number look answer →
-        IfSome answer (λ taken. NothingUnderLast next) → Makes (events_of_take_move seat.number answer) before after seat next →
+        IfSome answer (λ taken. IsUnwritten next) → Makes (events_of_take_move seat.number answer) before after seat next →
         MatchOption answer (IsResting pool next) (λ taken. IsToWrite pool taken.0 next)
     writes_or_rests rests most look None may nothing made = rests_on rests made
     writes_or_rests rests most look (Some taken) may nothing made = claims_one rests.seated.same taken.0 may.1.in_range nothing made

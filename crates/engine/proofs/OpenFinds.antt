@@ -8,10 +8,11 @@ use Rattle.funnel_model.specs.Events.{finds_or_ends}
 use Rattle.funnel_model.specs.Tokens.{HasToken}
 use Rattle.funnel_model.proofs.Spans.{none_of_push, split_at_end}
 use Rattle.slice_rule.specs.Seats.{PassState}
+use Rattle.engine.specs.Passes.{view_of}
 use Rattle.engine.specs.Finds.{IsBegunAt}
 
 -- where the pass's last event began a find, this is the one that is open
-pub begun_last : (pass : PassState) (number : ℕ) (earlier : List Event) (query : List ℕ) → IsBegunAt pass earlier query → (begun : HasToken pass.front pass.number number) →
+pub begun_last : (pass : PassState) (number : ℕ) (earlier : List Event) (query : List ℕ) → IsBegunAt (view_of pass) earlier query → (begun : HasToken pass.front pass.number number) →
     (earlier ≡ begun.earlier) × (query ≡ begun.query)
 begun_last pass number earlier query at begun =
     let e = event.Find pass.number query in

@@ -4,10 +4,10 @@ use Rattle.std.specs.List.Sorted.{IsStrictlySortedBy}
 use Rattle.std.specs.Ordering.{nat_cmp}
 use Rattle.std.proofs.lemmas.Bool.{cases_lt, lt-ltb, ltb-true}
 use Rattle.std.proofs.lemmas.List.Elements.{All-contains, Contains-append_cases, Contains-append_left, Contains-append_right}
-use Rattle.commit_desk.specs.Scans.{AreScanned, HasAllCommitted, IsOfToken, WasReadUnder}
+use Rattle.commit_desk.specs.Scans.{AreScanned, HasAllCommitted, IsOfToken}
 use Rattle.engine.specs.Scans.{AreScannedBelow, CanScan, token_below}
 use Rattle.engine.specs.Engines.{IsOfConfig}
-use Rattle.engine.proofs.Candidates.{candidate_is, candidate_of_column, candidates_once, pairs-append}
+use Rattle.engine.proofs.CandidateParts.{candidate_is, candidate_of_column, candidates_once, pairs-append}
 use Rattle.funnel_model.proofs.AnswerLemmas.{Contains-filter, Contains-filtered}
 use Rattle.funnel_model.specs.declared.bit_list.Bit.{Bit}
 use Rattle.funnel_model.specs.declared.claim.Token.{Token}
@@ -26,7 +26,7 @@ use Rattle.row_read.specs.SharedRows.{CanRead, IsCommittedUnder, SharedKept, kep
 use Rattle.row_read.specs.SharedRows as shared
 use Rattle.slice_rule.specs.declared.view.Fact.{Fact}
 use Rattle.slice_rule.specs.Pools.{PoolId}
-use Rattle.slice_rule.specs.Seats.{HoldsToken, PassState}
+use Rattle.slice_rule.specs.Seats.{HoldsToken, PassState, WasReadUnder}
 
 -- The slices of a token that are below one of them.
 module _ (slices slice : ℕ) (token : Token) where
@@ -37,12 +37,14 @@ module _ (slices slice : ℕ) (token : Token) where
   below has low = Contains-filter (λ s. nat_lt s slices) token.slices slice has (lt-ltb slice slices low)
 
 -- no slice is below slice 0
-pub scanned_none : (config : Config) (seat : PassState) (token : Token) (words : List (List ℕ)) → AreScannedBelow config seat token words 0 []
-scanned_none config seat token words = record {
+pub scanned_none : (config : Config) (seat : PassState) (token : Token) (words : List (List ℕ)) → seat.pool.limits.slice_words ≡ words_of_slice config →
+    AreScannedBelow config seat token words 0 []
+scanned_none config seat token words laid = record {
   of_token = λ candidate has. absurd (nothing candidate has);
   each_once = λ i j d lt within. absurd (omega (arith, within));
   every = λ slice column has. let low = (is_below 0 slice token has).1 in absurd (omega (arith, low));
   read = λ candidate has. absurd (nothing candidate has);
+  laid = laid;
 }
   where
     nothing : (candidate : ℕ × ℕ) → Contains [] candidate → ⊥
@@ -58,6 +60,7 @@ scanned_all config seat token words slices candidates in_range scanned = record 
   each_once = scanned.each_once;
   every = λ slice column has. scanned.every slice column (below slices slice token has (in_range slice has));
   read = scanned.read;
+  laid = scanned.laid;
 }
 
 -- what is of a slice below one is of a slice below the next
@@ -75,6 +78,7 @@ scanned_without config seat token words slice candidates lacks scanned = record 
   each_once = scanned.each_once;
   every = λ s column has. let is = is_below (slice + 1) s token has in here s is.1 is.0 column (cases_lt s slice);
   read = scanned.read;
+  laid = scanned.laid;
 }
   where
     here : (s : ℕ) → s < slice + 1 → Contains token.slices s → (column : ℕ) → (s < slice) ⊎ (slice ≤ s) → column < seat.pool.limits.columns → HasAllCommitted config seat words s column → Contains candidates (s, column)
@@ -85,7 +89,7 @@ scanned_without config seat token words slice candidates lacks scanned = record 
 module _ (config : Config) (before after : PassState) (token : Token) (words : List (List ℕ)) (plan : List Row) (slice : ℕ) (old : List (ℕ × ℕ)) (columns : List ℕ)
     (same_pool : after.pool ≡ before.pool) (same_front : after.front ≡ before.front) (sizes : before.pool.limits.columns ≡ columns_of_slice config)
     (readable : Contains token.slices slice) (rows : HasRowsOf config words plan) (scanned : AreScannedBelow config before token words slice old)
-    (seen_stays : (bit : Bit) → WasReadUnder before token bit → WasReadUnder after token bit) where
+    (seen_stays : (bit : Bit) → WasReadUnder before token.opened_at bit → WasReadUnder after token.opened_at bit) where
   width : after.pool.limits.columns ≡ columns_of_slice config
   width = ap (λ (p : PoolId). p.limits.columns) same_pool ∙ sizes
 
@@ -118,19 +122,19 @@ module _ (config : Config) (before after : PassState) (token : Token) (words : L
       (λ bit of_document. (slice, readable, subst (λ (h : List Event). IsCommitted h slice bit) same_front (committed bit of_document))) plan rows))
 
   -- of each of them the bits of the words were seen
-  read_new : All (λ column. All (λ row. WasReadUnder after token (bit_of_row (words_of_slice config) slice column row)) plan) columns →
-      (candidate : ℕ × ℕ) → Contains (candidates_of slice columns) candidate → (bit : Bit) → IsDocumentBit config words candidate.0 candidate.1 bit → WasReadUnder after token bit
+  read_new : All (λ column. All (λ row. WasReadUnder after token.opened_at (bit_of_row (words_of_slice config) slice column row)) plan) columns →
+      (candidate : ℕ × ℕ) → Contains (candidates_of slice columns) candidate → (bit : Bit) → IsDocumentBit config words candidate.0 candidate.1 bit → WasReadUnder after token.opened_at bit
   read_new seen candidate has bit (row, of_words, is) =
       let of_slice = candidate_is slice columns candidate has in
-      let each = All-contains (λ column. All (λ row. WasReadUnder after token (bit_of_row (words_of_slice config) slice column row)) plan) columns candidate.1 seen of_slice.1 in
-      let set = All-contains (λ row. WasReadUnder after token (bit_of_row (words_of_slice config) slice candidate.1 row)) plan row each ((rows row).1 of_words) in
-      subst (WasReadUnder after token) (sym (is ∙ ap (λ s. bit_of_row (words_of_slice config) s candidate.1 row) (low_new candidate has))) set
+      let each = All-contains (λ column. All (λ row. WasReadUnder after token.opened_at (bit_of_row (words_of_slice config) slice column row)) plan) columns candidate.1 seen of_slice.1 in
+      let set = All-contains (λ row. WasReadUnder after token.opened_at (bit_of_row (words_of_slice config) slice candidate.1 row)) plan row each ((rows row).1 of_words) in
+      subst (WasReadUnder after token.opened_at) (sym (is ∙ ap (λ s. bit_of_row (words_of_slice config) s candidate.1 row) (low_new candidate has))) set
 
   pub scanned_more :
       ((column : ℕ) → column < columns_of_slice config →
       All (λ row. (s : ℕ) × Contains token.slices s × IsCommitted before.front s (bit_of_row (words_of_slice config) slice column row)) plan → Contains columns column) →
       All (λ column. column < columns_of_slice config) columns → IsStrictlySortedBy nat_cmp columns →
-      All (λ column. All (λ row. WasReadUnder after token (bit_of_row (words_of_slice config) slice column row)) plan) columns →
+      All (λ column. All (λ row. WasReadUnder after token.opened_at (bit_of_row (words_of_slice config) slice column row)) plan) columns →
       AreScannedBelow config after token words (slice + 1) (old ++ candidates_of slice columns)
   scanned_more covered in_slice rising seen = record {
     of_token = λ candidate has. ⊎_elim (of_old candidate) (of_new in_slice candidate) (Contains-append_cases old (candidates_of slice columns) candidate has);
@@ -145,6 +149,7 @@ module _ (config : Config) (before after : PassState) (token : Token) (words : L
     read = λ candidate has bit of_document.
         ⊎_elim (λ (h : Contains old candidate). seen_stays bit (scanned.read candidate h bit of_document)) (λ (h : Contains (candidates_of slice columns) candidate). read_new seen candidate h bit of_document)
         (Contains-append_cases old (candidates_of slice columns) candidate has);
+    laid = ap (λ (p : PoolId). p.limits.slice_words) same_pool ∙ scanned.laid;
   }
     where
       here : (s : ℕ) → s < slice + 1 → Contains token.slices s → (column : ℕ) → (s < slice) ⊎ (slice ≤ s) → column < after.pool.limits.columns → HasAllCommitted config after words s column →
@@ -210,6 +215,6 @@ scanned_slice layout before after words plan slice old new kept sizes readable r
     (subst (AreScannedBelow layout after.seat.now before.token.now words (slice + 1)) (sym appends)
     (scanned_more layout before.seat.now after.seat.now before.token.now words plan slice old (appended old new) (ap (λ (k : SharedKept). k.seat_pool) kept) (ap (λ (k : SharedKept). k.front) kept) sizes
     readable rows below
-    (subst (λ (t : Token). (bit : Bit) → WasReadUnder before.seat.now before.token.now bit → WasReadUnder after.seat.now t bit) token seen_stays)
+    (subst (λ (t : Token). (bit : Bit) → WasReadUnder before.seat.now before.token.now.opened_at bit → WasReadUnder after.seat.now t.opened_at bit) token seen_stays)
     covered in_slice rising
-    (subst (λ (t : Token). All (λ column. All (λ row. WasReadUnder after.seat.now t (bit_of_row (words_of_slice layout) slice column row)) plan) (appended old new)) token seen)))
+    (subst (λ (t : Token). All (λ column. All (λ row. WasReadUnder after.seat.now t.opened_at (bit_of_row (words_of_slice layout) slice column row)) plan) (appended old new)) token seen)))

@@ -1,7 +1,8 @@
 -- A pass of an engine as the caller whose requests it answers.
 use Rattle.line_proto.specs.Services.{Caller}
-use Rattle.slice_rule.specs.Seats.{PassState}
+use Rattle.funnel_model.specs.Legal.{Limits}
+use Rattle.engine.specs.Passes.{PassView}
 
 -- its number, and the limits of its engine
-abbrev pub caller_of : PassState → Caller
-caller_of pass = record { limits = pass.pool.limits; pass = pass.number }
+abbrev pub caller_of : Limits → PassView → Caller
+caller_of limits pass = record { limits = limits; pass = pass.number }

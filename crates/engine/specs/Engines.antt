@@ -7,6 +7,7 @@ use Rattle.funnel_model.specs.declared.config.Config.{Config}
 use Rattle.funnel_model.specs.declared.event.Event.{Event}
 use Rattle.funnel_model.specs.History.{IsFrontOf, commits_after, own}
 use Rattle.funnel_model.specs.Sizes.{words_of_slice}
+use Rattle.engine.specs.Passes.{PassView}
 use Rattle.slice_rule.specs.Pools.{PoolId, limits_of}
 use Rattle.slice_rule.specs.Seats.{HomeState, PassState, new_home_state, new_pass_state}
 
@@ -44,9 +45,9 @@ pub record IsClosed (closed : ClosedState) : Type 0 where
   pub events : closed.events ≡ length closed.history
 
 -- the history goes on from what the pass had seen, without a further event of the pass
-abbrev pub EndsIn : List Event → PassState → Type 0
+abbrev pub EndsIn : List Event → PassView → Type 0
 EndsIn history pass = IsFrontOf pass.number pass.front history
 
 -- so it has each call of the pass once, and no other call of it
-abbrev pub HasItsCalls : List Event → PassState → Type 0
+abbrev pub HasItsCalls : List Event → PassView → Type 0
 HasItsCalls history pass = own pass.number history ≡ own pass.number pass.front

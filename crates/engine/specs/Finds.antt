@@ -10,10 +10,11 @@ use Rattle.funnel_model.specs.Tokens.{HasToken}
 use Rattle.funnel_model.specs.Words.{AreWordsOf}
 use Rattle.commit_desk.specs.Answers.{IsSpentAt, TakesCalls}
 use Rattle.commit_desk.specs.Passes.{IsFinding}
-use Rattle.commit_desk.specs.Resolving.{AreGiven, GiveAll}
+use Rattle.commit_desk.specs.Resolving.{AreGiven, GiveAll, IsRestOf}
 use Rattle.commit_desk.specs.Scans.{WereScanned}
 use Rattle.engine.specs.declared.finding.FindFault.{FindFault}
 use Rattle.engine.specs.declared.finding.FindFault.TheVariants as find
+use Rattle.engine.specs.Passes.{PassView, view_of}
 use Rattle.row_layout.specs.declared.row.Row.{Row}
 use Rattle.row_layout.specs.Orders.{HasRowsOf}
 use Rattle.row_layout.specs.Rows.{IsRowOf}
@@ -22,29 +23,31 @@ use Rattle.slice_rule.specs.Pools.{PoolId}
 use Rattle.slice_rule.specs.Seats.{PassState}
 
 -- the last event that the pass has seen began its find of this query, after these events
-abbrev pub IsBegunAt : PassState → List Event → List ℕ → Type 0
+abbrev pub IsBegunAt : PassView → List Event → List ℕ → Type 0
 IsBegunAt pass earlier query = pass.front ≡ earlier ++ event.Find pass.number query ∷ []
 
 -- the last event that the pass has seen began its find
 pub record HasJustBegun (pass : PassState) : Type 0 where
   pub earlier : List Event
   pub query : List ℕ
-  pub at : IsBegunAt pass earlier query
+  pub at : IsBegunAt (view_of pass) earlier query
 
--- the pass has a find open, which the last event that it has seen began, and which scans for these words: those of its query, by a plan of their rows
-pub record IsScanFor (pool : PoolId) (pass : PassState) (token : Token) (words : List (List ℕ)) (plan : List Row) : Type 0 where
+-- the pass has a find open, which the last event that it has seen began, and which scans for these words: those of its query, by a plan of
+-- their rows; the documents that the scan finds are to have the rest of them
+pub record IsScanFor (pool : PoolId) (pass : PassState) (token : Token) (words rest : List (List ℕ)) (plan : List Row) : Type 0 where
   pub finding : IsFinding pool token pass
   pub begun : HasJustBegun pass
-  pub of_query : (earlier : List Event) (query : List ℕ) → IsBegunAt pass earlier query → AreWordsOf words query
+  pub of_query : (earlier : List Event) (query : List ℕ) → IsBegunAt (view_of pass) earlier query → AreWordsOf words query
+  pub rest_of : (earlier : List Event) (query : List ℕ) → IsBegunAt (view_of pass) earlier query → IsRestOf pool.config query rest
   pub rows : HasRowsOf pool.config words plan
   pub laid : All (IsRowOf pool.config) plan
 
--- A find between its turns. Its candidates were scanned for the words of its query, there is room for all that are left, and what those
--- before this one give is found: by the history before the find, whatever came since.
-pub record IsFoundUpTo (pool : PoolId) (pass : PassState) (token : Token) (words : List (List ℕ)) (candidates : List (ℕ × ℕ)) (found : FoundState) (from : ℕ) : Type 0 where
+-- A find between its turns. Its candidates were scanned for the words of its query, and their documents are to have the rest of them; there
+-- is room for all that are left, and what those before this one give is found: by the history before the find, whatever came since.
+pub record IsFoundUpTo (pool : PoolId) (pass : PassState) (token : Token) (rest : List (List ℕ)) (candidates : List (ℕ × ℕ)) (found : FoundState) (from : ℕ) : Type 0 where
   pub finding : IsFinding pool token pass
-  pub of_query : (begun : HasToken pass.front pass.number token.opened_at) → AreWordsOf words begun.query
-  pub scanned : WereScanned pool.config pass token words candidates
+  pub rest_of : (begun : HasToken pass.front pass.number token.opened_at) → IsRestOf pool.config begun.query rest
+  pub scanned : WereScanned pool.config pass token candidates
   pub within : from ≤ length candidates
   pub room : length candidates ≤ found.room + from
   pub given : (begun : HasToken pass.front pass.number token.opened_at) → AreGiven begun.earlier begun.query (take from candidates) found.found

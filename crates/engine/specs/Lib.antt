@@ -3,5 +3,8 @@ pub mod Clients
 pub mod Engines
 pub mod Finds
 pub mod Moves
+pub mod Passes
 pub mod Replies
 pub mod Scans
+pub mod Laws
+pub mod Turns

@@ -2,16 +2,17 @@
 ghost use Rattle.std.specs.Prelude.{◌≡◌, ℕ, List, ◌≤◌, [], IfOk, MatchResult, vec_capacity};
 ghost use Rattle.funnel_model.specs.declared.call.Call.TheVariants as call;
 ghost use Rattle.funnel_model.specs.Legal.{IsLegal};
-ghost use Rattle.funnel_model.specs.Steps.{Step};
 ghost use Rattle.funnel_model.specs.Words.{AreWordsOf};
 ghost use Rattle.commit_desk.specs.declared.answers.Taken.TheVariants as taken;
 ghost use Rattle.commit_desk.specs.Passes.{HasWritten, IsResting, IsToWrite};
 ghost use Rattle.engine.specs.Adds.{AddTurns, ClaimTurns, OwnTurns, TakeTurn, fault_of_drop};
+ghost use Rattle.engine.specs.Passes.{MakesCall};
 ghost use Rattle.engine.specs.Replies.{reply_of_add};
 ghost use Rattle.row_layout.specs.DocumentBits.{CanPlace};
 ghost use Rattle.row_layout.specs.Orders.{HasRowsOf};
 
 use crate::engine::Engine;
+use crate::pass::Pass;
 use crate::work::{Direct, Work};
 use commit_desk::{AddFault, CommitFault, Taken, ToClear};
 use document_store::Doc;
@@ -37,15 +38,12 @@ impl<N: PoolName> Engine<N> {
         &self,
         rt: &R,
         alloc: Global,
-        pass: &mut PassSeat,
+        pass: &mut Pass<N>,
         id: u64,
         text: &str,
     ) -> Result<u64, AddFault>
-        requires pass { IsResting self.now pass.old }
-        ensures step { Step self.now.limits pass.old.number pass.old.front pass.new.front (call.Add id text.now) (reply_of_add result) }
-        ensures turns { AddTurns self.now.config self.now.limits pass.old.number id text.now pass.old.front pass.new.front result }
-        ensures rests { IsResting self.now pass.new }
-        ensures number { pass.new.number ≡ pass.old.number }
+        ensures call { MakesCall N.pool.limits (call.Add id text.now) (reply_of_add result) pass.old pass.new }
+        ensures turns { AddTurns N.pool.config N.pool.limits pass.old.number id text.now pass.old.front pass.new.front result }
     {
         self.add_by(rt, alloc, pass, id, text, &mut Direct)
     }
@@ -56,23 +54,20 @@ impl<N: PoolName> Engine<N> {
         &self,
         rt: &R,
         alloc: Global,
-        pass: &mut PassSeat,
+        pass: &mut Pass<N>,
         id: u64,
         text: &str,
         work: &mut W,
     ) -> Result<u64, AddFault>
-        requires pass { IsResting self.now pass.old }
-        ensures step { Step self.now.limits pass.old.number pass.old.front pass.new.front (call.Add id text.now) (reply_of_add result) }
-        ensures turns { AddTurns self.now.config self.now.limits pass.old.number id text.now pass.old.front pass.new.front result }
-        ensures rests { IsResting self.now pass.new }
-        ensures number { pass.new.number ≡ pass.old.number }
+        ensures call { MakesCall N.pool.limits (call.Add id text.now) (reply_of_add result) pass.old pass.new }
+        ensures turns { AddTurns N.pool.config N.pool.limits pass.old.number id text.now pass.old.front pass.new.front result }
     {
-        let _ = pass.number();
+        let _ = pass.seat.number();
         match self.prepare(alloc, id, text) {
             Ok(prepared) => {
                 let (doc, bits, room) = prepared;
-                self.move_some(rt, alloc, pass, id, work);
-                self.add_prepared(rt, pass, doc, bits, room, work)
+                self.move_some(rt, alloc, &mut pass.seat, id, work);
+                self.add_prepared(rt, &mut pass.seat, doc, bits, room, work)
             }
             Err(Memory) => Err(AddFault::Memory),
         }
@@ -88,15 +83,15 @@ impl<N: PoolName> Engine<N> {
         room: Vec<Block>,
         work: &mut W,
     ) -> Result<u64, AddFault>
-        requires rests { IsResting self.now pass.old }
+        requires rests { IsResting N.pool pass.old }
         requires of_text { AreWordsOf doc.words doc.text }
-        requires rows { HasRowsOf self.now.config doc.words bits.rows }
-        requires can_place { CanPlace self.now.config bits.rows }
+        requires rows { HasRowsOf N.pool.config doc.words bits.rows }
+        requires can_place { CanPlace N.pool.config bits.rows }
         requires empty { room.items ≡ [] }
-        requires enough { self.now.limits.slices ≤ vec_capacity room }
-        ensures turns { OwnTurns self.now.config self.now.limits pass.old.number doc.id doc.text pass.old.front pass.new.front result }
-        ensures legal { IsLegal self.now.limits pass.new.front }
-        ensures rests { IsResting self.now pass.new }
+        requires enough { N.pool.limits.slices ≤ vec_capacity room }
+        ensures turns { OwnTurns N.pool.config N.pool.limits pass.old.number doc.id doc.text pass.old.front pass.new.front result }
+        ensures legal { IsLegal N.pool.limits pass.new.front }
+        ensures rests { IsResting N.pool pass.new }
         ensures number { pass.new.number ≡ pass.old.number }
     {
         let claim = self.claim(rt, pass, &doc, room, work)?;
@@ -112,10 +107,10 @@ impl<N: PoolName> Engine<N> {
         ensures id { IfOk result (λ prepared. prepared.0.id ≡ id) }
         ensures text { IfOk result (λ prepared. prepared.0.text ≡ text.now) }
         ensures of_text { IfOk result (λ prepared. AreWordsOf prepared.0.words text.now) }
-        ensures rows { IfOk result (λ prepared. HasRowsOf self.now.config prepared.0.words prepared.1.rows) }
-        ensures can_place { IfOk result (λ prepared. CanPlace self.now.config prepared.1.rows) }
+        ensures rows { IfOk result (λ prepared. HasRowsOf N.pool.config prepared.0.words prepared.1.rows) }
+        ensures can_place { IfOk result (λ prepared. CanPlace N.pool.config prepared.1.rows) }
         ensures empty { IfOk result (λ prepared. prepared.2.items ≡ []) }
-        ensures enough { IfOk result (λ prepared. self.now.limits.slices ≤ vec_capacity prepared.2) }
+        ensures enough { IfOk result (λ prepared. N.pool.limits.slices ≤ vec_capacity prepared.2) }
     {
         let Ok(words) = words(alloc, text) else {
             return Err(Memory);
@@ -135,13 +130,13 @@ impl<N: PoolName> Engine<N> {
         room: Vec<Block>,
         work: &mut W,
     ) -> Result<Claim, AddFault>
-        requires rests { IsResting self.now pass.old }
+        requires rests { IsResting N.pool pass.old }
         requires empty { room.items ≡ [] }
-        requires enough { self.now.limits.slices ≤ vec_capacity room }
-        ensures turns { MatchResult result (λ claim. ClaimTurns self.now.limits pass.old.number doc.now.id doc.now.text pass.old.front pass.new.front claim)
-            (λ fault. TakeTurn self.now.limits pass.old.number doc.now.id doc.now.text pass.old.front pass.new.front (taken.Refused fault)) }
-        ensures next { MatchResult result (λ claim. IsToWrite self.now claim pass.new) (λ _. IsResting self.now pass.new) }
-        ensures legal { IsLegal self.now.limits pass.new.front }
+        requires enough { N.pool.limits.slices ≤ vec_capacity room }
+        ensures turns { MatchResult result (λ claim. ClaimTurns N.pool.limits pass.old.number doc.now.id doc.now.text pass.old.front pass.new.front claim)
+            (λ fault. TakeTurn N.pool.limits pass.old.number doc.now.id doc.now.text pass.old.front pass.new.front (taken.Refused fault)) }
+        ensures next { MatchResult result (λ claim. IsToWrite N.pool claim pass.new) (λ _. IsResting N.pool pass.new) }
+        ensures legal { IsLegal N.pool.limits pass.new.front }
         ensures number { pass.new.number ≡ pass.old.number }
     {
         match self.take(rt, pass, doc, room) {
@@ -163,9 +158,9 @@ impl<N: PoolName> Engine<N> {
         bits: &mut Bits,
         work: &mut W,
     )
-        requires claimed { IsToWrite self.now claim.now pass.old }
-        requires can_place { CanPlace self.now.config bits.old.rows }
-        ensures written { (words : List (List ℕ)) → HasRowsOf self.now.config words bits.old.rows → HasWritten self.now claim.now words bits.new.bits pass.new }
+        requires claimed { IsToWrite N.pool claim.now pass.old }
+        requires can_place { CanPlace N.pool.config bits.old.rows }
+        ensures written { (words : List (List ℕ)) → HasRowsOf N.pool.config words bits.old.rows → HasWritten N.pool claim.now words bits.new.bits pass.new }
         ensures seat { pass.new ≡ record pass.old { own = pass.new.own } }
     {
         bits.place(&self.layout, claim.slice, claim.column);

@@ -1,7 +1,6 @@
 //! A pass of an engine as what answers a client's lines.
 ghost use Rattle.std.specs.Prelude.{◌≡◌};
 ghost use Rattle.funnel_model.specs.declared.call.Call.TheVariants as call;
-ghost use Rattle.commit_desk.specs.Passes.{IsResting};
 ghost use Rattle.engine.specs.Clients.{caller_of};
 ghost use Rattle.engine.specs.Replies.{reply_of_add, reply_of_delete, reply_of_find, reply_of_journal, reply_of_place};
 ghost use Rattle.line_proto.specs.Services.{AnswersCall};
@@ -9,40 +8,38 @@ ghost use Rattle.slice_recycler.specs.Recycles.{reply_of_recycle};
 
 use crate::engine::Engine;
 use crate::finding::FindFault;
+use crate::pass::Pass;
 use commit_desk::{AddFault, DeleteFault, JournalFault, Spent};
 use funnel_model::{Commits, Ids, Reply};
 use line_proto::{Request, Service};
 use slice_recycler::Recycled;
-use slice_rule::{PassSeat, PoolName};
+use slice_rule::PoolName;
 use std::alloc::Global;
 use std::marker::Model;
 use std::sync::Wait;
 
 /// A pass of an engine that answers requests, one after another. It is a `Service`, whose calls wait for the engine's lock
-/// as the engine's own do. Contracts see the pass, which is one of the engine and is not in the middle of a call.
+/// as the engine's own do. Contracts see the pass.
 #[derive(Drop)]
 pub struct Client<'a, N: PoolName, R: Wait> {
     pub engine: &'a Engine<N>,
-    pub pass: PassSeat,
+    pub pass: Pass<N>,
     pub rt: &'a R,
     pub alloc: Global,
 }
 
 impl<'a, N: PoolName, R: Wait> Model for Client<'a, N, R> {
-    ghost use Rattle.commit_desk.specs.Passes.{IsResting};
-    ghost use Rattle.slice_rule.specs.Seats.{PassState};
+    ghost use Rattle.engine.specs.Passes.{PassView};
 
-    ghost Value = { PassState };
+    ghost Value = { PassView };
 
     ghost view = { λ c. c.pass };
-
-    ghost invariant = { λ c. IsResting N.pool c.pass };
 }
 
 impl<'a, N: PoolName, R: Wait> Service for Client<'a, N, R> {
     ghost use Rattle.engine.specs.Clients.{caller_of};
 
-    ghost caller = { λ pass. caller_of pass };
+    ghost caller = { λ pass. caller_of N.pool.limits pass };
 
     ghost front = { λ pass. pass.front };
 
@@ -59,61 +56,52 @@ impl<'a, N: PoolName, R: Wait> Service for Client<'a, N, R> {
 }
 
 impl<'a, N: PoolName, R: Wait> Client<'a, N, R> {
-    // The engine. It is read here, by which the caller knows that its pool is the one that the pass is of.
-    fn engine(&self) -> &'a Engine<N>
-        ensures { result.now ≡ N.pool }
-    {
-        let engine: &'a Engine<N> = self.engine;
-        let _ = &engine.pool;
-        engine
-    }
-
     fn add(&mut self, id: u64, text: &str) -> Reply
-        ensures caller { caller_of self.new ≡ caller_of self.old }
-        ensures answers { AnswersCall (caller_of self.old) self.old.front self.new.front (call.Add id text.now) result }
+        ensures caller { caller_of N.pool.limits self.new ≡ caller_of N.pool.limits self.old }
+        ensures answers { AnswersCall (caller_of N.pool.limits self.old) self.old.front self.new.front (call.Add id text.now) result }
     {
-        let engine = self.engine();
-        reply_to_add(engine.add(self.rt, self.alloc, &mut self.pass, id, text))
+        reply_to_add(
+            self.engine
+                .add(self.rt, self.alloc, &mut self.pass, id, text),
+        )
     }
 
     fn delete(&mut self, id: u64) -> Reply
-        ensures caller { caller_of self.new ≡ caller_of self.old }
-        ensures answers { AnswersCall (caller_of self.old) self.old.front self.new.front (call.Delete id) result }
+        ensures caller { caller_of N.pool.limits self.new ≡ caller_of N.pool.limits self.old }
+        ensures answers { AnswersCall (caller_of N.pool.limits self.old) self.old.front self.new.front (call.Delete id) result }
     {
-        let engine = self.engine();
-        reply_to_delete(engine.delete(self.rt, &mut self.pass, id))
+        reply_to_delete(self.engine.delete(self.rt, &mut self.pass, id))
     }
 
     fn find(&mut self, query: &str) -> Reply
-        ensures caller { caller_of self.new ≡ caller_of self.old }
-        ensures answers { AnswersCall (caller_of self.old) self.old.front self.new.front (call.Find query.now) result }
+        ensures caller { caller_of N.pool.limits self.new ≡ caller_of N.pool.limits self.old }
+        ensures answers { AnswersCall (caller_of N.pool.limits self.old) self.old.front self.new.front (call.Find query.now) result }
     {
-        let engine = self.engine();
-        reply_to_find(engine.find(self.rt, self.alloc, &mut self.pass, query))
+        reply_to_find(self.engine.find(self.rt, self.alloc, &mut self.pass, query))
     }
 
     fn place(&mut self) -> Reply
-        ensures caller { caller_of self.new ≡ caller_of self.old }
-        ensures answers { AnswersCall (caller_of self.old) self.old.front self.new.front call.Place result }
+        ensures caller { caller_of N.pool.limits self.new ≡ caller_of N.pool.limits self.old }
+        ensures answers { AnswersCall (caller_of N.pool.limits self.old) self.old.front self.new.front call.Place result }
     {
-        let engine = self.engine();
-        reply_to_place(engine.place(self.rt, &mut self.pass))
+        reply_to_place(self.engine.place(self.rt, &mut self.pass))
     }
 
     fn journal(&mut self, from: u64) -> Reply
-        ensures caller { caller_of self.new ≡ caller_of self.old }
-        ensures answers { AnswersCall (caller_of self.old) self.old.front self.new.front (call.Journal from) result }
+        ensures caller { caller_of N.pool.limits self.new ≡ caller_of N.pool.limits self.old }
+        ensures answers { AnswersCall (caller_of N.pool.limits self.old) self.old.front self.new.front (call.Journal from) result }
     {
-        let engine = self.engine();
-        reply_to_journal(engine.journal(self.rt, self.alloc, &mut self.pass, from))
+        reply_to_journal(
+            self.engine
+                .journal(self.rt, self.alloc, &mut self.pass, from),
+        )
     }
 
     fn recycle(&mut self) -> Reply
-        ensures caller { caller_of self.new ≡ caller_of self.old }
-        ensures answers { AnswersCall (caller_of self.old) self.old.front self.new.front call.Recycle result }
+        ensures caller { caller_of N.pool.limits self.new ≡ caller_of N.pool.limits self.old }
+        ensures answers { AnswersCall (caller_of N.pool.limits self.old) self.old.front self.new.front call.Recycle result }
     {
-        let engine = self.engine();
-        reply_to_recycle(engine.recycle(self.rt, &mut self.pass))
+        reply_to_recycle(self.engine.recycle(self.rt, &mut self.pass))
     }
 }
 

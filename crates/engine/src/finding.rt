@@ -4,16 +4,17 @@ ghost use Rattle.funnel_model.specs.declared.call.Call.TheVariants as call;
 ghost use Rattle.funnel_model.specs.declared.event.Event.{Event};
 ghost use Rattle.funnel_model.specs.History.{answer};
 ghost use Rattle.funnel_model.specs.Legal.{IsLegal};
-ghost use Rattle.funnel_model.specs.Steps.{AddsCall, AddsNone, Step};
 ghost use Rattle.commit_desk.specs.Passes.{IsResting};
 ghost use Rattle.commit_desk.specs.Scans.{AreScanned};
 ghost use Rattle.engine.specs.Finds.{FindBegins, FindEnds, FindTurns, IsAllFound, IsBegunAt, IsFoundUpTo, IsScanFor, RefusedTurns};
+ghost use Rattle.engine.specs.Passes.{BeginsCall, MakesCall, MakesNoCall, view_of};
 ghost use Rattle.engine.specs.Replies.{reply_of_find, reply_of_find_fault};
 ghost use Rattle.engine.specs.Scans.{AreScannedBelow, CanScan};
 ghost use Rattle.row_read.specs.SharedRows.{kept_of};
 
 use crate::engine::Engine;
 use crate::open_find::{Begun, OpenFind};
+use crate::pass::Pass;
 use crate::work::{Direct, Work};
 use commit_desk::Spent;
 use document_store::Found;
@@ -43,14 +44,11 @@ impl<N: PoolName> Engine<N> {
         &self,
         rt: &R,
         alloc: Global,
-        pass: &mut PassSeat,
+        pass: &mut Pass<N>,
         query: &str,
     ) -> Result<Ids, FindFault>
-        requires pass { IsResting self.now pass.old }
-        ensures step { Step self.now.limits pass.old.number pass.old.front pass.new.front (call.Find query.now) (reply_of_find result) }
-        ensures turns { FindTurns self.now.limits pass.old.number query.now pass.old.front pass.new.front result }
-        ensures rests { IsResting self.now pass.new }
-        ensures number { pass.new.number ≡ pass.old.number }
+        ensures call { MakesCall N.pool.limits (call.Find query.now) (reply_of_find result) pass.old pass.new }
+        ensures turns { FindTurns N.pool.limits pass.old.number query.now pass.old.front pass.new.front result }
     {
         self.find_by(rt, alloc, pass, query, &mut Direct)
     }
@@ -60,21 +58,18 @@ impl<N: PoolName> Engine<N> {
         &self,
         rt: &R,
         alloc: Global,
-        pass: &mut PassSeat,
+        pass: &mut Pass<N>,
         query: &str,
         work: &mut W,
     ) -> Result<Ids, FindFault>
-        requires pass { IsResting self.now pass.old }
-        ensures step { Step self.now.limits pass.old.number pass.old.front pass.new.front (call.Find query.now) (reply_of_find result) }
-        ensures turns { FindTurns self.now.limits pass.old.number query.now pass.old.front pass.new.front result }
-        ensures rests { IsResting self.now pass.new }
-        ensures number { pass.new.number ≡ pass.old.number }
+        ensures call { MakesCall N.pool.limits (call.Find query.now) (reply_of_find result) pass.old pass.new }
+        ensures turns { FindTurns N.pool.limits pass.old.number query.now pass.old.front pass.new.front result }
     {
-        let begun = self.begin(rt, alloc, pass, query)?;
-        match self.finish(rt, alloc, pass, begun, work) {
-            Ok(ids) => Ok(ids),
-            Err(Memory) => Err(FindFault::Memory),
-        }
+        let begun = self.begin(rt, alloc, &mut pass.seat, query)?;
+        let Ok(ids) = self.finish(rt, alloc, &mut pass.seat, begun, work) else {
+            return Err(FindFault::Memory);
+        };
+        Ok(ids)
     }
 
     /// Begins a find, which `finish_find` answers by what is live now, whatever others do meanwhile. It waits for the lock once,
@@ -84,24 +79,18 @@ impl<N: PoolName> Engine<N> {
         &self,
         rt: &R,
         alloc: Global,
-        pass: PassSeat,
+        pass: Pass<N>,
         query: &str,
-    ) -> Result<OpenFind, (PassSeat, FindFault)>
-        requires pass { IsResting self.now pass }
-        ensures begun { IfOk result (λ find. FindBegins self.now.limits pass.number query.now pass.front find.front) }
-        ensures call { IfOk result (λ find. AddsCall pass.number pass.front find.front (call.Find query.now)) }
-        ensures legal { IfOk result (λ find. IsLegal self.now.limits find.front) }
-        ensures of_engine { IfOk result (λ find. find.pool ≡ self.now) }
-        ensures number { IfOk result (λ find. find.number ≡ pass.number) }
-        ensures refused { IfErr result (λ refused. Step self.now.limits pass.number pass.front refused.0.front (call.Find query.now) (reply_of_find_fault refused.1)) }
-        ensures turns { IfErr result (λ refused. RefusedTurns self.now.limits pass.number pass.front refused.0.front refused.1) }
-        ensures rests { IfErr result (λ refused. IsResting self.now refused.0) }
-        ensures same { IfErr result (λ refused. refused.0.number ≡ pass.number) }
+    ) -> Result<OpenFind<N>, (Pass<N>, FindFault)>
+        ensures begun { IfOk result (λ find. BeginsCall N.pool.limits (call.Find query.now) pass find) }
+        ensures turn { IfOk result (λ find. FindBegins N.pool.limits pass.number query.now pass.front find.front) }
+        ensures refused { IfErr result (λ refused. MakesCall N.pool.limits (call.Find query.now) (reply_of_find_fault refused.1) pass refused.0) }
+        ensures turns { IfErr result (λ refused. RefusedTurns N.pool.limits pass.number pass.front refused.0.front refused.1) }
     {
-        let mut pass = pass;
-        match self.begin(rt, alloc, &mut pass, query) {
-            Ok(begun) => Ok(OpenFind { pass, begun }),
-            Err(fault) => Err((pass, fault)),
+        let Pass { mut seat, of } = pass;
+        match self.begin(rt, alloc, &mut seat, query) {
+            Ok(begun) => Ok(OpenFind { seat, begun, of }),
+            Err(fault) => Err((Pass { seat, of }, fault)),
         }
     }
 
@@ -111,22 +100,22 @@ impl<N: PoolName> Engine<N> {
         &self,
         rt: &R,
         alloc: Global,
-        find: OpenFind,
-    ) -> (PassSeat, Result<Ids, Memory>)
-        requires find { find.pool ≡ self.now }
+        find: OpenFind<N>,
+    ) -> (Pass<N>, Result<Ids, Memory>)
         ensures found { IfOk result.1 (λ ids. (earlier : List Event) (query : List ℕ) → IsBegunAt find earlier query → ids ≡ answer earlier query) }
         ensures ended { FindEnds find.number find.front result.0.front }
-        ensures calls { AddsNone find.number find.front result.0.front }
-        ensures legal { IsLegal self.now.limits result.0.front }
-        ensures rests { IsResting self.now result.0 }
-        ensures number { result.0.number ≡ find.number }
+        ensures pass { MakesNoCall N.pool.limits find result.0 }
     {
-        let OpenFind { mut pass, begun } = find;
-        let answer = self.finish(rt, alloc, &mut pass, begun, &mut Direct);
-        (pass, answer)
+        let OpenFind {
+            mut seat,
+            begun,
+            of,
+        } = find;
+        let answer = self.finish(rt, alloc, &mut seat, begun, &mut Direct);
+        (Pass { seat, of }, answer)
     }
 
-    // Begins a find, after it took its words and planned their rows.
+    // Begins a find, after it took its words, planned their rows, and set aside those of them that bits don't tell.
     fn begin<R: Wait>(
         &self,
         rt: &R,
@@ -134,23 +123,29 @@ impl<N: PoolName> Engine<N> {
         pass: &mut PassSeat,
         query: &str,
     ) -> Result<Begun, FindFault>
-        requires pass { IsResting self.now pass.old }
-        ensures begun { IfOk result (λ begun. IsScanFor self.now pass.new begun.token begun.words begun.plan) }
-        ensures turns { MatchResult result (λ _. FindBegins self.now.limits pass.old.number query.now pass.old.front pass.new.front)
-            (λ fault. RefusedTurns self.now.limits pass.old.number pass.old.front pass.new.front fault) }
-        ensures rests { IfErr result (λ _. IsResting self.now pass.new) }
-        ensures legal { IsLegal self.now.limits pass.new.front }
+        requires pass { IsResting N.pool pass.old }
+        ensures begun { IfOk result (λ begun. IsScanFor N.pool pass.new begun.token begun.words begun.rest begun.plan) }
+        ensures turns { MatchResult result (λ _. FindBegins N.pool.limits pass.old.number query.now pass.old.front pass.new.front)
+            (λ fault. RefusedTurns N.pool.limits pass.old.number pass.old.front pass.new.front fault) }
+        ensures rests { IfErr result (λ _. IsResting N.pool pass.new) }
+        ensures legal { IsLegal N.pool.limits pass.new.front }
         ensures number { pass.new.number ≡ pass.old.number }
     {
         let _ = pass.number();
         let Ok(words) = words(alloc, query) else {
             return Err(FindFault::Memory);
         };
-        let Ok(plan) = plan(alloc, &self.layout, &words) else {
+        let Ok(planned) = plan(alloc, &self.layout, &words) else {
             return Err(FindFault::Memory);
         };
+        let (plan, rest) = planned;
         match self.open_find(rt, pass, query) {
-            Ok(token) => Ok(Begun { token, words, plan }),
+            Ok(token) => Ok(Begun {
+                token,
+                words,
+                rest,
+                plan,
+            }),
             Err(Spent { events }) => Err(FindFault::Spent(events)),
         }
     }
@@ -164,22 +159,23 @@ impl<N: PoolName> Engine<N> {
         begun: Begun,
         work: &mut W,
     ) -> Result<Ids, Memory>
-        requires begun { IsScanFor self.now pass.old begun.token begun.words begun.plan }
-        ensures found { IfOk result (λ ids. (earlier : List Event) (query : List ℕ) → IsBegunAt pass.old earlier query → ids ≡ answer earlier query) }
+        requires begun { IsScanFor N.pool pass.old begun.token begun.words begun.rest begun.plan }
+        ensures found { IfOk result (λ ids. (earlier : List Event) (query : List ℕ) → IsBegunAt (view_of pass.old) earlier query → ids ≡ answer earlier query) }
         ensures ended { FindEnds pass.old.number pass.old.front pass.new.front }
-        ensures rests { IsResting self.now pass.new }
-        ensures legal { IsLegal self.now.limits pass.new.front }
+        ensures rests { IsResting N.pool pass.new }
+        ensures legal { IsLegal N.pool.limits pass.new.front }
         ensures number { pass.new.number ≡ pass.old.number }
     {
         match self.scan(alloc, pass, &begun, work) {
             Ok((candidates, found, ids)) => {
                 let Begun {
                     token,
-                    words,
+                    words: _,
+                    rest,
                     plan: _,
                 } = begun;
                 let mut found = found;
-                self.resolve(rt, pass, token, &candidates, &words, &mut found);
+                self.resolve(rt, pass, token, &candidates, &rest, &mut found);
                 found.sort();
                 Ok(found.into_ids(ids))
             }
@@ -187,6 +183,7 @@ impl<N: PoolName> Engine<N> {
                 let Begun {
                     token,
                     words: _,
+                    rest: _,
                     plan: _,
                 } = begun;
                 self.drop_find(rt, pass, token);
@@ -202,20 +199,20 @@ impl<N: PoolName> Engine<N> {
         pass: &mut PassSeat,
         token: Token,
         candidates: &Candidates,
-        words: &WordSet,
+        rest: &WordSet,
         out: &mut Found,
     )
-        requires so_far { IsFoundUpTo self.now pass.old token words.now candidates.now out.old 0 }
+        requires so_far { IsFoundUpTo N.pool pass.old token rest.now candidates.now out.old 0 }
         ensures found { IsAllFound pass.old token candidates.now out.new.found }
         ensures ended { FindEnds pass.old.number pass.old.front pass.new.front }
-        ensures rests { IsResting self.now pass.new }
+        ensures rests { IsResting N.pool pass.new }
         ensures number { pass.new.number ≡ pass.old.number }
-        ensures legal { IsLegal self.now.limits pass.new.front }
+        ensures legal { IsLegal N.pool.limits pass.new.front }
     {
         let mut token = token;
         let mut from = 0;
         while let Some((open, next)) = self.resolve_turn(
-            rt, pass, token, candidates, from, words, out,
+            rt, pass, token, candidates, from, rest, out,
         ) {
             token = open;
             from = next;
@@ -230,8 +227,8 @@ impl<N: PoolName> Engine<N> {
         begun: &Begun,
         work: &mut W,
     ) -> Result<(Candidates, Found, Vec<u64>), Memory>
-        requires begun { IsScanFor self.now pass.old begun.now.token begun.now.words begun.now.plan }
-        ensures scanned { IfOk result (λ scanned. AreScanned self.now.config pass.new begun.now.token begun.now.words scanned.0) }
+        requires begun { IsScanFor N.pool pass.old begun.now.token begun.now.words begun.now.rest begun.now.plan }
+        ensures scanned { IfOk result (λ scanned. AreScanned N.pool.config pass.new begun.now.token begun.now.words scanned.0) }
         ensures none { IfOk result (λ scanned. scanned.1.found ≡ []) }
         ensures room { IfOk result (λ scanned. length scanned.0 ≤ scanned.1.room) }
         ensures ids { IfOk result (λ scanned. scanned.2.items ≡ []) }
@@ -253,9 +250,9 @@ impl<N: PoolName> Engine<N> {
         work: &mut W,
         out: &mut Candidates,
     ) -> Result<(), Memory>
-        requires begun { IsScanFor self.now pass.old begun.now.token begun.now.words begun.now.plan }
+        requires begun { IsScanFor N.pool pass.old begun.now.token begun.now.words begun.now.rest begun.now.plan }
         requires empty { out.old ≡ [] }
-        ensures scanned { IfOk result (λ _. AreScanned self.now.config pass.new begun.now.token begun.now.words out.new) }
+        ensures scanned { IfOk result (λ _. AreScanned N.pool.config pass.new begun.now.token begun.now.words out.new) }
         ensures seat { pass.new ≡ record pass.old { own = pass.new.own; told = pass.new.told } }
     {
         let mut rows = Shared::new(&self.pool, pass, &begun.token);
@@ -270,9 +267,9 @@ impl<N: PoolName> Engine<N> {
         work: &mut W,
         out: &mut Candidates,
     ) -> Result<(), Memory>
-        requires scan { CanScan self.now rows.old begun.now.words begun.now.plan }
+        requires scan { CanScan N.pool rows.old begun.now.words begun.now.plan }
         requires empty { out.old ≡ [] }
-        ensures scanned { IfOk result (λ _. AreScanned self.now.config rows.new.seat.now rows.new.token.now begun.now.words out.new) }
+        ensures scanned { IfOk result (λ _. AreScanned N.pool.config rows.new.seat.now rows.new.token.now begun.now.words out.new) }
         ensures kept { kept_of rows.new ≡ kept_of rows.old }
     {
         for slice in 0..self.slices {
@@ -290,10 +287,10 @@ impl<N: PoolName> Engine<N> {
         work: &mut W,
         out: &mut Candidates,
     ) -> Result<(), Memory>
-        requires scan { CanScan self.now rows.old begun.now.words begun.now.plan }
-        requires slice { slice < self.now.limits.slices }
-        requires below { AreScannedBelow self.now.config rows.old.seat.now rows.old.token.now begun.now.words slice out.old }
-        ensures scanned { IfOk result (λ _. AreScannedBelow self.now.config rows.new.seat.now rows.new.token.now begun.now.words (slice + 1) out.new) }
+        requires scan { CanScan N.pool rows.old begun.now.words begun.now.plan }
+        requires slice { slice < N.pool.limits.slices }
+        requires below { AreScannedBelow N.pool.config rows.old.seat.now rows.old.token.now begun.now.words slice out.old }
+        ensures scanned { IfOk result (λ _. AreScannedBelow N.pool.config rows.new.seat.now rows.new.token.now begun.now.words (slice + 1) out.new) }
         ensures kept { kept_of rows.new ≡ kept_of rows.old }
     {
         let layout = &self.layout;

@@ -7,50 +7,87 @@
 //! each once.
 //!
 //! A program makes a `Blank`, and hands it to a function over a name of its pool, in which it opens the engine, uses it and
-//! closes it. The caller picks the name: `use_engine::<Brand, _>(&rt, alloc, &config, blank)`.
+//! closes it. The type of an engine, and of what it hands out, has that name: a pass is one of the engine with the same name, and
+//! rests whenever a caller has it. So no call asks for anything but the arguments that its types say.
 //!
 //! ```text
+//! use engine::{Blank, Closed, Config, Engine, Memory, Pass, PoolName};
+//! use std::alloc::Global;
+//! use std::sync::Wait;
+//! use std::thread::{Threads, join};
+//!
+//! /// Opens an engine, has two threads use it, and closes it.
 //! fn use_engine<N: PoolName + Send + Sync, R: Threads + Wait + Sync>(
 //!     rt: &R,
 //!     alloc: Global,
 //!     config: &Config,
 //!     blank: Blank,
-//! ) -> Result<(Closed, bool), Fail> {
+//! ) -> Result<(Closed, bool), Memory>
+//!     requires made_with { blank.config ≡ config.now }
+//!     requires named { blank ≡ N.pool }
+//! {
 //!     let (engine, mut passes) = Engine::<N>::open(alloc, config, blank)?;
-//!     let second = passes.pop().ok_or("a second pass")?;
-//!     let first = passes.pop().ok_or("a first pass")?;
-//!     let ((first, one), (second, two)) = join(
-//!         rt,
-//!         || add_and_find(rt, alloc, &engine, first, 7),
-//!         || add_and_find(rt, alloc, &engine, second, 9),
-//!     );
-//!     Ok((engine.close(vec![in alloc; first, second]?), one && two))
+//!     let found = find_beside(rt, alloc, &engine, &mut passes);
+//!     Ok((engine.close(passes), found))
 //! }
 //!
+//! /// Has each of the first two passes add a document and find it, each on a thread of its own.
+//! fn find_beside<N: PoolName + Send + Sync, R: Threads + Wait + Sync>(
+//!     rt: &R,
+//!     alloc: Global,
+//!     engine: &Engine<N>,
+//!     passes: &mut [Pass<N>],
+//! ) -> bool {
+//!     let Some((first, others)) = passes.split_first_mut() else {
+//!         return false;
+//!     };
+//!     let Some(second) = others.first_mut() else {
+//!         return false;
+//!     };
+//!     let (one, two) = join(
+//!         rt,
+//!         move || add_and_find(rt, alloc, engine, first, 7),
+//!         move || add_and_find(rt, alloc, engine, second, 9),
+//!     );
+//!     one && two
+//! }
+//!
+//! /// Adds a document, and finds it. Other passes may add and delete beside it.
 //! fn add_and_find<N: PoolName, R: Wait>(
 //!     rt: &R,
 //!     alloc: Global,
 //!     engine: &Engine<N>,
-//!     mut pass: Pass,
+//!     pass: &mut Pass<N>,
 //!     id: u64,
-//! ) -> (Pass, bool) {
-//!     let added = engine.add(rt, alloc, &mut pass, id, "The cat sat").is_ok();
-//!     let found = match engine.find(rt, alloc, &mut pass, "CAT") {
-//!         Ok(ids) => ids.as_slice().contains(&id),
+//! ) -> bool {
+//!     let added = engine.add(rt, alloc, pass, id, "The cat sat").is_ok();
+//!     match engine.find(rt, alloc, pass, "CAT") {
+//!         Ok(ids) => added && ids.as_slice().contains(&id),
 //!         Err(_) => false,
-//!     };
-//!     (pass, added && found)
+//!     }
 //! }
 //! ```
 //!
-//! This program, with the clauses that tie a pass to its engine, is a proved test (`example.rt` of the crate `engine_tests`).
+//! Its caller makes the blank of a valid configuration, by `Blank::new(alloc, &config)?`, and picks the name:
+//! `use_engine::<Brand, _>(&rt, alloc, &config, blank)?`, with `Brand` of `std::marker`. A line in the caller's `Invariants.antt` says
+//! which pool that is: `ghosts-use_engine g a = record { pool = a.blank }`. This program is a proved test (`example.rt` of the crate
+//! `engine_tests`).
 //!
-//! The calls that make events wait for the lock. No column is written, no slice is scanned and none is cleared under it. A find
-//! verifies its candidates there in short turns, between which the lock is free, and sorts its answer afterwards. What else is
-//! done there takes the longer the more there is of it: a journal copies its commits, an add that is refused as full looks through
-//! the slices, one that moves a document copies it, and the documents of a slice that is opened are dropped. `Blank::new`,
-//! `open`, `note`, `meet` and `close` wait for nobody. `Blank::new`, `open`, `add`, `find`, `begin_find`, `finish_find` and
-//! `journal` take memory, and answer so where there is none; the others take none.
+//! What a user should know:
+//!
+//! - An engine has as many passes as its configuration says, at most 64. A pass makes one call at a time; a find that is open
+//!   (`begin_find`, `finish_find`) has its pass, and may be ended on another thread than that which began it.
+//! - The calls that make events wait for the lock. No column is written, no slice is scanned and none is cleared under it. A find
+//!   verifies its candidates there in short turns of at most 4,096 look-ups, and sorts its answer afterwards. What else is
+//!   done there takes the longer the more there is of it: a journal copies its commits, an add that is refused as full looks through
+//!   the slices, and one that moves a document copies it. `Blank::new`, `open`, `note`, `meet` and `close` wait for nobody.
+//! - `Blank::new`, `open`, `add`, `find`, `begin_find`, `finish_find` and `journal` take memory, and answer so where there is none; the
+//!   others take none.
+//! - A deleted document keeps its column until all columns of its slice are done with, and the slice is cleared. So one live
+//!   document keeps its whole slice, unless the configuration has a `reserve`, for which adds move documents.
+//! - `AddFault::Full` tells what keeps documents out of each slice. It may pass without a delete: where another pass clears a slice,
+//!   writes a column or has a find open, an add that is made again later may find room.
+//! - The journal keeps the last `commits` of the configuration. A reader that comes later is told how many are no longer kept.
 #![tactic(auto)]
 
 mod adding;
@@ -59,18 +96,28 @@ mod client;
 mod closed;
 mod engine;
 mod finding;
+pub mod laws;
 mod moving;
 mod open_find;
+mod pass;
 mod turns;
 mod work;
 
 pub use blank::Blank;
 pub use client::Client;
 pub use closed::Closed;
+pub use column_writer::write_column;
 pub use commit_desk::{AddFault, DeleteFault, JournalFault, Spent};
 pub use engine::Engine;
 pub use finding::FindFault;
+pub use funnel_model::{
+    Block, Blocked, Candidates, Claim, ClearJob, Commit, Commits, Config, Ids, Listed, Memory,
+};
 pub use open_find::OpenFind;
-pub use slice_recycler::{Clearer, Recycled};
-pub use slice_rule::{Note, PassSeat as Pass, PoolName};
+pub use pass::{Note, Pass};
+pub use rank_matcher::scan;
+pub use row_layout::{Bits, Layout, Plan};
+pub use row_read::Shared;
+pub use slice_recycler::{Clearer, Recycled, clear_slice};
+pub use slice_rule::{PassSeat, Pool, PoolName};
 pub use work::{Direct, Work};

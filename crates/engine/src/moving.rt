@@ -27,9 +27,9 @@ impl<N: PoolName> Engine<N> {
         id: u64,
         work: &mut W,
     )
-        requires rests { IsResting self.now pass.old }
-        ensures moves { (moves : ℕ) × (moves ≤ MOST_MOVES) × SomeMoves self.now.config self.now.limits pass.old.number id pass.old.front pass.new.front moves }
-        ensures rests { IsResting self.now pass.new }
+        requires rests { IsResting N.pool pass.old }
+        ensures moves { (moves : ℕ) × (moves ≤ MOST_MOVES) × SomeMoves N.pool.config N.pool.limits pass.old.number id pass.old.front pass.new.front moves }
+        ensures rests { IsResting N.pool pass.new }
         ensures number { pass.new.number ≡ pass.old.number }
     {
         if self.reserve == 0 {
@@ -51,10 +51,10 @@ impl<N: PoolName> Engine<N> {
         id: u64,
         work: &mut W,
     ) -> bool
-        requires rests { IsResting self.now pass.old }
-        ensures moved { cond result (MoveTurns self.now.config self.now.limits pass.old.number id pass.old.front pass.new.front)
+        requires rests { IsResting N.pool pass.old }
+        ensures moved { cond result (MoveTurns N.pool.config N.pool.limits pass.old.number id pass.old.front pass.new.front)
             (IsFrontOf pass.old.number pass.old.front pass.new.front) }
-        ensures rests { IsResting self.now pass.new }
+        ensures rests { IsResting N.pool pass.new }
         ensures number { pass.new.number ≡ pass.old.number }
     {
         let Ok(Some(look)) = self.look(rt, alloc, pass, id) else {
@@ -80,11 +80,11 @@ impl<N: PoolName> Engine<N> {
         pass: &mut PassSeat,
         id: u64,
     ) -> Result<Option<Look>, Memory>
-        requires rests { IsResting self.now pass.old }
+        requires rests { IsResting N.pool pass.old }
         ensures turn { IsTurn pass.old.number pass.old.front pass.new.front
-            (λ history. (looks : LooksState) × AnswersLook self.now.config.reserve self.now.limits.events self.now.limits looks history id result) [] }
+            (λ history. (looks : LooksState) × AnswersLook N.pool.config.reserve N.pool.limits.events N.pool.limits looks history id result) [] }
         ensures look { IfOk result (λ found. IfSome found (HoldsLook pass.new)) }
-        ensures rests { IsResting self.now pass.new }
+        ensures rests { IsResting N.pool pass.new }
         ensures number { pass.new.number ≡ pass.old.number }
     {
         let _ = &self.pool;
@@ -100,10 +100,10 @@ impl<N: PoolName> Engine<N> {
 
     // The second turn of a move.
     fn take_move<R: Wait>(&self, rt: &R, pass: &mut PassSeat, look: Look) -> Option<(Claim, Look)>
-        requires rests { IsResting self.now pass.old }
+        requires rests { IsResting N.pool pass.old }
         ensures turn { IsTurn pass.old.number pass.old.front pass.new.front
-            (λ history. AnswersTakeMove self.now.limits.events self.now.limits history pass.old.number look result) (events_of_take_move pass.old.number result) }
-        ensures next { MatchOption result (IsResting self.now pass.new) (λ taken. IsToWrite self.now taken.0 pass.new) }
+            (λ history. AnswersTakeMove N.pool.limits.events N.pool.limits history pass.old.number look result) (events_of_take_move pass.old.number result) }
+        ensures next { MatchOption result (IsResting N.pool pass.new) (λ taken. IsToWrite N.pool taken.0 pass.new) }
         ensures number { pass.new.number ≡ pass.old.number }
     {
         let _ = &self.pool;
@@ -123,11 +123,11 @@ impl<N: PoolName> Engine<N> {
         look: Look,
         bits: &Bits,
     ) -> bool
-        requires written { HasWritten self.now claim look.doc.words bits.now.bits pass.old }
+        requires written { HasWritten N.pool claim look.doc.words bits.now.bits pass.old }
         requires look { HoldsLook pass.old look }
         ensures turn { IsTurn pass.old.number pass.old.front pass.new.front (λ history. IsTrue result ↔ IsThereStill history look)
             (event_of_move pass.old.number look claim bits.now.bits result ∷ []) }
-        ensures rests { IsResting self.now pass.new }
+        ensures rests { IsResting N.pool pass.new }
         ensures number { pass.new.number ≡ pass.old.number }
     {
         let _ = &self.pool;

@@ -1,29 +1,32 @@
 use funnel_model::{Token, WordSet};
 use row_layout::Plan;
-use slice_rule::PassSeat;
-use std::marker::Model;
+use slice_rule::{PassSeat, PoolName};
+use std::marker::{Model, PhantomData};
 
-/// A find that is open. It has its pass until it is finished, which has to be done. Contracts see the pass, whose last
-/// event began the find.
-pub struct OpenFind {
-    pub(crate) pass: PassSeat,
+/// A find of the engine that `N` names, which is open. It has its pass until it is finished, which has to be done; that may be
+/// on another thread. Contracts see the pass, whose last event began the find.
+pub struct OpenFind<N: PoolName> {
+    pub(crate) seat: PassSeat,
     pub(crate) begun: Begun,
+    pub(crate) of: PhantomData<N>,
 }
 
-impl Model for OpenFind {
+impl<N: PoolName> Model for OpenFind<N> {
     ghost use Rattle.engine.specs.Finds.{IsScanFor};
-    ghost use Rattle.slice_rule.specs.Seats.{PassState};
+    ghost use Rattle.engine.specs.Passes.{PassView, view_of};
 
-    ghost Value = { PassState };
+    ghost Value = { PassView };
 
-    ghost view = { λ f. f.pass };
+    ghost view = { λ f. view_of f.seat };
 
-    ghost invariant = { λ f. IsScanFor f.pass.pool f.pass f.begun.token f.begun.words f.begun.plan };
+    ghost invariant = { λ f. IsScanFor N.pool f.seat f.begun.token f.begun.words f.begun.rest f.begun.plan };
 }
 
-// What an open find scans for: its token, the words of its query, and the plan of their rows.
+// What an open find scans for: its token, the words of its query, those of them that are looked for in documents too, and the
+// plan of the rows of all.
 pub(crate) struct Begun {
     pub token: Token,
     pub words: WordSet,
+    pub rest: WordSet,
     pub plan: Plan,
 }

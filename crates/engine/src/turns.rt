@@ -24,14 +24,14 @@ impl<N: PoolName> Engine<N> {
         doc: &Doc,
         room: Vec<Block>,
     ) -> Taken
-        requires rests { IsResting self.now pass.old }
+        requires rests { IsResting N.pool pass.old }
         requires empty { room.items ≡ [] }
-        requires enough { self.now.limits.slices ≤ vec_capacity room }
+        requires enough { N.pool.limits.slices ≤ vec_capacity room }
         ensures turn { IsTurn pass.old.number pass.old.front pass.new.front
-            (λ history. AnswersTake self.now.limits.events self.now.limits history pass.old.number doc.now.id result) (events_of_take pass.old.number doc.now.id doc.now.text result) }
-        ensures next { IsToDo self.now result pass.new }
+            (λ history. AnswersTake N.pool.limits.events N.pool.limits history pass.old.number doc.now.id result) (events_of_take pass.old.number doc.now.id doc.now.text result) }
+        ensures next { IsToDo N.pool result pass.new }
         ensures number { pass.new.number ≡ pass.old.number }
-        ensures legal { IsLegal self.now.limits pass.new.front }
+        ensures legal { IsLegal N.pool.limits pass.new.front }
     {
         let _ = &self.pool;
         self.desk.lock(rt).desk.take(&self.pool, pass, doc, room)
@@ -45,15 +45,15 @@ impl<N: PoolName> Engine<N> {
         job: ClearJob,
         slots: FreeSlots,
     ) -> Claim
-        requires cleared { HasCleared self.now job pass.old }
-        requires slots { slots ≡ self.now.limits.columns }
+        requires cleared { HasCleared N.pool job pass.old }
+        requires slots { slots ≡ N.pool.limits.columns }
         ensures slice { result.slice ≡ job.slice }
         ensures column { result.column ≡ 0 }
         ensures turn { IsTurn pass.old.number pass.old.front pass.new.front (λ history. Unit {0})
             (event.Opened pass.old.number job.slice false ∷ event.Take pass.old.number job.slice 0 ∷ []) }
-        ensures next { IsToWrite self.now result pass.new }
+        ensures next { IsToWrite N.pool result pass.new }
         ensures number { pass.new.number ≡ pass.old.number }
-        ensures legal { IsLegal self.now.limits pass.new.front }
+        ensures legal { IsLegal N.pool.limits pass.new.front }
     {
         let _ = &self.pool;
         self.desk
@@ -71,12 +71,12 @@ impl<N: PoolName> Engine<N> {
         doc: Doc,
         bits: &Bits,
     ) -> Result<u64, CommitFault>
-        requires written { HasWritten self.now claim doc.words bits.now.bits pass.old }
+        requires written { HasWritten N.pool claim doc.words bits.now.bits pass.old }
         ensures turn { IsTurn pass.old.number pass.old.front pass.new.front (λ history. AnswersCommit history doc.id result)
             (events_of_commit pass.old.number doc.id doc.text claim bits.now.bits result) }
-        ensures rests { IsResting self.now pass.new }
+        ensures rests { IsResting N.pool pass.new }
         ensures number { pass.new.number ≡ pass.old.number }
-        ensures legal { IsLegal self.now.limits pass.new.front }
+        ensures legal { IsLegal N.pool.limits pass.new.front }
     {
         let _ = &self.pool;
         self.desk
@@ -92,12 +92,12 @@ impl<N: PoolName> Engine<N> {
         pass: &mut PassSeat,
         query: &str,
     ) -> Result<Token, Spent>
-        requires rests { IsResting self.now pass.old }
-        ensures turn { IsTurn pass.old.number pass.old.front pass.new.front (λ history. AnswersFind self.now.limits.events self.now.limits history result)
+        requires rests { IsResting N.pool pass.old }
+        ensures turn { IsTurn pass.old.number pass.old.front pass.new.front (λ history. AnswersFind N.pool.limits.events N.pool.limits history result)
             (events_of_find pass.old.number query.now result) }
-        ensures next { MatchResult result (λ token. IsFinding self.now token pass.new) (λ _. IsResting self.now pass.new) }
+        ensures next { MatchResult result (λ token. IsFinding N.pool token pass.new) (λ _. IsResting N.pool pass.new) }
         ensures number { pass.new.number ≡ pass.old.number }
-        ensures legal { IsLegal self.now.limits pass.new.front }
+        ensures legal { IsLegal N.pool.limits pass.new.front }
     {
         let _ = &self.pool;
         self.desk.lock(rt).desk.open_find(&self.pool, pass, query)
@@ -112,23 +112,23 @@ impl<N: PoolName> Engine<N> {
         token: Token,
         candidates: &Candidates,
         from: usize,
-        words: &WordSet,
+        rest: &WordSet,
         out: &mut Found,
     ) -> Option<(Token, usize)>
-        requires so_far { IsFoundUpTo self.now pass.old token words.now candidates.now out.old from }
-        ensures next { IfSome result (λ next. IsFoundUpTo self.now pass.new next.0 words.now candidates.now out.new next.1) }
+        requires so_far { IsFoundUpTo N.pool pass.old token rest.now candidates.now out.old from }
+        ensures next { IfSome result (λ next. IsFoundUpTo N.pool pass.new next.0 rest.now candidates.now out.new next.1) }
         ensures same { IfSome result (λ next. next.0 ≡ token) }
         ensures further { IfSome result (λ next. (from < next.1) × (next.1 < length candidates.now)) }
         ensures found { result ≡ None → IsAllFound pass.old token candidates.now out.new.found }
         ensures turn { IsTurn pass.old.number pass.old.front pass.new.front (λ history. Unit {0}) (events_of_turn pass.old.number result) }
-        ensures rests { result ≡ None → IsResting self.now pass.new }
+        ensures rests { result ≡ None → IsResting N.pool pass.new }
         ensures number { pass.new.number ≡ pass.old.number }
-        ensures legal { IsLegal self.now.limits pass.new.front }
+        ensures legal { IsLegal N.pool.limits pass.new.front }
     {
         let _ = &self.pool;
         let mut named = self.desk.lock(rt);
         let desk = &mut named.desk;
-        let next = desk.resolve_part(&self.pool, pass, &token, candidates, from, words, out);
+        let next = desk.resolve_part(&self.pool, pass, &token, candidates, from, rest, out);
         if next < candidates.len() {
             return Some((token, next));
         }
@@ -138,11 +138,11 @@ impl<N: PoolName> Engine<N> {
 
     // The turn that ends a find that found no memory.
     pub(crate) fn drop_find<R: Wait>(&self, rt: &R, pass: &mut PassSeat, token: Token)
-        requires finding { IsFinding self.now token pass.old }
+        requires finding { IsFinding N.pool token pass.old }
         ensures turn { IsTurn pass.old.number pass.old.front pass.new.front (λ history. Unit {0}) (event.End pass.old.number ∷ []) }
-        ensures rests { IsResting self.now pass.new }
+        ensures rests { IsResting N.pool pass.new }
         ensures number { pass.new.number ≡ pass.old.number }
-        ensures legal { IsLegal self.now.limits pass.new.front }
+        ensures legal { IsLegal N.pool.limits pass.new.front }
     {
         let _ = &self.pool;
         self.desk.lock(rt).desk.drop_find(&self.pool, pass, token)

@@ -12,7 +12,7 @@ ghost use Rattle.row_layout.specs.Rows.{IsRowOf};
 ghost use Rattle.row_read.specs.SharedRows.{IsCommittedUnder, IsInReach, WasReadSet, kept_of};
 ghost use Rattle.slice_rule.specs.declared.view.Fact.{Fact};
 ghost use Rattle.slice_rule.specs.Numbers.{last_number};
-ghost use Rattle.slice_rule.specs.Seats.{HasNoneOutstanding, HoldsClaim};
+ghost use Rattle.slice_rule.specs.Seats.{HasNoneOutstanding, HoldsClaim, KeepsToColumn};
 
 use column_writer::write_column;
 use funnel_model::{Candidates, Claim, ClearJob, Memory};
@@ -32,6 +32,7 @@ pub trait Work: Clearer {
         requires none_outstanding { HasNoneOutstanding seat.old }
         requires inside { All (λ b. IsInSlice pool.now.limits.slice_words claim.now.slice b.word) bits.now.bits }
         requires of_words { All (λ b. b.bit < 64) bits.now.bits }
+        requires owners { All (KeepsToColumn seat.old claim.now) bits.now.bits }
         ensures seat { seat.new ≡ record seat.old { own = seat.new.own } }
         ensures bits { (f : Fact) → Contains seat.new.own f ↔
             (Contains seat.old.own f ⊎ IsBitOf (last_number seat.old.number seat.old.front) bits.now.bits f) };

@@ -1,6 +1,5 @@
 //! Threads that use one engine beside each other.
 ghost use Rattle.std.specs.Prelude.{◌≡◌, []};
-ghost use Rattle.commit_desk.specs.Passes.{IsResting};
 ghost use Rattle.funnel_model.specs.Configuration.{IsInRange};
 
 use crate::caller::Caller;
@@ -15,8 +14,7 @@ use std::thread::{Threads, map_vec};
 
 /// What each thread does with its pass.
 pub(crate) trait Task {
-    fn work<N: PoolName, R: Wait>(&self, caller: &mut Caller<'_, N, R>)
-        ensures { caller.new ≡ caller.old };
+    fn work<N: PoolName, R: Wait>(&self, caller: &mut Caller<'_, N, R>);
 }
 
 /// Does the task on as many threads as a new engine has passes, and closes the engine when all are through.
@@ -57,12 +55,7 @@ fn work_and_close<N: PoolName + Send + Sync, R: Threads + Wait + Sync, T: Task +
     let passes = map_vec(
         rt,
         passes,
-        &|pass: Pass| -> Pass
-            requires named { engine ≡ N.pool }
-            requires rests { IsResting N.pool pass }
-            ensures rests { IsResting N.pool result }
-            ensures number { result.number ≡ pass.number }
-        { work_with(rt, alloc, &engine, pass, task) },
+        &|pass: Pass<N>| -> Pass<N> { work_with(rt, alloc, &engine, pass, task) },
     )?;
     Ok(engine.close(passes))
 }
@@ -71,14 +64,9 @@ fn work_with<N: PoolName, R: Wait, T: Task>(
     rt: &R,
     alloc: Global,
     engine: &Engine<N>,
-    pass: Pass,
+    pass: Pass<N>,
     task: &T,
-) -> Pass
-    requires named { engine.now ≡ N.pool }
-    requires pass { IsResting N.pool pass }
-    ensures pass { IsResting N.pool result }
-    ensures number { result.number ≡ pass.number }
-{
+) -> Pass<N> {
     let mut caller = Caller {
         engine,
         pass,

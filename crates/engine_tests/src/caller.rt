@@ -1,13 +1,10 @@
 //! A pass with its calls.
-ghost use Rattle.std.specs.Prelude.{◌≡◌};
-
 use engine::{
     AddFault, DeleteFault, Engine, FindFault, JournalFault, OpenFind, Pass, PoolName, Recycled,
     Spent, Work,
 };
 use funnel_model::{Block, Blocked, Commits, Ids, Memory};
 use std::alloc::Global;
-use std::marker::Model;
 use std::sync::Wait;
 
 /// Why an add was refused. Of a full engine it tells what keeps documents out, where that is one slice alone.
@@ -19,24 +16,13 @@ pub(crate) enum Refused {
     Memory,
 }
 
-/// A pass of an engine, which rests between its calls. Contracts see its number.
+/// A pass of an engine, and what its calls take.
 #[derive(Drop)]
 pub(crate) struct Caller<'e, N: PoolName, R: Wait> {
     pub engine: &'e Engine<N>,
-    pub pass: Pass,
+    pub pass: Pass<N>,
     pub rt: &'e R,
     pub alloc: Global,
-}
-
-impl<'e, N: PoolName, R: Wait> Model for Caller<'e, N, R> {
-    ghost use Rattle.std.specs.Prelude.{◌≡◌, ℕ};
-    ghost use Rattle.commit_desk.specs.Passes.{IsResting};
-
-    ghost Value = { ℕ };
-
-    ghost view = { λ c. c.pass.number };
-
-    ghost invariant = { λ c. (c.engine.now ≡ N.pool) × IsResting N.pool c.pass };
 }
 
 impl<'e, N: PoolName, R: Wait> Caller<'e, N, R> {
@@ -44,23 +30,17 @@ impl<'e, N: PoolName, R: Wait> Caller<'e, N, R> {
         self.pass.number()
     }
 
-    pub fn add(&mut self, id: u64, text: &str) -> Result<u64, Refused>
-        ensures { self.new ≡ self.old }
-    {
+    pub fn add(&mut self, id: u64, text: &str) -> Result<u64, Refused> {
         told(self.add_told(id, text))
     }
 
     /// An add that tells all slices of a full engine.
-    pub fn add_told(&mut self, id: u64, text: &str) -> Result<u64, AddFault>
-        ensures { self.new ≡ self.old }
-    {
+    pub fn add_told(&mut self, id: u64, text: &str) -> Result<u64, AddFault> {
         self.engine
             .add(self.rt, self.alloc, &mut self.pass, id, text)
     }
 
-    pub fn add_by<W: Work>(&mut self, id: u64, text: &str, work: &mut W) -> Result<u64, Refused>
-        ensures { self.new ≡ self.old }
-    {
+    pub fn add_by<W: Work>(&mut self, id: u64, text: &str, work: &mut W) -> Result<u64, Refused> {
         let (rt, alloc) = (self.rt, self.alloc);
         told(
             self.engine
@@ -68,65 +48,46 @@ impl<'e, N: PoolName, R: Wait> Caller<'e, N, R> {
         )
     }
 
-    pub fn delete(&mut self, id: u64) -> Result<u64, DeleteFault>
-        ensures { self.new ≡ self.old }
-    {
+    pub fn delete(&mut self, id: u64) -> Result<u64, DeleteFault> {
         self.engine.delete(self.rt, &mut self.pass, id)
     }
 
-    pub fn find(&mut self, query: &str) -> Result<Ids, FindFault>
-        ensures { self.new ≡ self.old }
-    {
+    pub fn find(&mut self, query: &str) -> Result<Ids, FindFault> {
         self.engine.find(self.rt, self.alloc, &mut self.pass, query)
     }
 
-    pub fn find_by<W: Work>(&mut self, query: &str, work: &mut W) -> Result<Ids, FindFault>
-        ensures { self.new ≡ self.old }
-    {
+    pub fn find_by<W: Work>(&mut self, query: &str, work: &mut W) -> Result<Ids, FindFault> {
         self.engine
             .find_by(self.rt, self.alloc, &mut self.pass, query, work)
     }
 
     /// Whether a find has the numbers from the first up to the second, in order.
-    pub fn finds(&mut self, query: &str, range: (u64, u64)) -> bool
-        ensures { self.new ≡ self.old }
-    {
+    pub fn finds(&mut self, query: &str, range: (u64, u64)) -> bool {
         match self.find(query) {
             Ok(ids) => is_range(&ids, range),
             Err(_) => false,
         }
     }
 
-    pub fn place(&mut self) -> Result<u64, Spent>
-        ensures { self.new ≡ self.old }
-    {
+    pub fn place(&mut self) -> Result<u64, Spent> {
         self.engine.place(self.rt, &mut self.pass)
     }
 
-    pub fn journal(&mut self, from: u64) -> Result<Commits, JournalFault>
-        ensures { self.new ≡ self.old }
-    {
+    pub fn journal(&mut self, from: u64) -> Result<Commits, JournalFault> {
         self.engine
             .journal(self.rt, self.alloc, &mut self.pass, from)
     }
 
-    pub fn recycle(&mut self) -> Recycled
-        ensures { self.new ≡ self.old }
-    {
+    pub fn recycle(&mut self) -> Recycled {
         self.engine.recycle(self.rt, &mut self.pass)
     }
 
-    pub fn recycle_by<W: Work>(&mut self, work: &mut W) -> Recycled
-        ensures { self.new ≡ self.old }
-    {
+    pub fn recycle_by<W: Work>(&mut self, work: &mut W) -> Recycled {
         self.engine.recycle_by(self.rt, &mut self.pass, work)
     }
 
     /// Sees what the other one has seen.
-    pub fn see_as_much(&mut self, other: &mut Self)
-        ensures same { self.new ≡ self.old }
-        ensures other { other.new ≡ other.old }
-    {
+    pub fn see_as_much(&mut self, other: &mut Self) {
         let note = other.engine.note(&mut other.pass);
         self.engine.meet(&mut self.pass, note)
     }
@@ -151,9 +112,7 @@ impl<'e, N: PoolName, R: Wait> Caller<'e, N, R> {
     }
 
     /// Adds documents with these numbers and one word. Whether they were answered by the places after `before`.
-    pub fn add_all(&mut self, ids: (u64, u64), before: u64) -> bool
-        ensures { self.new ≡ self.old }
-    {
+    pub fn add_all(&mut self, ids: (u64, u64), before: u64) -> bool {
         let mut as_wanted = true;
         let mut place = before;
         for id in ids.0..ids.1 {
@@ -164,9 +123,7 @@ impl<'e, N: PoolName, R: Wait> Caller<'e, N, R> {
     }
 
     /// So by `work`.
-    pub fn add_all_by<W: Work>(&mut self, ids: (u64, u64), before: u64, work: &mut W) -> bool
-        ensures { self.new ≡ self.old }
-    {
+    pub fn add_all_by<W: Work>(&mut self, ids: (u64, u64), before: u64, work: &mut W) -> bool {
         let mut as_wanted = true;
         let mut place = before;
         for id in ids.0..ids.1 {
@@ -177,9 +134,7 @@ impl<'e, N: PoolName, R: Wait> Caller<'e, N, R> {
     }
 
     /// Deletes documents with these numbers. Whether they were answered by the places after `before`.
-    pub fn delete_all(&mut self, ids: (u64, u64), before: u64) -> bool
-        ensures { self.new ≡ self.old }
-    {
+    pub fn delete_all(&mut self, ids: (u64, u64), before: u64) -> bool {
         let mut as_wanted = true;
         let mut place = before;
         for id in ids.0..ids.1 {
@@ -193,19 +148,9 @@ impl<'e, N: PoolName, R: Wait> Caller<'e, N, R> {
 /// A find that was begun by a caller.
 pub(crate) struct Finding<'e, N: PoolName, R: Wait> {
     engine: &'e Engine<N>,
-    find: OpenFind,
+    find: OpenFind<N>,
     rt: &'e R,
     alloc: Global,
-}
-
-impl<'e, N: PoolName, R: Wait> Model for Finding<'e, N, R> {
-    ghost use Rattle.std.specs.Prelude.{◌≡◌, ℕ};
-
-    ghost Value = { ℕ };
-
-    ghost view = { λ f. f.find.number };
-
-    ghost invariant = { λ f. (f.engine.now ≡ N.pool) × (f.find.pool ≡ N.pool) };
 }
 
 impl<'e, N: PoolName, R: Wait> Finding<'e, N, R> {

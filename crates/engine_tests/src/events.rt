@@ -1,6 +1,5 @@
 //! The events that calls make, as the contract of each call tells them.
 ghost use Rattle.std.specs.Prelude.{◌≡◌, ℕ, Err, true, [], ◌∷◌, IfOk};
-ghost use Rattle.commit_desk.specs.Passes.{IsResting};
 ghost use Rattle.engine_tests.specs.Events.{EndsWith, EndsWithAdd, FindsBetween, Makes, MakesTwo};
 ghost use Rattle.funnel_model.specs.declared.call.Call.TheVariants as call;
 ghost use Rattle.funnel_model.specs.declared.event.Event.TheVariants as event;
@@ -44,18 +43,15 @@ fn add<N: PoolName, R: Wait>(
     rt: &R,
     alloc: Global,
     engine: &Engine<N>,
-    pass: &mut Pass,
+    pass: &mut Pass<N>,
     id: u64,
     text: &str,
 ) -> Result<u64, AddFault>
-    requires named { engine.now ≡ N.pool }
-    requires rests { IsResting N.pool pass.old }
-    ensures rests { IsResting N.pool pass.new }
     ensures full { (blocks : _) → result ≡ Err (AddFault.Full blocks) → EndsWith (event.No pass.old.number (call.Add id text.now)) pass.new.front }
-    ensures full_at_once { (blocks : _) → engine.now.config.reserve ≡ 0 → result ≡ Err (AddFault.Full blocks) →
+    ensures full_at_once { (blocks : _) → N.pool.config.reserve ≡ 0 → result ≡ Err (AddFault.Full blocks) →
         Makes pass.old.number pass.old.front pass.new.front (event.No pass.old.number (call.Add id text.now) ∷ []) }
     ensures memory { result ≡ Err AddFault.Memory → pass.new.front ≡ pass.old.front }
-    ensures added { IfOk result (λ _. EndsWithAdd engine.now.config pass.old.number id text.now pass.new.front) }
+    ensures added { IfOk result (λ _. EndsWithAdd N.pool.config pass.old.number id text.now pass.new.front) }
 {
     engine.add(rt, alloc, pass, id, text)
 }
@@ -65,22 +61,16 @@ fn find<N: PoolName, R: Wait>(
     rt: &R,
     alloc: Global,
     engine: &Engine<N>,
-    pass: &mut Pass,
+    pass: &mut Pass<N>,
     query: &str,
 ) -> Result<Ids, FindFault>
-    requires named { engine.now ≡ N.pool }
-    requires rests { IsResting N.pool pass.old }
-    ensures rests { IsResting N.pool pass.new }
     ensures found { IfOk result (FindsBetween pass.old.number pass.old.front pass.new.front query.now) }
 {
     engine.find(rt, alloc, pass, query)
 }
 
 /// So does a recycle that clears a slice; where none is retired it makes its refusal.
-fn recycle<N: PoolName, R: Wait>(rt: &R, engine: &Engine<N>, pass: &mut Pass) -> Recycled
-    requires named { engine.now ≡ N.pool }
-    requires rests { IsResting N.pool pass.old }
-    ensures rests { IsResting N.pool pass.new }
+fn recycle<N: PoolName, R: Wait>(rt: &R, engine: &Engine<N>, pass: &mut Pass<N>) -> Recycled
     ensures done { (slice : ℕ) → result ≡ Recycled.Done slice →
         MakesTwo pass.old.number pass.old.front pass.new.front (event.Clear pass.old.number slice) (event.Opened pass.old.number slice true) }
     ensures none { result ≡ Recycled.NoneRetired →

@@ -1,6 +1,5 @@
 //! Four threads on one engine: three of them add, delete and recycle, and one finds. What they were answered is compared with
 //! a plain model of the commits.
-ghost use Rattle.std.specs.Prelude.{◌≡◌};
 
 use crate::beside::{Task, work_beside};
 use crate::caller::{Caller, Refused};
@@ -60,9 +59,7 @@ impl Task for Mix {
 }
 
 /// 20 rounds, in each of which the thread's 64 numbers are added, and two of three of them deleted.
-fn add_and_delete<N: PoolName, R: Wait>(caller: &mut Caller<'_, N, R>) -> Result<Report, Wrong>
-    ensures { caller.new ≡ caller.old }
-{
+fn add_and_delete<N: PoolName, R: Wait>(caller: &mut Caller<'_, N, R>) -> Result<Report, Wrong> {
     let first = 1000 * caller.number() as u64;
     let mut live = Vec::new(caller.alloc);
     for round in 0..20 {
@@ -76,9 +73,7 @@ fn add_each<N: PoolName, R: Wait>(
     caller: &mut Caller<'_, N, R>,
     live: &mut Vec<u64>,
     first: u64,
-) -> Result<(), Wrong>
-    ensures { caller.new ≡ caller.old }
-{
+) -> Result<(), Wrong> {
     for i in 1..65 {
         add_one(caller, live, first.saturating_add(i))?;
     }
@@ -91,9 +86,7 @@ fn delete_most<N: PoolName, R: Wait>(
     live: &mut Vec<u64>,
     first: u64,
     round: u64,
-) -> Result<(), Wrong>
-    ensures { caller.new ≡ caller.old }
-{
+) -> Result<(), Wrong> {
     for i in 1..65 {
         if i % 3 != round % 3 {
             delete_one(caller, live, first.saturating_add(i))?;
@@ -107,9 +100,7 @@ fn add_one<N: PoolName, R: Wait>(
     caller: &mut Caller<'_, N, R>,
     live: &mut Vec<u64>,
     id: u64,
-) -> Result<(), Wrong>
-    ensures { caller.new ≡ caller.old }
-{
+) -> Result<(), Wrong> {
     let is_live = live.as_slice().contains(&id);
     match (is_live, caller.add(id, "x")) {
         (false, Ok(_)) => live.push(id).or(Err(Wrong::Memory)),
@@ -120,9 +111,7 @@ fn add_one<N: PoolName, R: Wait>(
 }
 
 /// Recycles a slice, or is told that there is none, or that the thread that finds guards it.
-fn recycle_one<N: PoolName, R: Wait>(caller: &mut Caller<'_, N, R>) -> Result<(), Wrong>
-    ensures { caller.new ≡ caller.old }
-{
+fn recycle_one<N: PoolName, R: Wait>(caller: &mut Caller<'_, N, R>) -> Result<(), Wrong> {
     match caller.recycle() {
         Recycled::Done(slice) if slice < 2 => Ok(()),
         Recycled::NoneRetired => Ok(()),
@@ -136,9 +125,7 @@ fn delete_one<N: PoolName, R: Wait>(
     caller: &mut Caller<'_, N, R>,
     live: &mut Vec<u64>,
     id: u64,
-) -> Result<(), Wrong>
-    ensures { caller.new ≡ caller.old }
-{
+) -> Result<(), Wrong> {
     let is_live = live.as_slice().contains(&id);
     live.retain(|other| *other != id);
     match (is_live, caller.delete(id)) {
@@ -150,9 +137,7 @@ fn delete_one<N: PoolName, R: Wait>(
 /// 100 finds.
 pub(crate) fn search<N: PoolName, R: Wait>(
     caller: &mut Caller<'_, N, R>,
-) -> Result<Vec<Seen>, Wrong>
-    ensures { caller.new ≡ caller.old }
-{
+) -> Result<Vec<Seen>, Wrong> {
     let mut seen = Vec::new(caller.alloc);
     for _find in 0..100 {
         let found = find_one(caller)?;
@@ -162,9 +147,7 @@ pub(crate) fn search<N: PoolName, R: Wait>(
 }
 
 /// A find between two reads of the number of commits.
-fn find_one<N: PoolName, R: Wait>(caller: &mut Caller<'_, N, R>) -> Result<Seen, Wrong>
-    ensures { caller.new ≡ caller.old }
-{
+fn find_one<N: PoolName, R: Wait>(caller: &mut Caller<'_, N, R>) -> Result<Seen, Wrong> {
     let before = caller.place().or(Err(Wrong::Place))?;
     let ids = caller.find("x").or(Err(Wrong::Find))?;
     let after = caller.place().or(Err(Wrong::Place))?;

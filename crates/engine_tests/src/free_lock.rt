@@ -1,6 +1,5 @@
 //! The lock is free while a column is written, while slices are scanned, and while one is cleared: a second thread is
 //! answered in that time.
-ghost use Rattle.std.specs.Prelude.{◌≡◌};
 
 use crate::beside::{Task, work_beside};
 use crate::caller::{Caller, is_range};
@@ -125,9 +124,7 @@ impl Task for Watch {
 fn work_through<N: PoolName, R: Wait>(
     caller: &mut Caller<'_, N, R>,
     board: &Board,
-) -> (bool, Counts)
-    ensures { caller.new ≡ caller.old }
-{
+) -> (bool, Counts) {
     let counts = Counts {
         writes: 0,
         scans: 0,
@@ -146,9 +143,7 @@ fn work_through<N: PoolName, R: Wait>(
 }
 
 /// Whether a find has the documents 1 to 64.
-fn has_all<N: PoolName, R: Wait>(caller: &mut Caller<'_, N, R>, work: &mut Watched<'_>) -> bool
-    ensures { caller.new ≡ caller.old }
-{
+fn has_all<N: PoolName, R: Wait>(caller: &mut Caller<'_, N, R>, work: &mut Watched<'_>) -> bool {
     match caller.find_by("x", work) {
         Ok(ids) => is_range(&ids, (1, 65)),
         Err(_) => false,
@@ -156,9 +151,7 @@ fn has_all<N: PoolName, R: Wait>(caller: &mut Caller<'_, N, R>, work: &mut Watch
 }
 
 /// Makes a call for each number that was raised, and marks the number then.
-fn answer<N: PoolName, R: Wait>(caller: &mut Caller<'_, N, R>, board: &Board)
-    ensures { caller.new ≡ caller.old }
-{
+fn answer<N: PoolName, R: Wait>(caller: &mut Caller<'_, N, R>, board: &Board) {
     let mut marked = 0;
     for _call in caller.rt.forever() {
         if board.over.load(Ordering::SeqCst) != 0 {

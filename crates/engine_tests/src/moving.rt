@@ -83,8 +83,7 @@ impl Case for Moving {
 trait Meanwhile {
     type Answer: Drop;
 
-    fn call<N: PoolName, R: Wait>(caller: &mut Caller<'_, N, R>) -> Self::Answer
-        ensures { caller.new ≡ caller.old };
+    fn call<N: PoolName, R: Wait>(caller: &mut Caller<'_, N, R>) -> Self::Answer;
 }
 
 /// Has the other pass make its calls when a column is written first.
@@ -260,9 +259,7 @@ impl Case for AnyOrder {
 }
 
 /// Replaces one document after another. Whether each was.
-fn replace_often<N: PoolName, R: Wait>(caller: &mut Caller<'_, N, R>) -> bool
-    ensures { caller.new ≡ caller.old }
-{
+fn replace_often<N: PoolName, R: Wait>(caller: &mut Caller<'_, N, R>) -> bool {
     let mut random: u64 = 1;
     for _ in 0..5000 {
         random = random
@@ -277,9 +274,7 @@ fn replace_often<N: PoolName, R: Wait>(caller: &mut Caller<'_, N, R>) -> bool
 }
 
 /// Deletes the documents with odd numbers up to 127. Whether they were answered by the places after `before`.
-fn delete_odd<N: PoolName, R: Wait>(caller: &mut Caller<'_, N, R>, before: u64) -> bool
-    ensures { caller.new ≡ caller.old }
-{
+fn delete_odd<N: PoolName, R: Wait>(caller: &mut Caller<'_, N, R>, before: u64) -> bool {
     let mut as_wanted = true;
     let mut place = before;
     for half in 0..64 {
@@ -290,9 +285,7 @@ fn delete_odd<N: PoolName, R: Wait>(caller: &mut Caller<'_, N, R>, before: u64) 
 }
 
 /// Whether a find of their word has the documents with even numbers from the first up to 128, and then 129.
-fn finds_even<N: PoolName, R: Wait>(caller: &mut Caller<'_, N, R>, first: u64) -> bool
-    ensures { caller.new ≡ caller.old }
-{
+fn finds_even<N: PoolName, R: Wait>(caller: &mut Caller<'_, N, R>, first: u64) -> bool {
     match caller.find("x") {
         Ok(ids) => are_even(&ids, first),
         Err(_) => false,

@@ -1,6 +1,5 @@
 //! Four threads on an engine that keeps columns free: two replace documents, one finds, and one reads the journal. What they
 //! were answered is compared with a plain model of the commits.
-ghost use Rattle.std.specs.Prelude.{◌≡◌};
 
 use crate::beside::{Task, work_beside};
 use crate::caller::Caller;
@@ -46,9 +45,7 @@ impl Task for Mix {
 }
 
 /// 200 rounds, in which the thread's documents are replaced in an order that looks random.
-fn replace_all<N: PoolName, R: Wait>(caller: &mut Caller<'_, N, R>) -> Result<Report, Wrong>
-    ensures { caller.new ≡ caller.old }
-{
+fn replace_all<N: PoolName, R: Wait>(caller: &mut Caller<'_, N, R>) -> Result<Report, Wrong> {
     let first = 10_000 * caller.number() as u64;
     let mut live = Vec::new(caller.alloc);
     add_each(caller, &mut live, first)?;
@@ -63,9 +60,7 @@ fn add_each<N: PoolName, R: Wait>(
     caller: &mut Caller<'_, N, R>,
     live: &mut Vec<bool>,
     first: u64,
-) -> Result<(), Wrong>
-    ensures { caller.new ≡ caller.old }
-{
+) -> Result<(), Wrong> {
     for i in 0..DOCUMENTS {
         let added = add_one(caller, first.saturating_add(i))?;
         live.push(added).or(Err(Wrong::Memory))?;
@@ -78,9 +73,7 @@ fn replace_some<N: PoolName, R: Wait>(
     live: &mut Vec<bool>,
     first: u64,
     before: u64,
-) -> Result<u64, Wrong>
-    ensures { caller.new ≡ caller.old }
-{
+) -> Result<u64, Wrong> {
     let mut random = before;
     for _i in 0..10 {
         random = random
@@ -97,9 +90,7 @@ fn replace_one<N: PoolName, R: Wait>(
     live: &mut Vec<bool>,
     first: u64,
     i: u64,
-) -> Result<(), Wrong>
-    ensures { caller.new ≡ caller.old }
-{
+) -> Result<(), Wrong> {
     let id = first.saturating_add(i);
     let was_live = live.get(i as usize).copied() == Some(true);
     match (was_live, caller.delete(id)) {
@@ -114,9 +105,7 @@ fn replace_one<N: PoolName, R: Wait>(
 }
 
 /// Adds a document whose number no other thread adds. Whether it was added: it may be refused while a slice is guarded or cleared.
-fn add_one<N: PoolName, R: Wait>(caller: &mut Caller<'_, N, R>, id: u64) -> Result<bool, Wrong>
-    ensures { caller.new ≡ caller.old }
-{
+fn add_one<N: PoolName, R: Wait>(caller: &mut Caller<'_, N, R>, id: u64) -> Result<bool, Wrong> {
     match caller.add_told(id, "x") {
         Ok(_) => Ok(true),
         Err(AddFault::Full(blocks)) => {
@@ -139,9 +128,7 @@ fn passes(blocks: &Blocked) -> bool {
 }
 
 /// 200 journals, each of the commits since the last one.
-fn read<N: PoolName, R: Wait>(caller: &mut Caller<'_, N, R>) -> Result<Vec<Commit>, Wrong>
-    ensures { caller.new ≡ caller.old }
-{
+fn read<N: PoolName, R: Wait>(caller: &mut Caller<'_, N, R>) -> Result<Vec<Commit>, Wrong> {
     let mut commits = Vec::new(caller.alloc);
     for _journal in 0..200 {
         read_more(caller, &mut commits)?;
@@ -152,9 +139,7 @@ fn read<N: PoolName, R: Wait>(caller: &mut Caller<'_, N, R>) -> Result<Vec<Commi
 fn read_more<N: PoolName, R: Wait>(
     caller: &mut Caller<'_, N, R>,
     commits: &mut Vec<Commit>,
-) -> Result<(), Wrong>
-    ensures { caller.new ≡ caller.old }
-{
+) -> Result<(), Wrong> {
     let more = caller
         .journal(commits.len() as u64)
         .or(Err(Wrong::Journal))?;

@@ -1,13 +1,12 @@
 //! What a test begins with: an engine, and its passes.
-ghost use Rattle.std.specs.Prelude.{◌≡◌, ◌≤◌, All, IfOk, [], OnOk};
-ghost use Rattle.commit_desk.specs.Passes.{IsResting};
+ghost use Rattle.std.specs.Prelude.{◌≡◌, IfOk, []};
 ghost use Rattle.funnel_model.specs.Configuration.{IsBetween, IsInRange, IsValid};
 
 use crate::caller::Caller;
 use engine::{Blank, Engine, Pass, PoolName};
 use funnel_model::{Config, Listed};
 use std::alloc::Global;
-use std::marker::{Brand, Model};
+use std::marker::Brand;
 use std::sync::Wait;
 use std::test::Fail;
 use treatment::sizes;
@@ -31,19 +30,7 @@ pub(crate) struct Callers<'e, N: PoolName, R: Wait> {
 #[derive(Drop)]
 pub(crate) struct Opened<N: PoolName> {
     pub engine: Engine<N>,
-    pub passes: Vec<Pass>,
-}
-
-impl<N: PoolName> Model for Opened<N> {
-    ghost use Rattle.std.specs.Prelude.{◌≡◌};
-    ghost use Rattle.engine_tests.specs.Tested.{AreAll};
-    ghost use Rattle.slice_rule.specs.Pools.{PoolId};
-
-    ghost Value = { PoolId };
-
-    ghost view = { λ o. o.engine };
-
-    ghost invariant = { λ o. (o.engine ≡ N.pool) × AreAll N.pool o.passes.items };
+    pub passes: Vec<Pass<N>>,
 }
 
 fn no_words(alloc: Global) -> Listed
@@ -143,11 +130,8 @@ fn run_with<C: Case, N: PoolName, R: Wait>(
     rt: &R,
     alloc: Global,
     engine: &Engine<N>,
-    passes: &mut Vec<Pass>,
-) -> Result<C::Seen, Fail>
-    requires named { engine.now ≡ N.pool }
-    requires rest { All (IsResting N.pool) passes.old.items }
-{
+    passes: &mut Vec<Pass<N>>,
+) -> Result<C::Seen, Fail> {
     let callers = with_calls(rt, alloc, engine, passes)?;
     Ok(C::run(callers))
 }
@@ -157,11 +141,8 @@ pub(crate) fn with_calls<'e, N: PoolName, R: Wait>(
     rt: &'e R,
     alloc: Global,
     engine: &'e Engine<N>,
-    passes: &mut Vec<Pass>,
-) -> Result<Callers<'e, N, R>, Fail>
-    requires named { engine.now ≡ N.pool }
-    requires rest { All (IsResting N.pool) passes.old.items }
-{
+    passes: &mut Vec<Pass<N>>,
+) -> Result<Callers<'e, N, R>, Fail> {
     let third = if passes.len() > 2 {
         Some(last(rt, alloc, engine, passes)?)
     } else {
@@ -181,12 +162,8 @@ fn last<'e, N: PoolName, R: Wait>(
     rt: &'e R,
     alloc: Global,
     engine: &'e Engine<N>,
-    passes: &mut Vec<Pass>,
-) -> Result<Caller<'e, N, R>, Fail>
-    requires named { engine.now ≡ N.pool }
-    requires rest { All (IsResting N.pool) passes.old.items }
-    ensures rest { All (IsResting N.pool) passes.new.items }
-{
+    passes: &mut Vec<Pass<N>>,
+) -> Result<Caller<'e, N, R>, Fail> {
     let pass = passes.pop().ok_or("a pass")?;
     Ok(Caller {
         engine,

@@ -1,5 +1,4 @@
 //! Threads that add, delete and find beside each other.
-ghost use Rattle.std.specs.Prelude.{◌≡◌};
 
 use crate::beside::{Task, work_beside};
 use crate::caller::{Caller, Refused};
@@ -35,9 +34,7 @@ impl Task for Fill {
 fn add_and_find<N: PoolName, R: Wait>(
     caller: &mut Caller<'_, N, R>,
     id: u64,
-) -> Result<bool, Memory>
-    ensures { caller.new ≡ caller.old }
-{
+) -> Result<bool, Memory> {
     let text = format!(in caller.alloc; "x u{id}")?;
     let word = format!(in caller.alloc; "u{id}")?;
     let added = caller.add(id, text.as_str()).is_ok();
@@ -99,9 +96,7 @@ impl Task for Reuse {
     }
 }
 
-fn add_and_delete_often<N: PoolName, R: Wait>(caller: &mut Caller<'_, N, R>) -> bool
-    ensures { caller.new ≡ caller.old }
-{
+fn add_and_delete_often<N: PoolName, R: Wait>(caller: &mut Caller<'_, N, R>) -> bool {
     let mut as_wanted = true;
     for _round in 0..200 {
         as_wanted = as_wanted && add_and_delete(caller);
@@ -110,9 +105,7 @@ fn add_and_delete_often<N: PoolName, R: Wait>(caller: &mut Caller<'_, N, R>) -> 
 }
 
 /// One round. Only its first add may find the engine full, until a find that guards the slice has ended.
-fn add_and_delete<N: PoolName, R: Wait>(caller: &mut Caller<'_, N, R>) -> bool
-    ensures { caller.new ≡ caller.old }
-{
+fn add_and_delete<N: PoolName, R: Wait>(caller: &mut Caller<'_, N, R>) -> bool {
     let mut as_wanted = add_at_last(caller, 1);
     for id in 2..65 {
         as_wanted = as_wanted && caller.add(id, "x").is_ok();
@@ -124,9 +117,7 @@ fn add_and_delete<N: PoolName, R: Wait>(caller: &mut Caller<'_, N, R>) -> bool
 }
 
 /// Adds a document as soon as the engine isn't full, after so many turns at most.
-fn add_at_last<N: PoolName, R: Wait>(caller: &mut Caller<'_, N, R>, id: u64) -> bool
-    ensures { caller.new ≡ caller.old }
-{
+fn add_at_last<N: PoolName, R: Wait>(caller: &mut Caller<'_, N, R>, id: u64) -> bool {
     for _turn in 0..1_000_000 {
         match caller.add(id, "x") {
             Ok(_) => return true,
@@ -138,9 +129,7 @@ fn add_at_last<N: PoolName, R: Wait>(caller: &mut Caller<'_, N, R>, id: u64) -> 
 }
 
 /// Finds until the other pass is through. Each find has some of the numbers 1 to 64, in the order in which they were added.
-fn find_until<N: PoolName, R: Wait>(caller: &mut Caller<'_, N, R>, over: &AtomicU64) -> bool
-    ensures { caller.new ≡ caller.old }
-{
+fn find_until<N: PoolName, R: Wait>(caller: &mut Caller<'_, N, R>, over: &AtomicU64) -> bool {
     let mut as_wanted = true;
     for _find in caller.rt.forever() {
         as_wanted = as_wanted && finds_some(caller);
@@ -151,9 +140,7 @@ fn find_until<N: PoolName, R: Wait>(caller: &mut Caller<'_, N, R>, over: &Atomic
     as_wanted
 }
 
-fn finds_some<N: PoolName, R: Wait>(caller: &mut Caller<'_, N, R>) -> bool
-    ensures { caller.new ≡ caller.old }
-{
+fn finds_some<N: PoolName, R: Wait>(caller: &mut Caller<'_, N, R>) -> bool {
     match caller.find("x") {
         Ok(ids) => is_rising_to(ids.as_slice(), 64),
         Err(_) => false,

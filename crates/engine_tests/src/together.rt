@@ -1,5 +1,4 @@
 //! Two threads that write columns of the same words at the same time.
-ghost use Rattle.std.specs.Prelude.{◌≡◌};
 
 use crate::beside::{Task, work_beside};
 use crate::caller::Caller;
@@ -101,9 +100,7 @@ impl Task for Pairs {
     }
 }
 
-fn add_each<N: PoolName, R: Wait>(caller: &mut Caller<'_, N, R>, work: &mut Meeting<'_>) -> bool
-    ensures { caller.new ≡ caller.old }
-{
+fn add_each<N: PoolName, R: Wait>(caller: &mut Caller<'_, N, R>, work: &mut Meeting<'_>) -> bool {
     let first = 1024 * caller.number() as u64;
     let mut as_wanted = true;
     for i in 0..1024 {
@@ -113,9 +110,7 @@ fn add_each<N: PoolName, R: Wait>(caller: &mut Caller<'_, N, R>, work: &mut Meet
 }
 
 /// Whether a find has as many documents as both added. It reads each bit that they wrote.
-fn has_all<N: PoolName, R: Wait>(caller: &mut Caller<'_, N, R>) -> bool
-    ensures { caller.new ≡ caller.old }
-{
+fn has_all<N: PoolName, R: Wait>(caller: &mut Caller<'_, N, R>) -> bool {
     match caller.find(WORDS) {
         Ok(ids) => ids.len() == 2048,
         Err(_) => false,

@@ -76,6 +76,12 @@ abbrev pub is_write_fault : FitEnd → Bool
 is_write_fault end_of.WriteFault = true
 is_write_fault _ = false
 
+-- a fit that ends so came to write its configuration
+abbrev pub comes_to_write : FitEnd → Bool
+comes_to_write end_of.Done = true
+comes_to_write end_of.WriteFault = true
+comes_to_write _ = false
+
 -- some bytes of the input were taken, and this came of them; the count of a fault rose by one where the fit ended for it
 pub record Fits (n limit : ℕ) (old new : Sides) (end : FitEnd) : Type 0 where
   pub taken : List ℕ

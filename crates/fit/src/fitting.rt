@@ -1,10 +1,10 @@
 //! A fit as one call.
 
-ghost use Rattle.std.specs.Prelude.{◌≡◌, ◌≤◌, ◌^◌, ℕ, List, IfOk, IfErr, length, map, string_bytes};
+ghost use Rattle.std.specs.Prelude.{◌≡◌, ◌≤◌, ◌^◌, ℕ, false, List, IfOk, IfErr, length, map, string_bytes};
 ghost use Rattle.funnel_model.specs.declared.config.TheConstants.{MOST_WORDS};
 ghost use Rattle.funnel_stats.specs.Configurations.{longest};
 ghost use Rattle.fit.specs.Chosen.{EndsInput, FitsInput, HasNoFit};
-ghost use Rattle.fit.specs.Ends.{Fits, IsFitted, IsMisfit};
+ghost use Rattle.fit.specs.Ends.{Fits, IsFitted, IsMisfit, comes_to_write};
 ghost use Rattle.fit.specs.Made.{CanBeListed, IsFrameOf, IsOfSample, IsSound, IsTooLong, ListsAll, ListsSample};
 ghost use Rattle.fit.specs.Steps.{AddsUp, HasCounted, IsCounted, entries_of, ranked};
 ghost use Rattle.fit.specs.Texts.{text_of};
@@ -46,6 +46,9 @@ pub fn fit<S: Source, K: Sink>(
         record { incoming = S.incoming input.old; outgoing = K.outgoing output.old }
         record { incoming = S.incoming input.new; outgoing = K.outgoing output.new }
         result }
+
+    // Nothing at all is written where there is no configuration to write.
+    ensures unwritten { comes_to_write result ≡ false → output.new ≡ output.old }
 {
     let written = match fit_input(alloc, documents, limit, input) {
         Ok(written) => written,

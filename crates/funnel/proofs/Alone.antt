@@ -8,7 +8,7 @@ use Rattle.funnel_model.specs.Events.{pass_of}
 use Rattle.funnel_model.specs.History.{MovesAreCaused}
 use Rattle.funnel_model.specs.Legal.{IsLegal, Limits}
 use Rattle.funnel_model.proofs.Invariants.{passes_in_range}
-use Rattle.slice_rule.specs.Seats.{PassState}
+use Rattle.engine.specs.Passes.{PassView}
 use Rattle.funnel.specs.Serving.{FirstDid, FirstHasSeen}
 use Rattle.engine.specs.Engines.{ClosedState}
 use Rattle.funnel_io.specs.declared.end.End.{End}
@@ -38,19 +38,19 @@ none_left : (pass : ℕ) (events : List Event) → All (λ e. pass_of e ≡ pass
 none_left pass [] of_pass silent = refl
 none_left pass (e ∷ later) of_pass silent = absurd (search (rules, of_pass 0 e, silent))
 
-module _ (limits : Limits) (history front : List Event) (passes : List PassState) (legal : IsLegal limits history) (some : 1 ≤ limits.passes)
+module _ (limits : Limits) (history front : List Event) (passes : List PassView) (legal : IsLegal limits history) (some : 1 ≤ limits.passes)
     (ends : All (EndsIn history) passes) (seen : All (FirstHasSeen front) passes)
-    (every : (pass : ℕ) → pass < limits.passes → Contains (map (λ (seat : PassState). seat.number) passes) pass) where
+    (every : (pass : ℕ) → pass < limits.passes → Contains (map (λ (seat : PassView). seat.number) passes) pass) where
   -- the pass with a number, as it is handed back
-  back : (number : ℕ) → number < limits.passes → (pass : PassState) × Contains passes pass × (number ≡ pass.number)
-  back number small = Contains-from_map (λ (seat : PassState). seat.number) passes number (every number small)
+  back : (number : ℕ) → number < limits.passes → (pass : PassView) × Contains passes pass × (number ≡ pass.number)
+  back number small = Contains-from_map (λ (seat : PassView). seat.number) passes number (every number small)
 
   pub all_of_first : All (λ e. pass_of e ≡ 0) history
   all_of_first k d small =
       let e = slice_index_or history k d in
       let pass = back (pass_of e) (passes_in_range limits history legal k d small) in
       of_number (pass_of e) pass.0 refl pass.2 (All-contains (EndsIn history) passes pass.0 ends pass.1) (All-contains (FirstHasSeen front) passes pass.0 seen pass.1) where
-        of_number : (number : ℕ) (pass : PassState) → pass_of (slice_index_or history k d) ≡ number → pass_of (slice_index_or history k d) ≡ pass.number →
+        of_number : (number : ℕ) (pass : PassView) → pass_of (slice_index_or history k d) ≡ number → pass_of (slice_index_or history k d) ≡ pass.number →
             EndsIn history pass → FirstHasSeen front pass → pass_of (slice_index_or history k d) ≡ 0
         of_number zero pass is number ended saw = is
         of_number (suc n) pass is number ended saw =
@@ -69,7 +69,7 @@ module _ (limits : Limits) (history front : List Event) (passes : List PassState
       whole ∙ ap (λ h. front ++ h) (none_left 0 ended.later later_of_first (subst (λ n. list_any (λ e. pass_of e == n) ended.later ≡ false) (sym pass.2) ended.silent)) ∙ append-nil front
 
 -- so what the first pass did was all that the engine did
-have_done : (pool : PoolId) (config : Config) (passes : List PassState) (did : List Event → Type 0) (closed : ClosedState) →
+have_done : (pool : PoolId) (config : Config) (passes : List PassView) (did : List Event → Type 0) (closed : ClosedState) →
     pool.limits ≡ limits_by config → pool.config ≡ config → 1 ≤ pool.limits.passes → FirstDid pool passes did →
     IsLegal pool.limits closed.history → MovesAreCaused closed.history → IsSound pool.config closed.history → All (EndsIn closed.history) passes →
     did closed.history × IsOfFirst config closed
@@ -85,7 +85,7 @@ have_done pool config passes did closed limits_are config_is some first legal ca
     )
 
 -- and so was a session of it
-pub have_run : (pool : PoolId) (config : Config) (passes : List PassState) (incoming later_incoming : Incoming) (outgoing later_outgoing : Outgoing)
+pub have_run : (pool : PoolId) (config : Config) (passes : List PassView) (incoming later_incoming : Incoming) (outgoing later_outgoing : Outgoing)
     (end : End) (why : Why) (closed : ClosedState) → pool.limits ≡ limits_by config → pool.config ≡ config → 1 ≤ pool.limits.passes →
     FirstDid pool passes (λ front. Serves (first_caller pool.limits) MOST_BYTES (record { front = []; incoming = incoming; outgoing = outgoing })
     (record { front = front; incoming = later_incoming; outgoing = later_outgoing }) end) → why ≡ why_of_end end →

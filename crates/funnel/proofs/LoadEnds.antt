@@ -18,8 +18,8 @@ use Rattle.load_gen.specs.Documents.{documents}
 use Rattle.load_gen.specs.Summary.{results_of, summary, summary_text}
 use Rattle.load_laws.specs.Workers.{HasRoomFor}
 use Rattle.row_layout.specs.Sound.{IsSound}
+use Rattle.engine.specs.Passes.{PassView}
 use Rattle.slice_rule.specs.Pools.{PoolId}
-use Rattle.slice_rule.specs.Seats.{PassState}
 use Rattle.funnel.specs.declared.command.LoadCommand.{LoadCommand}
 use Rattle.funnel.specs.declared.ended.Why.{Why}
 use Rattle.funnel.specs.declared.ended.Why.TheVariants as why_of
@@ -56,7 +56,7 @@ IsPutOrCutShort config load fronts answer =
     (λ _. IsCutShort (limits_by config) (documents load.docs load.words load.seed) load.workers (λ _. []) fronts)
 
 -- The workers of a load had the first passes of a new engine of this pool, which is closed now.
-pub record HasClosed (pool : PoolId) (config : Config) (load : LoadCommand) (before after : List PassState) (closed : ClosedState) : Type 0 where
+pub record HasClosed (pool : PoolId) (config : Config) (load : LoadCommand) (before after : List PassView) (closed : ClosedState) : Type 0 where
   pub limits : pool.limits ≡ limits_by config
   pub config_is : pool.config ≡ config
   pub some : 1 ≤ load.workers
@@ -68,7 +68,7 @@ pub record HasClosed (pool : PoolId) (config : Config) (load : LoadCommand) (bef
   pub sound : IsSound pool.config closed.history
   pub ends : All (EndsIn closed.history) after
 
-module _ (pool : PoolId) (config : Config) (load : LoadCommand) (before after : List PassState) (closed : ClosedState)
+module _ (pool : PoolId) (config : Config) (load : LoadCommand) (before after : List PassView) (closed : ClosedState)
     (ended : HasClosed pool config load before after closed) where
   room : HasRoomFor (limits_by config) load.docs
   room =

@@ -1,28 +1,28 @@
 -- What the passes of a new engine have seen, by their places, once the first ones were the workers of a load.
 use Rattle.std.proofs.Common.{◌≡◌, ℕ, zero, suc, ◌+◌, ◌-◌, ◌<◌, ◌≤◌, false, List, [], ◌∷◌, ◌++◌, length, drop, map, sym, refl, ap, ◌∙◌, subst, arith}
 use Rattle.std.proofs.lemmas.List.Elements.{All-head, All-tail}
-use Rattle.std.specs.List.{All, Contains, list_any, range_with_len, remove}
+use Rattle.std.specs.List.{All, list_any, range_with_len, remove}
 use Rattle.std.specs.Prelude.{◌==◌, slice_index_or}
 use Rattle.engine.proofs.NewPasses.{new_numbers}
 use Rattle.engine.specs.Engines.{EndsIn}
+use Rattle.engine.specs.Passes.{PassView}
 use Rattle.funnel_model.specs.declared.event.Event.{Event}
 use Rattle.funnel_model.specs.Events.{pass_of}
 use Rattle.funnel_model.specs.History.{IsFrontOf}
 use Rattle.funnel_model.specs.Legal.{IsLegal}
 use Rattle.funnel_server.specs.Loads.{front_at}
 use Rattle.slice_rule.specs.Pools.{PoolId}
-use Rattle.slice_rule.specs.Seats.{PassState}
-use Rattle.funnel.proofs.Passes.{number_of, of_first_passes, others_are_there}
+use Rattle.funnel.proofs.Passes.{number_of, of_first_passes}
 use Rattle.funnel.specs.Serving.{new_passes}
 
 -- new passes have seen nothing
-pub new_front_at : (pool : PoolId) (from count place : ℕ) → front_at (new_passes pool from count) place ≡ []
-new_front_at pool from zero place = refl
-new_front_at pool from (suc count) zero = refl
-new_front_at pool from (suc count) (suc place) = new_front_at pool (from + 1) count place
+pub new_front_at : (from count place : ℕ) → front_at (new_passes from count) place ≡ []
+new_front_at from zero place = refl
+new_front_at from (suc count) zero = refl
+new_front_at from (suc count) (suc place) = new_front_at (from + 1) count place
 
 -- behind the first so many passes each place is so much lower
-front_at-drop : (n place : ℕ) (passes : List PassState) → front_at (drop n passes) place ≡ front_at passes (n + place)
+front_at-drop : (n place : ℕ) (passes : List PassView) → front_at (drop n passes) place ≡ front_at passes (n + place)
 front_at-drop zero place passes = ap (front_at passes) (omega arith)
 front_at-drop (suc n) place [] = refl
 front_at-drop (suc n) place (pass ∷ passes) =
@@ -30,7 +30,7 @@ front_at-drop (suc n) place (pass ∷ passes) =
     front_at-drop n place passes ∙ ap (front_at (pass ∷ passes)) next
 
 -- the history goes on from what the pass at each place has seen, where the passes stand by their numbers
-front_by_place : (history : List Event) (passes : List PassState) (from count : ℕ) → map number_of passes ≡ range_with_len from count →
+front_by_place : (history : List Event) (passes : List PassView) (from count : ℕ) → map number_of passes ≡ range_with_len from count →
     All (EndsIn history) passes → (place : ℕ) → place < count → IsFrontOf (from + place) (front_at passes place) history
 front_by_place history [] from zero numbers ends place below = absurd (omega arith)
 front_by_place history [] from (suc count) numbers ends place below = absurd (omega (arith, ap length numbers))
@@ -44,32 +44,26 @@ front_by_place history (pass ∷ passes) from (suc count) numbers ends (suc plac
     (front_by_place history passes (from + 1) count (ap (λ (ns : List ℕ). remove ns 0) numbers) (All-tail (EndsIn history) pass passes ends) place (omega arith))
 
 -- the passes of a new engine before and after a load of so many workers: each stands at its place, and only the workers' were used
-pub record AreUsedBy (pool : PoolId) (workers : ℕ) (before after : List PassState) : Type 0 where
+pub record AreUsedBy (pool : PoolId) (workers : ℕ) (before after : List PassView) : Type 0 where
   pub counted : pool.limits.passes ≡ pool.config.passes
-  pub new : before ≡ new_passes pool 0 pool.config.passes
+  pub new : before ≡ new_passes 0 pool.config.passes
   pub numbers : map number_of after ≡ map number_of before
   pub others : drop workers after ≡ drop workers before
 
-module _ (pool : PoolId) (workers : ℕ) (before after : List PassState) (used : AreUsedBy pool workers before after) where
+module _ (pool : PoolId) (workers : ℕ) (before after : List PassView) (used : AreUsedBy pool workers before after) where
   numbers_are : map number_of after ≡ range_with_len 0 pool.config.passes
-  numbers_are = used.numbers ∙ ap (map number_of) used.new ∙ new_numbers pool 0 pool.config.passes
-
-  -- all are there
-  pub every_pass : (pass : ℕ) → pass < pool.limits.passes → Contains (map number_of after) pass
-  every_pass pass small =
-      let there = others_are_there pool 0 pool.config.passes pass (omega arith) (omega (arith, small, used.counted)) in
-      subst (λ ns. Contains ns pass) (sym (used.numbers ∙ ap (map number_of) used.new)) there
+  numbers_are = used.numbers ∙ ap (map number_of) used.new ∙ new_numbers 0 pool.config.passes
 
   -- no worker has seen anything before
   pub nothing_before : (place : ℕ) → front_at before place ≡ []
-  nothing_before place = ap (λ (passes : List PassState). front_at passes place) used.new ∙ new_front_at pool 0 pool.config.passes place
+  nothing_before place = ap (λ (passes : List PassView). front_at passes place) used.new ∙ new_front_at 0 pool.config.passes place
 
   -- and the others nothing after
   pub nothing_after : (place : ℕ) → workers ≤ place → front_at after place ≡ []
   nothing_after place high =
       let split : workers + (place - workers) ≡ place = omega arith in
       ap (front_at after) (sym split) ∙ sym (front_at-drop workers (place - workers) after)
-      ∙ ap (λ (passes : List PassState). front_at passes (place - workers)) used.others
+      ∙ ap (λ (passes : List PassView). front_at passes (place - workers)) used.others
       ∙ front_at-drop workers (place - workers) before ∙ nothing_before (workers + (place - workers))
 
   module _ (history : List Event) (legal : IsLegal pool.limits history) (ends : All (EndsIn history) after) where

@@ -1,16 +1,13 @@
 -- The workers of a serve, from their gates and passes to these again.
 use Rattle.std.proofs.Common.{◌≡◌, ℕ, suc, ◌+◌, ◌-◌, ◌<◌, ◌≤◌, ◌⊎◌, false, List, [], ◌∷◌, ◌++◌, length, map, Some, sym, refl, ap, ◌∙◌, subst, inl, inr, rules, arith, append_assoc, append-nil, length-append, slice_index_or}
 use Rattle.std.proofs.lemmas.List.{length-map, map-append}
-use Rattle.std.proofs.lemmas.Bool.{cases_lt}
-use Rattle.std.proofs.lemmas.List.Elements.{All-append, All-cons, All-contains, All-head, All-nil, All-push, All-tail, Contains-append_left, Contains-append_right}
-use Rattle.std.proofs.lemmas.List.FromFn.{get_or-map-range_with_len, get_or-range_with_len, length-map-range_with_len, length-range_with_len}
-use Rattle.std.proofs.lemmas.Simd.{map-map}
+use Rattle.std.proofs.lemmas.List.Elements.{All-cons, All-contains, All-head, All-nil, All-tail, Contains-append_left, Contains-append_right}
+use Rattle.std.proofs.lemmas.List.FromFn.{get_or-map-range_with_len, length-map-range_with_len}
 use Rattle.std.specs.List.{All, Contains, list_any, range_with_len, remove}
 use Rattle.std.specs.Prelude.{◌==◌, ◌||◌, Bool}
-use Rattle.commit_desk.specs.Passes.{IsResting}
-use Rattle.engine.proofs.NewPasses.{new_rest}
 use Rattle.engine.specs.Clients.{caller_of}
 use Rattle.engine.specs.Engines.{ClosedState, EndsIn}
+use Rattle.engine.specs.Passes.{PassView, new_pass}
 use Rattle.funnel_model.specs.declared.config.Config.{Config}
 use Rattle.funnel_model.specs.declared.event.Event.{Event}
 use Rattle.funnel_model.specs.Events.{pass_of}
@@ -25,65 +22,56 @@ use Rattle.funnel_server.specs.GateTurns.{WorksInTurns}
 use Rattle.funnel_server.specs.Workers.{HasMetNoFault, WorkerState, WorkerWithGate}
 use Rattle.row_layout.specs.Sound.{IsSound}
 use Rattle.slice_rule.specs.Pools.{PoolId}
-use Rattle.slice_rule.specs.Seats.{PassState, new_pass_state}
-use Rattle.funnel.proofs.Passes.{new_pass_rests, number_of, of_first_passes, others_are_there}
+use Rattle.funnel.proofs.Passes.{of_first_passes}
 use Rattle.funnel.specs.declared.ended.Why.{Why}
 use Rattle.funnel.specs.Runs.{limits_by}
 use Rattle.funnel.specs.Served.{AllWork, new_worker, new_workers, why_of_workers}
 use Rattle.funnel.specs.Serving.{new_passes}
 use Rattle.funnel.specs.Turns.{GatesGoInTurns}
-use Rattle.funnel.specs.Workers.{AreEquipped, ComeBack, EndsOpenServeInTurns, GaveBack, HaveWorked, HaveWorkedInTurns, gates_of, stand_of, stand_of_worker, states_of}
+use Rattle.funnel.specs.Workers.{AreEquipped, EndsOpenServeInTurns, GaveBack, HaveWorked, HaveWorkedInTurns, gates_of, pass_of_worker, states_of}
 
 -- ---- the gates and passes go to workers
 
 -- no worker is made yet
-pub equip-begin : (pool : PoolId) (connections : ℕ) (all : List GateState) (passes : List PassState) (workers : List WorkerState) → workers ≡ [] →
-    passes ≡ new_passes pool 0 pool.config.passes → AreEquipped pool connections all all passes workers
+pub equip-begin : (pool : PoolId) (connections : ℕ) (all : List GateState) (passes : List PassView) (workers : List WorkerState) → workers ≡ [] →
+    passes ≡ new_passes 0 pool.config.passes → AreEquipped pool connections all all passes workers
 equip-begin pool connections all passes workers none new =
-    subst (AreEquipped pool connections all all passes) (sym none) (record { made = refl; count = omega arith; passes_left = new ∙ ap (new_passes pool 0) (omega arith) })
+    subst (AreEquipped pool connections all all passes) (sym none) (record { made = refl; count = omega arith; passes_left = new ∙ ap (new_passes 0) (omega arith) })
 
 -- the passes that are left are the next one and the others
 next_passes : (pool : PoolId) (n : ℕ) → n < pool.config.passes →
-    new_passes pool n (pool.config.passes - n) ≡ new_pass_state pool n ∷ new_passes pool (n + 1) (pool.config.passes - (n + 1))
+    new_passes n (pool.config.passes - n) ≡ new_pass n ∷ new_passes (n + 1) (pool.config.passes - (n + 1))
 next_passes pool n small =
     let more : pool.config.passes - n ≡ suc (pool.config.passes - (n + 1)) = omega arith in
-    ap (new_passes pool n) more
+    ap (new_passes n) more
 
 -- the next pass is new
-pub next_pass : (pool : PoolId) (connections : ℕ) (all left : List GateState) (passes : List PassState) (workers : List WorkerState) (pass : PassState) →
+pub next_pass : (pool : PoolId) (connections : ℕ) (all left : List GateState) (passes : List PassView) (workers : List WorkerState) (pass : PassView) →
     AreEquipped pool connections all left passes workers → 0 < length left → length all ≤ pool.config.passes → pass ≡ slice_index_or passes 0 pass →
-    pass ≡ new_pass_state pool (length workers)
+    pass ≡ new_pass (length workers)
 next_pass pool connections all left passes workers pass so_far some enough is =
     is ∙ ap (λ xs. slice_index_or xs 0 pass) (so_far.passes_left ∙ next_passes pool (length workers) (omega (arith, so_far.count)))
 
--- and rests
-pub next_rests : {G : Type 0} (state : G → GateState) (named pool : PoolId) (connections : ℕ) (all left : List G) (passes : List PassState) (workers : List WorkerState) (pass : PassState) →
-    pool ≡ named → AreEquipped pool connections (map state all) (map state left) passes workers → 0 < length left → length all ≤ pool.config.passes →
-    pass ≡ slice_index_or passes 0 pass → IsResting named pass
-next_rests {G} state named pool connections all left passes workers pass named_is so_far some enough is =
-    let pass_is = next_pass pool connections (map state all) (map state left) passes workers pass so_far (omega (arith, some, length-map left state)) (omega (arith, enough, length-map all state)) is in
-    subst (λ (p : PoolId). IsResting p pass) named_is (subst (IsResting pool) (sym pass_is) (new_pass_rests pool (length workers)))
-
 -- so many passes are left that there is a next one
-pub some_passes : (pool : PoolId) (connections : ℕ) (all left : List GateState) (passes : List PassState) (workers : List WorkerState) →
+pub some_passes : (pool : PoolId) (connections : ℕ) (all left : List GateState) (passes : List PassView) (workers : List WorkerState) →
     AreEquipped pool connections all left passes workers → 0 < length left → length all ≤ pool.config.passes → 0 < length passes
 some_passes pool connections all left passes workers so_far some enough =
     let many = ap length (so_far.passes_left ∙ next_passes pool (length workers) (omega (arith, so_far.count))) in
     omega (arith, many)
 
 -- one more worker is made
-equip-one : (pool : PoolId) (connections : ℕ) (all : List GateState) (gate : GateState) (rest : List GateState) (passes others : List PassState) (pass : PassState)
+equip-one : (pool : PoolId) (connections : ℕ) (all : List GateState) (gate : GateState) (rest : List GateState) (passes others : List PassView) (pass : PassView)
     (workers more : List WorkerState) (worker : WorkerState) →
     AreEquipped pool connections all (gate ∷ rest) passes workers → length all ≤ pool.config.passes →
     pass ≡ slice_index_or passes 0 pass → others ≡ remove passes 0 →
-    worker ≡ record { gate = gate; caller = caller_of pass; front = pass.front; left = connections; fault = false; memory = false } →
+    worker ≡ record { gate = gate; caller = caller_of pool.limits pass; front = pass.front; left = connections; fault = false; memory = false } →
     more ≡ workers ++ worker ∷ [] → AreEquipped pool connections all rest others more
 equip-one pool connections all gate rest passes others pass workers more worker so_far enough is left_are made_of more_are =
     let n = length workers in
     let passes_are = so_far.passes_left ∙ next_passes pool n (omega (arith, so_far.count)) in
-    let pass_is : pass ≡ new_pass_state pool n = is ∙ ap (λ xs. slice_index_or xs 0 pass) passes_are in
+    let pass_is : pass ≡ new_pass n = is ∙ ap (λ xs. slice_index_or xs 0 pass) passes_are in
     let worker_is : worker ≡ new_worker pool.limits connections n gate =
-    made_of ∙ ap (λ (p : PassState). record { gate = gate; caller = caller_of p; front = p.front; left = connections; fault = false; memory = false }) pass_is in
+    made_of ∙ ap (λ (p : PassView). record { gate = gate; caller = caller_of pool.limits p; front = p.front; left = connections; fault = false; memory = false }) pass_is in
     let longer : length more ≡ n + 1 = ap length more_are ∙ length-append workers (worker ∷ []) in
     record {
       made =
@@ -95,21 +83,21 @@ equip-one pool connections all gate rest passes others pass workers more worker 
       count = omega (arith, longer, so_far.count);
       passes_left =
           left_are ∙ ap (λ xs. remove xs 0) passes_are
-          ∙ ap (λ k. new_passes pool k (pool.config.passes - k)) (sym longer);
+          ∙ ap (λ k. new_passes k (pool.config.passes - k)) (sym longer);
     }
 
 -- of a gate that was the first of those that were left
-pub equip-more : {G : Type 0} (state : G → GateState) (pool : PoolId) (connections : ℕ) (all gates rest : List G) (gate : G) (passes others : List PassState)
-    (pass : PassState) (workers more : List WorkerState) (worker : WorkerState) →
+pub equip-more : {G : Type 0} (state : G → GateState) (pool : PoolId) (connections : ℕ) (all gates rest : List G) (gate : G) (passes others : List PassView)
+    (pass : PassView) (workers more : List WorkerState) (worker : WorkerState) →
     AreEquipped pool connections (map state all) (map state gates) passes workers → length all ≤ pool.config.passes → 0 < length gates →
     gate ≡ slice_index_or gates 0 gate → rest ≡ remove gates 0 → pass ≡ slice_index_or passes 0 pass → others ≡ remove passes 0 →
-    worker ≡ record { gate = state gate; caller = caller_of pass; front = pass.front; left = connections; fault = false; memory = false } →
+    worker ≡ record { gate = state gate; caller = caller_of pool.limits pass; front = pass.front; left = connections; fault = false; memory = false } →
     more ≡ workers ++ worker ∷ [] → AreEquipped pool connections (map state all) (map state rest) others more
 equip-more {G} state pool connections all [] rest gate passes others pass workers more worker so_far enough some first rest_are is left_are made_of more_are = absurd (omega arith)
 equip-more {G} state pool connections all (g ∷ gs) rest gate passes others pass workers more worker so_far enough some first rest_are is left_are made_of more_are =
     subst (λ (xs : List G). AreEquipped pool connections (map state all) (map state xs) others more) (sym rest_are)
     (equip-one pool connections (map state all) (state g) (map state gs) passes others pass workers more worker so_far (omega (arith, enough, length-map all state)) is left_are
-    (made_of ∙ ap (λ (x : G). record { gate = state x; caller = caller_of pass; front = pass.front; left = connections; fault = false; memory = false }) first) more_are)
+    (made_of ∙ ap (λ (x : G). record { gate = state x; caller = caller_of pool.limits pass; front = pass.front; left = connections; fault = false; memory = false }) first) more_are)
 
 -- a gate that was the first of those that were left is the last one that has a worker
 pub moved_on : {G : Type 0} (workers more : List (WorkerWithGate G)) (worker : WorkerWithGate G) (gates rest all : List G) → gates_of workers ++ gates ≡ all →
@@ -124,13 +112,13 @@ moved_on {G} workers more worker (gate ∷ gates) rest all so_far some first res
     ∙ so_far
 
 -- all workers are made
-pub equip-end : (pool : PoolId) (connections : ℕ) (all left : List GateState) (passes : List PassState) (workers : List WorkerState) →
+pub equip-end : (pool : PoolId) (connections : ℕ) (all left : List GateState) (passes : List PassView) (workers : List WorkerState) →
     AreEquipped pool connections all left passes workers → left ≡ [] →
-    (workers ≡ new_workers pool.limits connections 0 all) × (passes ≡ new_passes pool (length all) (pool.config.passes - length all))
+    (workers ≡ new_workers pool.limits connections 0 all) × (passes ≡ new_passes (length all) (pool.config.passes - length all))
 equip-end pool connections all left passes workers so_far none =
     let count : length workers ≡ length all = omega (arith, so_far.count, ap length none) in (
       sym (append-nil workers) ∙ ap (λ gs. workers ++ new_workers pool.limits connections (length workers) gs) (sym none) ∙ so_far.made,
-      so_far.passes_left ∙ ap (λ k. new_passes pool k (pool.config.passes - k)) count,
+      so_far.passes_left ∙ ap (λ k. new_passes k (pool.config.passes - k)) count,
     )
 
 pub length-new_workers : (limits : Limits) (connections pass : ℕ) (gates : List GateState) → length (new_workers limits connections pass gates) ≡ length gates
@@ -183,16 +171,16 @@ module _ {G C : Type 0} (next_gives : G → Next C → G → Type 0) (done_gives
       record { work = (first.works, others.work); turns = (first.in_turns, others.turns) }
 
   -- the gates had workers, and all came back
-  pub have_worked : (state : G → GateState) (named pool : PoolId) (connections : ℕ) (gates none back : List G) (why : Why) (left passes : List PassState)
-      (befores afters : List (WorkerWithGate G)) → pool ≡ named →
+  pub have_worked : (state : G → GateState) (pool : PoolId) (connections : ℕ) (gates none back : List G) (why : Why) (left passes : List PassView)
+      (befores afters : List (WorkerWithGate G)) →
       states_of befores ≡ new_workers pool.limits connections 0 (map state gates) → gates_of befores ≡ gates → none ≡ [] →
-      left ≡ new_passes pool (length gates) (pool.config.passes - length gates) → length afters ≡ length befores →
+      left ≡ new_passes (length gates) (pool.config.passes - length gates) → length afters ≡ length befores →
       ((k : ℕ) (d : WorkerWithGate G) → k < length befores →
       WorksInTurns next_gives done_gives end_gives read_gives write_gives incoming outgoing (slice_index_or befores k d) (slice_index_or afters k d)) →
       map state back ≡ map state none ++ map (λ (worker : WorkerState). worker.gate) (states_of afters) → back ≡ none ++ gates_of afters →
-      why ≡ why_of_workers (states_of afters) → ComeBack named (states_of afters) left passes →
+      why ≡ why_of_workers (states_of afters) → passes ≡ left ++ map pass_of_worker (states_of afters) →
       HaveWorkedInTurns next_gives done_gives end_gives read_gives write_gives incoming outgoing state pool connections gates back why passes
-  have_worked state named pool connections gates none back why left passes befores afters named_is made theirs empty left_are same work told back_are cause come =
+  have_worked state pool connections gates none back why left passes befores afters made theirs empty left_are same work told back_are cause come =
       let came : back ≡ gates_of afters = back_are ∙ ap (λ (gs : List G). gs ++ gates_of afters) empty in
       let all : WorkInTurns (new_workers pool.limits connections 0 (map state gates)) (states_of afters) gates back =
       subst (λ (ws : List WorkerState). WorkInTurns ws (states_of afters) gates back) made
@@ -206,9 +194,8 @@ module _ {G C : Type 0} (next_gives : G → Next C → G → Type 0) (done_gives
           gates = told ∙ ap (λ (gs : List G). map state gs ++ map (λ (worker : WorkerState). worker.gate) (states_of afters)) empty;
           cause = cause;
           back =
-              subst (λ n. ComeBack pool (states_of afters) (new_passes pool n (pool.config.passes - n)) passes) (sym (length-map gates state))
-              (subst (λ ps. ComeBack pool (states_of afters) ps passes) left_are
-              (subst (λ (p : PoolId). ComeBack p (states_of afters) left passes) (sym named_is) come));
+              come ∙ ap (λ ps. ps ++ map pass_of_worker (states_of afters)) left_are
+              ∙ ap (λ n. new_passes n (pool.config.passes - n) ++ map pass_of_worker (states_of afters)) (sym (length-map gates state));
         };
         in_turns = all.turns;
       }
@@ -217,35 +204,24 @@ pub as_many : {G : Type 0} (befores afters : List (WorkerWithGate G)) → length
 as_many {G} befores afters same =
     length-map afters (λ (worker : WorkerWithGate G). worker.state) ∙ same ∙ sym (length-map befores (λ (worker : WorkerWithGate G). worker.state))
 
--- their passes are those of their gates, in order
-passes_of : (limits : Limits) (connections pass : ℕ) (gates : List GateState) (workers : List WorkerState) → AllWork (new_workers limits connections pass gates) workers →
-    map (λ (worker : WorkerState). worker.caller.pass) workers ≡ range_with_len pass (length gates)
-passes_of limits connections pass [] [] work = refl
-passes_of limits connections pass [] (worker ∷ workers) work = absurd work
-passes_of limits connections pass (gate ∷ gates) [] work = absurd work
-passes_of limits connections pass (gate ∷ gates) (worker ∷ workers) work =
-    let later = passes_of limits connections (pass + 1) gates workers work.1 in
-    ap (λ (caller : _). caller.pass ∷ map (λ (worker : WorkerState). worker.caller.pass) workers) work.0.serves.same_pass ∙ ap (λ ns. pass ∷ ns) later
-
 -- ---- the gates and passes come back
 
 -- none came back yet
-pub back-begin : (pool : PoolId) (workers left : List WorkerState) (before after : List GateState) (others passes : List PassState) → workers ≡ left → after ≡ before →
-    passes ≡ others → GaveBack pool workers left before after others passes
-back-begin pool workers left before after others passes same gates_are passes_are = record {
+pub back-begin : (workers left : List WorkerState) (before after : List GateState) (others passes : List PassView) → workers ≡ left → after ≡ before →
+    passes ≡ others → GaveBack workers left before after others passes
+back-begin workers left before after others passes same gates_are passes_are = record {
   done = [];
   parts = same;
   gates = gates_are ∙ sym (append-nil before);
-  back = record { used = []; behind = passes_are ∙ sym (append-nil others); rest = All-nil (IsResting pool); theirs = refl };
+  back = passes_are ∙ sym (append-nil others);
 }
 
 -- the gate and the pass of one more worker came back
-pub back-more : (pool : PoolId) (workers left rest : List WorkerState) (worker : WorkerState) (before now after : List GateState) (gate : GateState)
-    (others passes more : List PassState) (pass : PassState) →
-    GaveBack pool workers left before now others passes → left ≡ worker ∷ rest → after ≡ now ++ gate ∷ [] → more ≡ passes ++ pass ∷ [] →
-    gate ≡ worker.gate → stand_of pass ≡ stand_of_worker worker → IsResting pool pass → GaveBack pool workers rest before after others more
-back-more pool workers left rest worker before now after gate others passes more pass so_far next gates_are passes_are gate_is stand_is rests =
-    let back = so_far.back in
+pub back-more : (workers left rest : List WorkerState) (worker : WorkerState) (before now after : List GateState) (gate : GateState)
+    (others passes more : List PassView) (pass : PassView) →
+    GaveBack workers left before now others passes → left ≡ worker ∷ rest → after ≡ now ++ gate ∷ [] → more ≡ passes ++ pass ∷ [] →
+    gate ≡ worker.gate → pass ≡ pass_of_worker worker → GaveBack workers rest before after others more
+back-more workers left rest worker before now after gate others passes more pass so_far next gates_are passes_are gate_is pass_is =
     record {
       done = so_far.done ++ worker ∷ [];
       parts = so_far.parts ∙ ap (λ ws. so_far.done ++ ws) next ∙ sym (append_assoc so_far.done (worker ∷ []) rest);
@@ -254,16 +230,11 @@ back-more pool workers left rest worker before now after gate others passes more
           ∙ append_assoc before (map (λ (w : WorkerState). w.gate) so_far.done) (gate ∷ [])
           ∙ ap (λ g. before ++ (map (λ (w : WorkerState). w.gate) so_far.done ++ g ∷ [])) gate_is
           ∙ ap (λ gs. before ++ gs) (sym (map-append (λ (w : WorkerState). w.gate) so_far.done (worker ∷ [])));
-      back = record {
-        used = back.used ++ pass ∷ [];
-        behind = passes_are ∙ ap (λ ps. ps ++ pass ∷ []) back.behind ∙ append_assoc others back.used (pass ∷ []);
-        rest = All-push (IsResting pool) back.used pass back.rest rests;
-        theirs =
-            map-append stand_of back.used (pass ∷ [])
-            ∙ ap (λ stands. stands ++ stand_of pass ∷ []) back.theirs
-            ∙ ap (λ stand. map stand_of_worker so_far.done ++ stand ∷ []) stand_is
-            ∙ sym (map-append stand_of_worker so_far.done (worker ∷ []));
-      };
+      back =
+          passes_are ∙ ap (λ ps. ps ++ pass ∷ []) so_far.back
+          ∙ append_assoc others (map pass_of_worker so_far.done) (pass ∷ [])
+          ∙ ap (λ p. others ++ (map pass_of_worker so_far.done ++ p ∷ [])) pass_is
+          ∙ ap (λ ps. others ++ ps) (sym (map-append pass_of_worker so_far.done (worker ∷ [])));
     }
 
 -- a gate that was the first of those that are to come back is the last one that did
@@ -277,13 +248,13 @@ moved_back {G} gates more left rest worker gate all so_far next is more_are =
     ∙ so_far
 
 -- all came back
-pub back-end : (pool : PoolId) (workers left : List WorkerState) (before after : List GateState) (others passes : List PassState) →
-    GaveBack pool workers left before after others passes → left ≡ [] →
-    (after ≡ before ++ map (λ (worker : WorkerState). worker.gate) workers) × ComeBack pool workers others passes
-back-end pool workers left before after others passes all none =
+pub back-end : (workers left : List WorkerState) (before after : List GateState) (others passes : List PassView) →
+    GaveBack workers left before after others passes → left ≡ [] →
+    (after ≡ before ++ map (λ (worker : WorkerState). worker.gate) workers) × (passes ≡ others ++ map pass_of_worker workers)
+back-end workers left before after others passes all none =
     let done : all.done ≡ workers = sym (append-nil all.done) ∙ ap (λ ws. all.done ++ ws) (sym none) ∙ sym all.parts in (
       all.gates ∙ ap (λ (ws : List WorkerState). before ++ map (λ (worker : WorkerState). worker.gate) ws) done,
-      subst (λ (ws : List WorkerState). ComeBack pool ws others passes) done all.back,
+      all.back ∙ ap (λ (ws : List WorkerState). others ++ map pass_of_worker ws) done,
     )
 
 -- so many gates come back as there were
@@ -293,7 +264,7 @@ all_work-length (before ∷ befores) [] work = absurd work
 all_work-length [] (after ∷ afters) work = absurd work
 all_work-length (before ∷ befores) (after ∷ afters) work = ap suc (all_work-length befores afters work.1)
 
-pub worked_count : (pool : PoolId) (connections : ℕ) (before after : List GateState) (why : Why) (passes : List PassState) → HaveWorked pool connections before after why passes →
+pub worked_count : (pool : PoolId) (connections : ℕ) (before after : List GateState) (why : Why) (passes : List PassView) → HaveWorked pool connections before after why passes →
     length after ≡ length before
 worked_count pool connections before after why passes worked =
     ap length worked.gates ∙ length-map worked.workers (λ (worker : WorkerState). worker.gate)
@@ -301,80 +272,52 @@ worked_count pool connections before after why passes worked =
 
 -- ---- the engine is closed
 
-module _ (pool : PoolId) (connections : ℕ) (before after : List GateState) (why : Why) (passes : List PassState) (worked : HaveWorked pool connections before after why passes)
+module _ (pool : PoolId) (connections : ℕ) (before after : List GateState) (why : Why) (passes : List PassView) (worked : HaveWorked pool connections before after why passes)
     (enough : length before ≤ pool.config.passes) (counted : pool.limits.passes ≡ pool.config.passes) where
-  abbrev others : List PassState
-  others = new_passes pool (length before) (pool.config.passes - length before)
+  abbrev others : List PassView
+  others = new_passes (length before) (pool.config.passes - length before)
 
-  -- all passes rest
-  pub back_rest : All (IsResting pool) passes
-  back_rest =
-      subst (All (IsResting pool)) (sym worked.back.behind)
-      (All-append (IsResting pool) others worked.back.used (new_rest pool (range_with_len (length before) (pool.config.passes - length before))) worked.back.rest)
-
-  numbers_used : map number_of worked.back.used ≡ range_with_len 0 (length before)
-  numbers_used =
-      sym (map-map (λ (stand : ℕ × List Event). stand.0) stand_of worked.back.used)
-      ∙ ap (map (λ (stand : ℕ × List Event). stand.0)) worked.back.theirs
-      ∙ map-map (λ (stand : ℕ × List Event). stand.0) stand_of_worker worked.workers
-      ∙ passes_of pool.limits connections 0 before worked.workers worked.work
-
-  -- and each is there
-  pub back_every : (pass : ℕ) → pass < pool.limits.passes → Contains (map number_of passes) pass
-  back_every pass small =
-      subst (λ xs. Contains xs pass) (sym (ap (map number_of) worked.back.behind ∙ map-append number_of others worked.back.used))
-      (by_case (cases_lt pass (length before))) where
-        by_case : (pass < length before) ⊎ (length before ≤ pass) → Contains (map number_of others ++ map number_of worked.back.used) pass
-        by_case (inr high) =
-            Contains-append_left (map number_of others) (map number_of worked.back.used) pass
-            (others_are_there pool (length before) (pool.config.passes - length before) pass high (omega (arith, counted)))
-        by_case (inl low) =
-            Contains-append_right (map number_of others) (map number_of worked.back.used) pass
-            (subst (λ xs. Contains xs pass) (sym numbers_used)
-            (pass, omega (arith, length-range_with_len 0 (length before)), get_or-range_with_len 0 (length before) pass pass low ∙ omega arith))
+  abbrev used : List PassView
+  used = map pass_of_worker worked.workers
 
   module _ (history : List Event) (legal : IsLegal pool.limits history) (ends : All (EndsIn history) passes) where
-    all_end : All (EndsIn history) (others ++ worked.back.used)
-    all_end = subst (All (EndsIn history)) worked.back.behind ends
+    all_end : All (EndsIn history) (others ++ used)
+    all_end = subst (All (EndsIn history)) worked.back ends
 
     -- a pass that no worker had made no event
     other_silent : (pass : ℕ) → length before ≤ pass → pass < pool.limits.passes → list_any (λ e. pass_of e == pass) history ≡ false
     other_silent pass high small =
         let n = pass - length before in
         let there : n < pool.config.passes - length before = omega (arith, high, small, counted) in
-        let at = get_or-map-range_with_len (new_pass_state pool) (length before) (pool.config.passes - length before) n pass (new_pass_state pool pass) there (omega (arith, high)) in
-        let contains : Contains others (new_pass_state pool pass) =
-        (n, omega (arith, there, length-map-range_with_len (new_pass_state pool) (length before) (pool.config.passes - length before)), at) in
-        let ended = All-contains (EndsIn history) (others ++ worked.back.used) (new_pass_state pool pass) all_end (Contains-append_left others worked.back.used (new_pass_state pool pass) contains) in
+        let at = get_or-map-range_with_len new_pass (length before) (pool.config.passes - length before) n pass (new_pass pass) there (omega (arith, high)) in
+        let contains : Contains others (new_pass pass) =
+        (n, omega (arith, there, length-map-range_with_len new_pass (length before) (pool.config.passes - length before)), at) in
+        let ended = All-contains (EndsIn history) (others ++ used) (new_pass pass) all_end (Contains-append_left others used (new_pass pass) contains) in
         ap (list_any (λ e. pass_of e == pass)) ended.whole ∙ ended.silent
 
     pub of_workers : All (λ e. pass_of e < length before) history
     of_workers = of_first_passes pool.limits (length before) history legal other_silent
 
     -- the history goes on from what each worker has seen
-    fronts : (used : List PassState) (workers : List WorkerState) → map stand_of used ≡ map stand_of_worker workers → All (EndsIn history) used →
-        All (λ (worker : WorkerState). IsFrontOf worker.caller.pass worker.front history) workers
-    fronts [] [] theirs ended = All-nil (λ (worker : WorkerState). IsFrontOf worker.caller.pass worker.front history)
-    fronts [] (worker ∷ workers) theirs ended = absurd (omega (arith, ap length theirs))
-    fronts (pass ∷ used) [] theirs ended = absurd (omega (arith, ap length theirs))
-    fronts (pass ∷ used) (worker ∷ workers) theirs ended =
-        let stand : stand_of pass ≡ stand_of_worker worker = ap (λ stands. slice_index_or stands 0 (stand_of pass)) theirs in
+    fronts : (workers : List WorkerState) → All (EndsIn history) (map pass_of_worker workers) → All (λ (worker : WorkerState). IsFrontOf worker.caller.pass worker.front history) workers
+    fronts [] ended = All-nil (λ (worker : WorkerState). IsFrontOf worker.caller.pass worker.front history)
+    fronts (worker ∷ workers) ended =
         All-cons (λ (w : WorkerState). IsFrontOf w.caller.pass w.front history) worker workers
-        (subst (λ (s : ℕ × List Event). IsFrontOf s.0 s.1 history) stand (All-head (EndsIn history) pass used ended))
-        (fronts used workers (ap (λ (stands : List (ℕ × List Event)). remove stands 0) theirs) (All-tail (EndsIn history) pass used ended))
+        (All-head (EndsIn history) (pass_of_worker worker) (map pass_of_worker workers) ended)
+        (fronts workers (All-tail (EndsIn history) (pass_of_worker worker) (map pass_of_worker workers) ended))
 
-    used_end : All (EndsIn history) worked.back.used
+    used_end : All (EndsIn history) used
     used_end k d small =
-        let pass = slice_index_or worked.back.used k d in
-        All-contains (EndsIn history) (others ++ worked.back.used) pass all_end (Contains-append_right others worked.back.used pass (k, small, search rules))
+        let pass = slice_index_or used k d in
+        All-contains (EndsIn history) (others ++ used) pass all_end (Contains-append_right others used pass (k, small, search rules))
 
     pub workers_end : All (λ (worker : WorkerState). IsFrontOf worker.caller.pass worker.front history) worked.workers
-    workers_end = fronts worked.back.used worked.workers worked.back.theirs used_end
+    workers_end = fronts worked.workers used_end
 
 -- so the gates were served
 module _ {G C : Type 0} (next_gives : G → Next C → G → Type 0) (done_gives : G → C → End → G → Type 0) (end_gives : G → G → Type 0)
     (read_gives : C → Read → C → Type 0) (write_gives : C → Write → C → Type 0) (incoming : C → Incoming) (outgoing : C → Outgoing) where
-  pub has_served : (state : G → GateState) (pool : PoolId) (config : Config) (connections : ℕ) (gates laters : List G) (why : Why) (passes : List PassState)
+  pub has_served : (state : G → GateState) (pool : PoolId) (config : Config) (connections : ℕ) (gates laters : List G) (why : Why) (passes : List PassView)
       (closed : ClosedState) → pool.limits ≡ limits_by config → pool.config ≡ config → pool.limits.passes ≡ pool.config.passes →
       length (map state gates) ≤ pool.config.passes →
       HaveWorkedInTurns next_gives done_gives end_gives read_gives write_gives incoming outgoing state pool connections gates laters why passes →

@@ -1,6 +1,6 @@
 //! The first pass of a new engine as a client, and back among the others.
 ghost use Rattle.std.specs.Prelude.{◌≡◌, ◌≤◌, ◌<◌, ◌-◌, length, vec_capacity};
-ghost use Rattle.slice_rule.specs.Seats.{new_pass_state};
+ghost use Rattle.engine.specs.Passes.{new_pass};
 ghost use Rattle.funnel.specs.Serving.{OnlyFirstUsed, new_passes};
 
 use engine::{Client, Engine, Pass, PoolName};
@@ -12,14 +12,13 @@ pub(crate) fn first_client<'a, N: PoolName, R: Wait>(
     rt: &'a R,
     alloc: Global,
     engine: &'a Engine<N>,
-    passes: Vec<Pass>,
-) -> (Client<'a, N, R>, Vec<Pass>)
-    requires named { engine.now ≡ N.pool }
-    requires some { 1 ≤ engine.now.limits.passes }
-    requires counted { engine.now.limits.passes ≡ engine.now.config.passes }
-    requires new { passes.items ≡ new_passes engine.now 0 engine.now.config.passes }
-    ensures first { result.0 ≡ new_pass_state engine.now 0 }
-    ensures others { result.1.items ≡ new_passes engine.now 1 (engine.now.config.passes - 1) }
+    passes: Vec<Pass<N>>,
+) -> (Client<'a, N, R>, Vec<Pass<N>>)
+    requires some { 1 ≤ N.pool.limits.passes }
+    requires counted { N.pool.limits.passes ≡ N.pool.config.passes }
+    requires new { passes.items ≡ new_passes 0 N.pool.config.passes }
+    ensures first { result.0 ≡ new_pass 0 }
+    ensures others { result.1.items ≡ new_passes 1 (N.pool.config.passes - 1) }
     ensures room { length result.1.items < vec_capacity result.1 }
 {
     let mut passes = passes;
@@ -36,12 +35,12 @@ pub(crate) fn first_client<'a, N: PoolName, R: Wait>(
 /// All passes of an engine: the first, which the client has, behind the others, which are new.
 pub(crate) fn hand_back<N: PoolName, R: Wait>(
     client: Client<'_, N, R>,
-    others: Vec<Pass>,
-) -> Vec<Pass>
+    others: Vec<Pass<N>>,
+) -> Vec<Pass<N>>
     requires first { client.number ≡ 0 }
     requires some { 1 ≤ N.pool.limits.passes }
     requires counted { N.pool.limits.passes ≡ N.pool.config.passes }
-    requires new { others.items ≡ new_passes N.pool 1 (N.pool.config.passes - 1) }
+    requires new { others.items ≡ new_passes 1 (N.pool.config.passes - 1) }
     requires room { length others.items < vec_capacity others }
     ensures used { OnlyFirstUsed N.pool client.entry.front result.items }
 {

@@ -80,15 +80,14 @@ fn serve<N: PoolName, R: Wait, S: Source, K: Sink>(
     rt: &R,
     alloc: Global,
     engine: &Engine<N>,
-    passes: Vec<Pass>,
+    passes: Vec<Pass<N>>,
     input: &mut S,
     output: &mut K,
-) -> (End, Vec<Pass>)
-    requires named { engine.now ≡ N.pool }
-    requires some { 1 ≤ engine.now.limits.passes }
-    requires counted { engine.now.limits.passes ≡ engine.now.config.passes }
-    requires new { passes.items ≡ new_passes engine.now 0 engine.now.config.passes }
-    ensures served { FirstDid engine.now result.1.items (λ front. Serves (first_caller engine.now.limits) MOST_BYTES
+) -> (End, Vec<Pass<N>>)
+    requires some { 1 ≤ N.pool.limits.passes }
+    requires counted { N.pool.limits.passes ≡ N.pool.config.passes }
+    requires new { passes.items ≡ new_passes 0 N.pool.config.passes }
+    ensures served { FirstDid N.pool result.1.items (λ front. Serves (first_caller N.pool.limits) MOST_BYTES
         record { front = []; incoming = S.incoming input.old; outgoing = K.outgoing output.old }
         record { front = front; incoming = S.incoming input.new; outgoing = K.outgoing output.new }
         result.0) }

@@ -9,7 +9,7 @@ ghost use Rattle.funnel.specs.Runs.{KeepsLast, limits_by};
 ghost use Rattle.funnel.specs.Served.{OneDidNotOpen, new_workers};
 ghost use Rattle.funnel.specs.Serving.{new_passes};
 ghost use Rattle.funnel.specs.Turns.{AreOpened, AreOpenedInVain, AreOpenedUntilOneFails};
-ghost use Rattle.funnel.specs.Workers.{ComeBack, EndsOpenServeInTurns, EndsServeInTurns, HaveWorkedInTurns, gates_of, states_of};
+ghost use Rattle.funnel.specs.Workers.{EndsOpenServeInTurns, EndsServeInTurns, HaveWorkedInTurns, gates_of, pass_of_worker, states_of};
 
 use crate::ended::{Ended, Why};
 use engine::{Blank, Client, Engine, Pass, PoolName};
@@ -156,21 +156,20 @@ fn answer_all<'a, N: PoolName + Send + Sync, R: Threads + Wait + Sync, G: Gate +
     rt: &'a R,
     alloc: Global,
     engine: &'a Engine<N>,
-    passes: Vec<Pass>,
+    passes: Vec<Pass<N>>,
     connections: u64,
     gates: Vec<G>,
     room: Vec<Worker<'a, G, N, R>>,
-) -> (Why, Vec<G>, Vec<Pass>)
+) -> (Why, Vec<G>, Vec<Pass<N>>)
 where
     G::Conn: Send,
-    requires named { engine.now ≡ N.pool }
-    requires new { passes.items ≡ new_passes engine.now 0 engine.now.config.passes }
-    requires enough { length gates.items ≤ engine.now.config.passes }
+    requires new { passes.items ≡ new_passes 0 N.pool.config.passes }
+    requires enough { length gates.items ≤ N.pool.config.passes }
     requires empty { room.items ≡ [] }
     requires room { length gates.items ≤ vec_capacity room }
     ensures { HaveWorkedInTurns G.next_gives G.done_gives G.end_gives G.Conn.read_gives G.Conn.write_gives G.Conn.incoming G.Conn.outgoing
         (gate_state G.is_closed G.gate_faults G.waiting G.Conn.incoming G.Conn.outgoing G.served)
-        engine.now connections gates.items result.1.items result.0 result.2.items }
+        N.pool connections gates.items result.1.items result.0 result.2.items }
 {
     let mut gates = gates;
     let mut passes = passes;
@@ -197,20 +196,19 @@ fn equip<'a, N: PoolName, R: Wait, G: Gate + Drop>(
     engine: &'a Engine<N>,
     connections: u64,
     gates: &mut Vec<G>,
-    passes: &mut Vec<Pass>,
+    passes: &mut Vec<Pass<N>>,
     workers: &mut Vec<Worker<'a, G, N, R>>,
 )
-    requires named { engine.now ≡ N.pool }
-    requires new { passes.old.items ≡ new_passes engine.now 0 engine.now.config.passes }
-    requires enough { length gates.old.items ≤ engine.now.config.passes }
+    requires new { passes.old.items ≡ new_passes 0 N.pool.config.passes }
+    requires enough { length gates.old.items ≤ N.pool.config.passes }
     requires empty { workers.old.items ≡ [] }
     requires room { length gates.old.items ≤ vec_capacity workers.old }
-    ensures workers { states_of workers.new.items ≡ new_workers engine.now.limits connections 0
+    ensures workers { states_of workers.new.items ≡ new_workers N.pool.limits connections 0
         (map (gate_state G.is_closed G.gate_faults G.waiting G.Conn.incoming G.Conn.outgoing G.served) gates.old.items) }
     ensures theirs { gates_of workers.new.items ≡ gates.old.items }
     ensures gates { gates.new.items ≡ [] }
-    ensures passes { passes.new.items ≡ new_passes engine.now (length gates.old.items)
-        (engine.now.config.passes - length gates.old.items) }
+    ensures passes { passes.new.items ≡ new_passes (length gates.old.items)
+        (N.pool.config.passes - length gates.old.items) }
     ensures room_of_gates { vec_capacity gates.new ≡ vec_capacity gates.old }
     ensures room_of_passes { vec_capacity passes.new ≡ vec_capacity passes.old }
 {
@@ -274,7 +272,7 @@ fn any_found_no_memory<N: PoolName, R: Wait, G: Gate>(workers: &[Worker<G, N, R>
 fn take_back<N: PoolName, R: Wait, G: Gate + Drop>(
     workers: Vec<Worker<'_, G, N, R>>,
     gates: &mut Vec<G>,
-    passes: &mut Vec<Pass>,
+    passes: &mut Vec<Pass<N>>,
 )
     requires room_of_gates { length gates.old.items + length workers.items ≤ vec_capacity gates.old }
     requires room_of_passes { length passes.old.items + length workers.items ≤ vec_capacity passes.old }
@@ -282,7 +280,7 @@ fn take_back<N: PoolName, R: Wait, G: Gate + Drop>(
     ensures told { map (gate_state G.is_closed G.gate_faults G.waiting G.Conn.incoming G.Conn.outgoing G.served) gates.new.items
         ≡ map (gate_state G.is_closed G.gate_faults G.waiting G.Conn.incoming G.Conn.outgoing G.served) gates.old.items
         ++ map (λ worker. worker.gate) (states_of workers.entry.items) }
-    ensures passes { ComeBack N.pool (states_of workers.entry.items) passes.old.items passes.new.items }
+    ensures passes { passes.new.items ≡ passes.old.items ++ map pass_of_worker (states_of workers.entry.items) }
 {
     for worker in workers {
         let Worker { gate, client, .. } = worker;

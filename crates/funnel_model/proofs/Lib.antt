@@ -12,6 +12,7 @@ pub mod ExampleLemmas
 pub mod Fills
 pub mod Histories
 pub mod Invariants
+pub mod Kept
 pub mod LastEvents
 pub mod ListedLemmas
 pub mod LiveColumns
@@ -24,7 +25,12 @@ pub mod NothingMoved
 pub mod OpenTokens
 pub mod PairLemmas
 pub mod Progress
+pub mod QueryLemmas
 pub mod Ranges
+pub mod ReadingEnds
+pub mod ReadingLemmas
+pub mod ReadingOnce
+pub mod ReadingSound
 pub mod RecycleFacts
 pub mod ReplyLemmas
 pub mod ReserveLemmas

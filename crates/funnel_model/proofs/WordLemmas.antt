@@ -9,7 +9,7 @@ use Rattle.std.specs.Str.{bytes_eq}
 use Rattle.funnel_model.specs.Words.{has_word, meets, words}
 
 -- two tests that hold of the same are one
-one_test : (a b : Bool) → (a ≡ true → b ≡ true) → (b ≡ true → a ≡ true) → a ≡ b
+pub one_test : (a b : Bool) → (a ≡ true → b ≡ true) → (b ≡ true → a ≡ true) → a ≡ b
 one_test true true there back = refl
 one_test true false there back = sym (there refl)
 one_test false true there back = back refl
@@ -49,7 +49,7 @@ list_all-from_each test (x ∷ xs) each =
     (list_all-from_each test xs (λ word has. each word (or_right (bytes_eq word x) (list_any (bytes_eq word) xs) has)))
 
 -- a test that holds of all words holds of each that the list has
-each-from_list_all : (test : List ℕ → Bool) (xs : List (List ℕ)) → list_all test xs ≡ true
+pub each-from_list_all : (test : List ℕ → Bool) (xs : List (List ℕ)) → list_all test xs ≡ true
     → (word : List ℕ) → list_any (bytes_eq word) xs ≡ true → test word ≡ true
 each-from_list_all test [] all word has = absurd (true≢false (sym has))
 each-from_list_all test (x ∷ xs) all word has =

@@ -2,11 +2,14 @@ pub mod Blocks
 pub mod Configuration
 pub mod Events
 pub mod Example
+pub mod Expressions
 pub mod History
 pub mod Legal
 pub mod Listed
 pub mod MoveExample
 pub mod RecycleExample
+pub mod Queries
+pub mod Readings
 pub mod Reserve
 pub mod ReserveExample
 pub mod RowWords

@@ -15,6 +15,7 @@ pub mod counter_examples;
 pub mod examples;
 pub mod invariants;
 pub mod moves;
+pub mod queries;
 pub mod replies;
 pub mod reserve;
 pub mod tunings;

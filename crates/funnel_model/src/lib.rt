@@ -5,12 +5,14 @@
 mod bit_list;
 mod block;
 mod blocked;
+mod branches;
 mod call;
 mod candidates;
 mod claim;
 mod commit;
 mod config;
 mod event;
+mod expr;
 mod ids;
 pub mod laws;
 mod listed;
@@ -24,6 +26,7 @@ mod word_set;
 pub use bit_list::{Bit, BitList};
 pub use block::Block;
 pub use blocked::Blocked;
+pub use branches::Branches;
 pub use call::{Call, MOST_MOVES};
 pub use candidates::Candidates;
 pub use claim::{Claim, ClearJob, Token};
@@ -34,6 +37,7 @@ pub use config::{
     MOST_TAIL, MOST_WORDS,
 };
 pub use event::Event;
+pub use expr::{Expr, Exprs, MOST_OPEN};
 pub use ids::Ids;
 pub use listed::Listed;
 pub use memory::Memory;

@@ -1,9 +1,11 @@
 //! What a program was refused for, or what failed, in words for the person who reads standard error.
+use crate::CONFIG_PATH;
 use crate::spoken_gate::SpokenGate;
 use funnel::{Ended, MOST_PORT, Misfit, Why, usage_fault};
 use funnel_model::{MOST_COLUMNS, MOST_ROW_WORDS};
 use funnel_stats::{ConfigFault, Key};
-use std::io;
+use serde_json::Value;
+use std::{fs, io};
 
 /// What the system said of the last call on each stream that failed.
 #[derive(Drop)]
@@ -79,7 +81,17 @@ fn say_fault(rt: &HostRuntime, fault: &ConfigFault) -> io::Result<()> {
         ConfigFault::PoolTooLarge(words) => eprintln!(rt;
             "funnel: the rows of funnel.json take {words} words, and may take {MOST_ROW_WORDS}"
         ),
+        ConfigFault::NotJson => say_not_json(rt),
         fault => eprintln!(rt; "funnel: funnel.json: {fault}"),
+    }
+}
+
+/// Says where the text of the configuration ceases to be JSON. It is read once more, since nothing of it was kept.
+fn say_not_json(rt: &HostRuntime) -> io::Result<()> {
+    let read = fs::read(rt, CONFIG_PATH)?;
+    match Value::from_slice(rt.alloc(), read.as_slice()) {
+        Ok(_) => eprintln!(rt; "funnel: funnel.json: no JSON object"),
+        Err(error) => eprintln!(rt; "funnel: funnel.json: {error}"),
     }
 }
 

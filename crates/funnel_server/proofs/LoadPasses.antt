@@ -2,24 +2,21 @@
 use Rattle.std.proofs.Common.{◌≡◌, ℕ, zero, suc, ◌+◌, ◌<◌, List, [], ◌∷◌, ◌++◌, length, map, Result, Ok, Err, sym, refl, ap, ap₂, ◌∙◌, subst, inl, inr, arith, append_assoc, length-append, slice_index_or, reverse}
 use Rattle.std.proofs.lemmas.List.{drop_at, get_or-map, get_or_append_left, length-map, map-append, reverse-append, same_lists}
 use Rattle.std.proofs.lemmas.List.FromFn.{get_or-range_with_len, length-range_with_len}
-use Rattle.std.specs.List.{All, range_with_len}
+use Rattle.std.specs.List.{range_with_len}
 use Rattle.std.specs.Prelude.{MatchResult, drop}
 use mathlib.Core.List.{IsPrefix}
-use Rattle.commit_desk.specs.Passes.{IsResting}
+use Rattle.engine.specs.Passes.{PassView}
 use Rattle.funnel_model.specs.declared.event.Event.{Event}
 use Rattle.funnel_model.specs.declared.memory.Memory.{Memory}
 use Rattle.funnel_model.specs.History.{IsFrontOf}
 use Rattle.funnel_model.specs.Legal.{Limits}
-use Rattle.line_proto.specs.Services.{Caller}
 use Rattle.load_gen.specs.Jobs.{adds_of, queries_of}
-use Rattle.slice_rule.specs.Pools.{PoolId}
-use Rattle.slice_rule.specs.Seats.{PassState}
 use Rattle.funnel_server.specs.Loads.{AllComeToQueries, ComesToQueries, Course, IsCutShort, IsPut, front_at, worker_of}
 use Rattle.funnel_server.specs.Parts.{AreWorkers, LoaderState, passes_of}
 use Rattle.funnel_server.proofs.LoadWorkers.{early_along}
 
 -- a worker that goes, with its pass, behind the workers or before the passes in reverse: the passes in order are the same
-pub one_moved : (loaders : List LoaderState) (loader : LoaderState) (passes : List PassState) →
+pub one_moved : (loaders : List LoaderState) (loader : LoaderState) (passes : List PassView) →
     passes_of (loaders ++ loader ∷ []) ++ reverse passes ≡ passes_of loaders ++ reverse (passes ++ loader.pass ∷ [])
 one_moved loaders loader passes =
     ap (λ xs. xs ++ reverse passes) (map-append (λ (l : LoaderState). l.pass) loaders (loader ∷ []))
@@ -27,69 +24,61 @@ one_moved loaders loader passes =
     ∙ ap (λ xs. passes_of loaders ++ xs) (sym (reverse-append passes (loader.pass ∷ [])))
 
 -- the first passes are those of the workers
-module _ (engine : PoolId) (workers : ℕ) (loaders : List LoaderState) (others passes : List PassState)
-    (whole : passes_of loaders ++ others ≡ passes) (count : length loaders ≡ workers) (rest : All (IsResting engine) passes)
-    (numbers : map (λ (pass : PassState). pass.number) passes ≡ range_with_len 0 (length passes)) where
+module _ (workers : ℕ) (loaders : List LoaderState) (others passes : List PassView)
+    (whole : passes_of loaders ++ others ≡ passes) (count : length loaders ≡ workers)
+    (numbers : map (λ (pass : PassView). pass.number) passes ≡ range_with_len 0 (length passes)) where
   pub long : length passes ≡ workers + length others
   long = ap length (sym whole) ∙ length-append (passes_of loaders) others ∙ ap (λ n. n + length others) (length-map loaders (λ (l : LoaderState). l.pass) ∙ count)
 
   pass_at : (k : ℕ) (d : LoaderState) → k < workers → slice_index_or passes k d.pass ≡ (slice_index_or loaders k d).pass
   pass_at k d small =
-      ap (λ (ps : List PassState). slice_index_or ps k d.pass) (sym whole)
+      ap (λ (ps : List PassView). slice_index_or ps k d.pass) (sym whole)
       ∙ get_or_append_left (passes_of loaders) others d.pass k (omega (arith, small, count, length-map loaders (λ (l : LoaderState). l.pass)))
       ∙ get_or-map (λ (l : LoaderState). l.pass) loaders k d d.pass (omega (arith, small, count))
 
   number_at : (k : ℕ) (d : LoaderState) → k < workers → (slice_index_or loaders k d).pass.number ≡ k
   number_at k d small =
-      ap (λ (p : PassState). p.number) (sym (pass_at k d small))
-      ∙ sym (get_or-map (λ (p : PassState). p.number) passes k d.pass 0 (omega (arith, small, long)))
+      ap (λ (p : PassView). p.number) (sym (pass_at k d small))
+      ∙ sym (get_or-map (λ (p : PassView). p.number) passes k d.pass 0 (omega (arith, small, long)))
       ∙ ap (λ ns. slice_index_or ns k 0) numbers
       ∙ get_or-range_with_len 0 (length passes) k 0 (omega (arith, small, long))
       ∙ omega arith
 
-  pool_at : (k : ℕ) (d : LoaderState) → k < workers → (slice_index_or loaders k d).pass.pool ≡ engine
-  pool_at k d small =
-      ap (λ (p : PassState). p.pool) (sym (pass_at k d small)) ∙ (rest k d.pass (omega (arith, small, long))).seated.same
-
-  pub are_workers : AreWorkers engine.limits workers loaders
-  are_workers = record {
-    count = count;
-    callers = λ k d small.
-        ap₂ (λ (l : Limits) (n : ℕ). let c : Caller = record { limits = l; pass = n } in c) (ap (λ (p : PoolId). p.limits) (pool_at k d small)) (number_at k d small);
-  }
+  pub are_workers : AreWorkers workers loaders
+  are_workers = record { count = count; numbers = number_at }
 
 -- the passes of workers have their numbers
-number_of_worker : (limits : Limits) (workers : ℕ) (loaders : List LoaderState) → AreWorkers limits workers loaders → (some : List LoaderState) → length some ≡ workers →
-    (k d : ℕ) → k < workers → slice_index_or (map (λ (pass : PassState). pass.number) (passes_of loaders)) k d ≡ k
-number_of_worker limits workers loaders are [] none k d small = absurd (omega (arith, none, small))
-number_of_worker limits workers loaders are (e ∷ more) count k d small =
-    get_or-map (λ (pass : PassState). pass.number) (passes_of loaders) k e.pass d (omega (arith, small, are.count, length-map loaders (λ (l : LoaderState). l.pass)))
-    ∙ ap (λ (p : PassState). p.number) (get_or-map (λ (l : LoaderState). l.pass) loaders k e e.pass (omega (arith, small, are.count)))
-    ∙ ap (λ (c : Caller). c.pass) (are.callers k e small)
+number_of_worker : (workers : ℕ) (loaders : List LoaderState) → AreWorkers workers loaders → (some : List LoaderState) → length some ≡ workers →
+    (k d : ℕ) → k < workers → slice_index_or (map (λ (pass : PassView). pass.number) (passes_of loaders)) k d ≡ k
+number_of_worker workers loaders are [] none k d small = absurd (omega (arith, none, small))
+number_of_worker workers loaders are (e ∷ more) count k d small =
+    get_or-map (λ (pass : PassView). pass.number) (passes_of loaders) k e.pass d (omega (arith, small, are.count, length-map loaders (λ (l : LoaderState). l.pass)))
+    ∙ ap (λ (p : PassView). p.number) (get_or-map (λ (l : LoaderState). l.pass) loaders k e e.pass (omega (arith, small, are.count)))
+    ∙ are.numbers k e small
 
-numbers_of : (limits : Limits) (workers : ℕ) (loaders : List LoaderState) → AreWorkers limits workers loaders →
-    map (λ (pass : PassState). pass.number) (passes_of loaders) ≡ range_with_len 0 workers
-numbers_of limits workers loaders are =
-    let count = length-map (passes_of loaders) (λ (pass : PassState). pass.number) ∙ length-map loaders (λ (l : LoaderState). l.pass) ∙ are.count in
-    same_lists (map (λ (pass : PassState). pass.number) (passes_of loaders)) (range_with_len 0 workers) (count ∙ sym (length-range_with_len 0 workers))
+numbers_of : (workers : ℕ) (loaders : List LoaderState) → AreWorkers workers loaders →
+    map (λ (pass : PassView). pass.number) (passes_of loaders) ≡ range_with_len 0 workers
+numbers_of workers loaders are =
+    let count = length-map (passes_of loaders) (λ (pass : PassView). pass.number) ∙ length-map loaders (λ (l : LoaderState). l.pass) ∙ are.count in
+    same_lists (map (λ (pass : PassView). pass.number) (passes_of loaders)) (range_with_len 0 workers) (count ∙ sym (length-range_with_len 0 workers))
     (λ k d small.
-    number_of_worker limits workers loaders are loaders are.count k d (omega (arith, small, count))
+    number_of_worker workers loaders are loaders are.count k d (omega (arith, small, count))
     ∙ sym (get_or-range_with_len 0 workers k d (omega (arith, small, count)) ∙ omega arith))
 
 -- so the workers hand back passes with the numbers that they had
-pub same_numbers : (limits : Limits) (workers : ℕ) (before after : List LoaderState) (others : List PassState) → AreWorkers limits workers before → AreWorkers limits workers after →
-    map (λ (pass : PassState). pass.number) (passes_of after ++ others) ≡ map (λ (pass : PassState). pass.number) (passes_of before ++ others)
-same_numbers limits workers before after others were are =
-    map-append (λ (pass : PassState). pass.number) (passes_of after) others
-    ∙ ap (λ ns. ns ++ map (λ (pass : PassState). pass.number) others) (numbers_of limits workers after are ∙ sym (numbers_of limits workers before were))
-    ∙ sym (map-append (λ (pass : PassState). pass.number) (passes_of before) others)
+pub same_numbers : (workers : ℕ) (before after : List LoaderState) (others : List PassView) → AreWorkers workers before → AreWorkers workers after →
+    map (λ (pass : PassView). pass.number) (passes_of after ++ others) ≡ map (λ (pass : PassView). pass.number) (passes_of before ++ others)
+same_numbers workers before after others were are =
+    map-append (λ (pass : PassView). pass.number) (passes_of after) others
+    ∙ ap (λ ns. ns ++ map (λ (pass : PassView). pass.number) others) (numbers_of workers after are ∙ sym (numbers_of workers before were))
+    ∙ sym (map-append (λ (pass : PassView). pass.number) (passes_of before) others)
 
 -- and the others as they were
-pub others_of : (workers : ℕ) (loaders : List LoaderState) (others : List PassState) → length loaders ≡ workers → drop workers (passes_of loaders ++ others) ≡ others
+pub others_of : (workers : ℕ) (loaders : List LoaderState) (others : List PassView) → length loaders ≡ workers → drop workers (passes_of loaders ++ others) ≡ others
 others_of workers loaders others count = drop_at (passes_of loaders) others workers (length-map loaders (λ (l : LoaderState). l.pass) ∙ count)
 
 -- what the first passes have seen doesn't depend on the others
-pub front_before : (passes others : List PassState) (k : ℕ) → k < length passes → front_at (passes ++ others) k ≡ front_at passes k
+pub front_before : (passes others : List PassView) (k : ℕ) → k < length passes → front_at (passes ++ others) k ≡ front_at passes k
 front_before [] others k small = absurd (omega (arith, small))
 front_before (pass ∷ passes) others zero small = refl
 front_before (pass ∷ passes) others (suc k) small = front_before passes others k (omega (arith, small))

@@ -5,6 +5,7 @@ use Rattle.std.specs.List.{list_any}
 use Rattle.std.specs.Prelude.{MatchBool, MatchResult, Result, Ok, Err}
 use Rattle.std.specs.Result.{IsErr}
 use Rattle.engine.specs.Clients.{caller_of}
+use Rattle.engine.specs.Passes.{PassView}
 use Rattle.funnel_model.specs.declared.call.Call.{Call}
 use Rattle.funnel_model.specs.declared.event.Event.{Event}
 use Rattle.funnel_model.specs.History.{IsFrontOf}
@@ -32,28 +33,32 @@ none_stopped loaders k d none small =
     by_case false is = refl
     by_case true is = sym (list_any_at (λ (l : LoaderState). l.stopped) loaders k d small is) ∙ none
 
+-- the pass of a worker calls for it
+pub caller_is : (limits : Limits) (k : ℕ) (pass : PassView) → pass.number ≡ k → caller_of limits pass ≡ worker_of limits k
+caller_is limits k pass number = ap (worker_of limits) number
+
 -- one worker's part, told of the worker's own caller
-part_ends : (caller : Caller) (calls : List Call) (before after : LoaderState) → caller_of before.pass ≡ caller → EndsPart calls before after →
+part_ends : (limits : Limits) (caller : Caller) (calls : List Call) (before after : LoaderState) → caller_of limits before.pass ≡ caller → EndsPart limits calls before after →
     MatchBool after.stopped (EndsEarly caller before.pass.front after.pass.front calls) (IsDone caller before.pass.front after.pass.front calls)
-part_ends caller calls before after is ends =
+part_ends limits caller calls before after is ends =
     subst (λ (c : Caller). MatchBool after.stopped (EndsEarly c before.pass.front after.pass.front calls) (IsDone c before.pass.front after.pass.front calls)) is ends.outcome
 
-pub part_done : (caller : Caller) (calls : List Call) (before after : LoaderState) → caller_of before.pass ≡ caller → EndsPart calls before after → after.stopped ≡ false →
+pub part_done : (limits : Limits) (caller : Caller) (calls : List Call) (before after : LoaderState) → caller_of limits before.pass ≡ caller → EndsPart limits calls before after → after.stopped ≡ false →
     IsDone caller before.pass.front after.pass.front calls
-part_done caller calls before after is ends done =
+part_done limits caller calls before after is ends done =
     subst (λ b. MatchBool b (EndsEarly caller before.pass.front after.pass.front calls) (IsDone caller before.pass.front after.pass.front calls)) done
-    (part_ends caller calls before after is ends)
+    (part_ends limits caller calls before after is ends)
 
 -- and one worker's meeting
-pub meets_alone : (caller : Caller) (before after : LoaderState) → caller_of before.pass ≡ caller → OnlySees before after → IsFrontOf caller.pass before.pass.front after.pass.front
-meets_alone caller before after is sees = subst (λ (c : Caller). IsFrontOf c.pass before.pass.front after.pass.front) is sees.seen
+pub meets_alone : (k : ℕ) (before after : LoaderState) → before.pass.number ≡ k → OnlySees before after → IsFrontOf k before.pass.front after.pass.front
+meets_alone k before after is sees = subst (λ (n : ℕ). IsFrontOf n before.pass.front after.pass.front) is sees.seen
 
--- workers that keep their callers are still the workers
-pub still_workers : (limits : Limits) (workers : ℕ) (before after : List LoaderState) → AreWorkers limits workers before → length after ≡ length before →
-    ((k : ℕ) (d : LoaderState) → k < length before → caller_of (slice_index_or after k d).pass ≡ caller_of (slice_index_or before k d).pass) → AreWorkers limits workers after
-still_workers limits workers before after are long same = record {
+-- workers that keep their passes are still the workers
+pub still_workers : (workers : ℕ) (before after : List LoaderState) → AreWorkers workers before → length after ≡ length before →
+    ((k : ℕ) (d : LoaderState) → k < length before → (slice_index_or after k d).pass.number ≡ (slice_index_or before k d).pass.number) → AreWorkers workers after
+still_workers workers before after are long same = record {
   count = long ∙ are.count;
-  callers = λ k d small. same k d (omega (arith, small, are.count)) ∙ are.callers k d small;
+  numbers = λ k d small. same k d (omega (arith, small, are.count)) ∙ are.numbers k d small;
 }
 
 -- ---- a part that ended early
@@ -78,8 +83,8 @@ early_along limits workers calls before after first last begins ends early = rec
 }
 
 -- a part ended early in which one of the workers stopped
-module _ (limits : Limits) (workers : ℕ) (calls : ℕ → List Call) (before after : List LoaderState) (are : AreWorkers limits workers before)
-    (long : length after ≡ length before) (each : EachEnds (λ k. EndsPart (calls k)) before after) where
+module _ (limits : Limits) (workers : ℕ) (calls : ℕ → List Call) (before after : List LoaderState) (are : AreWorkers workers before)
+    (long : length after ≡ length before) (each : EachEnds (λ k. EndsPart limits (calls k)) before after) where
   module _ (d : LoaderState) where
     -- where a worker's part is cut
     abbrev IsCutAt : ℕ → List Call × List Call → Type 0
@@ -88,7 +93,7 @@ module _ (limits : Limits) (workers : ℕ) (calls : ℕ → List Call) (before a
     cut_of : (k : ℕ) → k < workers → (parts : List Call × List Call) × IsCutAt k parts
     cut_of k small =
         cut_in_part (worker_of limits k) (seen_by before d k) (seen_by after d k) (calls k) (slice_index_or after k d).stopped
-        (part_ends (worker_of limits k) (calls k) (slice_index_or before k d) (slice_index_or after k d) (are.callers k d small) (each k d (omega (arith, small, are.count))))
+        (part_ends limits (worker_of limits k) (calls k) (slice_index_or before k d) (slice_index_or after k d) (caller_is limits k (slice_index_or before k d).pass (are.numbers k d small)) (each k d (omega (arith, small, are.count))))
 
     cut_at : (stopped : ℕ) → stopped < workers → (slice_index_or after stopped d).stopped ≡ true → EndsPartEarly limits workers calls (seen_by before d) (seen_by after d)
     cut_at stopped is_worker did_stop =

@@ -7,7 +7,6 @@ use Rattle.commit_desk.proofs.Turns.{whole_is_front}
 use Rattle.funnel_model.proofs.StepLemmas.{prefix_refl, prefix_trans}
 use Rattle.funnel_model.specs.declared.event.Event.{Event}
 use Rattle.funnel_model.specs.History.{IsFrontOf}
-use Rattle.line_proto.specs.Services.{Caller}
 use Rattle.funnel_server.specs.Parts.{LoadersHaveMet, LastHasMet, LoaderState, Meets, MetLast, OnlySees}
 use Rattle.load_laws.proofs.FrontLemmas.{front_trans}
 
@@ -17,13 +16,13 @@ grows before after sees = (sees.seen.later, sym sees.seen.whole)
 
 -- a worker that did nothing, and one that saw something and then something more
 sees_none : (loader : LoaderState) → OnlySees loader loader
-sees_none loader = record { seen = whole_is_front loader.pass.number loader.pass.front; same_caller = refl; results = refl; stopped = refl }
+sees_none loader = record { seen = whole_is_front loader.pass.number loader.pass.front; number = refl; results = refl; stopped = refl }
 
 sees_more : (before middle after : LoaderState) → OnlySees before middle → OnlySees middle after → OnlySees before after
 sees_more before middle after first second = record {
   seen = front_trans before.pass.number before.pass.front middle.pass.front after.pass.front first.seen
-      (subst (λ n. IsFrontOf n middle.pass.front after.pass.front) (ap (λ (c : Caller). c.pass) first.same_caller) second.seen);
-  same_caller = second.same_caller ∙ first.same_caller;
+      (subst (λ n. IsFrontOf n middle.pass.front after.pass.front) first.number second.seen);
+  number = second.number ∙ first.number;
   results = second.results ∙ first.results;
   stopped = second.stopped ∙ first.stopped;
 }

@@ -16,7 +16,7 @@ use Rattle.funnel_server.specs.Loads.{AllComeToQueries, AreAsked, Course, EndsEa
 use Rattle.funnel_server.specs.Parts.{AreWorkers, EachEnds, EndsDeletes, EndsLastPart, EndsPart, LoadersHaveMet, LoaderState, passes_of}
 use Rattle.funnel_server.specs.Shares.{HasResults, IsDone}
 use Rattle.funnel_server.proofs.Chosen.{chosen}
-use Rattle.funnel_server.proofs.LoadWorkers.{early_along, ends_early, front_of, meets_alone, none_stopped, part_done, seen_by, still_workers}
+use Rattle.funnel_server.proofs.LoadWorkers.{caller_is, early_along, ends_early, front_of, meets_alone, none_stopped, part_done, seen_by, still_workers}
 use Rattle.funnel_server.proofs.SameShares.{share_same}
 
 -- each worker came to the end of a part, and none of them stopped
@@ -31,24 +31,24 @@ pub record AreResults (results : List (ℕ × ℕ)) (loaders : List LoaderState)
   pub each : (place : ℕ) (d : LoaderState) → place < 8 →
       slice_index_or results place (0, 0) ≡ slice_index_or (slice_index_or loaders (place % length loaders) d).results place (0, 0)
 
-module _ (limits : Limits) (texts : List (List ℕ)) (workers : ℕ) (start added met_added deleted met_deleted : List LoaderState) (are : AreWorkers limits workers start)
-    (adds : AllEnd (λ k. EndsPart (adds_of texts workers k)) start added) (meet_adds : LoadersHaveMet added met_added)
-    (long_deletes : length deleted ≡ length met_added) (deletes : EachEnds (λ k. EndsDeletes (deletes_of texts workers k)) met_added deleted)
+module _ (limits : Limits) (texts : List (List ℕ)) (workers : ℕ) (start added met_added deleted met_deleted : List LoaderState) (are : AreWorkers workers start)
+    (adds : AllEnd (λ k. EndsPart limits (adds_of texts workers k)) start added) (meet_adds : LoadersHaveMet added met_added)
+    (long_deletes : length deleted ≡ length met_added) (deletes : EachEnds (λ k. EndsDeletes limits (deletes_of texts workers k)) met_added deleted)
     (meet_deletes : LoadersHaveMet deleted met_deleted) where
-  are_added : AreWorkers limits workers added
-  are_added = still_workers limits workers start added are adds.count (λ k d small. (adds.each k d small).same_caller)
+  are_added : AreWorkers workers added
+  are_added = still_workers workers start added are adds.count (λ k d small. (adds.each k d small).number)
 
-  are_met : AreWorkers limits workers met_added
-  are_met = still_workers limits workers added met_added are_added meet_adds.count (λ k d small. (meet_adds.sees k d small).same_caller)
+  are_met : AreWorkers workers met_added
+  are_met = still_workers workers added met_added are_added meet_adds.count (λ k d small. (meet_adds.sees k d small).number)
 
-  are_deleted : AreWorkers limits workers deleted
-  are_deleted = still_workers limits workers met_added deleted are_met long_deletes (λ k d small. (deletes k d small).same_caller)
+  are_deleted : AreWorkers workers deleted
+  are_deleted = still_workers workers met_added deleted are_met long_deletes (λ k d small. (deletes k d small).number)
 
-  are_last : AreWorkers limits workers met_deleted
-  are_last = still_workers limits workers deleted met_deleted are_deleted meet_deletes.count (λ k d small. (meet_deletes.sees k d small).same_caller)
+  are_last : AreWorkers workers met_deleted
+  are_last = still_workers workers deleted met_deleted are_deleted meet_deletes.count (λ k d small. (meet_deletes.sees k d small).number)
 
-  pub workers_at_end : (after : List LoaderState) → length after ≡ length met_deleted → EachEnds (EndsLastPart workers) met_deleted after → AreWorkers limits workers after
-  workers_at_end after long finds = still_workers limits workers met_deleted after are_last long (λ k d small. (finds k d small).part.same_caller)
+  pub workers_at_end : (after : List LoaderState) → length after ≡ length met_deleted → EachEnds (EndsLastPart limits workers) met_deleted after → AreWorkers workers after
+  workers_at_end after long finds = still_workers workers met_deleted after are_last long (λ k d small. (finds k d small).part.number)
 
   module _ (d : LoaderState) where
     -- a worker's adds have these replies
@@ -57,7 +57,7 @@ module _ (limits : Limits) (texts : List (List ℕ)) (workers : ℕ) (start adde
 
     added_by : (k : ℕ) → k < workers → (replies : List Reply) × AddsHave k replies
     added_by k small =
-        part_done (worker_of limits k) (adds_of texts workers k) (slice_index_or start k d) (slice_index_or added k d) (are.callers k d small)
+        part_done limits (worker_of limits k) (adds_of texts workers k) (slice_index_or start k d) (slice_index_or added k d) (caller_is limits k (slice_index_or start k d).pass (are.numbers k d small))
         (adds.each k d (omega (arith, small, are.count))) (none_stopped added k d adds.none (omega (arith, small, are_added.count)))
 
     -- and its deletes these
@@ -66,7 +66,7 @@ module _ (limits : Limits) (texts : List (List ℕ)) (workers : ℕ) (start adde
 
     deleted_by : (k : ℕ) → k < workers → (replies : List Reply) × DeletesHave k replies
     deleted_by k small =
-        subst (λ (c : Caller). IsDone c (seen_by met_added d k) (seen_by deleted d k) (deletes_of texts workers k)) (are_met.callers k d small)
+        subst (λ (c : Caller). IsDone c (seen_by met_added d k) (seen_by deleted d k) (deletes_of texts workers k)) (caller_is limits k (slice_index_or met_added k d).pass (are_met.numbers k d small))
         (deletes k d (omega (arith, small, are_met.count))).done
 
     -- how each worker fared until its queries
@@ -85,10 +85,10 @@ module _ (limits : Limits) (texts : List (List ℕ)) (workers : ℕ) (start adde
       each = λ k small. record {
         adds = subst (λ (h : List Event). AreAsked (worker_of limits k) h (seen_by added d k) (adds_of texts workers k) ((chosen AddsHave workers [] added_by).0 k))
             (sym (front_of start k d (omega (arith, small, are.count)))) ((chosen AddsHave workers [] added_by).1 k small);
-        meets_adds = meets_alone (worker_of limits k) (slice_index_or added k d) (slice_index_or met_added k d) (are_added.callers k d small)
+        meets_adds = meets_alone k (slice_index_or added k d) (slice_index_or met_added k d) (are_added.numbers k d small)
             (meet_adds.sees k d (omega (arith, small, are_added.count)));
         deletes = (chosen DeletesHave workers [] deleted_by).1 k small;
-        meets_deletes = meets_alone (worker_of limits k) (slice_index_or deleted k d) (slice_index_or met_deleted k d) (are_deleted.callers k d small)
+        meets_deletes = meets_alone k (slice_index_or deleted k d) (slice_index_or met_deleted k d) (are_deleted.numbers k d small)
             (meet_deletes.sees k d (omega (arith, small, are_deleted.count)));
       };
       met_adds = λ k other small below. meet_adds.met k other d (omega (arith, small, are_added.count)) (omega (arith, below, are_added.count));
@@ -96,7 +96,7 @@ module _ (limits : Limits) (texts : List (List ℕ)) (workers : ℕ) (start adde
     }
 
   -- where one of the workers stopped in the last part
-  pub early_in_queries : (after : List LoaderState) → 1 ≤ workers → length after ≡ length met_deleted → EachEnds (EndsLastPart workers) met_deleted after →
+  pub early_in_queries : (after : List LoaderState) → 1 ≤ workers → length after ≡ length met_deleted → EachEnds (EndsLastPart limits workers) met_deleted after →
       list_any (λ (l : LoaderState). l.stopped) after ≡ true → EndsEarlyInQueries limits texts workers (front_at (passes_of start)) (front_at (passes_of after))
   early_in_queries after some long finds stopped =
       by_case start are.count
@@ -112,17 +112,17 @@ module _ (limits : Limits) (texts : List (List ℕ)) (workers : ℕ) (start adde
       }
 
   -- where none did, and they met once more
-  module _ (queried after : List LoaderState) (finds : AllEnd (EndsLastPart workers) met_deleted queried) (meet_queries : LoadersHaveMet queried after) where
-    are_queried : AreWorkers limits workers queried
+  module _ (queried after : List LoaderState) (finds : AllEnd (EndsLastPart limits workers) met_deleted queried) (meet_queries : LoadersHaveMet queried after) where
+    are_queried : AreWorkers workers queried
     are_queried = workers_at_end queried finds.count finds.each
 
-    pub workers_met : AreWorkers limits workers after
-    workers_met = still_workers limits workers queried after are_queried meet_queries.count (λ k d small. (meet_queries.sees k d small).same_caller)
+    pub workers_met : AreWorkers workers after
+    workers_met = still_workers workers queried after are_queried meet_queries.count (λ k d small. (meet_queries.sees k d small).number)
 
     module _ (d : LoaderState) where
       found_by : (k : ℕ) → k < workers → HasResults (worker_of limits k) (seen_by met_deleted d k) (seen_by queried d k) workers k (slice_index_or queried k d).results
       found_by k small =
-          subst (λ (c : Caller). HasResults c (seen_by met_deleted d k) (seen_by queried d k) workers k (slice_index_or queried k d).results) (are_last.callers k d small)
+          subst (λ (c : Caller). HasResults c (seen_by met_deleted d k) (seen_by queried d k) workers k (slice_index_or queried k d).results) (caller_is limits k (slice_index_or met_deleted k d).pass (are_last.numbers k d small))
           ((finds.each k d (omega (arith, small, are_last.count))).found (none_stopped queried k d finds.none (omega (arith, small, are_queried.count))))
 
       -- a worker's queries have these replies, which tell the results that it has
@@ -159,7 +159,7 @@ module _ (limits : Limits) (texts : List (List ℕ)) (workers : ℕ) (start adde
             to_queries = replies.0;
             asked = λ k small. (replies.1 k small).asked;
             meets_queries = λ k small. subst (IsFrontOf k (seen_by queried d k)) (sym (front_of after k d (omega (arith, small, workers_met.count))))
-                (meets_alone (worker_of limits k) (slice_index_or queried k d) (slice_index_or after k d) (are_queried.callers k d small)
+                (meets_alone k (slice_index_or queried k d) (slice_index_or after k d) (are_queried.numbers k d small)
                 (meet_queries.sees k d (omega (arith, small, are_queried.count))));
             met_queries = λ k other small below. subst (IsPrefix (seen_by queried d other)) (sym (front_of after k d (omega (arith, small, workers_met.count))))
                 (meet_queries.met k other d (omega (arith, small, are_queried.count)) (omega (arith, below, are_queried.count)));

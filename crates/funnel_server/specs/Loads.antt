@@ -10,11 +10,11 @@ use Rattle.funnel_model.specs.declared.reply.Reply.TheVariants as reply
 use Rattle.funnel_model.specs.History.{IsFrontOf}
 use Rattle.funnel_model.specs.Legal.{Limits}
 use Rattle.funnel_model.specs.Steps.{Linear, Step}
+use Rattle.engine.specs.Passes.{PassView}
 use Rattle.line_proto.specs.Services.{Caller}
 use Rattle.load_gen.specs.Jobs.{adds_of, deletes_of, queries_of, share}
 use Rattle.load_gen.specs.Queries.{queries}
 use Rattle.load_laws.specs.Replies.{result_in}
-use Rattle.slice_rule.specs.Seats.{PassState}
 
 -- the calls lead the caller's pass from front to front, and have these replies, none of which is a want of memory
 pub record AreAsked (caller : Caller) (before after : List Event) (calls : List Call) (replies : List Reply) : Type 0 where
@@ -100,5 +100,5 @@ IsCutShort limits texts workers before after =
     ⊎ EndsEarlyInQueries limits texts workers before after
 
 -- what the pass at this place of a list has seen, and nothing where there is none
-abbrev pub front_at : List PassState → ℕ → List Event
-front_at passes place = option_map_or (λ (pass : PassState). pass.front) (slice_get passes place) []
+abbrev pub front_at : List PassView → ℕ → List Event
+front_at passes place = option_map_or (λ (pass : PassView). pass.front) (slice_get passes place) []

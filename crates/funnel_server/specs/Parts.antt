@@ -3,52 +3,51 @@ use Rattle.std.specs.Prelude.{ℕ, ◌<◌, ◌≤◌, ◌≡◌, Bool, false, L
 use Rattle.std.specs.List.{list_any}
 use mathlib.Core.List.{IsPrefix}
 use Rattle.engine.specs.Clients.{caller_of}
+use Rattle.engine.specs.Passes.{PassView}
 use Rattle.funnel_model.specs.declared.call.Call.{Call}
 use Rattle.funnel_model.specs.declared.event.Event.{Event}
 use Rattle.funnel_model.specs.History.{IsFrontOf}
 use Rattle.funnel_model.specs.Legal.{Limits}
 use Rattle.load_gen.specs.Jobs.{queries_of}
-use Rattle.slice_rule.specs.Seats.{PassState}
-use Rattle.funnel_server.specs.Loads.{worker_of}
 use Rattle.funnel_server.specs.Shares.{EndsEarly, HasResults, IsDone}
 
 -- a worker of a load: its pass, the results of the queries that it ran, and whether the last of its adds and queries ended for want of
 -- memory
 pub record LoaderState : Type 0 where
-  pub pass : PassState
+  pub pass : PassView
   pub results : List (ℕ × ℕ)
   pub stopped : Bool
 
 -- the passes of the workers
-abbrev pub passes_of : List LoaderState → List PassState
+abbrev pub passes_of : List LoaderState → List PassView
 passes_of loaders = map (λ (loader : LoaderState). loader.pass) loaders
 
 -- one of the workers stopped in the last of its adds and queries
 abbrev pub any_stopped : List LoaderState → Bool
 any_stopped loaders = list_any (λ (loader : LoaderState). loader.stopped) loaders
 
--- there are so many workers, and the pass of each has its number and these limits
-pub record AreWorkers (limits : Limits) (workers : ℕ) (loaders : List LoaderState) : Type 0 where
+-- there are so many workers, and the pass of each has its number
+pub record AreWorkers (workers : ℕ) (loaders : List LoaderState) : Type 0 where
   pub count : length loaders ≡ workers
-  pub callers : (k : ℕ) (d : LoaderState) → k < workers → caller_of (slice_index_or loaders k d).pass ≡ worker_of limits k
+  pub numbers : (k : ℕ) (d : LoaderState) → k < workers → (slice_index_or loaders k d).pass.number ≡ k
 
 -- a worker came to the end of its first part or its last one: it asked all its calls, or it stopped for want of memory
-pub record EndsPart (calls : List Call) (before after : LoaderState) : Type 0 where
-  pub same_caller : caller_of after.pass ≡ caller_of before.pass
+pub record EndsPart (limits : Limits) (calls : List Call) (before after : LoaderState) : Type 0 where
+  pub number : after.pass.number ≡ before.pass.number
   pub outcome :
       MatchBool after.stopped
-      (EndsEarly (caller_of before.pass) before.pass.front after.pass.front calls)
-      (IsDone (caller_of before.pass) before.pass.front after.pass.front calls)
+      (EndsEarly (caller_of limits before.pass) before.pass.front after.pass.front calls)
+      (IsDone (caller_of limits before.pass) before.pass.front after.pass.front calls)
 
 -- and in the last part, where it asked all, it has the results of its queries
-pub record EndsLastPart (workers worker : ℕ) (before after : LoaderState) : Type 0 where
-  pub part : EndsPart (queries_of workers worker) before after
-  pub found : after.stopped ≡ false → HasResults (caller_of before.pass) before.pass.front after.pass.front workers worker after.results
+pub record EndsLastPart (limits : Limits) (workers worker : ℕ) (before after : LoaderState) : Type 0 where
+  pub part : EndsPart limits (queries_of workers worker) before after
+  pub found : after.stopped ≡ false → HasResults (caller_of limits before.pass) before.pass.front after.pass.front workers worker after.results
 
 -- a worker came to the end of its second part: it asked all its calls, and did nothing else
-pub record EndsDeletes (calls : List Call) (before after : LoaderState) : Type 0 where
-  pub same_caller : caller_of after.pass ≡ caller_of before.pass
-  pub done : IsDone (caller_of before.pass) before.pass.front after.pass.front calls
+pub record EndsDeletes (limits : Limits) (calls : List Call) (before after : LoaderState) : Type 0 where
+  pub number : after.pass.number ≡ before.pass.number
+  pub done : IsDone (caller_of limits before.pass) before.pass.front after.pass.front calls
   pub results : after.results ≡ before.results
   pub stopped : after.stopped ≡ before.stopped
 
@@ -59,7 +58,7 @@ EachEnds Ends before after = (k : ℕ) (d : LoaderState) → k < length before �
 -- a worker saw what others had seen, and did nothing else
 pub record OnlySees (before after : LoaderState) : Type 0 where
   pub seen : IsFrontOf before.pass.number before.pass.front after.pass.front
-  pub same_caller : caller_of after.pass ≡ caller_of before.pass
+  pub number : after.pass.number ≡ before.pass.number
   pub results : after.results ≡ before.results
   pub stopped : after.stopped ≡ before.stopped
 

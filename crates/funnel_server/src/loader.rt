@@ -35,7 +35,7 @@ impl<'a, N: PoolName, R: Wait> Loader<'a, N, R> {
     /// Adds its documents.
     pub(crate) fn add(&mut self, load: &Load, workers: u32, worker: u32)
         requires one_of_them { worker < workers }
-        ensures { EndsPart (adds_of load.now workers worker) self.old self.new }
+        ensures { EndsPart N.pool.limits (adds_of load.now workers worker) self.old self.new }
     {
         let alloc = self.client.alloc;
         self.stopped = match add_share(alloc, &mut self.client, load, workers, worker) {
@@ -47,7 +47,7 @@ impl<'a, N: PoolName, R: Wait> Loader<'a, N, R> {
     /// Deletes those of its documents that are to be deleted.
     pub(crate) fn delete(&mut self, load: &Load, workers: u32, worker: u32)
         requires one_of_them { worker < workers }
-        ensures { EndsDeletes (deletes_of load.now workers worker) self.old self.new }
+        ensures { EndsDeletes N.pool.limits (deletes_of load.now workers worker) self.old self.new }
     {
         delete_share(&mut self.client, load, workers, worker);
     }
@@ -55,7 +55,7 @@ impl<'a, N: PoolName, R: Wait> Loader<'a, N, R> {
     /// Runs its queries, and keeps their results.
     pub(crate) fn find(&mut self, workers: u32, worker: u32)
         requires one_of_them { worker < workers }
-        ensures { EndsLastPart workers worker self.old self.new }
+        ensures { EndsLastPart N.pool.limits workers worker self.old self.new }
     {
         self.stopped = match find_share(&mut self.client, workers, worker, &mut self.results) {
             Ok(()) => false,
@@ -64,20 +64,16 @@ impl<'a, N: PoolName, R: Wait> Loader<'a, N, R> {
     }
 
     /// What its pass has seen, for others to meet.
-    pub(crate) fn note(&mut self, engine: &Engine<N>) -> Note
-        requires named { engine.now ≡ N.pool }
+    pub(crate) fn note(&mut self, engine: &Engine<N>) -> Note<N>
         ensures same { self.new ≡ self.old }
-        ensures pool { result.pool ≡ engine.now }
-        ensures front { result.front ≡ self.old.pass.front }
+        ensures front { result ≡ self.old.pass.front }
     {
         engine.note(&mut self.client.pass)
     }
 
     /// Its pass sees what the note has seen.
-    pub(crate) fn meet(&mut self, engine: &Engine<N>, note: Note)
-        requires named { engine.now ≡ N.pool }
-        requires pool { note.pool ≡ engine.now }
-        ensures { Meets note.front self.old self.new }
+    pub(crate) fn meet(&mut self, engine: &Engine<N>, note: Note<N>)
+        ensures { Meets note self.old self.new }
     {
         engine.meet(&mut self.client.pass, note);
     }

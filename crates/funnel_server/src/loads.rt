@@ -1,7 +1,6 @@
 //! Loads that several workers put to an engine.
 ghost use Rattle.std.specs.Prelude.{◌≡◌, ◌≤◌, ◌+◌, ◌++◌, ℕ, [], length, map, drop, reverse, vec_capacity, MatchResult};
-ghost use Rattle.std.specs.List.{All, range_with_len};
-ghost use Rattle.commit_desk.specs.Passes.{IsResting};
+ghost use Rattle.std.specs.List.{range_with_len};
 ghost use Rattle.funnel_server.specs.Loads.{IsCutShort, IsPut, front_at};
 ghost use Rattle.funnel_server.specs.Parts.{passes_of};
 
@@ -31,21 +30,18 @@ pub fn run_load<'a, N: PoolName + Send + Sync, R: Threads + Wait + Sync>(
     rt: &'a R,
     alloc: Global,
     engine: &'a Engine<N>,
-    passes: Vec<Pass>,
+    passes: Vec<Pass<N>>,
     workers: u32,
     load: &Load,
-) -> (Vec<Pass>, Result<[(u64, u64); 8], Memory>)
-    requires named { engine.now ≡ N.pool }
+) -> (Vec<Pass<N>>, Result<[(u64, u64); 8], Memory>)
     requires some { 1 ≤ workers }
     requires enough { workers ≤ length passes.items }
-    requires rest { All (IsResting engine.now) passes.items }
     requires numbers { map (λ pass. pass.number) passes.items ≡ range_with_len 0 (length passes.items) }
     ensures numbers { map (λ pass. pass.number) result.0.items ≡ map (λ pass. pass.number) passes.items }
-    ensures rest { All (IsResting engine.now) result.0.items }
     ensures others { drop workers result.0.items ≡ drop workers passes.items }
     ensures put { MatchResult result.1
-        (λ results. IsPut engine.now.limits load.now workers (front_at passes.items) (front_at result.0.items) results)
-        (λ _. IsCutShort engine.now.limits load.now workers (front_at passes.items) (front_at result.0.items)) }
+        (λ results. IsPut N.pool.limits load.now workers (front_at passes.items) (front_at result.0.items) results)
+        (λ _. IsCutShort N.pool.limits load.now workers (front_at passes.items) (front_at result.0.items)) }
 {
     let Ok(mut loaders) = Vec::with_capacity(alloc, workers as usize) else {
         return (passes, Err(Memory));
@@ -63,17 +59,14 @@ fn equip<'a, N: PoolName, R: Wait>(
     alloc: Global,
     engine: &'a Engine<N>,
     workers: u32,
-    passes: &mut Vec<Pass>,
+    passes: &mut Vec<Pass<N>>,
     loaders: &mut Vec<Loader<'a, N, R>>,
 )
-    requires named { engine.now ≡ N.pool }
     requires enough { workers ≤ length passes.old.items }
-    requires rest { All (IsResting engine.now) passes.old.items }
     requires empty { loaders.old.items ≡ [] }
     requires room { workers ≤ vec_capacity loaders.old }
     ensures count { length loaders.new.items ≡ workers }
     ensures passes { passes_of loaders.new.items ++ reverse passes.new.items ≡ passes.old.items }
-    ensures rest { All (IsResting engine.now) passes.new.items }
     ensures room { vec_capacity passes.new ≡ vec_capacity passes.old }
 {
     passes.reverse();
@@ -100,11 +93,9 @@ fn equip<'a, N: PoolName, R: Wait>(
 }
 
 /// Puts the passes of the workers before the others, which are in reverse.
-fn take_back<N: PoolName, R: Wait>(loaders: Vec<Loader<'_, N, R>>, passes: &mut Vec<Pass>)
+fn take_back<N: PoolName, R: Wait>(loaders: Vec<Loader<'_, N, R>>, passes: &mut Vec<Pass<N>>)
     requires room { length loaders.items + length passes.old.items ≤ vec_capacity passes.old }
-    requires rest { All (IsResting N.pool) passes.old.items }
     ensures passes { passes.new.items ≡ passes_of loaders.entry.items ++ reverse passes.old.items }
-    ensures rest { All (IsResting N.pool) passes.new.items }
 {
     let mut loaders = loaders;
     while let Some(loader) = loaders.pop() {

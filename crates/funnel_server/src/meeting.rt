@@ -9,7 +9,6 @@ use std::sync::Wait;
 /// Each worker sees what every one has seen. No thread runs, and no memory is taken: the last one meets each other one, and
 /// then each other one meets the last.
 pub(crate) fn meet_all<N: PoolName, R: Wait>(engine: &Engine<N>, loaders: &mut [Loader<'_, N, R>])
-    requires named { engine.now ≡ N.pool }
     requires some { 1 ≤ length loaders.old }
     ensures { LoadersHaveMet loaders.old loaders.new }
 {
@@ -19,7 +18,6 @@ pub(crate) fn meet_all<N: PoolName, R: Wait>(engine: &Engine<N>, loaders: &mut [
 
 /// The last one sees what each other one has seen.
 fn meet_others<N: PoolName, R: Wait>(engine: &Engine<N>, loaders: &mut [Loader<'_, N, R>])
-    requires named { engine.now ≡ N.pool }
     requires some { 1 ≤ length loaders.old }
     ensures { LastHasMet (length loaders.old - 1) (length loaders.old - 1) loaders.old loaders.new }
 {
@@ -32,7 +30,6 @@ fn meet_others<N: PoolName, R: Wait>(engine: &Engine<N>, loaders: &mut [Loader<'
 
 /// Each other one sees what the last one has seen.
 fn meet_last<N: PoolName, R: Wait>(engine: &Engine<N>, loaders: &mut [Loader<'_, N, R>])
-    requires named { engine.now ≡ N.pool }
     requires some { 1 ≤ length loaders.old }
     ensures { MetLast (length loaders.old - 1) (length loaders.old - 1) loaders.old loaders.new }
 {

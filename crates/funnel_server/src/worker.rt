@@ -37,7 +37,7 @@ impl<'a, G: Gate, N: PoolName, R: Wait> Model for Worker<'a, G, N, R> {
       gate = w.gate;
       state = record {
         gate = gate_state G.is_closed G.gate_faults G.waiting G.Conn.incoming G.Conn.outgoing G.served w.gate;
-        caller = caller_of w.client;
+        caller = caller_of N.pool.limits w.client;
         front = w.client.front;
         left = w.left;
         fault = w.fault;
@@ -94,8 +94,8 @@ impl<'a, G: Gate, N: PoolName, R: Wait> Worker<'a, G, N, R> {
 
 /// Answers the lines of a connection.
 fn answer<N: PoolName, R: Wait, C: Connection>(client: &mut Client<'_, N, R>, conn: &mut C) -> End
-    ensures caller { caller_of client.new ≡ caller_of client.old }
-    ensures serves { Serves (caller_of client.old) MOST_BYTES
+    ensures caller { caller_of N.pool.limits client.new ≡ caller_of N.pool.limits client.old }
+    ensures serves { Serves (caller_of N.pool.limits client.old) MOST_BYTES
         record { front = client.old.front; incoming = C.incoming conn.old; outgoing = C.outgoing conn.old }
         record { front = client.new.front; incoming = C.incoming conn.new; outgoing = C.outgoing conn.new }
         result }

@@ -1,6 +1,6 @@
 //! Tests of crates below the engine that stand by themselves: lists and sets, the words of texts and their hashes, the tables
 //! of classes and sizes, the rows of words and their bits, the plans of queries, scans of words, documents in their columns and
-//! live numbers, how far slices are, and the tokens of finds.
+//! live numbers, how far slices are, the tokens of finds, and queries as they are read.
 #![tactic(auto)]
 
 #[cfg(test)]
@@ -15,6 +15,8 @@ mod lists;
 mod live_numbers;
 #[cfg(test)]
 mod plans;
+#[cfg(test)]
+mod queries;
 #[cfg(test)]
 mod scans;
 #[cfg(test)]

@@ -20,7 +20,8 @@ fn no_words(alloc: Global) -> Result<WordSet, Memory> {
 #[test]
 fn rows_are_planned_by_rank_and_start(rt: HostRuntime) -> Result<(), Fail> {
     let layout = ranked_layout(rt.alloc())?;
-    let plan = plan(rt.alloc(), &layout, &query(rt.alloc())?)?;
+    let planned = plan(rt.alloc(), &layout, &query(rt.alloc())?)?;
+    let (plan, _) = planned;
     let mut rows = Vec::new(rt.alloc());
     for row in plan.as_slice() {
         rows.push((row.rank, row.start, row.width))?;
@@ -42,7 +43,8 @@ fn rows_are_planned_by_rank_and_start(rt: HostRuntime) -> Result<(), Fail> {
 #[test]
 fn a_query_without_words_has_an_empty_plan(rt: HostRuntime) -> Result<(), Fail> {
     let layout = ranked_layout(rt.alloc())?;
-    let plan = plan(rt.alloc(), &layout, &no_words(rt.alloc())?)?;
+    let planned = plan(rt.alloc(), &layout, &no_words(rt.alloc())?)?;
+    let (plan, _) = planned;
     assert_eq!(rt; plan.into_inner().len(), 0);
     Ok(())
 }

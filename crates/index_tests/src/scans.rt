@@ -57,7 +57,8 @@ fn plan_of(alloc: Global, blocks: u32, max_rank: u8, query: &str) -> Result<Plan
     requires max_rank { max_rank ≤ 6 }
 {
     let layout = layout(alloc, blocks, max_rank)?;
-    let plan = plan(alloc, &layout, &words(alloc, query)?)?;
+    let planned = plan(alloc, &layout, &words(alloc, query)?)?;
+    let (plan, _) = planned;
     Ok(Planned { layout, plan })
 }
 

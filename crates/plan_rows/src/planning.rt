@@ -1,5 +1,6 @@
-ghost use Rattle.std.specs.Prelude.{All, IfOk};
+ghost use Rattle.std.specs.Prelude.{◌≡◌, All, IfOk, filter, not};
 ghost use Rattle.row_layout.specs.Orders.{HasRowsOf, IsInPlanOrder};
+ghost use Rattle.row_layout.specs.Owners.{is_exact};
 ghost use Rattle.row_layout.specs.Rows.{IsRowOf};
 
 use funnel_model::{Memory, WordSet};
@@ -8,14 +9,18 @@ use std::alloc::Global;
 use std::cmp::Ord;
 
 /// Plans a query: exactly the rows of its words, by falling rank and within a rank by rising start, each once. A query
-/// without words has an empty plan.
-pub fn plan(alloc: Global, layout: &Layout, words: &WordSet) -> Result<Plan, Memory>
-    ensures rows { IfOk result (HasRowsOf layout.now words.now) }
-    ensures in_order { IfOk result IsInPlanOrder }
-    ensures laid { IfOk result (All (IsRowOf layout.now)) }
+/// without words has an empty plan. Beside the plan stands the rest: those of the words that aren't exact, which a set bit
+/// doesn't tell.
+pub fn plan(alloc: Global, layout: &Layout, words: &WordSet) -> Result<(Plan, WordSet), Memory>
+    ensures rows { IfOk result (λ planned. HasRowsOf layout.now words.now planned.0) }
+    ensures in_order { IfOk result (λ planned. IsInPlanOrder planned.0) }
+    ensures laid { IfOk result (λ planned. All (IsRowOf layout.now) planned.0) }
+    ensures rest { IfOk result (λ planned. planned.1 ≡ filter (λ word. not (is_exact layout.now word)) words.now) }
 {
-    let mut rows = layout.rows_of(alloc, words)?;
+    let both = layout.rows_and_rest(alloc, words)?;
+    let (mut rows, rest) = both;
+    let rest = WordSet::from_sorted(alloc, &rest)?;
     rows.sort_unstable_by(|a, b| b.rank.cmp(&a.rank).then(a.start.cmp(&b.start)));
     rows.dedup();
-    Ok(Plan::new(rows))
+    Ok((Plan::new(rows), rest))
 }

@@ -116,6 +116,7 @@ fn fill(alloc: Global, pool: &Pool, home: &mut Home, seat: &mut PassSeat)
 fn take_second(pool: &Pool, home: &mut Home, seat: &mut PassSeat)
     requires at { AreAt pool.now 1 (drops 63) home.old seat.old }
     requires own { seat.old.own ≡ [] }
+    requires words { pool.now.config.words ≡ [] }
     ensures at { AreAt pool.now 1 taken home.new seat.new }
     ensures own { seat.new.own ≡ fact.BitSet 129 tested_bit ∷ [] }
 {
@@ -329,6 +330,7 @@ fn lead(alloc: Global, pool: &Pool, home: &mut Home, seat: &mut PassSeat, bits: 
     requires at { AreAt pool.now 1 [] home.old seat.old }
     requires own { seat.old.own ≡ [] }
     requires bits { bits ≡ tested_bit ∷ [] }
+    requires words { pool.now.config.words ≡ [] }
     ensures at { AreAt pool.now 1 clearing home.new seat.new }
 {
     take_first(pool, home, seat);
@@ -372,7 +374,7 @@ fn find_beside_clear<R: Threads + Sync>(
     let opened_at = begin_find(&pool, &mut home, &mut first, no_text(alloc));
     let ((mut first, word), mut second) = read_and_clear(rt, &pool, first, second, opened_at);
     let (end, opened) = end_and_open(&pool, &mut home, &mut first, &mut second);
-    let ended = close_two(alloc, pool, home, first, second)?;
+    let ended = close_two(pool, home, first, second);
     Ok((word, end, opened, ended.events))
 }
 

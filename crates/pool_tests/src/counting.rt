@@ -78,7 +78,7 @@ fn read_places(
 fn count_events(alloc: Global) -> Result<([u64; 3], [u32; 2], u64), Fail> {
     let (pool, mut home, mut first, mut second) = open_two(alloc, 2, 4)?;
     let (numbers, by) = read_places(&pool, &mut home, &mut first, &mut second);
-    let ended = close_two(alloc, pool, home, first, second)?;
+    let ended = close_two(pool, home, first, second);
     Ok((numbers, by, ended.events))
 }
 

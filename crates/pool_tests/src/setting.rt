@@ -26,6 +26,7 @@ pub(crate) fn config(alloc: Global, passes: u32, slices: u32) -> Config
     ensures slices { result.slices ≡ slices }
     ensures commits { result.commits ≡ 1024 }
     ensures columns { columns_of_slice result ≡ 64 }
+    ensures words { result.words ≡ [] }
 {
     Config {
         passes,
@@ -52,6 +53,7 @@ pub(crate) fn open_two(alloc: Global, slices: u32, slice_words: u32) -> Result<O
     requires words { 1 ≤ slice_words }
     requires few { slices * slice_words ≤ MOST_ROW_WORDS }
     ensures sizes { IfOk result (λ made. made.0.limits ≡ sizes_of slices slice_words) }
+    ensures words { IfOk result (λ made. made.0.config.words ≡ []) }
     ensures home { IfOk result (λ made. made.1 ≡ new_home_state made.0) }
     ensures first { IfOk result (λ made. made.2 ≡ new_pass_state made.0 0) }
     ensures second { IfOk result (λ made. made.3 ≡ new_pass_state made.0 1) }
@@ -63,22 +65,14 @@ pub(crate) fn open_two(alloc: Global, slices: u32, slice_words: u32) -> Result<O
     Ok((pool, home, first, second))
 }
 
-/// Closes a pool of two passes.
-pub(crate) fn close_two(
-    alloc: Global,
-    pool: Pool,
-    home: Home,
-    first: PassSeat,
-    second: PassSeat,
-) -> Result<Ended, Fail>
-    requires passes { pool.limits.passes ≡ 2 }
+/// Closes a pool of two passes, which come back to it.
+pub(crate) fn close_two(pool: Pool, mut home: Home, first: PassSeat, second: PassSeat) -> Ended
     requires home { home.pool ≡ pool }
-    requires first { (first.number ≡ 0) × CanEnd pool first }
-    requires second { (second.number ≡ 1) × CanEnd pool second }
-    ensures { IfOk result (λ ended. ended.history ≡ home.history) }
+    requires first { CanEnd pool first }
+    requires second { CanEnd pool second }
+    ensures { result.history ≡ home.history }
 {
-    let mut passes = Vec::with_capacity(alloc, 2)?;
-    passes.push(first)?;
-    passes.push(second)?;
-    Ok(pool.close(home, passes))
+    pool.end_pass(&mut home, first);
+    pool.end_pass(&mut home, second);
+    pool.close(home)
 }

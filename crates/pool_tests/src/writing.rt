@@ -8,7 +8,7 @@ ghost use Rattle.funnel_model.specs.Sizes.{columns_of_slice, words_of_slice};
 ghost use Rattle.pool_tests.specs.Sizes.{sizes_of};
 ghost use Rattle.slice_rule.specs.declared.view.Fact.{Fact};
 ghost use Rattle.slice_rule.specs.Numbers.{last_number};
-ghost use Rattle.slice_rule.specs.Seats.{HasNoneOutstanding, HoldsClaim, HoldsToken, new_home_state, new_pass_state};
+ghost use Rattle.slice_rule.specs.Seats.{HasNoneOutstanding, HoldsClaim, HoldsToken, KeepsToColumn, new_home_state, new_pass_state};
 
 use crate::setting::{Opened, config, open_two};
 use column_writer::write_column;
@@ -184,6 +184,8 @@ fn write_both<R: Threads + Sync>(
         × (second.front ≡ event.Take 0 0 0 ∷ event.Take 1 0 1 ∷ []) × HasNoneOutstanding second × (second.own ≡ []) }
     requires low { All (λ b. IsInSlice pool.now.limits.slice_words 0 b.word) low.now.bits × All (λ b. b.bit < 64) low.now.bits }
     requires high { All (λ b. IsInSlice pool.now.limits.slice_words 0 b.word) high.now.bits × All (λ b. b.bit < 64) high.now.bits }
+    requires low_owners { All (KeepsToColumn first (record { slice = 0; column = 0 })) low.now.bits }
+    requires high_owners { All (KeepsToColumn second (record { slice = 0; column = 1 })) high.now.bits }
     ensures first { (result.0.pool ≡ pool.now) × (result.0.number ≡ 0) × HasNoneOutstanding result.0 }
     ensures second { (result.1.pool ≡ pool.now) × (result.1.number ≡ 1) × HasNoneOutstanding result.1 }
     ensures low { (f : Fact) → Contains result.0.own f ↔ (Contains [] f ⊎ IsBitOf 1 low.now.bits f) }
@@ -198,6 +200,7 @@ fn write_both<R: Threads + Sync>(
             requires own { first.own ≡ [] }
             requires inside { All (λ b. IsInSlice pool.now.limits.slice_words 0 b.word) low.now.bits }
             requires of_words { All (λ b. b.bit < 64) low.now.bits }
+            requires owners { All (KeepsToColumn first (record { slice = 0; column = 0 })) low.now.bits }
             ensures seat { (result.pool ≡ pool.entry.now) × (result.number ≡ first.number) × HasNoneOutstanding result }
             ensures bits { (f : Fact) → Contains result.own f ↔ (Contains [] f ⊎ IsBitOf (last_number first.number first.front) low.entry.now.bits f) }
         { written_as(pool, first, 0, low) },
@@ -208,6 +211,7 @@ fn write_both<R: Threads + Sync>(
             requires own { second.own ≡ [] }
             requires inside { All (λ b. IsInSlice pool.now.limits.slice_words 0 b.word) high.now.bits }
             requires of_words { All (λ b. b.bit < 64) high.now.bits }
+            requires owners { All (KeepsToColumn second (record { slice = 0; column = 1 })) high.now.bits }
             ensures seat { (result.pool ≡ pool.entry.now) × (result.number ≡ second.number) × HasNoneOutstanding result }
             ensures bits { (f : Fact) → Contains result.own f ↔ (Contains [] f ⊎ IsBitOf (last_number second.number second.front) high.entry.now.bits f) }
         { written_as(pool, second, 1, high) },
@@ -222,6 +226,7 @@ fn written_as(pool: &Pool, mut seat: PassSeat, column: u32, bits: &Bits) -> Pass
     requires own { seat.own ≡ [] }
     requires inside { All (λ b. IsInSlice pool.now.limits.slice_words 0 b.word) bits.now.bits }
     requires of_words { All (λ b. b.bit < 64) bits.now.bits }
+    requires owners { All (KeepsToColumn seat (record { slice = 0; column = column })) bits.now.bits }
     ensures seat { (result.pool ≡ pool.now) × (result.number ≡ seat.number) × HasNoneOutstanding result }
     ensures bits { (f : Fact) → Contains result.own f ↔ (Contains [] f ⊎ IsBitOf (last_number seat.number seat.front) bits.now.bits f) }
 {
@@ -268,6 +273,7 @@ fn write_and_find<R: Threads + Sync>(
     high: Bits,
 ) -> bool
     requires sizes { opened.0.limits ≡ sizes_of 1 opened.0.limits.slice_words }
+    requires words { opened.0.config.words ≡ [] }
     requires home { opened.1 ≡ new_home_state opened.0 }
     requires first { opened.2 ≡ new_pass_state opened.0 0 }
     requires second { opened.3 ≡ new_pass_state opened.0 1 }

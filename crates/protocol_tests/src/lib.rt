@@ -1,6 +1,6 @@
 //! Tests of the crates of the protocol that stand by themselves: lines and replies, configurations and tunings, the documents
-//! of a load, configurations fitted to a sample, and sessions. What the program shows of them from outside is in the rows that
-//! the gate tries (`.ci/rows.txt`).
+//! of a load, configurations fitted to a sample, sessions, and requests over HTTP. What the program shows of them from outside
+//! is in the rows that the gate tries (`.ci/rows.txt`).
 #![tactic(auto)]
 
 #[cfg(test)]
@@ -11,6 +11,8 @@ mod documents;
 mod fits;
 #[cfg(test)]
 mod lines;
+#[cfg(test)]
+mod requests;
 #[cfg(test)]
 mod sessions;
 #[cfg(test)]

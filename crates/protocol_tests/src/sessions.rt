@@ -9,7 +9,7 @@ use std::test::Fail;
 
 // A pass of an engine that takes no event any more.
 #[derive(Drop)]
-struct SpentPass;
+pub(crate) struct SpentPass;
 
 impl Service for SpentPass {
     ghost use Rattle.std.specs.Prelude.{[]};
@@ -27,7 +27,7 @@ impl Service for SpentPass {
 }
 
 // A connection with these pieces to read, and reads and writes that fail.
-fn conn_of(
+pub(crate) fn conn_of(
     alloc: Global,
     pieces: &[&[u8]],
     read_fails: &[u64],

@@ -3,10 +3,12 @@ pub mod Spans
 pub mod BitLemmas
 pub mod WordRows
 pub mod Listing
+pub mod WordTables
 pub mod Sorting
 pub mod Ranked
 pub mod Owners
 pub mod SoundHistories
 pub mod SetBits
+pub mod Standing
 pub mod OneList
 pub mod InOrder

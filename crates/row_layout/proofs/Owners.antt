@@ -1,5 +1,5 @@
 -- Private rows: whose bits theirs are, and that they tell their word.
-use Rattle.std.proofs.Common.{◌≡◌, ℕ, ◌+◌, ◌*◌, ◌/◌, ◌%◌, ◌^◌, ◌<◌, ◌≤◌, ⊎_elim, Bool, true, false, cond, List, [], ◌∷◌, ◌++◌, get_or, filter, length, Contains, Option, Some, None, sym, refl, ap, ◌∙◌, subst, append_assoc, arith}
+use Rattle.std.proofs.Common.{◌≡◌, ℕ, ◌+◌, ◌*◌, ◌/◌, ◌%◌, ◌^◌, ◌<◌, ◌≤◌, ⊎_elim, Bool, true, false, cond, List, [], ◌∷◌, ◌++◌, get_or, filter, length, map, Contains, Option, Some, None, sym, refl, ap, ◌∙◌, subst, append_assoc, arith}
 use Rattle.std.proofs.lemmas.Bool.{and_parts, cases_lt, eqb-true, lt-ltb, ltb-true, or_from}
 use Rattle.std.proofs.lemmas.List.Elements.{Contains-append_right}
 use Rattle.std.proofs.lemmas.List.Sums.{passes_at_first}
@@ -17,7 +17,7 @@ use Rattle.funnel_model.proofs.TuningLemmas.{treat-later}
 use Rattle.funnel_model.specs.Events.{bits_on, clears, put_on}
 use Rattle.funnel_model.specs.History.{Document, live, place}
 use Rattle.funnel_model.specs.Legal.{Limits, IsInSlice, IsLegal}
-use Rattle.funnel_model.specs.Sizes.{class_of_word, columns_of_slice, private_words, base_of_rank, width_of_rank, words_of_slice}
+use Rattle.funnel_model.specs.Sizes.{class_of_word, columns_of_slice, private_words, shared_rows, width_of_rank, words_of_slice}
 use Rattle.funnel_model.specs.Tunings.{treat}
 use Rattle.funnel_model.specs.Words.{words}
 use Rattle.funnel_model.specs.declared.bit_list.Bit.{Bit}
@@ -25,15 +25,16 @@ use Rattle.funnel_model.specs.declared.config.Config.{Config}
 use Rattle.funnel_model.specs.declared.event.Event.{Event}
 use Rattle.funnel_model.specs.declared.event.Event.TheVariants as event
 use Rattle.row_layout.specs.DocumentBits.{AreDocumentBitsIn, bit_of_row}
-use Rattle.row_layout.specs.Laws.{BitsHaveOneOwner, DocumentsKeepTheirBits, ExactWordsHaveOwnedBits, OwnedBitsTellWords, OwnedBitsTellWordsOfDocuments, PrivateRowsHaveOwnedBits, TreatedBitsHaveOneOwner}
-use Rattle.row_layout.specs.Owners.{IsOfExactWord, OwnsIn}
-use Rattle.row_layout.specs.Rows.{private_number, private_row, rank_in_class, row_count_of_word, row_of_word, rows_of_word}
+use Rattle.row_layout.specs.Laws.{BitsHaveOneOwner, DocumentsKeepTheirBits, ExactWordsHaveOwnedBits, OwnedBitsTellWords, OwnedBitsTellWordsOfDocuments, PrivateRowsHaveOwnedBits, RowsKeepToTheirColumn, TreatedBitsHaveOneOwner}
+use Rattle.row_layout.specs.Owners.{IsOfExactWord, OwnsIn, is_exact}
+use Rattle.row_layout.specs.Rows.{IsPrivateRow, IsSharedRow, private_number, private_row, rank_in_class, row_count_of_word, row_of_word, rows_of_word, shared_row}
+use Rattle.term_hash.specs.Hash.{row_number}
 use Rattle.row_layout.specs.Sound.{HasItsBits}
 use Rattle.row_layout.specs.declared.row.Row.{Row}
 use Rattle.row_layout.proofs.Listing.{private_number-below}
 use Rattle.row_layout.proofs.Lists.{Contains-from_flat_map, Contains-from_map}
 use Rattle.row_layout.proofs.Spans.{base-below, offset-below, private-ends, rows_more, width-positive}
-use Rattle.row_layout.proofs.WordRows.{row_of_word-private, row_of_word-shared}
+use Rattle.row_layout.proofs.WordRows.{row_of_word-private, row_of_word-shared, rows_of_class-private}
 
 -- each column of a slice owns the bits of its private rows
 pub private-owned : PrivateRowsHaveOwnedBits
@@ -56,6 +57,12 @@ exact_row : (config : Config) (word : List ℕ) (row : Row) → class_of_word co
 exact_row config word row less has =
     let from = Contains-from_map (row_of_word config word) (range_with_len 0 (row_count_of_word config word)) row has in
     from.2 ∙ row_of_word-private config word from.0 less
+
+-- and it has that row
+pub exact-has_row : (config : Config) (word : List ℕ) → is_exact config word ≡ true → Contains (rows_of_word config word) (row_of_word config word 0)
+exact-has_row config word exact =
+    let one = rows_of_class-private config (class_of_word config word) (ltb-true (class_of_word config word) 3 exact) in
+    subst (λ n. Contains (map (row_of_word config word) (range_with_len 0 n)) (row_of_word config word 0)) (sym one) (0, omega arith, refl)
 
 -- so its column owns its bit
 pub exact-owned : ExactWordsHaveOwnedBits
@@ -113,10 +120,10 @@ one_owner room config slice other column at bit owns also =
     (same, one_column room config slice column at bit owns (subst (λ s. OwnsIn room config s at bit) (sym same) also))
 
 pub one_owner-treated : TreatedBitsHaveOneOwner
-one_owner-treated opening history slice other column at bit owns also =
-    let room = words_of_slice opening in
-    let same = slices_apart room slice other bit.word owns.inside also.inside in
-    (same, one_column room (treat opening slice history) slice column at bit owns (subst (λ s. OwnsIn room (treat opening s history) s at bit) (sym same) also))
+one_owner-treated limits opening history slice other column at bit owns also =
+    let room = limits.slice_words in
+    let same = slices_apart room slice other bit.word owns.treated.inside also.treated.inside in
+    (same, one_column room (treat opening slice history) slice column at bit owns.treated (subst (λ s. OwnsIn room (treat opening s history) s at bit) (sym same) also.treated))
 
 -- the word at the place of a private row is that word
 word_there : (config : Config) (word : List ℕ) (d : List ℕ × ℕ) → class_of_word config word < 3 →
@@ -135,7 +142,18 @@ one_word config word other less also same =
     ∙ ap (λ k. (get_or (private_words config) k (word, 0)).0) same
     ∙ word_there config other (word, 0) also
 
--- the bit of a private row is none of a row of a word that has shared rows
+-- the bit of a private row is none of a shared row, at whichever columns they are
+rows-apart : (room : ℕ) (config : Config) (slice column at i rank x : ℕ) → i < length (private_words config) → column < columns_of_slice config →
+    bit_of_row room slice column (private_row config i) ≡ bit_of_row room slice at (shared_row config rank x) → ⊥
+rows-apart room config slice column at i rank x below in_slice same =
+    let w = width_of_rank config 0 in
+    let word_same : slice * room + i * w + column / (64 * 2 ^ 0) ≡ (bit_of_row room slice at (shared_row config rank x)).word = ap (λ (b : Bit). b.word) same in
+    let base = base-below config 0 rank (omega arith) in
+    let ends = private-ends config i below in
+    let x_in = offset-below config 0 column (omega arith) in_slice in
+    omega (arith, word_same, base, ends, x_in)
+
+-- so it is none of a row of a word that has shared rows
 shared-apart : (room : ℕ) (config : Config) (word : List ℕ) (slice column i : ℕ) (row : Row) → i < length (private_words config) →
     column < columns_of_slice config → 3 ≤ class_of_word config word → Contains (rows_of_word config word) row →
     bit_of_row room slice column (private_row config i) ≡ bit_of_row room slice column row → ⊥
@@ -143,13 +161,7 @@ shared-apart room config word slice column i row below in_slice high has same =
     let listed = Contains-from_map (row_of_word config word) (range_with_len 0 (row_count_of_word config word)) row has in
     let theirs = listed.2 ∙ row_of_word-shared config word listed.0 high in
     let rank = rank_in_class config (class_of_word config word) listed.0 in
-    let w = width_of_rank config 0 in
-    let word_same : slice * room + i * w + column / (64 * 2 ^ 0) ≡ (bit_of_row room slice column row).word = ap (λ (b : Bit). b.word) same in
-    let start : base_of_rank config rank ≤ row.start = subst (λ (r : Row). base_of_rank config rank ≤ r.start) (sym theirs) (omega arith) in
-    let base = base-below config 0 rank (omega arith) in
-    let ends = private-ends config i below in
-    let x_in = offset-below config 0 column (omega arith) in_slice in
-    omega (arith, word_same, start, base, ends, x_in)
+    rows-apart room config slice column column i rank (row_number word listed.0 (shared_rows config rank)) below in_slice (same ∙ ap (bit_of_row room slice column) theirs)
 
 -- a document that has the bit of an exact word's row has the word
 pub owned-tells : OwnedBitsTellWords
@@ -196,6 +208,18 @@ owned-exact room config set slice column bits bit are owns has =
     (λ (high : 3 ≤ class_of_word config of_word.0).
     absurd (shared-apart room config of_word.0 slice column i from.0 owns.private.1 owns.in_slice high of_word.2 same))
     (cases_lt (class_of_word config of_word.0) 3)
+
+-- no column of the slice owns the bit of a row at a column but that one
+pub own-column : RowsKeepToTheirColumn
+own-column room config slice column at row in_slice laid owns =
+    ⊎_elim
+    (λ (private : IsPrivateRow config row).
+    one_column room config slice at column (bit_of_row room slice column row) owns
+    (record { row = row; private = private; is_its = refl; in_slice = in_slice; inside = owns.inside }))
+    (λ (shared : IsSharedRow config row).
+    absurd (rows-apart room config slice at column owns.private.0 shared.0 shared.1 owns.private.1 owns.in_slice
+    (sym (owns.is_its ∙ ap (bit_of_row room slice at) owns.private.2) ∙ ap (bit_of_row room slice column) shared.4)))
+    laid
 
 -- an event that puts a document on a column clears no slice
 puts_no_clear : (slice column id other : ℕ) (e : Event) → put_on slice column e ≡ Some id → clears other e ≡ false

@@ -16,7 +16,7 @@ use Rattle.funnel_model.specs.declared.event.Event.TheVariants as event
 use Rattle.funnel_model.specs.Sizes.{columns_of_slice, words_of_slice}
 use Rattle.row_layout.specs.DocumentBits.{AreDocumentBits, AreDocumentBitsIn, IsDocumentBit, bit_of_row}
 use Rattle.row_layout.specs.Owners.{IsOfExactWord, KeepToOwners, Owns, OwnsIn, is_exact}
-use Rattle.row_layout.specs.Rows.{IsPrivateRow, rows_of_word}
+use Rattle.row_layout.specs.Rows.{IsPrivateRow, IsRowOf, rows_of_word}
 use Rattle.row_layout.specs.Sound.{HasItsBits, IsSound}
 use Rattle.row_layout.specs.declared.row.Row.{Row}
 
@@ -54,8 +54,8 @@ BitsHaveOneOwner =
 -- also where each slice has its own treatment
 abbrev pub TreatedBitsHaveOneOwner : Type 0
 TreatedBitsHaveOneOwner =
-    (opening : Config) (history : List Event) (slice other column at : ℕ) (bit : Bit) → Owns opening history slice column bit
-    → Owns opening history other at bit → (slice ≡ other) × (column ≡ at)
+    (limits : Limits) (opening : Config) (history : List Event) (slice other column at : ℕ) (bit : Bit)
+    → Owns limits opening history slice column bit → Owns limits opening history other at bit → (slice ≡ other) × (column ≡ at)
 
 -- each column of a slice owns the bits of its private rows, where the rows of a slice have room
 abbrev pub PrivateRowsHaveOwnedBits : Type 0
@@ -68,6 +68,12 @@ abbrev pub ExactWordsHaveOwnedBits : Type 0
 ExactWordsHaveOwnedBits =
     (room : ℕ) (config : Config) (slice column : ℕ) (word : List ℕ) (row : Row) → words_of_slice config ≤ room → column < columns_of_slice config
     → is_exact config word ≡ true → Contains (rows_of_word config word) row → OwnsIn room config slice column (bit_of_row room slice column row)
+
+-- no column of the slice owns the bit of a row at a column but that one
+abbrev pub RowsKeepToTheirColumn : Type 0
+RowsKeepToTheirColumn =
+    (room : ℕ) (config : Config) (slice column at : ℕ) (row : Row) → column < columns_of_slice config → IsRowOf config row
+    → OwnsIn room config slice at (bit_of_row room slice column row) → at ≡ column
 
 -- a document that has the bit of an exact word's row at its column has the word
 abbrev pub OwnedBitsTellWords : Type 0
@@ -107,17 +113,19 @@ OwnedBitsTellWordsOfDocuments =
 abbrev pub SetBitsAreOfExactWords : Type 0
 SetBitsAreOfExactWords =
     (limits : Limits) (opening : Config) (history : List Event) (pool : List ℕ) (slice column : ℕ) (document : Document) (since : ℕ)
-    (later : List Event) (bit : Bit) → IsLegal limits history → IsSound opening history → KeepToOwners opening history (IsSetIn pool)
+    (later : List Event) (bit : Bit) → IsLegal limits history → IsSound opening history → limits.slice_words ≡ words_of_slice opening
+    → KeepToOwners limits opening history (IsSetIn pool)
     → IsPutOn history slice column document since later → list_any (clears slice) later ≡ false
-    → IsSetIn pool bit → Owns opening history slice column bit
+    → IsSetIn pool bit → Owns limits opening history slice column bit
     → IsOfExactWord (words_of_slice opening) (treat opening slice history) (words document.text) slice column bit
 
 -- and a set bit of a live column is one of an exact word of the live document
 abbrev pub SetBitsAreOfLiveDocuments : Type 0
 SetBitsAreOfLiveDocuments =
     (limits : Limits) (opening : Config) (history : List Event) (pool : List ℕ) (slice column : ℕ) (document : Document) (since : ℕ)
-    (bit : Bit) → IsLegal limits history → IsSound opening history → KeepToOwners opening history (IsSetIn pool)
-    → IsLiveOn history slice column document since → IsSetIn pool bit → Owns opening history slice column bit
+    (bit : Bit) → IsLegal limits history → IsSound opening history → limits.slice_words ≡ words_of_slice opening
+    → KeepToOwners limits opening history (IsSetIn pool)
+    → IsLiveOn history slice column document since → IsSetIn pool bit → Owns limits opening history slice column bit
     → IsOfExactWord (words_of_slice opening) (treat opening slice history) (words document.text) slice column bit
 
 -- so an exact word whose bit is set at a column is a word of the document that was put there, while the slice isn't cleared
@@ -125,8 +133,9 @@ abbrev pub SetBitsTellWords : Type 0
 SetBitsTellWords =
     (limits : Limits) (opening : Config) (history : List Event) (pool : List ℕ) (slice column : ℕ) (document : Document) (since : ℕ)
     (later : List Event) (word : List ℕ) (row : Row) → IsLegal limits history → IsSound opening history
-    → KeepToOwners opening history (IsSetIn pool) → IsPutOn history slice column document since later → list_any (clears slice) later ≡ false
-    → IsInRange (treat opening slice history) → column < columns_of_slice (treat opening slice history)
+    → limits.slice_words ≡ words_of_slice opening → KeepToOwners limits opening history (IsSetIn pool)
+    → IsPutOn history slice column document since later → list_any (clears slice) later ≡ false
+    → IsInRange (treat opening slice history) → column < limits.columns → column < columns_of_slice (treat opening slice history)
     → words_of_slice (treat opening slice history) ≤ words_of_slice opening
     → is_exact (treat opening slice history) word ≡ true → Contains (rows_of_word (treat opening slice history) word) row
     → IsSetIn pool (bit_of_row (words_of_slice opening) slice column row) → Contains (words document.text) word
@@ -135,5 +144,5 @@ SetBitsTellWords =
 abbrev pub TakenColumnsOwnNoSetBits : Type 0
 TakenColumnsOwnNoSetBits =
     (limits : Limits) (opening : Config) (history : List Event) (pool : List ℕ) (pass slice column : ℕ) (bit : Bit) → IsLegal limits history
-    → KeepToOwners opening history (IsSetIn pool) → IsAllowed limits history (event.Take pass slice column) → IsSetIn pool bit
-    → Owns opening history slice column bit → ⊥
+    → KeepToOwners limits opening history (IsSetIn pool) → IsAllowed limits history (event.Take pass slice column) → IsSetIn pool bit
+    → Owns limits opening history slice column bit → ⊥

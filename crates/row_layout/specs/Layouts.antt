@@ -9,6 +9,8 @@ use Rattle.row_layout.specs.Rows.{private_number, rank_in_class}
 use Rattle.row_layout.specs.declared.class_table.ClassTable.{ClassTable}
 use Rattle.row_layout.specs.declared.word_rows.WordRows.{WordRows}
 use Rattle.row_layout.specs.declared.word_rows.WordRows.TheVariants.{Private, Shared}
+use Rattle.row_layout.specs.declared.word_table.WordTable.{WordTable}
+use Rattle.row_layout.specs.WordTables.{IsWordTable}
 
 -- the rows that a word has: its private row, or those of its class
 unfoldable pub word_rows : Config → List ℕ → WordRows
@@ -24,8 +26,9 @@ pub record IsClassTable (config : Config) (table : ClassTable) : Type 0 where
       slice_index (slice_index_or table.ranks class []) j ≤ config.max_rank
 
 -- the pool is small enough, and beside the configuration stand the shared rows of each rank, the start of each rank, the
--- words of a slice, the rows of each class, and the rows of each listed word
-pub record IsLaidOut (config : Config) (rows bases : List ℕ) (slice_words : ℕ) (classes : ClassTable) (listed : List WordRows) : Type 0 where
+-- words of a slice, the rows of each class, the rows of each listed word, and a table that finds these words
+pub record IsLaidOut (config : Config) (rows bases : List ℕ) (slice_words : ℕ) (classes : ClassTable) (listed : List WordRows) (table : WordTable) :
+    Type 0 where
   pub in_range : IsInRange config
   pub small_pool : words_of_pool config ≤ MOST_ROW_WORDS
   pub rows_are : (rank : ℕ) → rank ≤ config.max_rank → slice_index rows rank ≡ shared_rows config rank
@@ -33,3 +36,4 @@ pub record IsLaidOut (config : Config) (rows bases : List ℕ) (slice_words : �
   pub slice_words_are : slice_words ≡ words_of_slice config
   pub classes_are : IsClassTable config classes
   pub listed_are : listed ≡ map (λ entry. word_rows config entry.0) config.words
+  pub table_is : IsWordTable config.words table

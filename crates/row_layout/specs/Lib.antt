@@ -3,5 +3,6 @@ pub mod Orders
 pub mod Owners
 pub mod DocumentBits
 pub mod Sound
+pub mod WordTables
 pub mod Layouts
 pub mod Laws

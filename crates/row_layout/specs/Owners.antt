@@ -3,8 +3,8 @@ use Rattle.std.specs.Prelude.{◌≡◌, ℕ, ◌<◌, Bool, true, false, List, 
 use Rattle.std.specs.List.{list_any}
 use Rattle.std.specs.Option.{is_some}
 use Rattle.funnel_model.specs.Events.{bits_on, clears, put_on}
-use Rattle.funnel_model.specs.Legal.{IsInSlice}
-use Rattle.funnel_model.specs.Sizes.{class_of_word, columns_of_slice, words_of_slice}
+use Rattle.funnel_model.specs.Legal.{IsInSlice, Limits}
+use Rattle.funnel_model.specs.Sizes.{class_of_word, columns_of_slice}
 use Rattle.funnel_model.specs.Slices.{is_claimed}
 use Rattle.funnel_model.specs.Tunings.{treat}
 use Rattle.funnel_model.specs.declared.bit_list.Bit.{Bit}
@@ -27,9 +27,15 @@ pub record OwnsIn (room : ℕ) (config : Config) (slice column : ℕ) (bit : Bit
   pub in_slice : column < columns_of_slice config
   pub inside : IsInSlice room slice bit.word
 
--- the column owns the bit under the treatment of its slice, in an engine that was opened with this configuration
-abbrev pub Owns : Config → List Event → ℕ → ℕ → Bit → Type 0
-Owns opening history slice column bit = OwnsIn (words_of_slice opening) (treat opening slice history) slice column bit
+-- no column of the slice owns the bit but this one
+abbrev pub IsOwnedOnlyAt : ℕ → Config → ℕ → ℕ → Bit → Type 0
+IsOwnedOnlyAt room config slice column bit = (at : ℕ) → OwnsIn room config slice at bit → at ≡ column
+
+-- the column is one of the engine's and owns the bit under the treatment of its slice, in an engine of these sizes that was opened with
+-- this configuration
+pub record Owns (limits : Limits) (opening : Config) (history : List Event) (slice column : ℕ) (bit : Bit) : Type 0 where
+  pub in_engine : column < limits.columns
+  pub treated : OwnsIn limits.slice_words (treat opening slice history) slice column bit
 
 -- the event put a document on the column, and the slice wasn't cleared since
 pub record StandsOn (history : List Event) (slice column : ℕ) (event : Event) : Type 0 where
@@ -41,9 +47,9 @@ pub record StandsOn (history : List Event) (slice column : ℕ) (event : Event) 
 
 -- the bits that are set keep to their owners: the column that owns a set bit is claimed, and each add or move that stands on that
 -- column has the bit among its bits
-pub record KeepToOwners (opening : Config) (history : List Event) (IsSet : Bit → Type 0) : Type 0 where
-  pub claimed : (slice column : ℕ) (bit : Bit) → IsSet bit → Owns opening history slice column bit → is_claimed slice column history ≡ true
-  pub among : (slice column : ℕ) (bit : Bit) (event : Event) → IsSet bit → Owns opening history slice column bit
+pub record KeepToOwners (limits : Limits) (opening : Config) (history : List Event) (IsSet : Bit → Type 0) : Type 0 where
+  pub claimed : (slice column : ℕ) (bit : Bit) → IsSet bit → Owns limits opening history slice column bit → is_claimed slice column history ≡ true
+  pub among : (slice column : ℕ) (bit : Bit) (event : Event) → IsSet bit → Owns limits opening history slice column bit
       → StandsOn history slice column event → Contains (bits_on slice column event) bit
 
 -- the bit is, at the column of the slice, that of the row of an exact word of a document with these words

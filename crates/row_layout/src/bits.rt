@@ -4,6 +4,7 @@ ghost use Rattle.funnel_model.specs.Sizes.{columns_of_slice, words_of_slice};
 ghost use Rattle.funnel_model.specs.declared.bit_list.Bit.{Bit};
 ghost use Rattle.row_layout.specs.DocumentBits.{CanPlace, AreDocumentBits, bit_of_row, in_order};
 ghost use Rattle.row_layout.specs.Orders.{HasRowsOf};
+ghost use Rattle.row_layout.specs.Owners.{IsOwnedOnlyAt};
 
 use crate::layout::Layout;
 use crate::row::Row;
@@ -48,6 +49,7 @@ impl Bits {
         ensures bits { self.new.bits ≡ in_order (map (bit_of_row (words_of_slice layout.now) slice column) self.old.rows) }
         ensures inside { All (λ b. IsInSlice (words_of_slice layout.now) slice b.word) self.new.bits }
         ensures of_words { All (λ b. b.bit < 64) self.new.bits }
+        ensures own { All (IsOwnedOnlyAt (words_of_slice layout.now) layout.now slice column) self.new.bits }
         ensures document_bits { (words : List (List ℕ)) → HasRowsOf layout.now words self.old.rows → AreDocumentBits layout.now words slice column self.new.bits }
     {
         let (first, _) = layout.slice_range(slice);

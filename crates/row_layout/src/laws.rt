@@ -6,7 +6,7 @@ ghost use Rattle.funnel_model.specs.declared.bit_list.Bit.{Bit};
 ghost use Rattle.funnel_model.specs.declared.config.Config.{Config};
 ghost use Rattle.funnel_model.specs.declared.event.Event.{Event};
 ghost use Rattle.funnel_model.specs.declared.event.Event.TheVariants as event;
-ghost use Rattle.row_layout.specs.Laws.{BitsHaveOneOwner, DocumentsHaveBitsOfParts, DocumentsHaveOneListOfBits, DocumentsKeepTheirBits, EachRowHasItsBit, ExactWordsHaveOwnedBits, OwnedBitsTellWords, OwnedBitsTellWordsOfDocuments, PrivateRowsHaveOwnedBits, SetBitsAreOfExactWords, SetBitsAreOfLiveDocuments, SetBitsTellWords, SoundBitsStandAtTheirColumn, TakenColumnsOwnNoSetBits, TextsHaveBitsOfQueries, TreatedBitsHaveOneOwner};
+ghost use Rattle.row_layout.specs.Laws.{BitsHaveOneOwner, DocumentsHaveBitsOfParts, DocumentsHaveOneListOfBits, DocumentsKeepTheirBits, EachRowHasItsBit, ExactWordsHaveOwnedBits, OwnedBitsTellWords, OwnedBitsTellWordsOfDocuments, PrivateRowsHaveOwnedBits, RowsKeepToTheirColumn, SetBitsAreOfExactWords, SetBitsAreOfLiveDocuments, SetBitsTellWords, SoundBitsStandAtTheirColumn, TakenColumnsOwnNoSetBits, TextsHaveBitsOfQueries, TreatedBitsHaveOneOwner};
 ghost use Rattle.row_layout.specs.Sound.{HasItsBits, IsSound};
 
 /// The bits of a document have one for each of its words and each row of that word.
@@ -41,12 +41,13 @@ pub fn documents_keep_their_bits()
 {}
 
 /// A bit has one owner, also where each slice has its own treatment. Each column of a slice owns the bits of its private rows, and so that
-/// of the row of an exact word.
+/// of the row of an exact word. No column of a slice owns the bit of a row at a column but that one.
 pub fn owned_bits_have_one_owner()
     ensures one { BitsHaveOneOwner }
     ensures treated { TreatedBitsHaveOneOwner }
     ensures private { PrivateRowsHaveOwnedBits }
     ensures exact { ExactWordsHaveOwnedBits }
+    ensures own { RowsKeepToTheirColumn }
 {}
 
 /// An owned bit tells its word: a document that has it has the word. So does the document that an add or a move of a sound history put

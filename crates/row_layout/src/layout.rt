@@ -1,8 +1,9 @@
-ghost use Rattle.std.specs.Prelude.{◌≡◌, ℕ, List, ◌+◌, ◌<◌, ◌≤◌, ◌++◌, All, IfOk, OnOk, length};
+ghost use Rattle.std.specs.Prelude.{◌≡◌, ℕ, List, ◌+◌, ◌<◌, ◌≤◌, ◌++◌, All, IfOk, OnOk, filter, length, map, not};
 ghost use Rattle.funnel_model.specs.declared.config.TheConstants.{MOST_ROW_WORDS};
 ghost use Rattle.funnel_model.specs.Configuration.{IsInRange};
 ghost use Rattle.funnel_model.specs.Sizes.{columns_of_slice, private_words, words_of_pool, words_of_slice};
 ghost use Rattle.funnel_model.specs.Treatment.{row_count_of_class};
+ghost use Rattle.funnel_model.specs.Words.{IsRising};
 ghost use Rattle.row_layout.specs.DocumentBits.{slice_start};
 ghost use Rattle.row_layout.specs.Layouts.{word_rows};
 ghost use Rattle.row_layout.specs.Owners.{is_exact};
@@ -13,6 +14,7 @@ use crate::class_table::ClassTable;
 use crate::listed_rows::{bases_of, copy_of, rows_of_listed, width_of};
 use crate::row::Row;
 use crate::word_rows::WordRows;
+use crate::word_table::WordTable;
 use funnel_model::{Config, Memory, WordSet};
 use std::alloc::Global;
 use std::marker::Model;
@@ -21,7 +23,8 @@ use treatment::{LAST_CLASS, sizes};
 
 /// Where the rows of every word lie under a configuration. Contracts see the configuration.
 ///
-/// It answers for a word by one binary search among the listed words, and keeps the rest in tables.
+/// It answers for a word by its hash, from which the word is looked for among the listed ones and its rows are told, and keeps the rest
+/// in tables.
 #[derive(Debug, Drop)]
 pub struct Layout {
     config: Config,
@@ -33,6 +36,8 @@ pub struct Layout {
     classes: ClassTable,
     /// The rows of each listed word.
     listed: Vec<WordRows>,
+    /// Where a word stands among the listed ones.
+    table: WordTable,
 }
 
 impl Model for Layout {
@@ -43,7 +48,7 @@ impl Model for Layout {
 
     ghost view = { λ layout. layout.config };
 
-    ghost invariant = { λ layout. IsLaidOut layout.config layout.rows layout.bases layout.slice_words layout.classes layout.listed.items };
+    ghost invariant = { λ layout. IsLaidOut layout.config layout.rows layout.bases layout.slice_words layout.classes layout.listed.items layout.table };
 }
 
 impl Layout {
@@ -55,6 +60,7 @@ impl Layout {
     {
         let config = copy_of(alloc, config)?;
         let listed = rows_of_listed(alloc, &config)?;
+        let table = WordTable::new(alloc, &config.words)?;
         let sizes = sizes(&config);
         let bases = bases_of(&config, &sizes);
         let classes = ClassTable::new(&config);
@@ -65,6 +71,7 @@ impl Layout {
             slice_words: sizes.slice_words as u32,
             classes,
             listed,
+            table,
         })
     }
 
@@ -109,7 +116,7 @@ impl Layout {
         ensures value { result ≡ row_count_of_word self.now word.now }
         ensures bound { result ≤ 26 }
     {
-        match self.look_up(word) {
+        match self.look_up(&WordHash::new(word), word) {
             WordRows::Private(_) => 1,
             WordRows::Shared(class) => self.classes.counts[class as usize],
         }
@@ -119,7 +126,7 @@ impl Layout {
     pub fn is_exact(&self, word: &[u8]) -> bool
         ensures { result ≡ is_exact self.now word.now }
     {
-        match self.look_up(word) {
+        match self.look_up(&WordHash::new(word), word) {
             WordRows::Private(_) => true,
             WordRows::Shared(_) => false,
         }
@@ -131,9 +138,10 @@ impl Layout {
         ensures value { result ≡ row_of_word self.now word.now j }
         ensures laid { IsRowOf self.now result }
     {
-        match self.look_up(word) {
+        let hash = WordHash::new(word);
+        match self.look_up(&hash, word) {
             WordRows::Private(number) => self.private(number),
-            WordRows::Shared(class) => self.hashed(&WordHash::new(word), class, j),
+            WordRows::Shared(class) => self.hashed(&hash, class, j),
         }
     }
 
@@ -151,18 +159,46 @@ impl Layout {
         Ok(rows)
     }
 
-    /// Adds the rows of a folded word, which is looked up once and hashed once.
-    fn push_rows(&self, word: &[u8], rows: &mut Vec<Row>) -> Result<(), Memory>
+    /// The rows of some words, word by word, and those of the words that aren't exact. The room is taken at once.
+    pub fn rows_and_rest<'a>(
+        &self,
+        alloc: Global,
+        words: &'a WordSet,
+    ) -> Result<(Vec<Row>, Vec<&'a [u8]>), Memory>
+        ensures rows { IfOk result (λ both. both.0.items ≡ rows_of_words self.now words.now) }
+        ensures laid { IfOk result (λ both. All (IsRowOf self.now) both.0.items) }
+        ensures rest { IfOk result (λ both. map (λ word. word.now) both.1.items ≡ filter (λ word. not (is_exact self.now word)) words.now) }
+        ensures rising { IsRising words.now }
+        ensures in_range { IsInRange self.now }
+    {
+        let most = self.classes.counts[LAST_CLASS as usize] as usize;
+        let mut rows = Vec::with_capacity(alloc, words.len().saturating_mul(most))?;
+        let mut rest = Vec::with_capacity(alloc, words.len())?;
+        for word in words.iter() {
+            if !self.push_rows(word, &mut rows)? {
+                rest.push(word)?;
+            }
+        }
+        Ok((rows, rest))
+    }
+
+    /// Adds the rows of a folded word, which is hashed once and looked up once, and tells whether it is exact.
+    fn push_rows(&self, word: &[u8], rows: &mut Vec<Row>) -> Result<bool, Memory>
         requires { All (IsRowOf self.now) rows.old.items }
         ensures rows { OnOk result (rows.new.items ≡ rows.old.items ++ rows_of_word self.now word.now) }
         ensures laid { All (IsRowOf self.now) rows.new.items }
+        ensures exact { IfOk result (λ exact. exact ≡ is_exact self.now word.now) }
     {
-        match self.look_up(word) {
+        let hash = WordHash::new(word);
+        match self.look_up(&hash, word) {
             WordRows::Private(number) => {
                 rows.push(self.private(number))?;
-                Ok(())
+                Ok(true)
             }
-            WordRows::Shared(class) => self.push_hashed(&WordHash::new(word), class, rows),
+            WordRows::Shared(class) => {
+                self.push_hashed(&hash, class, rows)?;
+                Ok(false)
+            }
         }
     }
 
@@ -180,15 +216,15 @@ impl Layout {
         Ok(())
     }
 
-    /// Which rows a folded word has.
-    fn look_up(&self, word: &[u8]) -> WordRows
+    /// Which rows a folded word with this hash has.
+    fn look_up(&self, hash: &WordHash, word: &[u8]) -> WordRows
+        requires { hash.now ≡ fnv_1a word.now }
         ensures value { result ≡ word_rows self.now word.now }
         ensures in_range { IsInRange self.now }
     {
-        let entries = self.config.words.as_slice();
-        match entries.binary_search_by(|entry| entry.0.as_bytes().cmp(&word)) {
-            Ok(i) => self.listed[i],
-            Err(_) => WordRows::Shared(LAST_CLASS),
+        match self.table.index_of(&self.config.words, hash, word) {
+            Some(index) => self.listed[index],
+            None => WordRows::Shared(LAST_CLASS),
         }
     }
 

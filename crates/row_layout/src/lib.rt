@@ -13,6 +13,7 @@ mod listed_rows;
 mod plan;
 mod row;
 mod word_rows;
+mod word_table;
 
 pub use bits::{Bits, bits_of};
 pub use laws::{

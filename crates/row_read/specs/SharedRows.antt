@@ -1,14 +1,13 @@
 -- What contracts see of the words of a pool that a find reads.
-use Rattle.std.specs.Prelude.{◌≡◌, ℕ, List, Contains, IsBitSet}
+use Rattle.std.specs.Prelude.{◌≡◌, ℕ, List, Contains}
 use Rattle.funnel_model.specs.declared.bit_list.Bit.{Bit}
 use Rattle.funnel_model.specs.declared.claim.Token.{Token}
 use Rattle.funnel_model.specs.declared.event.Event.{Event}
 use Rattle.funnel_model.specs.Legal.{IsInSlice}
 use Rattle.funnel_model.specs.RowWords.{IsCommitted}
-use Rattle.slice_rule.specs.declared.view.Fact.TheVariants as fact
 use Rattle.row_read.specs.declared.shared.Shared.{Shared}
 use Rattle.slice_rule.specs.Pools.{PoolId}
-use Rattle.slice_rule.specs.Seats.{HasNoneOutstanding, HoldsToken, PassState}
+use Rattle.slice_rule.specs.Seats.{HasNoneOutstanding, HoldsToken, PassState, WasReadUnder}
 
 -- the pass is one of the pool and holds the token, and nothing that it asked is outstanding
 pub record CanRead (pool : PoolId) (seat : PassState) (token : Token) : Type 0 where
@@ -27,9 +26,10 @@ pub record IsInReach (shared : Shared) (word : ℕ) : Type 0 where
 abbrev pub IsCommittedUnder : Shared → Bit → Type 0
 IsCommittedUnder shared b = (slice : ℕ) × Contains shared.token.now.slices slice × IsCommitted shared.seat.now.front slice b
 
--- the bit was set in a value that the pass read under the token
+-- the pass read the bit as set under the token; so where a column of a slice that it may read owns the bit, each document that stands there,
+-- as the pass has seen, has it
 abbrev pub WasReadSet : Shared → Bit → Type 0
-WasReadSet shared b = (value : ℕ) × Contains shared.seat.now.own (fact.WordRead shared.token.now.opened_at b.word value) × IsBitSet value b.bit
+WasReadSet shared b = WasReadUnder shared.seat.now shared.token.now.opened_at b
 
 -- what no read changes: the pool, the token, which seat is borrowed, and the pass's own pool, its number, front and asked events
 pub record SharedKept : Type 0 where

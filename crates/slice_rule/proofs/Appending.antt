@@ -1,6 +1,6 @@
 -- The home appends an event.
-use Rattle.std.proofs.Common.{◌≡◌, ◌==◌, Bool, true, false, cond, Some, None, ℕ, ◌+◌, ◌-◌, ◌%◌, ◌^◌, ◌<◌, List, [], ◌∷◌, ◌++◌, length, get_or, set, refl, ap, sym, ◌∙◌, subst, arith, ⊎_elim, length-append, length-set, get_or-set_same, get_or-set_other}
-use Rattle.std.proofs.lemmas.Bool.{both_ways, cases_eq, false≢true, false_from_ne_true, or_from, or_parts}
+use Rattle.std.proofs.Common.{◌≡◌, ◌==◌, Bool, true, false, cond, Some, None, ℕ, ◌+◌, ◌-◌, ◌%◌, ◌^◌, ◌<◌, ◌≤◌, List, [], ◌∷◌, ◌++◌, length, get_or, set, refl, ap, sym, ◌∙◌, subst, arith, ⊎_elim, length-append, length-set, get_or-set_same, get_or-set_other}
+use Rattle.std.proofs.lemmas.Bool.{both_ways, cases_eq, cases_lt, eq-eqb, eqb-true, false≢true, false_from_ne_true, or_from, or_parts}
 use Rattle.std.proofs.lemmas.List.{drop-set-lt}
 use Rattle.std.proofs.lemmas.List.Elements.{All-contains, All-weaker}
 use Rattle.std.specs.List.{All, Contains, list_any}
@@ -13,10 +13,12 @@ use Rattle.atomic_table.specs.Table.{State, Allows, keeps, step}
 use Rattle.funnel_model.specs.declared.event.Event.{Event}
 use Rattle.funnel_model.specs.declared.event.Event.TheVariants as event
 use Rattle.funnel_model.specs.declared.bit_list.Bit.{Bit}
-use Rattle.funnel_model.specs.Events.{clears, fills, pass_of}
+use Rattle.funnel_model.specs.Events.{bits_on, clears, fills, opens, pass_of, put_on}
 use Rattle.funnel_model.specs.History.{last_by}
-use Rattle.funnel_model.specs.Legal.{Limits, IsAllowed, IsLegal}
-use Rattle.funnel_model.specs.RowWords.{AreFresh, Covers, IsSetIn}
+use Rattle.funnel_model.specs.declared.config.Config.{Config}
+use Rattle.funnel_model.specs.Legal.{Limits, IsAllowed, IsInSlice, IsLegal}
+use Rattle.funnel_model.specs.RowWords.{AreFresh, Covers, IsSetIn, IsZeroIn}
+use Rattle.row_layout.specs.Owners.{KeepToOwners, Owns}
 use Rattle.funnel_model.proofs.RowWords.{covers-add, covers-move, covers-silent, fresh-opened, fresh-push}
 use Rattle.funnel_model.proofs.Histories.{legal-push}
 use Rattle.slice_rule.specs.declared.view.Role.{Role}
@@ -25,16 +27,18 @@ use Rattle.slice_rule.specs.declared.view.Fact.{Fact}
 use Rattle.slice_rule.specs.declared.view.Fact.TheVariants as fact
 use Rattle.slice_rule.specs.declared.view.View.{View}
 use Rattle.slice_rule.specs.Pools.{ask_word, first_row, row_words}
-use Rattle.slice_rule.specs.Rule.{CountsPasses, Fits, FitsRole, IsKept, IsKnownSet, IsKnownZero, IsTrueFact}
+use Rattle.slice_rule.specs.Rule.{CountsPasses, Fits, FitsRole, IsKept, IsKnownSet, IsKnownZero, IsTrueFact, KnowsByRole}
 use Rattle.slice_rule.specs.Numbers.{last_number, takes_in}
 use Rattle.slice_rule.specs.Seats.{IsBacked}
+use Rattle.slice_rule.proofs.Asking.{pass_at}
 use Rattle.slice_rule.proofs.Facts.{all_later}
+use Rattle.slice_rule.proofs.Owning.{keep-push, known_among, knows-push}
 use Rattle.slice_rule.proofs.Since.{is_last, none_cleared, none_filled, one_event}
 use Rattle.slice_rule.specs.Tells.{AppendsEvent, Seated}
 use Rattle.slice_rule.specs.Views.{with_event}
 use Rattle.slice_rule.specs.Worlds.{LacksAtMostOne, World, made_by}
 use Rattle.slice_rule.proofs.Numbering.{home_at}
-use Rattle.slice_rule.proofs.Prefixes.{made_by-other, made_by-own, prefix_more, prefix_self, prefix_trans}
+use Rattle.slice_rule.proofs.Prefixes.{made_by-other, made_by-own, prefix_more, prefix_self, prefix_trans, prefix_whole}
 use Rattle.slice_rule.proofs.Seating.{each-set, given-set, refits, same_kind}
 
 -- the world after the event
@@ -113,11 +117,17 @@ module _ (limits : Limits) (history : List Event) (rows : List ℕ) (legal : IsL
     covers_next (event.No p asked) allowed backed covers = covers-silent rows history (event.No p asked) covers (λ s. refl)
     covers_next (event.Read p asked) allowed backed covers = covers-silent rows history (event.Read p asked) covers (λ s. refl)
 
+    -- the words of a slice that is opened are zero
+    pub opened_zero : (e : Event) → IsAllowed limits history e → IsBacked limits told history e → (slice : ℕ) → opens slice e ≡ true → IsZeroIn limits rows slice
+    opened_zero (event.Opened pass opened alone) allowed backed slice is = λ word inside.
+        known_is_zero pass opened word allowed.rule.cleared
+        (known_zero (last_number pass history) word (backed word (subst (λ s. IsInSlice limits.slice_words s word) (sym (eqb-true opened slice is)) inside)))
+    opened_zero _ allowed backed slice is = absurd (false≢true is)
+
     -- and unclaimed slices stay fresh
     pub fresh_next : (e : Event) → IsAllowed limits history e → IsBacked limits told history e → AreFresh limits rows history → AreFresh limits rows (history ++ e ∷ [])
     fresh_next (event.Opened pass slice alone) allowed backed fresh =
-        fresh-opened limits rows history pass slice alone fresh
-        (λ word inside. known_is_zero pass slice word allowed.rule.cleared (known_zero (last_number pass history) word (backed word inside)))
+        fresh-opened limits rows history pass slice alone fresh (opened_zero (event.Opened pass slice alone) allowed backed slice (eq-eqb slice slice refl))
     fresh_next (event.Add p id text t c bits) allowed backed fresh = fresh-push limits rows history (event.Add p id text t c bits) (λ s. refl) fresh
     fresh_next (event.Take p t c) allowed backed fresh = fresh-push limits rows history (event.Take p t c) (λ s. refl) fresh
     fresh_next (event.Drop p id text t c) allowed backed fresh = fresh-push limits rows history (event.Drop p id text t c) (λ s. refl) fresh
@@ -145,7 +155,7 @@ made_push world e pass lacks asked =
     (λ (other : pass_of e ≡ pass → ⊥). subst (λ (xs : List Event). LacksAtMostOne xs (world.asked pass)) (sym (made_by-other pass world.history e other)) lacks)
     (cases_eq (pass_of e) pass)
 
-module _ (limits : Limits) where
+module _ (limits : Limits) (config : Config) where
   -- what another seat knows when the history has one more event
   other_role : (world : World) (words : List ℕ) (id n j : ℕ) (e : Event) (front asked : List Event) → id ≡ world.home → (j ≡ id → ⊥) → (role : Role)
       → FitsRole world words j front asked role → FitsRole (longer_world world e) (set words 0 n) j front asked role
@@ -154,12 +164,49 @@ module _ (limits : Limits) where
   other_role world words id n j e front asked home apart role.Note fits = tt
   other_role world words id n j e front asked home apart role.Spent fits = tt
 
-  appends_at : (s : State (Unit {0}) View) (r : IsKept limits s) (id : ℕ) (v : View) (numbered seats n : ℕ) (e : Event) → get_elem? s.views id ≡ some v → v.role ≡ role.Home numbered seats
+  -- the pass whose event is appended asked it last, and has its seat
+  asked_last : (world : World) (e : Event) → LacksAtMostOne (made_by (pass_of e) world.history) (world.asked (pass_of e))
+      → IsPrefix (made_by (pass_of e) world.history ++ e ∷ []) (world.asked (pass_of e)) → world.asked (pass_of e) ≡ made_by (pass_of e) world.history ++ e ∷ []
+  asked_last world e lacks asked =
+      let few = lacks.few in
+      let more = length-append (made_by (pass_of e) world.history) (e ∷ []) in
+      sym (prefix_whole (made_by (pass_of e) world.history ++ e ∷ []) (world.asked (pass_of e)) asked (omega arith))
+
+  is_seated : (world : World) (e : Event) → ((pass : ℕ) → world.seated ≤ pass → world.asked pass ≡ []) → world.asked (pass_of e) ≡ made_by (pass_of e) world.history ++ e ∷ []
+      → pass_of e < world.seated
+  is_seated world e unseated asked = ⊎_elim
+      (λ small. small)
+      (λ above. absurd (omega (arith, ap length (sym (unseated (pass_of e) above) ∙ asked), length-append (made_by (pass_of e) world.history) (e ∷ []))))
+      (cases_lt (pass_of e) world.seated)
+
+  -- so an add or a move that is appended has each set bit that its column owns
+  puts_owned : (s : State (Unit {0}) View) (r : IsKept limits config s) (e : Event) → IsAllowed limits r.world.history e
+      → r.world.asked (pass_of e) ≡ made_by (pass_of e) r.world.history ++ e ∷ [] → (slice column : ℕ) (b : Bit) → is_some (put_on slice column e) ≡ true
+      → IsSetIn (row_words limits s.words) b → Owns limits config r.world.history slice column b → Contains (bits_on slice column e) b
+  puts_owned s r e allowed asked =
+      let p = pass_of e in
+      let has = r.given.passes p (is_seated r.world e r.asked.none asked) in
+      let mine = pass_at limits config s r (r.world.seat p) has.view p has.at has.kind in
+      known_among limits config r.world.history (row_words limits s.words) p has.view.asked has.view.own e
+      (subst (KnowsByRole limits config r.world.history (row_words limits s.words) has.view.asked has.view.own) has.kind (r.seats (r.world.seat p) has.view has.at).bits)
+      refl allowed (mine.all ∙ asked)
+
+  -- each other seat knows what it has to
+  role_push : (world : World) (words rows : List ℕ) (e : Event) → IsLegal limits world.history → IsAllowed limits world.history e → KeepToOwners limits config world.history (IsSetIn rows)
+      → ((pass : ℕ) → LacksAtMostOne (made_by pass world.history) (world.asked pass)) → (id : ℕ) (v : View) (role : Role) → FitsRole world words id v.front v.asked role
+      → KnowsByRole limits config world.history rows v.asked v.own role → KnowsByRole limits config (world.history ++ e ∷ []) rows v.asked v.own role
+  role_push world words rows e legal allowed keep lacks id v (role.Home numbered seats) fits knows = tt
+  role_push world words rows e legal allowed keep lacks id v (role.Pass pass) fits knows =
+      knows-push limits config world.history rows e legal allowed keep pass v.asked v.own (subst (LacksAtMostOne (made_by pass world.history)) (sym fits.all) (lacks pass)) knows
+  role_push world words rows e legal allowed keep lacks id v role.Note fits knows = tt
+  role_push world words rows e legal allowed keep lacks id v role.Spent fits knows = tt
+
+  appends_at : (s : State (Unit {0}) View) (r : IsKept limits config s) (id : ℕ) (v : View) (numbered seats n : ℕ) (e : Event) → get_elem? s.views id ≡ some v → v.role ≡ role.Home numbered seats
       → n ≡ length v.front + 1 → n < 2 ^ 63 → IsAllowed limits v.front e → IsBacked limits v.told v.front e → Contains v.told (fact.Asked (pass_of e) (made_by (pass_of e) v.front ++ e ∷ []))
-      → IsKept limits (record { words = set s.words 0 n; homes = s.homes; views = set s.views id (with_event v e) })
+      → IsKept limits config (record { words = set s.words 0 n; homes = s.homes; views = set s.views id (with_event v e) })
   appends_at s r id v numbered seats n e at is next few allowed backed known =
       let mine = r.seats id v at in
-      let home = home_at limits s r id v numbered seats at is in
+      let home = home_at limits config s r id v numbered seats at is in
       let laid = r.laid in
       let whole = home.whole in
       let world : World = longer_world r.world e in
@@ -175,6 +222,10 @@ module _ (limits : Limits) where
       let next_allowed = subst (λ (h : List Event). IsAllowed limits h e) whole allowed in
       let given = given-set r.world s.views id v (with_event v e) at (same_kind v.role v.role refl) r.given in
       let next_backed = subst (λ (h : List Event). IsBacked limits v.told h e) whole backed in
+      let old = row_words limits s.words in
+      let last = asked_last r.world e (r.asked.made (pass_of e)) asked in
+      let owners = keep-push limits config r.world.history old e r.events.legal next_allowed r.owners (puts_owned s r e next_allowed last)
+      (opened_zero limits r.world.history old r.events.legal r.world refl v.told mine.told e next_allowed next_backed) in
       record {
         world = world;
         laid = length-set s.words 0 n ∙ laid;
@@ -191,10 +242,11 @@ module _ (limits : Limits) where
         };
         covers = subst (λ (ws : List ℕ). Covers ws (r.world.history ++ e ∷ [])) (sym rows)
             (covers_next limits r.world.history (row_words limits s.words) r.events.legal r.world refl v.told mine.told e next_allowed next_backed r.covers);
+        owners = subst (λ (ws : List ℕ). KeepToOwners limits config (r.world.history ++ e ∷ []) (IsSetIn ws)) (sym rows) owners;
         fresh = subst (λ (ws : List ℕ). AreFresh limits ws (r.world.history ++ e ∷ [])) (sym rows)
             (fresh_next limits r.world.history (row_words limits s.words) r.events.legal r.world refl v.told mine.told e next_allowed next_backed r.fresh);
         given = record { home = given.home; passes = given.passes };
-        seats = each-set (Fits limits world (set s.words 0 n)) s.views id (with_event v e)
+        seats = each-set (Fits limits config world (set s.words 0 n)) s.views id (with_event v e)
             (record {
               sizes = mine.sizes;
               front = subst (λ (h : List Event). IsPrefix (h ++ e ∷ []) (r.world.history ++ e ∷ [])) (sym whole) (prefix_self (r.world.history ++ e ∷ []));
@@ -208,16 +260,20 @@ module _ (limits : Limits) where
                     counts = get_or-set_other s.words 0 1 n 0 (λ e. omega arith) ∙ home.counts;
                     seated = home.seated;
                   });
+              bits = subst (KnowsByRole limits config (r.world.history ++ e ∷ []) (row_words limits (set s.words 0 n)) v.asked v.own) (sym is) tt;
             })
-            (λ j w apart there. refits limits r.world world s.words (set s.words 0 n) j w more keeps
-            (other_role r.world s.words id n j e w.front w.asked home.one apart w.role) (r.seats j w there));
+            (λ j w apart there. refits limits config r.world world s.words (set s.words 0 n) j w more keeps
+            (other_role r.world s.words id n j e w.front w.asked home.one apart w.role)
+            (λ knows. subst (λ (ws : List ℕ). KnowsByRole limits config (r.world.history ++ e ∷ []) ws w.asked w.own w.role) (sym rows)
+            (role_push r.world s.words old e r.events.legal next_allowed r.owners r.asked.made j w w.role (r.seats j w there).role knows))
+            (r.seats j w there));
       }
 
   pub appends : (slots id : ℕ) (me : Seated) (numbered seats : ℕ) (e : Event) → me.0.role ≡ role.Home numbered seats → length me.0.front < 2 ^ 63 - 1 → IsAllowed limits me.0.front e → IsBacked limits me.0.told me.0.front e
       → Contains me.0.told (fact.Asked (pass_of e) (made_by (pass_of e) me.0.front ++ e ∷ []))
-      → Allows (IsKept limits) slots id me 0 (λ n. (n + 1) % 2 ^ 64) (AppendsEvent e (step slots 0 1 0 none) me)
+      → Allows (IsKept limits config) slots id me 0 (λ n. (n + 1) % 2 ^ 64) (AppendsEvent e (step slots 0 1 0 none) me)
   appends slots id me numbered seats e is room allowed backed known s r homes at small =
-      let home = home_at limits s r id me.0 numbered seats at is in
+      let home = home_at limits config s r id me.0 numbered seats at is in
       let found : get_or s.words 0 0 ≡ length me.0.front = r.events.events ∙ ap length (sym home.whole) in
       let next : (get_or s.words 0 0 + 1) % 2 ^ 64 ≡ length me.0.front + 1 = omega arith in (
         with_event me.0 e,

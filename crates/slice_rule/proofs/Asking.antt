@@ -6,21 +6,27 @@ use mathlib.Core.List.{IsPrefix}
 use lib.ListN.{get_elem?}
 use Rattle.atomic_table.specs.Table.{State, Allows, keeps, step}
 use Rattle.funnel_model.specs.declared.event.Event.{Event}
+use Rattle.funnel_model.specs.declared.config.Config.{Config}
+use Rattle.funnel_model.specs.History.{IsFrontOf}
 use Rattle.funnel_model.specs.Legal.{Limits}
 use Rattle.slice_rule.specs.declared.view.Role.{Role}
 use Rattle.slice_rule.specs.declared.view.Role.TheVariants as role
 use Rattle.slice_rule.specs.declared.view.Fact.{Fact}
 use Rattle.slice_rule.specs.declared.view.View.{View}
 use Rattle.slice_rule.specs.Pools.{ask_word, first_row, row_words}
-use Rattle.slice_rule.specs.Rule.{CountsPasses, Fits, FitsRole, IsKept, IsPassOf, IsTrueFact}
+use Rattle.slice_rule.specs.Numbers.{last_number}
+use Rattle.slice_rule.specs.Rule.{CountsPasses, Fits, FitsRole, HasKnownBits, IsKept, IsPassOf, IsTrueFact, KnowsByRole, KnowsItsBits}
 use Rattle.slice_rule.specs.Tells.{AsksFor, Seated}
 use Rattle.slice_rule.specs.Views.{with_asked}
 use Rattle.slice_rule.specs.Worlds.{LacksAtMostOne, World, made_by}
-use Rattle.slice_rule.proofs.Prefixes.{made_by-prefix, prefix_length, prefix_more, prefix_self, prefix_trans}
+use Rattle.slice_rule.proofs.Prefixes.{front_is, made_by-prefix, none_since, prefix_length, prefix_more, prefix_self, prefix_trans}
 use Rattle.std.proofs.lemmas.List.{drop-set-lt}
 use Rattle.std.specs.List.{All}
-use Rattle.funnel_model.specs.RowWords.{AreFresh, Covers}
+use Rattle.funnel_model.specs.RowWords.{AreFresh, Covers, IsSetIn}
+use Rattle.row_layout.specs.Owners.{KeepToOwners}
 use Rattle.slice_rule.proofs.Facts.{all_of_more}
+use Rattle.slice_rule.proofs.Owning.{knows-asked}
+use Rattle.slice_rule.proofs.Since.{number-front}
 use Rattle.slice_rule.proofs.Seating.{each-set, given-set, refits, same_kind}
 
 -- the world after the pass asked one more event
@@ -42,19 +48,32 @@ asked_begins world pass e other =
     (λ (not : other ≡ pass → ⊥). subst (IsPrefix (world.asked other)) (sym (asked_other world pass e other not)) (prefix_self (world.asked other)))
     (cases_eq other pass)
 
-module _ (limits : Limits) where
+module _ (limits : Limits) (config : Config) where
   -- what the pass's seat knows
-  pub pass_at : (s : State (Unit {0}) View) (r : IsKept limits s) (id : ℕ) (v : View) (pass : ℕ) → get_elem? s.views id ≡ some v → v.role ≡ role.Pass pass
+  pub pass_at : (s : State (Unit {0}) View) (r : IsKept limits config s) (id : ℕ) (v : View) (pass : ℕ) → get_elem? s.views id ≡ some v → v.role ≡ role.Pass pass
       → IsPassOf r.world id pass v.front v.asked
   pass_at s r id v pass at is = subst (FitsRole r.world s.words id v.front v.asked) is (r.seats id v at).role
 
   -- a pass that has a seat is one of those that the sizes have
-  pub pass_in_range : (s : State (Unit {0}) View) (r : IsKept limits s) (id : ℕ) (v : View) (pass : ℕ) → get_elem? s.views id ≡ some v → v.role ≡ role.Pass pass → pass < limits.passes
+  pub pass_in_range : (s : State (Unit {0}) View) (r : IsKept limits config s) (id : ℕ) (v : View) (pass : ℕ) → get_elem? s.views id ≡ some v → v.role ≡ role.Pass pass → pass < limits.passes
   pass_in_range s r id v pass at is =
       let seated = (pass_at s r id v pass at is).seated in
       let no_more = r.passes.no_more in
       let in_range = r.passes.in_range in
       omega arith
+
+  -- the history has all that a pass asked, where the pass has nothing outstanding
+  pub all_made : (s : State (Unit {0}) View) (r : IsKept limits config s) (id : ℕ) (v : View) (pass : ℕ) → get_elem? s.views id ≡ some v → v.role ≡ role.Pass pass
+      → v.asked ≡ made_by pass v.front → v.asked ≡ made_by pass r.world.history
+  all_made s r id v pass at is all =
+      let mine = pass_at s r id v pass at is in
+      mine.all ∙ none_since pass v.front r.world.history (r.world.asked pass) (sym mine.all ∙ all) (r.seats id v at).front (r.asked.made pass)
+
+  -- and no event of the pass that its front lacks
+  pub front_at : (s : State (Unit {0}) View) (r : IsKept limits config s) (id : ℕ) (v : View) (pass : ℕ) → get_elem? s.views id ≡ some v → v.role ≡ role.Pass pass
+      → v.asked ≡ made_by pass v.front → IsFrontOf pass v.front r.world.history
+  front_at s r id v pass at is all =
+      front_is pass v.front r.world.history (r.seats id v at).front (sym (all_made s r id v pass at is all) ∙ all)
 
   -- what another seat knows when the pass asks
   other_role : (world : World) (words : List ℕ) (pass id n j : ℕ) (e : Event) (front asked : List Event) → id ≡ world.seat pass → (j ≡ id → ⊥) → (role : Role)
@@ -76,7 +95,7 @@ module _ (limits : Limits) where
   other_role world words pass id n j e front asked one apart role.Note fits = tt
   other_role world words pass id n j e front asked one apart role.Spent fits = tt
 
-  module _ (s : State (Unit {0}) View) (r : IsKept limits s) (id : ℕ) (v : View) (pass n : ℕ) (e : Event) where
+  module _ (s : State (Unit {0}) View) (r : IsKept limits config s) (id : ℕ) (v : View) (pass n : ℕ) (e : Event) where
     -- the history has all but the last of what the pass asked now
     made_but_last : IsPassOf r.world id pass v.front v.asked → v.asked ≡ made_by pass v.front → IsPrefix v.front r.world.history → (history : List Event)
         → IsPrefix v.front history → IsPrefix (made_by pass history) (r.world.asked pass) → LacksAtMostOne (made_by pass history) (r.world.asked pass ++ e ∷ [])
@@ -89,9 +108,9 @@ module _ (limits : Limits) where
           few = omega arith;
         }
 
-    asks_at : get_elem? s.views id ≡ some v → v.role ≡ role.Pass pass → v.asked ≡ made_by pass v.front → n ≡ length v.asked + 1
-        → IsKept limits (record { words = set s.words (ask_word pass) n; homes = s.homes; views = set s.views id (with_asked v e) })
-    asks_at at is all next =
+    asks_at : get_elem? s.views id ≡ some v → v.role ≡ role.Pass pass → v.asked ≡ made_by pass v.front → HasKnownBits (last_number pass v.front) v.own e → n ≡ length v.asked + 1
+        → IsKept limits config (record { words = set s.words (ask_word pass) n; homes = s.homes; views = set s.views id (with_asked v e) })
+    asks_at at is all known next =
         let seat = r.seats id v at in
         let mine = pass_at s r id v pass at is in
         let laid = r.laid in
@@ -101,9 +120,11 @@ module _ (limits : Limits) where
         let same = asked_same r.world pass e pass refl in
         let within : ask_word pass < length s.words = omega arith in
         let rows = drop-set-lt (first_row limits) s.words (ask_word pass) n (omega arith) in
-        let keeps = λ (facts : List Fact) (known : All (IsTrueFact limits r.world (row_words limits s.words)) facts).
+        let keeps = λ (facts : List Fact) (before : All (IsTrueFact limits r.world (row_words limits s.words)) facts).
         subst (λ (ws : List ℕ). All (IsTrueFact limits world ws) facts) (sym rows)
-        (all_of_more limits r.world world (row_words limits s.words) refl (asked_begins r.world pass e) facts known) in
+        (all_of_more limits r.world world (row_words limits s.words) refl (asked_begins r.world pass e) facts before) in
+        let bits = λ (asked : List Event) (own : List Fact) (role : Role) (known : KnowsByRole limits config r.world.history (row_words limits s.words) asked own role).
+        subst (λ (ws : List ℕ). KnowsByRole limits config r.world.history ws asked own role) (sym rows) known in
         let count : n ≡ length (r.world.asked pass ++ e ∷ []) = omega (arith, next, ap length mine.all, length-append (r.world.asked pass) (e ∷ [])) in
         record {
           world = world;
@@ -130,9 +151,10 @@ module _ (limits : Limits) where
             none = λ other above. asked_other r.world pass e other (λ own. let seated = mine.seated in omega arith) ∙ r.asked.none other above;
           };
           covers = subst (λ (ws : List ℕ). Covers ws r.world.history) (sym rows) r.covers;
+          owners = subst (λ (ws : List ℕ). KeepToOwners limits config r.world.history (IsSetIn ws)) (sym rows) r.owners;
           fresh = subst (λ (ws : List ℕ). AreFresh limits ws r.world.history) (sym rows) r.fresh;
           given = record { home = given.home; passes = given.passes };
-          seats = each-set (Fits limits world (set s.words (ask_word pass) n)) s.views id (with_asked v e)
+          seats = each-set (Fits limits config world (set s.words (ask_word pass) n)) s.views id (with_asked v e)
               (record {
                 sizes = seat.sizes;
                 front = seat.front;
@@ -147,17 +169,23 @@ module _ (limits : Limits) where
                       seen = subst (LacksAtMostOne (made_by pass v.front)) (sym same)
                           (made_but_last mine all seat.front v.front (prefix_self v.front) (subst (IsPrefix (made_by pass v.front)) (sym all ∙ mine.all) (prefix_self (made_by pass v.front))));
                     });
+                bits = subst (KnowsByRole limits config r.world.history (row_words limits (set s.words (ask_word pass) n)) (v.asked ++ e ∷ []) v.own) (sym is)
+                    (subst (λ (ws : List ℕ). KnowsItsBits limits config r.world.history ws pass (v.asked ++ e ∷ []) v.own) (sym rows)
+                    (knows-asked limits config r.world.history (row_words limits s.words) pass v.asked v.own (all_made s r id v pass at is all) e
+                    (subst (λ k. HasKnownBits k v.own e) (sym (number-front pass v.front r.world.history (front_at s r id v pass at is all))) known)
+                    (subst (KnowsByRole limits config r.world.history (row_words limits s.words) v.asked v.own) is seat.bits)));
               })
-              (λ j w apart there. refits limits r.world world s.words (set s.words (ask_word pass) n) j w (prefix_self r.world.history) keeps
-              (other_role r.world s.words pass id n j e w.front w.asked mine.one apart w.role) (r.seats j w there));
+              (λ j w apart there. refits limits config r.world world s.words (set s.words (ask_word pass) n) j w (prefix_self r.world.history) keeps
+              (other_role r.world s.words pass id n j e w.front w.asked mine.one apart w.role) (bits w.asked w.own w.role) (r.seats j w there));
         }
 
-  pub asks : (slots id : ℕ) (me : Seated) (pass n : ℕ) (e : Event) → me.0.role ≡ role.Pass pass → me.0.asked ≡ made_by pass me.0.front → n ≡ length me.0.asked + 1
-      → Allows (IsKept limits) slots id me (2 + pass) (λ _. n) (λ _. AsksFor e (step slots (2 + pass) n 0 none) me n)
-  asks slots id me pass n e is all next s r homes at small = (
+  pub asks : (slots id : ℕ) (me : Seated) (pass n : ℕ) (e : Event) → me.0.role ≡ role.Pass pass → me.0.asked ≡ made_by pass me.0.front
+      → HasKnownBits (last_number pass me.0.front) me.0.own e → n ≡ length me.0.asked + 1
+      → Allows (IsKept limits config) slots id me (2 + pass) (λ _. n) (λ _. AsksFor e (step slots (2 + pass) n 0 none) me n)
+  asks slots id me pass n e is all known next s r homes at small = (
     with_asked me.0 e,
     keeps,
     tt,
-    asks_at s r id me.0 pass n e at is all next,
+    asks_at s r id me.0 pass n e at is all known next,
     refl,
   )

@@ -1,13 +1,15 @@
 -- What a pass is ready for, the home knows once it was told.
-use Rattle.std.proofs.Common.{◌≡◌, get_or, List, [], ◌∷◌, ◌++◌, subst}
+use Rattle.std.proofs.Common.{◌≡◌, get_or, List, [], ◌∷◌, ◌++◌, sym, subst}
 use Rattle.std.proofs.lemmas.List.Elements.{Contains-append_left, Contains-append_right, Contains-get_or}
 use Rattle.std.specs.List.{Contains}
 use Rattle.funnel_model.specs.declared.event.Event.{Event}
 use Rattle.funnel_model.specs.declared.event.Event.TheVariants as event
+use Rattle.funnel_model.specs.Events.{pass_of}
 use Rattle.funnel_model.specs.Legal.{Limits}
 use Rattle.slice_rule.specs.declared.view.Fact.{Fact}
 use Rattle.slice_rule.specs.declared.view.Fact.TheVariants as fact
 use Rattle.slice_rule.specs.Numbers.{last_number}
+use Rattle.slice_rule.specs.Rule.{HasKnownBits}
 use Rattle.slice_rule.specs.Seats.{IsBacked, IsReady, PassState, facts_of_pass}
 
 -- what the pass did itself is among what it tells
@@ -39,6 +41,24 @@ ready_backs limits pass told history (event.Clear p t) same ready = tt
 ready_backs limits pass told history (event.Tune p config) same ready = tt
 ready_backs limits pass told history (event.No p asked) same ready = tt
 ready_backs limits pass told history (event.Read p asked) same ready = tt
+
+-- an add or a move for which the pass is ready has each bit that it knows set
+pub ready_known : (limits : Limits) (pass : PassState) (e : Event) → pass_of e ≡ pass.number → IsReady limits pass e → HasKnownBits (last_number pass.number pass.front) pass.own e
+ready_known limits pass (event.Add p id text slice column bits) its ready = λ b has.
+    (ready b).1 (subst (λ n. Contains pass.own (fact.BitSet (last_number n pass.front) b)) (sym its) has)
+ready_known limits pass (event.Move p id slice column bits) its ready = λ b has.
+    (ready b).1 (subst (λ n. Contains pass.own (fact.BitSet (last_number n pass.front) b)) (sym its) has)
+ready_known limits pass (event.Opened p slice alone) its ready = tt
+ready_known limits pass (event.Take p t c) its ready = tt
+ready_known limits pass (event.Drop p id text t c) its ready = tt
+ready_known limits pass (event.Del p id) its ready = tt
+ready_known limits pass (event.Void p t c) its ready = tt
+ready_known limits pass (event.Find p query) its ready = tt
+ready_known limits pass (event.End p) its ready = tt
+ready_known limits pass (event.Clear p t) its ready = tt
+ready_known limits pass (event.Tune p config) its ready = tt
+ready_known limits pass (event.No p asked) its ready = tt
+ready_known limits pass (event.Read p asked) its ready = tt
 
 -- asking changes nothing that an event is ready by
 pub ready_same : (limits : Limits) (pass other : PassState) (e : Event) → other.front ≡ pass.front → other.own ≡ pass.own → IsReady limits pass e → IsReady limits other e

@@ -8,16 +8,19 @@ use Rattle.std.proofs.Math.Seq.{drop-append_seam}
 use Rattle.std.specs.List.{All, range_with_len}
 use mathlib.Core.Option.{some, some-injective, some-ne-none}
 use lib.ListN.{get_elem?}
+use Rattle.funnel_model.specs.declared.config.Config.{Config}
 use Rattle.funnel_model.specs.declared.event.Event.{Event}
 use Rattle.funnel_model.specs.Events.{pass_of}
 use Rattle.funnel_model.specs.Legal.{Limits}
-use Rattle.funnel_model.specs.RowWords.{AreFresh, Covers}
+use Rattle.funnel_model.specs.RowWords.{AreFresh, Covers, IsSetIn}
+use Rattle.row_layout.specs.Owners.{KeepToOwners}
 use Rattle.funnel_model.proofs.Invariants.{passes_in_range}
 use Rattle.slice_rule.specs.declared.view.View.{View}
 use Rattle.slice_rule.specs.Kept.{CanBeKept, EachCanBeKept, home_after, pass_after, pool_after}
 use Rattle.slice_rule.specs.Pools.{ask_word, first_row, row_words}
 use Rattle.slice_rule.specs.Rule.{Fits, HaveSeats, IsKept, IsTrueFact}
 use Rattle.slice_rule.specs.Worlds.{LacksAtMostOne, World, made_by}
+use Rattle.slice_rule.proofs.Owning.{none_further}
 use Rattle.slice_rule.proofs.Prefixes.{prefix_self}
 
 -- a pass that the engine lacks made no event
@@ -52,7 +55,7 @@ map_range_at f a (suc n) (suc j) small =
 lacks_none : (xs : List Event) → LacksAtMostOne xs xs
 lacks_none xs = record { begins = prefix_self xs; few = omega arith }
 
-module _ (limits : Limits) (history : List Event) (rows : List ℕ) (can : CanBeKept limits history rows) (own : All (λ e. pass_of e < limits.passes) history) where
+module _ (limits : Limits) (config : Config) (history : List Event) (rows : List ℕ) (can : CanBeKept limits config history rows) (own : All (λ e. pass_of e < limits.passes) history) where
   abbrev counts : List ℕ
   counts = map (λ pass. length (made_by pass history)) (range_with_len 0 limits.passes)
 
@@ -75,7 +78,7 @@ module _ (limits : Limits) (history : List Event) (rows : List ℕ) (can : CanBe
       ∙ get_or_append_left counts rows 0 pass (omega arith)
       ∙ get_or-map-range_with_len (λ p. length (made_by p history)) 0 limits.passes pass pass 0 small (omega arith)
 
-  pass_fits : (id pass : ℕ) → pass < limits.passes → id ≡ pass + 1 → Fits limits world words id (pass_after limits history pass)
+  pass_fits : (id pass : ℕ) → pass < limits.passes → id ≡ pass + 1 → Fits limits config world words id (pass_after limits config history pass)
   pass_fits id pass small is = record {
     sizes = refl;
     front = prefix_self history;
@@ -83,9 +86,13 @@ module _ (limits : Limits) (history : List Event) (rows : List ℕ) (can : CanBe
     own = All-nil (IsTrueFact limits world (row_words limits words));
     told = All-nil (IsTrueFact limits world (row_words limits words));
     role = record { seated = small; one = is; all = refl; seen = lacks_none (made_by pass history) };
+    bits = record {
+      pending = λ slice column b last set owns. absurd (can.unset pass slice column b last (subst (λ (ws : List ℕ). IsSetIn ws b) rows_are set) owns);
+      outstanding = λ e more. absurd (none_further (made_by pass history) (made_by pass history) e refl more);
+    };
   }
 
-  home_fits : Fits limits world words 0 (home_after limits history)
+  home_fits : Fits limits config world words 0 (home_after limits config history)
   home_fits = record {
     sizes = refl;
     front = prefix_self history;
@@ -93,31 +100,32 @@ module _ (limits : Limits) (history : List Event) (rows : List ℕ) (can : CanBe
     own = All-nil (IsTrueFact limits world (row_words limits words));
     told = All-nil (IsTrueFact limits world (row_words limits words));
     role = record { one = refl; whole = refl; counts = refl; seated = refl };
+    bits = tt;
   }
 
-  seat_fits : (id : ℕ) (v : View) → get_elem? (home_after limits history ∷ map (pass_after limits history) (range_with_len 0 limits.passes)) id ≡ some v → Fits limits world words id v
-  seat_fits zero v at = subst (Fits limits world words 0) (some-injective (home_after limits history) v at) home_fits
+  seat_fits : (id : ℕ) (v : View) → get_elem? (home_after limits config history ∷ map (pass_after limits config history) (range_with_len 0 limits.passes)) id ≡ some v → Fits limits config world words id v
+  seat_fits zero v at = subst (Fits limits config world words 0) (some-injective (home_after limits config history) v at) home_fits
   seat_fits (suc j) v at =
-      let is = at_map_range (pass_after limits history) 0 limits.passes j v at in
+      let is = at_map_range (pass_after limits config history) 0 limits.passes j v at in
       let small : j < limits.passes = is.0 in
       let e : 0 + j ≡ j = omega arith in
-      subst (Fits limits world words (suc j)) (sym (is.1 ∙ ap (pass_after limits history) e)) (pass_fits (suc j) j small (omega arith))
+      subst (Fits limits config world words (suc j)) (sym (is.1 ∙ ap (pass_after limits config history) e)) (pass_fits (suc j) j small (omega arith))
 
-  have_seats : HaveSeats world (home_after limits history ∷ map (pass_after limits history) (range_with_len 0 limits.passes))
+  have_seats : HaveSeats world (home_after limits config history ∷ map (pass_after limits config history) (range_with_len 0 limits.passes))
   have_seats = record {
-    home = record { view = home_after limits history; at = refl; kind = tt };
+    home = record { view = home_after limits config history; at = refl; kind = tt };
     passes = λ pass small.
         let e : 0 + pass ≡ pass = omega arith in
         let next : pass + 1 ≡ suc pass = omega arith in
         record {
-          view = pass_after limits history pass;
-          at = ap (get_elem? (home_after limits history ∷ map (pass_after limits history) (range_with_len 0 limits.passes))) next
-              ∙ map_range_at (pass_after limits history) 0 limits.passes pass small ∙ ap (λ p. some (pass_after limits history p)) e;
+          view = pass_after limits config history pass;
+          at = ap (get_elem? (home_after limits config history ∷ map (pass_after limits config history) (range_with_len 0 limits.passes))) next
+              ∙ map_range_at (pass_after limits config history) 0 limits.passes pass small ∙ ap (λ p. some (pass_after limits config history p)) e;
           kind = refl;
         };
   }
 
-  kept : IsKept limits (pool_after limits history rows)
+  kept : IsKept limits config (pool_after limits config history rows)
   kept = record {
     world = world;
     laid = omega (arith, length-append (length history ∷ limits.passes ∷ counts) rows, length-map-range_with_len (λ p. length (made_by p history)) 0 limits.passes, can.laid);
@@ -129,10 +137,11 @@ module _ (limits : Limits) (history : List Event) (rows : List ℕ) (can : CanBe
       none = λ pass above. none_made limits.passes pass history above own;
     };
     covers = subst (λ (ws : List ℕ). Covers ws history) (sym rows_are) can.covers;
+    owners = subst (λ (ws : List ℕ). KeepToOwners limits config history (IsSetIn ws)) (sym rows_are) can.owners;
     fresh = subst (λ (ws : List ℕ). AreFresh limits ws history) (sym rows_are) can.fresh;
     given = have_seats;
     seats = seat_fits;
   }
 
 pub each_can_be_kept : EachCanBeKept
-each_can_be_kept limits history rows can = kept limits history rows can (passes_in_range limits history can.legal)
+each_can_be_kept limits config history rows can = kept limits config history rows can (passes_in_range limits history can.legal)

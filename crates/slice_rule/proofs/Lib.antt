@@ -1,6 +1,8 @@
 pub mod Prefixes
 pub mod Since
 pub mod Facts
+pub mod Bits
+pub mod Owning
 pub mod Seating
 pub mod Settling
 pub mod Numbering

@@ -12,21 +12,24 @@ use Rattle.slice_rule.specs.declared.view.Role.TheVariants as role
 use Rattle.slice_rule.specs.declared.view.View.{View}
 use Rattle.slice_rule.specs.Pools.{ask_word, first_row, row_words}
 use Rattle.atomic_table.proofs.Lists.{at_last}
-use Rattle.slice_rule.specs.Rule.{CountsPasses, Fits, FitsRole, HasSizes, HaveSeats, IsHome, IsHomeRole, IsKept, IsTrueFact}
+use Rattle.slice_rule.specs.Rule.{CountsPasses, Fits, FitsRole, HasSizes, HaveSeats, IsHome, IsHomeRole, IsKept, IsTrueFact, KnowsByRole}
 use Rattle.slice_rule.specs.Tells.{Numbers, Seated}
 use Rattle.slice_rule.specs.Views.{new_pass, new_role, numbered_role, seated_role, with_number, with_seat}
 use Rattle.slice_rule.specs.Worlds.{LacksAtMostOne, World}
 use Rattle.std.proofs.lemmas.List.{drop-set-lt}
 use Rattle.std.specs.List.{All}
-use Rattle.funnel_model.specs.RowWords.{AreFresh, Covers}
+use Rattle.funnel_model.specs.declared.config.Config.{Config}
+use Rattle.funnel_model.specs.RowWords.{AreFresh, Covers, IsSetIn}
+use Rattle.row_layout.specs.Owners.{KeepToOwners}
 use Rattle.slice_rule.specs.declared.view.Fact.{Fact}
 use Rattle.slice_rule.proofs.Facts.{all_of_more}
+use Rattle.slice_rule.proofs.Owning.{knows-nothing}
 use Rattle.slice_rule.proofs.Prefixes.{prefix_self}
 use Rattle.slice_rule.proofs.Seating.{each-set, each-snoc, given-set, given-snoc, home_kind, refits}
 
-module _ (limits : Limits) where
+module _ (limits : Limits) (config : Config) where
   -- what the home's seat knows
-  pub home_at : (s : State (Unit {0}) View) (r : IsKept limits s) (id : ℕ) (v : View) (numbered seats : ℕ) → get_elem? s.views id ≡ some v → v.role ≡ role.Home numbered seats
+  pub home_at : (s : State (Unit {0}) View) (r : IsKept limits config s) (id : ℕ) (v : View) (numbered seats : ℕ) → get_elem? s.views id ≡ some v → v.role ≡ role.Home numbered seats
       → IsHome r.world s.words id numbered seats v.front
   home_at s r id v numbered seats at is = subst (FitsRole r.world s.words id v.front v.asked) is (r.seats id v at).role
 
@@ -38,8 +41,8 @@ module _ (limits : Limits) where
   other_role world words id n j front asked home apart role.Note fits = tt
   other_role world words id n j front asked home apart role.Spent fits = tt
 
-  numbers_at : (s : State (Unit {0}) View) (r : IsKept limits s) (id : ℕ) (v : View) (numbered seats n : ℕ) → get_elem? s.views id ≡ some v → v.role ≡ role.Home numbered seats → numbered ≡ seats → numbered < limits.passes → n ≡ numbered + 1
-      → IsKept limits (record { words = set s.words 1 n; homes = s.homes; views = set s.views id (with_number v) })
+  numbers_at : (s : State (Unit {0}) View) (r : IsKept limits config s) (id : ℕ) (v : View) (numbered seats n : ℕ) → get_elem? s.views id ≡ some v → v.role ≡ role.Home numbered seats → numbered ≡ seats → numbered < limits.passes → n ≡ numbered + 1
+      → IsKept limits config (record { words = set s.words 1 n; homes = s.homes; views = set s.views id (with_number v) })
   numbers_at s r id v numbered seats n at is all in_range next =
       let mine = r.seats id v at in
       let home = home_at s r id v numbered seats at is in
@@ -48,6 +51,8 @@ module _ (limits : Limits) where
       let at_one : 1 < length s.words = omega arith in
       let rows = drop-set-lt (first_row limits) s.words 1 n (omega arith) in
       let keeps = λ (facts : List Fact) (known : All (IsTrueFact limits r.world (row_words limits s.words)) facts). subst (λ (ws : List ℕ). All (IsTrueFact limits r.world ws) facts) (sym rows) known in
+      let bits = λ (asked : List Event) (own : List Fact) (role : Role) (known : KnowsByRole limits config r.world.history (row_words limits s.words) asked own role).
+      subst (λ (ws : List ℕ). KnowsByRole limits config r.world.history ws asked own role) (sym rows) known in
       record {
         world = r.world;
         laid = length-set s.words 1 n ∙ laid;
@@ -63,9 +68,10 @@ module _ (limits : Limits) where
           none = r.asked.none;
         };
         covers = subst (λ (ws : List ℕ). Covers ws r.world.history) (sym rows) r.covers;
+        owners = subst (λ (ws : List ℕ). KeepToOwners limits config r.world.history (IsSetIn ws)) (sym rows) r.owners;
         fresh = subst (λ (ws : List ℕ). AreFresh limits ws r.world.history) (sym rows) r.fresh;
         given = given-set r.world s.views id v (with_number v) at (home_kind v.role (numbered_role v.role) numbered seats is (subst (λ (x : Role). IsHomeRole (numbered_role x)) (sym is) tt)) r.given;
-        seats = each-set (Fits limits r.world (set s.words 1 n)) s.views id (with_number v)
+        seats = each-set (Fits limits config r.world (set s.words 1 n)) s.views id (with_number v)
             (record {
               sizes = subst (λ (x : Role). HasSizes limits v.limits (numbered_role x)) (sym is) sizes;
               front = mine.front;
@@ -74,13 +80,14 @@ module _ (limits : Limits) where
               told = keeps v.told mine.told;
               role = subst (λ (x : Role). FitsRole r.world (set s.words 1 n) id v.front v.asked (numbered_role x)) (sym is)
                   (record { one = home.one; whole = home.whole; counts = get_or-set_same s.words 1 n 0 at_one ∙ next; seated = home.seated });
+              bits = subst (λ (x : Role). KnowsByRole limits config r.world.history (row_words limits (set s.words 1 n)) v.asked v.own (numbered_role x)) (sym is) tt;
             })
-            (λ j w apart there. refits limits r.world r.world s.words (set s.words 1 n) j w (prefix_self r.world.history) keeps
-            (other_role r.world s.words id n j w.front w.asked home.one apart w.role) (r.seats j w there));
+            (λ j w apart there. refits limits config r.world r.world s.words (set s.words 1 n) j w (prefix_self r.world.history) keeps
+            (other_role r.world s.words id n j w.front w.asked home.one apart w.role) (bits w.asked w.own w.role) (r.seats j w there));
       }
 
   pub numbers : (slots id : ℕ) (me : Seated) (numbered seats : ℕ) → me.0.role ≡ role.Home numbered seats → numbered ≡ seats → numbered < limits.passes → numbered < 2 ^ 32
-      → Allows (IsKept limits) slots id me 1 (λ n. (n + 1) % 2 ^ 64) (Numbers (step slots 1 1 0 none) me)
+      → Allows (IsKept limits config) slots id me 1 (λ n. (n + 1) % 2 ^ 64) (Numbers (step slots 1 1 0 none) me)
   numbers slots id me numbered seats is all in_range fits s r homes at small =
       let home = home_at s r id me.0 numbered seats at is in
       let counts = home.counts in
@@ -108,7 +115,7 @@ module _ (limits : Limits) where
   unseated_role world words id new j front asked home apart role.Spent fits = tt
 
   -- the home and each pass have their seats, with the new one
-  have_seats : (s : State (Unit {0}) View) (r : IsKept limits s) (id : ℕ) (v : View) (numbered seats : ℕ) → get_elem? s.views id ≡ some v → v.role ≡ role.Home numbered seats
+  have_seats : (s : State (Unit {0}) View) (r : IsKept limits config s) (id : ℕ) (v : View) (numbered seats : ℕ) → get_elem? s.views id ≡ some v → v.role ≡ role.Home numbered seats
       → HaveSeats (seated_world r.world (length (set s.views id (with_seat v)))) (set s.views id (with_seat v) ++ new_pass v ∷ [])
   unfolding seated_world
   have_seats s r id v numbered seats at is =
@@ -135,7 +142,7 @@ module _ (limits : Limits) where
             (cases_eq pass r.world.seated);
       }
 
-  pub splits_pass : (id : ℕ) (v : View) (numbered seats : ℕ) → v.role ≡ role.Home numbered seats → numbered ≡ seats + 1 → Splits (IsKept limits) id v (with_seat v) (new_pass v)
+  pub splits_pass : (id : ℕ) (v : View) (numbered seats : ℕ) → v.role ≡ role.Home numbered seats → numbered ≡ seats + 1 → Splits (IsKept limits config) id v (with_seat v) (new_pass v)
   unfolding seated_world
   splits_pass id v numbered seats is next s r at =
       let mine = r.seats id v at in
@@ -154,10 +161,11 @@ module _ (limits : Limits) where
         passes = record { in_range = r.passes.in_range; no_more = omega arith; all_but_last = omega arith };
         asked = record { count = r.asked.count; made = r.asked.made; none = λ pass above. r.asked.none pass (omega arith) };
         covers = r.covers;
+        owners = r.owners;
         fresh = r.fresh;
         given = have_seats s r id v numbered seats at is;
-        seats = each-snoc (Fits limits world s.words) (set s.views id (with_seat v)) (new_pass v)
-            (each-set (Fits limits world s.words) s.views id (with_seat v)
+        seats = each-snoc (Fits limits config world s.words) (set s.views id (with_seat v)) (new_pass v)
+            (each-set (Fits limits config world s.words) s.views id (with_seat v)
             (record {
               sizes = subst (λ (x : Role). HasSizes limits v.limits (seated_role x)) (sym is) sizes;
               front = mine.front;
@@ -166,9 +174,10 @@ module _ (limits : Limits) where
               told = keeps v.told mine.told;
               role = subst (λ (x : Role). FitsRole world s.words id v.front v.asked (seated_role x)) (sym is)
                   (record { one = home.one; whole = home.whole; counts = home.counts; seated = ap (λ (n : ℕ). n + 1) home.seated });
+              bits = subst (λ (x : Role). KnowsByRole limits config r.world.history rows v.asked v.own (seated_role x)) (sym is) tt;
             })
-            (λ j w apart there. refits limits r.world world s.words s.words j w (prefix_self r.world.history) keeps
-            (unseated_role r.world s.words id new j w.front w.asked home.one apart w.role) (r.seats j w there)))
+            (λ j w apart there. refits limits config r.world world s.words s.words j w (prefix_self r.world.history) keeps
+            (unseated_role r.world s.words id new j w.front w.asked home.one apart w.role) (λ known. known) (r.seats j w there)))
             (record {
               sizes = subst (λ (x : Role). HasSizes limits v.limits (new_role x)) (sym is) sizes;
               front = (r.world.history, refl);
@@ -184,5 +193,7 @@ module _ (limits : Limits) where
                     all = sym none;
                     seen = subst (LacksAtMostOne []) (sym none) (record { begins = ([], refl); few = omega arith });
                   });
+              bits = subst (λ (x : Role). KnowsByRole limits config r.world.history rows [] [] (new_role x)) (sym is)
+                  (knows-nothing limits config r.world.history rows seats (r.world.asked seats) (r.asked.none seats (let same = home.seated in omega arith)) (r.asked.made seats));
             });
       }

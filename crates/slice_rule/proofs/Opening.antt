@@ -16,6 +16,10 @@ use Rattle.slice_rule.specs.Rule.{CountsPasses, Fits, IsKept, IsTrueFact}
 use Rattle.slice_rule.specs.Views.{home_at_start}
 use Rattle.slice_rule.specs.Worlds.{new_world}
 use Rattle.funnel_model.proofs.RowWords.{covers-start, fresh-start}
+use Rattle.funnel_model.specs.RowWords.{IsSetIn}
+use Rattle.funnel_model.specs.declared.bit_list.Bit.{Bit}
+use Rattle.std.specs.Int.{IsBitSet}
+use Rattle.slice_rule.proofs.Bits.{zero_has_none}
 use Rattle.slice_rule.proofs.Seating.{each-snoc}
 
 -- each word of zeros is zero
@@ -25,9 +29,11 @@ zeros n i = ⊎_elim
     (λ (past : n ≤ i). let z : ℕ = 0 in get_or_past (replicate n z) i z (let l = length-replicate n z in omega arith))
     (cases_lt i n)
 
-pub opens : (limits : Limits) (config : Config) → IsKept limits (opening (replicate (pool_words limits) 0) [] (home_at_start limits config))
+pub opens : (limits : Limits) (config : Config) → IsKept limits config (opening (replicate (pool_words limits) 0) [] (home_at_start limits config))
 opens limits config =
     let n = pool_words limits in
+    let none_set : (b : Bit) → IsSetIn (row_words limits (replicate n 0)) b → ⊥ = λ b set.
+    zero_has_none b.bit (subst (λ (k : ℕ). IsBitSet k b.bit) (get_or-drop (first_row limits) (replicate n 0) b.word 0 ∙ zeros n (first_row limits + b.word)) set) in
     record {
       world = new_world;
       laid = (let z : ℕ = 0 in length-replicate n z);
@@ -39,12 +45,16 @@ opens limits config =
         none = λ pass above. refl;
       };
       covers = covers-start (row_words limits (replicate n 0));
+      owners = record {
+        claimed = λ slice column b set. absurd (none_set b set);
+        among = λ slice column b e set. absurd (none_set b set);
+      };
       fresh = fresh-start limits (row_words limits (replicate n 0)) (λ slice small word inside. get_or-drop (first_row limits) (replicate n 0) word 0 ∙ zeros n (first_row limits + word));
       given = record {
         home = record { view = home_at_start limits config; at = refl; kind = tt };
         passes = λ pass none. absurd (omega arith);
       };
-      seats = each-snoc (Fits limits new_world (replicate n 0)) [] (home_at_start limits config) (λ id v at. absurd (some-ne-none v (sym at)))
+      seats = each-snoc (Fits limits config new_world (replicate n 0)) [] (home_at_start limits config) (λ id v at. absurd (some-ne-none v (sym at)))
           (record {
             sizes = refl;
             front = ([], refl);
@@ -52,6 +62,7 @@ opens limits config =
             own = All-nil (IsTrueFact limits new_world (row_words limits (replicate n 0)));
             told = All-nil (IsTrueFact limits new_world (row_words limits (replicate n 0)));
             role = record { one = refl; whole = refl; counts = zeros n 1; seated = refl };
+            bits = tt;
           });
     }
 

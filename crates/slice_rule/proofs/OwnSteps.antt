@@ -3,9 +3,12 @@ use Rattle.std.proofs.Common.{◌≡◌, ℕ, ◌+◌, ◌^◌, ◌<◌, length,
 use Rattle.std.proofs.lemmas.List.Elements.{All-cons}
 use Rattle.std.specs.List.{Contains}
 use Rattle.atomic_table.specs.Seated.{TableId}
+use Rattle.funnel_model.specs.declared.config.Config.{Config}
 use Rattle.funnel_model.specs.declared.claim.Claim.{Claim}
 use Rattle.funnel_model.specs.declared.claim.ClearJob.{ClearJob}
 use Rattle.funnel_model.specs.declared.claim.Token.{Token}
+use Rattle.funnel_model.specs.declared.bit_list.Bit.{Bit}
+use Rattle.funnel_model.specs.declared.event.Event.{Event}
 use Rattle.funnel_model.specs.declared.event.Event.TheVariants as event
 use Rattle.funnel_model.specs.History.{last_by}
 use Rattle.funnel_model.specs.Legal.{IsInSlice, Limits}
@@ -14,11 +17,12 @@ use Rattle.funnel_model.proofs.Clears.{pending_in_range}
 use Rattle.funnel_model.proofs.Columns.{last_is_pending}
 use Rattle.funnel_model.proofs.NextEvents.{clears_in_range}
 use Rattle.funnel_model.proofs.OpenTokens.{token_is_silent}
+use Rattle.row_layout.specs.Owners.{Owns, StandsOn}
 use Rattle.slice_rule.specs.declared.view.Fact.{Fact}
 use Rattle.slice_rule.specs.declared.view.Role.{Role}
 use Rattle.slice_rule.specs.Numbers.{last_number}
 use Rattle.slice_rule.specs.Pools.{PoolId, IsPool, first_row}
-use Rattle.slice_rule.specs.Seats.{HasNoneOutstanding, HoldsClaim, HoldsJob, HoldsToken, IsFrom, IsPassSeat, PassState, after_own, number_under, pass_state}
+use Rattle.slice_rule.specs.Seats.{HasNoneOutstanding, HoldsClaim, HoldsJob, HoldsToken, IsFrom, IsPassSeat, KeepsToColumn, PassState, after_own, number_under, pass_state}
 use Rattle.slice_rule.specs.Tells.{Seated}
 use Rattle.slice_rule.specs.Views.{last_of, pass_of_role, with_own}
 use Rattle.slice_rule.specs.Worlds.{made_by}
@@ -100,6 +104,27 @@ module _ {here pool : PoolId} {row_base number asked : ℕ} {table : TableId} {m
         legal = seat.legal;
         past = All-cons (IsFrom (length me.0.front)) f me.0.own (omega arith) seat.past;
       })
+
+  pub made_with : me.0.config ≡ here.config
+  made_with = ap (λ (p : PoolId). p.config) (ap (λ (s : PassState). s.pool) at.seat_is ∙ at.same ∙ sym at.pool_is)
+
+  -- which columns own a bit, and what stands on them, as the pass has seen
+  pub keeps_here : (claim : Claim) (b : Bit) → KeepsToColumn old claim b → (column : ℕ) → Owns here.limits here.config me.0.front claim.slice column b → column ≡ claim.column
+  keeps_here claim b keeps column owns =
+      subst (λ (s : PassState). KeepsToColumn s claim b) (sym at.seat_is) keeps column
+      (subst (λ (k : Config). Owns me.0.limits k me.0.front claim.slice column b) (sym made_with)
+      (subst (λ (l : Limits). Owns l here.config me.0.front claim.slice column b) (sym sizes_are) owns))
+
+  pub owns_here : (slice column : ℕ) (b : Bit) → Owns old.pool.limits old.pool.config old.front slice column b → Owns me.0.limits me.0.config me.0.front slice column b
+  owns_here slice column b owns = subst (λ (s : PassState). Owns s.pool.limits s.pool.config s.front slice column b) (sym at.seat_is) owns
+
+  pub reads_here : (slice : ℕ) → MayRead old.pool.limits.columns old.front old.number slice → MayRead me.0.limits.columns me.0.front (pass_of_role me.0.role) slice
+  reads_here slice may =
+      subst (λ (r : Role). MayRead me.0.limits.columns me.0.front (pass_of_role r) slice) (sym at.seat.role)
+      (subst (λ (s : PassState). MayRead s.pool.limits.columns s.front s.number slice) (sym at.seat_is) may)
+
+  pub stands_here : (slice column : ℕ) (e : Event) → StandsOn old.front slice column e → StandsOn me.0.front slice column e
+  stands_here slice column e stands = subst (λ (s : PassState). StandsOn s.front slice column e) (sym at.seat_is) stands
 
   pub claim_is : (claim : Claim) → HoldsClaim old claim → last_by number me.0.front ≡ Some (event.Take number claim.slice claim.column)
   claim_is claim holds = subst (λ (s : PassState). HoldsClaim s claim) (sym at.seat_is) holds

@@ -93,7 +93,7 @@ pub none_since : (pass : ℕ) (before after asked : List Event) → asked ≡ ma
 none_since pass before after asked all grows lacks =
     sym (prefix_both (made_by pass after) asked lacks.begins (subst (λ (xs : List Event). IsPrefix xs (made_by pass after)) (sym all) (made_by-prefix pass before after grows)))
 
-empty_by_length : {A : Type 0} (xs : List A) → length xs ≡ 0 → xs ≡ []
+pub empty_by_length : {A : Type 0} (xs : List A) → length xs ≡ 0 → xs ≡ []
 empty_by_length [] is = refl
 empty_by_length (x ∷ xs) is = absurd (omega arith)
 
@@ -109,7 +109,7 @@ silent_by : (pass : ℕ) (e : Event) (later : List Event) (b : Bool) → cond b 
 silent_by pass e later true is rest = absurd (cc is)
 silent_by pass e later false is rest = rest is
 
-silent_where_none : (pass : ℕ) (later : List Event) → made_by pass later ≡ [] → list_any (λ e. pass_of e == pass) later ≡ false
+pub silent_where_none : (pass : ℕ) (later : List Event) → made_by pass later ≡ [] → list_any (λ e. pass_of e == pass) later ≡ false
 silent_where_none pass [] is = refl
 silent_where_none pass (e ∷ later) is = silent_by pass e later (pass_of e == pass) is (silent_where_none pass later)
 

@@ -1,5 +1,5 @@
 -- A row word changes.
-use Rattle.std.proofs.Common.{◌≡◌, ℕ, ◌+◌, ◌*◌, ◌<◌, ◌≤◌, List, set, refl, sym, ◌∙◌, subst, arith, length-set, get_or-set_other}
+use Rattle.std.proofs.Common.{◌≡◌, ℕ, ◌+◌, ◌*◌, ◌<◌, ◌≤◌, List, ◌∷◌, set, refl, sym, ◌∙◌, subst, arith, length-set, get_or-set_other}
 use Rattle.std.proofs.lemmas.List.{drop-set-add}
 use Rattle.std.proofs.lemmas.List.Elements.{All-cons}
 use Rattle.std.proofs.lemmas.Nat.{mul-le}
@@ -7,21 +7,21 @@ use Rattle.std.specs.List.{All}
 use mathlib.Core.Option.{some}
 use lib.ListN.{get_elem?}
 use Rattle.atomic_table.specs.Table.{State}
+use Rattle.funnel_model.specs.declared.config.Config.{Config}
 use Rattle.funnel_model.specs.declared.event.Event.{Event}
 use Rattle.funnel_model.specs.Legal.{Limits, IsInSlice}
-use Rattle.funnel_model.specs.History.{IsFrontOf}
-use Rattle.funnel_model.specs.RowWords.{AreFresh, Covers}
+use Rattle.funnel_model.specs.RowWords.{AreFresh, Covers, IsSetIn}
+use Rattle.row_layout.specs.Owners.{KeepToOwners}
 use Rattle.slice_rule.specs.declared.view.Role.{Role}
 use Rattle.slice_rule.specs.declared.view.Role.TheVariants as role
 use Rattle.slice_rule.specs.declared.view.Fact.{Fact}
 use Rattle.slice_rule.specs.declared.view.View.{View}
 use Rattle.slice_rule.specs.Pools.{ask_word, first_row, pool_words, row_words}
-use Rattle.slice_rule.specs.Rule.{CountsPasses, Fits, FitsRole, IsKept, IsTrueFact}
+use Rattle.slice_rule.specs.Rule.{CountsPasses, Fits, FitsRole, IsKept, IsTrueFact, KnowsByRole}
 use Rattle.slice_rule.specs.Views.{with_own}
-use Rattle.slice_rule.specs.Worlds.{World, made_by}
-use Rattle.slice_rule.proofs.Asking.{pass_at}
+use Rattle.slice_rule.specs.Worlds.{World}
 use Rattle.slice_rule.proofs.Facts.{KeepsFacts, all_in}
-use Rattle.slice_rule.proofs.Prefixes.{front_is, none_since, prefix_self}
+use Rattle.slice_rule.proofs.Prefixes.{prefix_self}
 use Rattle.slice_rule.proofs.Seating.{each-set, given-set, refits, same_kind}
 
 -- what a seat knows by its role doesn't speak of row words
@@ -44,15 +44,18 @@ in_pool limits slice word in_range inside =
     let more : (slice + 1) * limits.slice_words ≤ limits.slices * limits.slice_words = mul-le (slice + 1) limits.slice_words limits.slices limits.slice_words (omega arith) (omega arith) in
     omega arith
 
-module _ (limits : Limits) where
-  -- the rule stays where a row word changes, by what that owes the facts and the history
-  pub writes_row : (s : State (Unit {0}) View) (r : IsKept limits s) (id : ℕ) (v : View) (word n : ℕ) (f : Fact) → get_elem? s.views id ≡ some v
+module _ (limits : Limits) (config : Config) where
+  -- the rule stays where a row word changes, by what that owes the facts, the history, and what each seat has to know of owned bits
+  pub writes_row : (s : State (Unit {0}) View) (r : IsKept limits config s) (id : ℕ) (v : View) (word n : ℕ) (f : Fact) → get_elem? s.views id ≡ some v
       → KeepsFacts limits r.world.history (row_words limits s.words) (set (row_words limits s.words) word n)
       → Covers (set (row_words limits s.words) word n) r.world.history
+      → KeepToOwners limits config r.world.history (IsSetIn (set (row_words limits s.words) word n))
       → AreFresh limits (set (row_words limits s.words) word n) r.world.history
       → IsTrueFact limits r.world (set (row_words limits s.words) word n) f
-      → IsKept limits (record { words = set s.words (first_row limits + word) n; homes = s.homes; views = set s.views id (with_own v f) })
-  writes_row s r id v word n f at keeps covers fresh now =
+      → KnowsByRole limits config r.world.history (set (row_words limits s.words) word n) v.asked (f ∷ v.own) v.role
+      → ((j : ℕ) (w : View) → (j ≡ id → ⊥) → get_elem? s.views j ≡ some w → KnowsByRole limits config r.world.history (set (row_words limits s.words) word n) w.asked w.own w.role)
+      → IsKept limits config (record { words = set s.words (first_row limits + word) n; homes = s.homes; views = set s.views id (with_own v f) })
+  writes_row s r id v word n f at keeps covers owners fresh now knows others =
       let i = first_row limits + word in
       let old = row_words limits s.words in
       let rows : row_words limits (set s.words i n) ≡ set old word n = drop-set-add (first_row limits) s.words word n in
@@ -75,9 +78,10 @@ module _ (limits : Limits) where
           none = r.asked.none;
         };
         covers = subst (λ (ws : List ℕ). Covers ws r.world.history) (sym rows) covers;
+        owners = subst (λ (ws : List ℕ). KeepToOwners limits config r.world.history (IsSetIn ws)) (sym rows) owners;
         fresh = subst (λ (ws : List ℕ). AreFresh limits ws r.world.history) (sym rows) fresh;
         given = given-set r.world s.views id v (with_own v f) at (same_kind v.role v.role refl) r.given;
-        seats = each-set (Fits limits r.world (set s.words i n)) s.views id (with_own v f)
+        seats = each-set (Fits limits config r.world (set s.words i n)) s.views id (with_own v f)
             (record {
               sizes = mine.sizes;
               front = mine.front;
@@ -86,16 +90,9 @@ module _ (limits : Limits) where
                   (subst (λ (ws : List ℕ). IsTrueFact limits r.world ws f) (sym rows) now) (facts v.own mine.own);
               told = facts v.told mine.told;
               role = role_kept r.world s.words i n id v.front v.asked (omega arith) v.role mine.role;
+              bits = subst (λ (ws : List ℕ). KnowsByRole limits config r.world.history ws v.asked (f ∷ v.own) v.role) (sym rows) knows;
             })
-            (λ j w apart there. refits limits r.world r.world s.words (set s.words i n) j w (prefix_self r.world.history) facts
-            (role_kept r.world s.words i n j w.front w.asked (omega arith) w.role) (r.seats j w there));
+            (λ j w apart there. refits limits config r.world r.world s.words (set s.words i n) j w (prefix_self r.world.history) facts
+            (role_kept r.world s.words i n j w.front w.asked (omega arith) w.role)
+            (λ _. subst (λ (ws : List ℕ). KnowsByRole limits config r.world.history ws w.asked w.own w.role) (sym rows) (others j w apart there)) (r.seats j w there));
       }
-
-  -- a pass that has nothing outstanding: the history has no event of it that its front lacks
-  pub front_at : (s : State (Unit {0}) View) (r : IsKept limits s) (id : ℕ) (v : View) (pass : ℕ) → get_elem? s.views id ≡ some v → v.role ≡ role.Pass pass → v.asked ≡ made_by pass v.front
-      → IsFrontOf pass v.front r.world.history
-  front_at s r id v pass at is all =
-      let fits = r.seats id v at in
-      let mine = pass_at limits s r id v pass at is in
-      let asked = none_since pass v.front r.world.history (r.world.asked pass) (sym mine.all ∙ all) fits.front (r.asked.made pass) in
-      front_is pass v.front r.world.history fits.front (sym asked ∙ sym mine.all ∙ all)

@@ -7,9 +7,10 @@ use mathlib.Core.List.{IsPrefix}
 use lib.ListN.{get_elem?}
 use Rattle.atomic_table.specs.Table.{State, Splits, Joins}
 use Rattle.atomic_table.proofs.Lists.{at_longer, at_set, set_else, set_here}
+use Rattle.funnel_model.specs.declared.config.Config.{Config}
 use Rattle.funnel_model.specs.Legal.{Limits}
 use Rattle.slice_rule.specs.declared.view.View.{View}
-use Rattle.slice_rule.specs.Rule.{Fits, FitsRole, HasSizes, HaveSeats, IsHomeRole, IsKept, IsPassRole, IsSeatOf, IsTrueFact}
+use Rattle.slice_rule.specs.Rule.{Fits, FitsRole, HasSizes, HaveSeats, IsHomeRole, IsKept, IsPassRole, IsSeatOf, IsTrueFact, KnowsByRole}
 use Rattle.slice_rule.specs.declared.view.Role.{Role}
 use Rattle.slice_rule.specs.declared.view.Role.TheVariants as role
 use Rattle.slice_rule.specs.declared.view.Fact.{Fact}
@@ -117,10 +118,10 @@ live_sizes limits known (role.Pass pass) live sizes = sizes
 live_sizes limits known role.Note live sizes = sizes
 live_sizes limits known role.Spent live sizes = absurd live
 
-module _ (limits : Limits) where
+module _ (limits : Limits) (config : Config) where
   -- no word changes
-  seats_change : (s : State (Unit {0}) View) (r : IsKept limits s) (views : List View) → HaveSeats r.world views → EachSeat (Fits limits r.world s.words) views
-      → IsKept limits (record { words = s.words; homes = s.homes; views = views })
+  seats_change : (s : State (Unit {0}) View) (r : IsKept limits config s) (views : List View) → HaveSeats r.world views → EachSeat (Fits limits config r.world s.words) views
+      → IsKept limits config (record { words = s.words; homes = s.homes; views = views })
   seats_change s r views given seats = record {
     world = r.world;
     laid = r.laid;
@@ -128,33 +129,37 @@ module _ (limits : Limits) where
     passes = r.passes;
     asked = r.asked;
     covers = r.covers;
+    owners = r.owners;
     fresh = r.fresh;
     given = given;
     seats = seats;
   }
 
   -- one seat has a new view, and no word changes
-  pub viewed : (s : State (Unit {0}) View) (r : IsKept limits s) (id : ℕ) (v w : View) → get_elem? s.views id ≡ some v → w.role ≡ v.role → Fits limits r.world s.words id w
-      → IsKept limits (record { words = s.words; homes = s.homes; views = set s.views id w })
+  pub viewed : (s : State (Unit {0}) View) (r : IsKept limits config s) (id : ℕ) (v w : View) → get_elem? s.views id ≡ some v → w.role ≡ v.role → Fits limits config r.world s.words id w
+      → IsKept limits config (record { words = s.words; homes = s.homes; views = set s.views id w })
   viewed s r id v w at same fits =
       seats_change s r (set s.views id w) (given-set r.world s.views id v w at (same_kind v.role w.role same) r.given)
-      (each-set (Fits limits r.world s.words) s.views id w fits (λ j x _. r.seats j x))
+      (each-set (Fits limits config r.world s.words) s.views id w fits (λ j x _. r.seats j x))
 
-  -- a seat fits another world and other words, by what these owe its fronts, its facts and its role
+  -- a seat fits another world and other words, by what these owe its fronts, its facts, its role and what it has to know of owned bits
   pub refits : (world more : World) (words new : List ℕ) (id : ℕ) (v : View) → IsPrefix world.history more.history
       → ((facts : List Fact) → All (IsTrueFact limits world (row_words limits words)) facts → All (IsTrueFact limits more (row_words limits new)) facts)
-      → (FitsRole world words id v.front v.asked v.role → FitsRole more new id v.front v.asked v.role) → Fits limits world words id v → Fits limits more new id v
-  refits world more words new id v goes keeps role fits = record {
+      → (FitsRole world words id v.front v.asked v.role → FitsRole more new id v.front v.asked v.role)
+      → (KnowsByRole limits config world.history (row_words limits words) v.asked v.own v.role → KnowsByRole limits config more.history (row_words limits new) v.asked v.own v.role)
+      → Fits limits config world words id v → Fits limits config more new id v
+  refits world more words new id v goes keeps role bits fits = record {
     sizes = fits.sizes;
     front = prefix_trans v.front world.history more.history fits.front goes;
     met = prefix_trans v.met world.history more.history fits.met goes;
     own = keeps v.own fits.own;
     told = keeps v.told fits.told;
     role = role fits.role;
+    bits = bits fits.bits;
   }
 
   -- all that a seat can tell is true
-  tells : (s : State (Unit {0}) View) (r : IsKept limits s) (id : ℕ) (v : View) (role : Role) → Fits limits r.world s.words id v → FitsRole r.world s.words id v.front v.asked role
+  tells : (s : State (Unit {0}) View) (r : IsKept limits config s) (id : ℕ) (v : View) (role : Role) → Fits limits config r.world s.words id v → FitsRole r.world s.words id v.front v.asked role
       → All (IsTrueFact limits r.world (row_words limits s.words)) (facts_of role v)
   tells s r id v (role.Home numbered seats) fits role_fits = fits.told
   tells s r id v (role.Pass pass) fits role_fits =
@@ -165,7 +170,7 @@ module _ (limits : Limits) where
   tells s r id v role.Spent fits role_fits = fits.told
 
   -- a note fits where the seat that it is split from does
-  pub note_fits : (s : State (Unit {0}) View) (r : IsKept limits s) (id : ℕ) (v : View) (other : ℕ) → IsLive v.role → Fits limits r.world s.words id v → Fits limits r.world s.words other (note_of v)
+  pub note_fits : (s : State (Unit {0}) View) (r : IsKept limits config s) (id : ℕ) (v : View) (other : ℕ) → IsLive v.role → Fits limits config r.world s.words id v → Fits limits config r.world s.words other (note_of v)
   note_fits s r id v other live fits = record {
     sizes = live_sizes limits v.limits v.role live fits.sizes;
     front = fits.front;
@@ -173,36 +178,38 @@ module _ (limits : Limits) where
     own = All-nil (IsTrueFact limits r.world (row_words limits s.words));
     told = tells s r id v v.role fits fits.role;
     role = tt;
+    bits = tt;
   }
 
-  pub splits_note : (id : ℕ) (v : View) → IsLive v.role → Splits (IsKept limits) id v v (note_of v)
+  pub splits_note : (id : ℕ) (v : View) → IsLive v.role → Splits (IsKept limits config) id v v (note_of v)
   splits_note id v live s r at =
       let views = set s.views id v in
       seats_change s r (views ++ note_of v ∷ [])
       (given-snoc r.world views (note_of v) (given-set r.world s.views id v v at (same_kind v.role v.role refl) r.given))
-      (each-snoc (Fits limits r.world s.words) views (note_of v)
-      (each-set (Fits limits r.world s.words) s.views id v (r.seats id v at) (λ j w _. r.seats j w))
+      (each-snoc (Fits limits config r.world s.words) views (note_of v)
+      (each-set (Fits limits config r.world s.words) s.views id v (r.seats id v at) (λ j w _. r.seats j w))
       (note_fits s r id v (length views) live (r.seats id v at)))
 
-  pub joins_note : (id : ℕ) (v : View) (other : ℕ) (w : View) → w.role ≡ role.Note → Joins (IsKept limits) id v other w (taken_in v w) spent
+  pub joins_note : (id : ℕ) (v : View) (other : ℕ) (w : View) → w.role ≡ role.Note → Joins (IsKept limits config) id v other w (taken_in v w) spent
   joins_note id v other w is_note s r at apart there =
       let mine = r.seats id v at in
-      let others : EachSeat (Fits limits r.world s.words) (set s.views id v) = each-set (Fits limits r.world s.words) s.views id v mine (λ j x _. r.seats j x) in
-      let note : Fits limits r.world s.words other w =
+      let others : EachSeat (Fits limits config r.world s.words) (set s.views id v) = each-set (Fits limits config r.world s.words) s.views id v mine (λ j x _. r.seats j x) in
+      let note : Fits limits config r.world s.words other w =
       ⊎_elim (λ t. absurd (apart t.0)) (λ t. r.seats other w t.1) (at_set s.views id other (taken_in v w) w there) in
-      let both : Fits limits r.world s.words id (taken_in v w) = record {
+      let both : Fits limits config r.world s.words id (taken_in v w) = record {
         sizes = mine.sizes;
         front = mine.front;
         met = note.front;
         own = mine.own;
         told = All-append (IsTrueFact limits r.world (row_words limits s.words)) w.told v.told note.told mine.told;
         role = mine.role;
+        bits = mine.bits;
       } in
       let nothing = All-nil (IsTrueFact limits r.world (row_words limits s.words)) in
       let views = set s.views id (taken_in v w) in
       seats_change s r (set views other spent)
       (given-set r.world views other w spent there (note_kind w.role role.Spent is_note)
       (given-set r.world s.views id v (taken_in v w) at (same_kind v.role v.role refl) r.given))
-      (each-set (Fits limits r.world s.words) views other spent
-      (record { sizes = tt; front = (r.world.history, refl); met = (r.world.history, refl); own = nothing; told = nothing; role = tt })
-      (λ j x _ here. each-set (Fits limits r.world s.words) s.views id (taken_in v w) both (λ k y _. r.seats k y) j x here))
+      (each-set (Fits limits config r.world s.words) views other spent
+      (record { sizes = tt; front = (r.world.history, refl); met = (r.world.history, refl); own = nothing; told = nothing; role = tt; bits = tt })
+      (λ j x _ here. each-set (Fits limits config r.world s.words) s.views id (taken_in v w) both (λ k y _. r.seats k y) j x here))

@@ -5,6 +5,7 @@ use mathlib.Core.Option.{none}
 use mathlib.Core.List.{IsPrefix}
 use Rattle.atomic_table.specs.Table.{State, Allows, keeps, step}
 use Rattle.funnel_model.specs.declared.event.Event.{Event}
+use Rattle.funnel_model.specs.declared.config.Config.{Config}
 use Rattle.funnel_model.specs.Legal.{Limits, IsLegal}
 use Rattle.funnel_model.proofs.Histories.{legal_before}
 use Rattle.slice_rule.specs.declared.view.Role.{Role}
@@ -24,9 +25,9 @@ lacks_between made more asked lacks begins within =
     let n = prefix_length made more begins in
     record { begins = within; few = omega arith }
 
-module _ (limits : Limits) where
+module _ (limits : Limits) (config : Config) where
   -- a seat's role with a front between its own and the history
-  role_fits : (s : State (Unit {0}) View) (r : IsKept limits s) (id : ℕ) (before asked front : List Event) → IsPrefix before front → IsPrefix front r.world.history
+  role_fits : (s : State (Unit {0}) View) (r : IsKept limits config s) (id : ℕ) (before asked front : List Event) → IsPrefix before front → IsPrefix front r.world.history
       → (role : Role) → FitsRole r.world s.words id before asked role → FitsRole r.world s.words id front asked role × Learns role before asked front
   role_fits s r id before asked front begins within (role.Home numbered seats) fits =
       let n = prefix_length front r.world.history within in
@@ -45,18 +46,18 @@ module _ (limits : Limits) where
   role_fits s r id before asked front begins within role.Note fits = (tt, tt)
   role_fits s r id before asked front begins within role.Spent fits = (tt, tt)
 
-  legal_front : (s : State (Unit {0}) View) (r : IsKept limits s) (known : Limits) (front : List Event) → IsPrefix front r.world.history → known ≡ limits → IsLegal known front
+  legal_front : (s : State (Unit {0}) View) (r : IsKept limits config s) (known : Limits) (front : List Event) → IsPrefix front r.world.history → known ≡ limits → IsLegal known front
   legal_front s r known front within sizes =
       subst (λ (l : Limits). IsLegal l front) (sym sizes) (legal_before limits front within.0 (subst (IsLegal limits) (sym within.1) r.events.legal))
 
   -- a front of a seat that isn't spent is legal
-  sound : (s : State (Unit {0}) View) (r : IsKept limits s) (known : Limits) (front : List Event) → IsPrefix front r.world.history → (role : Role) → HasSizes limits known role → HasLegalFront role known front
+  sound : (s : State (Unit {0}) View) (r : IsKept limits config s) (known : Limits) (front : List Event) → IsPrefix front r.world.history → (role : Role) → HasSizes limits known role → HasLegalFront role known front
   sound s r known front within role.Spent sizes = tt
   sound s r known front within (role.Home numbered seats) sizes = legal_front s r known front within sizes
   sound s r known front within (role.Pass pass) sizes = legal_front s r known front within sizes
   sound s r known front within role.Note sizes = legal_front s r known front within sizes
 
-  pub settles : (slots id : ℕ) (me : Seated) → Allows (IsKept limits) slots id me 0 (λ n. n) (Settles (step slots 0 0 0 none) me)
+  pub settles : (slots id : ℕ) (me : Seated) → Allows (IsKept limits config) slots id me 0 (λ n. n) (Settles (step slots 0 0 0 none) me)
   settles slots id me s r home at small =
       let mine = r.seats id me.0 at in
       let l = longer_is me.0.front me.0.met r.world.history mine.front mine.met in
@@ -66,8 +67,8 @@ module _ (limits : Limits) where
         settled me.0,
         keeps,
         tt,
-        subst (λ (words : List ℕ). IsKept limits (record { words = words; homes = s.homes; views = set s.views id (settled me.0) }))
+        subst (λ (words : List ℕ). IsKept limits config (record { words = words; homes = s.homes; views = set s.views id (settled me.0) }))
             (sym (set-get_or s.words 0 0))
-            (viewed limits s r id me.0 (settled me.0) at refl (record { sizes = mine.sizes; front = l.whole; met = mine.met; own = mine.own; told = mine.told; role = role.0 })),
+            (viewed limits config s r id me.0 (settled me.0) at refl (record { sizes = mine.sizes; front = l.whole; met = mine.met; own = mine.own; told = mine.told; role = role.0; bits = mine.bits })),
         record { view = refl; own = l.this; met = l.that; few = omega arith; legal = sound s r me.0.limits (longer me.0.front me.0.met) l.whole me.0.role mine.sizes; role = role.1 },
       )

@@ -26,7 +26,7 @@ number-own pass history e own =
     let none : since pass (history ++ e ∷ []) ≡ [] = since-push pass history e ∙ ap (λ b. cond b [] (since pass history ++ e ∷ [])) (eq-eqb (pass_of e) pass own) in
     omega (arith, ap length none, length-append history (e ∷ []))
 
-number-other : (pass : ℕ) (history : List Event) (e : Event) → (pass_of e ≡ pass → ⊥) → last_number pass (history ++ e ∷ []) ≡ last_number pass history
+pub number-other : (pass : ℕ) (history : List Event) (e : Event) → (pass_of e ≡ pass → ⊥) → last_number pass (history ++ e ∷ []) ≡ last_number pass history
 number-other pass history e other =
     let more : since pass (history ++ e ∷ []) ≡ since pass history ++ e ∷ [] = since-push pass history e ∙ ap (λ b. cond b [] (since pass history ++ e ∷ [])) (ne_eqb (pass_of e) pass other) in
     omega (arith, ap length more, length-append history (e ∷ []), length-append (since pass history) (e ∷ []))
@@ -72,7 +72,7 @@ pub is_last : (pass : ℕ) (history : List Event) (e : Event) → last_by pass h
 is_last pass history = by_push (HasLast pass) (λ e none_made. cc) (has_last-push pass) history
 
 -- two parts of one list that are as long are the same
-split_same : {A : Type 0} (xs ys zs ws : List A) → length xs ≡ length ys → xs ++ zs ≡ ys ++ ws → (xs ≡ ys) × (zs ≡ ws)
+pub split_same : {A : Type 0} (xs ys zs ws : List A) → length xs ≡ length ys → xs ++ zs ≡ ys ++ ws → (xs ≡ ys) × (zs ≡ ws)
 split_same [] [] zs ws n is = (refl, is)
 split_same [] (y ∷ ys) zs ws n is = absurd (omega arith)
 split_same (x ∷ xs) [] zs ws n is = absurd (omega arith)

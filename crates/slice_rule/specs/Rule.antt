@@ -1,23 +1,26 @@
 -- The rule of the pool: what holds of its words and of all seats' views between any two steps.
-use Rattle.std.specs.Prelude.{◌≡◌, ℕ, ◌+◌, ◌^◌, ◌<◌, ◌≤◌, ◌⊎◌, true, List, [], length, slice_index, All}
+use Rattle.std.specs.Prelude.{◌≡◌, ℕ, ◌+◌, ◌^◌, ◌<◌, ◌≤◌, ◌⊎◌, true, List, [], ◌∷◌, ◌++◌, length, slice_index, All, Contains, Some}
 use Rattle.std.specs.List.{list_any}
 use mathlib.Core.Option.{some}
 use mathlib.Core.List.{IsPrefix}
 use lib.ListN.{get_elem?}
 use Rattle.atomic_table.specs.Table.{State}
+use Rattle.funnel_model.specs.declared.config.Config.{Config}
 use Rattle.funnel_model.specs.declared.event.Event.{Event}
 use Rattle.funnel_model.specs.declared.event.Event.TheVariants as event
 use Rattle.funnel_model.specs.declared.bit_list.Bit.{Bit}
 use Rattle.funnel_model.specs.Events.{clears}
+use Rattle.funnel_model.specs.History.{last_by}
 use Rattle.funnel_model.specs.Legal.{Limits, IsInSlice, IsLegal}
 use Rattle.funnel_model.specs.RowWords.{AreFresh, Covers, IsSetIn}
+use Rattle.row_layout.specs.Owners.{KeepToOwners, Owns}
 use Rattle.slice_rule.specs.declared.view.Role.{Role}
 use Rattle.slice_rule.specs.declared.view.Role.TheVariants as role
 use Rattle.slice_rule.specs.declared.view.Fact.{Fact}
 use Rattle.slice_rule.specs.declared.view.Fact.TheVariants as fact
 use Rattle.slice_rule.specs.declared.view.View.{View}
 use Rattle.slice_rule.specs.Pools.{ask_word, pool_words, row_words}
-use Rattle.slice_rule.specs.Numbers.{HasEvent, takes_in}
+use Rattle.slice_rule.specs.Numbers.{HasEvent, last_number, takes_in}
 use Rattle.slice_rule.specs.Worlds.{World, LacksAtMostOne, made_by}
 
 -- word 0 is the number of events of the history, which is legal and short enough to be counted
@@ -78,6 +81,24 @@ pub record IsPassOf (world : World) (id pass : ℕ) (front asked : List Event) :
   pub all : asked ≡ world.asked pass
   pub seen : LacksAtMostOne (made_by pass front) (world.asked pass)
 
+-- an add or a move has each bit that its pass knows set under the event with this number
+abbrev pub HasKnownBits : ℕ → List Fact → Event → Type 0
+HasKnownBits number own (event.Add pass id text slice column bits) = (b : Bit) → Contains own (fact.BitSet number b) → Contains bits b
+HasKnownBits number own (event.Move pass id slice column bits) = (b : Bit) → Contains own (fact.BitSet number b) → Contains bits b
+HasKnownBits number own _ = Unit {0}
+
+-- What a pass knows of owned bits: each set bit that its pending column owns it set itself, under its take; and the event that it asked
+-- and the history lacks, if it is an add or a move, has each bit that the pass set under its last event.
+pub record KnowsItsBits (limits : Limits) (config : Config) (history : List Event) (rows : List ℕ) (pass : ℕ) (asked : List Event) (own : List Fact) : Type 0 where
+  pub pending : (slice column : ℕ) (b : Bit) → last_by pass history ≡ Some (event.Take pass slice column) → IsSetIn rows b
+      → Owns limits config history slice column b → Contains own (fact.BitSet (last_number pass history) b)
+  pub outstanding : (e : Event) → asked ≡ made_by pass history ++ e ∷ [] → HasKnownBits (last_number pass history) own e
+
+-- what a seat knows of them by its role
+abbrev pub KnowsByRole : Limits → Config → List Event → List ℕ → List Event → List Fact → Role → Type 0
+KnowsByRole limits config history rows asked own (role.Pass pass) = KnowsItsBits limits config history rows pass asked own
+KnowsByRole limits config history rows asked own _ = Unit {0}
+
 -- what a seat knows by its role
 abbrev pub FitsRole : World → List ℕ → ℕ → List Event → List Event → Role → Type 0
 FitsRole world words id front asked (role.Home numbered seats) = IsHome world words id numbered seats front
@@ -89,14 +110,16 @@ abbrev pub HasSizes : Limits → Limits → Role → Type 0
 HasSizes limits known role.Spent = Unit {0}
 HasSizes limits known _ = known ≡ limits
 
--- a seat knows nothing that isn't so: its front is a beginning of the history, and what it did and was told is true
-pub record Fits (limits : Limits) (world : World) (words : List ℕ) (id : ℕ) (v : View) : Type 0 where
+-- a seat knows nothing that isn't so: its front is a beginning of the history, and what it did and was told is true; and that of a pass
+-- knows what it has to of owned bits
+pub record Fits (limits : Limits) (config : Config) (world : World) (words : List ℕ) (id : ℕ) (v : View) : Type 0 where
   pub sizes : HasSizes limits v.limits v.role
   pub front : IsPrefix v.front world.history
   pub met : IsPrefix v.met world.history
   pub own : All (IsTrueFact limits world (row_words limits words)) v.own
   pub told : All (IsTrueFact limits world (row_words limits words)) v.told
   pub role : FitsRole world words id v.front v.asked v.role
+  pub bits : KnowsByRole limits config world.history (row_words limits words) v.asked v.own v.role
 
 -- the seat with this id has a role of this kind
 pub record IsSeatOf (HasKind : Role → Type 0) (views : List View) (id : ℕ) : Type 0 where
@@ -118,15 +141,16 @@ pub record HaveSeats (world : World) (views : List View) : Type 0 where
   pub home : IsSeatOf IsHomeRole views world.home
   pub passes : (pass : ℕ) → pass < world.seated → IsSeatOf (IsPassRole pass) views (world.seat pass)
 
--- the rule: beside the counts and what the seats know, the row words have each bit that the history has committed, and the words
--- of a slice without a claimed column are zero
-pub record IsKept (limits : Limits) (s : State (Unit {0}) View) : Type 0 where
+-- the rule of a pool of these sizes that was made with this configuration: beside the counts and what the seats know, the row words have
+-- each bit that the history has committed, their set bits keep to their owners, and the words of a slice without a claimed column are zero
+pub record IsKept (limits : Limits) (config : Config) (s : State (Unit {0}) View) : Type 0 where
   pub world : World
   pub laid : length s.words ≡ pool_words limits
   pub events : CountsEvents limits world s.words
   pub passes : CountsPasses limits world.seated (slice_index s.words 1)
   pub asked : CountsAsked limits world s.words
   pub covers : Covers (row_words limits s.words) world.history
+  pub owners : KeepToOwners limits config world.history (IsSetIn (row_words limits s.words))
   pub fresh : AreFresh limits (row_words limits s.words) world.history
   pub given : HaveSeats world s.views
-  pub seats : (id : ℕ) (v : View) → get_elem? s.views id ≡ some v → Fits limits world s.words id v
+  pub seats : (id : ℕ) (v : View) → get_elem? s.views id ≡ some v → Fits limits config world s.words id v

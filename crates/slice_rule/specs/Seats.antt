@@ -1,18 +1,19 @@
 -- What contracts see of seats, and what they ask of them.
-use Rattle.std.specs.Prelude.{◌≡◌, ℕ, ◌^◌, ◌<◌, ◌≤◌, ◌↔◌, List, [], ◌∷◌, ◌++◌, length, All, Contains, Some}
+use Rattle.std.specs.Prelude.{◌≡◌, ℕ, ◌^◌, ◌<◌, ◌≤◌, ◌↔◌, List, [], ◌∷◌, ◌++◌, length, All, Contains, IsBitSet, Some}
 use mathlib.Core.List.{IsPrefix}
 use Rattle.atomic_table.specs.Seated.{TableId}
 use Rattle.funnel_model.specs.declared.event.Event.{Event}
-use Rattle.funnel_model.specs.Events.{pass_of}
+use Rattle.funnel_model.specs.Events.{bits_on, pass_of}
 use Rattle.funnel_model.specs.declared.claim.Claim.{Claim}
 use Rattle.funnel_model.specs.declared.claim.ClearJob.{ClearJob}
 use Rattle.funnel_model.specs.declared.claim.Token.{Token}
 use Rattle.funnel_model.specs.History.{last_by, place}
 use Rattle.funnel_model.specs.Slices.{IsInUse}
-use Rattle.funnel_model.specs.Tokens.{HasToken}
+use Rattle.funnel_model.specs.Tokens.{HasToken, MayRead}
 use Rattle.funnel_model.specs.declared.event.Event.TheVariants as event
 use Rattle.funnel_model.specs.Legal.{Limits, IsIdle, IsInSlice, IsLegal}
 use Rattle.funnel_model.specs.declared.bit_list.Bit.{Bit}
+use Rattle.row_layout.specs.Owners.{Owns, StandsOn}
 use Rattle.slice_rule.specs.declared.view.Role.TheVariants as role
 use Rattle.slice_rule.specs.declared.view.Fact.{Fact}
 use Rattle.slice_rule.specs.declared.view.Fact.TheVariants as fact
@@ -124,6 +125,10 @@ after_own pass f = record pass { own = f ∷ pass.own }
 abbrev pub HoldsClaim : PassState → Claim → Type 0
 HoldsClaim pass claim = last_by pass.number pass.front ≡ Some (event.Take pass.number claim.slice claim.column)
 
+-- no column of the claim's slice owns the bit, as the pass has seen, but the claimed one
+abbrev pub KeepsToColumn : PassState → Claim → Bit → Type 0
+KeepsToColumn pass claim bit = (column : ℕ) → Owns pass.pool.limits pass.pool.config pass.front claim.slice column bit → column ≡ claim.column
+
 -- the pass's last event is the Clear of this slice
 abbrev pub HoldsJob : PassState → ClearJob → Type 0
 HoldsJob pass job = last_by pass.number pass.front ≡ Some (event.Clear pass.number job.slice)
@@ -133,6 +138,15 @@ pub record HoldsToken (pass : PassState) (token : Token) : Type 0 where
   pub begun : HasToken pass.front pass.number token.opened_at
   pub at_place : token.place ≡ place begun.earlier
   pub slices : (slice : ℕ) → Contains token.slices slice ↔ ((slice < pass.pool.limits.slices) × IsInUse pass.pool.limits.columns slice begun.earlier)
+
+-- The pass read this bit as set, under its find with this number. Where a column of a slice that it may read owns the bit, each add or move
+-- that stands on that column, as the pass has seen, has it among its bits.
+pub record WasReadUnder (pass : PassState) (number : ℕ) (bit : Bit) : Type 0 where
+  pub value : ℕ
+  pub read : Contains pass.own (fact.WordRead number bit.word value)
+  pub set : IsBitSet value bit.bit
+  pub owned : (slice column : ℕ) (event : Event) → MayRead pass.pool.limits.columns pass.front pass.number slice
+      → Owns pass.pool.limits pass.pool.config pass.front slice column bit → StandsOn pass.front slice column event → Contains (bits_on slice column event) bit
 
 -- a pass may ask the event: an add or a move has the bits that the pass set under its last Take and no others, and all words of a slice
 -- that is opened were made zero under its last Clear

@@ -1,11 +1,13 @@
 -- What each step tells: the seat's view before, the word found and the view after.
-use Rattle.std.specs.Prelude.{◌≡◌, ℕ, ◌+◌, ◌^◌, ◌<◌, List, length, IsBitSet}
+use Rattle.std.specs.Prelude.{◌≡◌, ℕ, ◌+◌, ◌^◌, ◌<◌, List, length, Contains, IsBitSet}
 use mathlib.Core.List.{IsPrefix}
 use Rattle.atomic_table.specs.Table.{Me, Step}
 use Rattle.funnel_model.specs.declared.event.Event.{Event}
+use Rattle.funnel_model.specs.Events.{bits_on}
 use Rattle.funnel_model.specs.Legal.{Limits, IsLegal}
 use Rattle.funnel_model.specs.RowWords.{IsCommitted}
 use Rattle.funnel_model.specs.Tokens.{MayRead}
+use Rattle.row_layout.specs.Owners.{Owns, StandsOn}
 use Rattle.slice_rule.specs.declared.view.Role.{Role}
 use Rattle.slice_rule.specs.declared.view.Role.TheVariants as role
 use Rattle.slice_rule.specs.declared.view.Fact.TheVariants as fact
@@ -61,8 +63,14 @@ abbrev pub ClearsWord : Step (Unit {0}) → Seated → ℕ → Seated → Type 0
 ClearsWord st before found after = (word : ℕ) → st.word ≡ first_row before.0.limits + word
     → after ≡ (with_own before.0 (fact.WordZero (last_of before.0) word), before.1)
 
--- the pass read this row word under its last event; the value has each bit that its front has committed in a slice that it may read
+-- The pass read this row word under its last event. The value has each bit that its front has committed in a slice that it may read. Where
+-- a column of such a slice owns a bit that is set in the value, each add or move that stands on the column, as the pass has seen, has it
+-- among its bits.
 pub record ReadsWord (st : Step (Unit {0})) (before : Seated) (found : ℕ) (after : Seated) : Type 0 where
   pub view : (word : ℕ) → st.word ≡ first_row before.0.limits + word → after ≡ (with_own before.0 (fact.WordRead (last_of before.0) word found), before.1)
   pub least : (word slice bit : ℕ) → st.word ≡ first_row before.0.limits + word → MayRead before.0.limits.columns before.0.front (pass_of_role before.0.role) slice
       → IsCommitted before.0.front slice (record { word = word; bit = bit }) → IsBitSet found bit
+  pub owned : (word slice column bit : ℕ) (event : Event) → st.word ≡ first_row before.0.limits + word
+      → MayRead before.0.limits.columns before.0.front (pass_of_role before.0.role) slice → IsBitSet found bit
+      → Owns before.0.limits before.0.config before.0.front slice column (record { word = word; bit = bit })
+      → StandsOn before.0.front slice column event → Contains (bits_on slice column event) (record { word = word; bit = bit })

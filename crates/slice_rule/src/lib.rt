@@ -12,7 +12,7 @@
 //! - `ask`, `append`, `set_bit`, `read_word` and `clear_word` make one step each.
 //! - `catch_up` and then `make_event` make all steps of one event: the first lets a pass see the whole history, and the
 //!   second asks for the event, appends it, and lets the pass see it.
-//! - `close` ends the pool.
+//! - `end_pass` takes a pass back, and `close` ends the pool.
 #![tactic(auto)]
 
 mod close;

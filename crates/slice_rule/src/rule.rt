@@ -9,7 +9,7 @@ impl TableRule<(), View, Made> for PoolRule {
     ghost use Rattle.slice_rule.specs.Rule.{IsKept};
     ghost use Rattle.slice_rule.specs.Views.{home_at_start};
 
-    ghost holds = { λ made. IsKept made.sizes };
+    ghost holds = { λ made. IsKept made.sizes made.config.shared.key };
 
     ghost first = { λ made. home_at_start made.sizes made.config.shared.key };
 }

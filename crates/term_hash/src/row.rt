@@ -1,5 +1,5 @@
 ghost use Rattle.std.specs.Prelude.{◌≡◌, ◌<◌, ◌≤◌, ℕ, List};
-ghost use Rattle.term_hash.specs.Hash.{fnv_1a, row_number};
+ghost use Rattle.term_hash.specs.Hash.{fnv_1a, mixed, row_number};
 
 use crate::hash::{fnv_1a_of, mix, take_in};
 use std::marker::Model;
@@ -24,6 +24,13 @@ impl WordHash {
         WordHash {
             hash: fnv_1a_of(word),
         }
+    }
+
+    /// The hash of the bytes alone with its high half mixed into its low half: 64 bits by which a table finds the word.
+    pub fn spread(&self) -> u64
+        ensures { result ≡ mixed self.now }
+    {
+        mix(self.hash)
     }
 
     /// Row `j` of the word, among `rows` rows: the hash of its bytes followed by `j`, with the high half mixed in,

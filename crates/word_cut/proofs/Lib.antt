@@ -1,2 +1,4 @@
+pub mod Taking
+pub mod KeyLemmas
 pub mod FoldLemmas
 pub mod OrderLemmas

@@ -1,8 +1,10 @@
-ghost use Rattle.std.specs.Prelude.{◌≡◌, ◌++◌, ℕ, List, length, map, IfOk, OnOk};
+ghost use Rattle.std.specs.Prelude.{◌≡◌, ◌↔◌, ◌++◌, ℕ, List, length, map, IfOk, OnOk};
+ghost use Rattle.std.specs.List.{Contains};
 ghost use Rattle.std.specs.Char.{to_ascii_lowercase};
 ghost use Rattle.funnel_model.specs.Words.{folded, words};
 ghost use Rattle.funnel_model.specs.WordSets.{pieces, EndAt};
 
+use crate::found_words::FoundWords;
 use caseless::Caseless;
 use std::alloc::{AllocError, Global};
 use std::marker::Model;
@@ -37,15 +39,15 @@ pub fn fold_words(alloc: Global, text: &str) -> Result<FoldedWords, AllocError>
 }
 
 impl FoldedWords {
-    /// The words, as they came.
-    pub fn list<'a>(&'a self, alloc: Global) -> Result<Vec<&'a [u8]>, AllocError>
-        ensures { IfOk result (λ found. map (λ w. w.now) found.items ≡ self.now) }
+    /// The words, without most of those that came before.
+    pub(crate) fn found<'a>(&'a self, alloc: Global) -> Result<FoundWords<'a>, AllocError>
+        ensures { IfOk result (λ found. (word : List ℕ) → Contains found word ↔ Contains self.now word) }
     {
         let buffer = self.buffer.as_slice();
-        let mut found = Vec::with_capacity(alloc, self.ends.len())?;
+        let mut found = FoundWords::new(alloc, self.ends.len())?;
         let mut start = 0;
         for end in self.ends.as_slice() {
-            found.push(&buffer[start..*end])?;
+            found.take_in(&buffer[start..*end])?;
             start = *end;
         }
         Ok(found)

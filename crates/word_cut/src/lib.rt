@@ -5,6 +5,8 @@
 mod cut;
 mod fault;
 mod folding;
+mod found_words;
+mod keyed_word;
 
 pub use cut::words;
 pub use fault::WordFault;

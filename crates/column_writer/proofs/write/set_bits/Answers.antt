@@ -4,9 +4,15 @@ use Rattle.funnel_model.specs.declared.bit_list.Bit.{Bit}
 use Rattle.slice_rule.specs.declared.view.Fact.{Fact}
 use Rattle.slice_rule.specs.declared.view.Fact.TheVariants as fact
 use Rattle.slice_rule.specs.Numbers.{last_number}
-use Rattle.slice_rule.specs.Seats.{PassState, after_own}
+use Rattle.slice_rule.specs.Seats.{KeepsToColumn, PassState, after_own}
 use Rattle.column_writer.proofs.Writing.{HasSet, set_more}
 use Rattle.column_writer.proofs.write.set_bits.Goals as goal
+
+pub set_bit-requires-clause-owner : goal.set_bit-requires-clause-owner
+set_bit-requires-clause-owner c =
+    let none : Bit = record { word = 0; bit = 0 } in
+    let b = get_or c.args.bits.now c.loop-b.b-index none in
+    subst (λ (p : PassState). KeepsToColumn p c.args.claim.now b) (sym c.loop-b.invariant.seat) (c.requires.owners c.loop-b.b-index none c.loop-b-test.true)
 
 pub loop-b-preserved : goal.loop-b-preserved
 loop-b-preserved c =

@@ -1,9 +1,9 @@
-use Rattle.std.proofs.Common.{◌≡◌, ℕ, List, Option, Some, None, length, refl, sym, ◌∙◌, ap, ap₂, arith, subst, ⊎_elim}
+use Rattle.std.proofs.Common.{◌≡◌, ℕ, List, Some, None, length, refl, sym, ◌∙◌, ap, ap₂, arith, subst, ⊎_elim}
 use Rattle.std.proofs.lemmas.Bool.{cases_order}
 use Rattle.funnel_model.specs.declared.claim.Claim.{Claim}
 use Rattle.funnel_model.specs.declared.event.Event.{Event}
 use Rattle.funnel_model.specs.History.{Document}
-use Rattle.funnel_model.specs.Legal.{IsLegal, Limits, MayTake}
+use Rattle.funnel_model.specs.Legal.{Limits, MayTake}
 use Rattle.funnel_model.specs.Slices.{IsInState, Live, claimed}
 use Rattle.funnel_model.proofs.Columns.{one_state}
 use Rattle.funnel_model.proofs.ReserveLemmas.{one_source}

@@ -1,4 +1,4 @@
-use Rattle.std.proofs.Common.{◌≤◌, refl, rules}
+use Rattle.std.proofs.Common.{◌≤◌, refl, sym, rules}
 use Rattle.funnel.proofs.Alone.{have_run}
 use Rattle.funnel.proofs.Endings.{keeps_last}
 use Rattle.funnel.proofs.Opened.{opened_config, opened_limits}
@@ -14,15 +14,15 @@ returns-clause-in_turns g c = runs_by g.S.Source.read_gives g.K.Sink.write_gives
 
 pub returns-clause-ran : goal.returns-clause-ran
 returns-clause-ran g c =
-    let pool = c.in-Ok.engine in
-    let limits_are = opened_limits pool c.args.blank c.args.config.now c.in-Ok.ensures.engine c.requires.limits in
-    let config_is = opened_config pool c.args.blank c.args.config.now c.in-Ok.ensures.engine c.requires.made_with in
+    let pool = g.N.PoolName.pool in
+    let limits_are = opened_limits pool c.args.blank c.args.config.now (sym c.requires.named) c.requires.limits in
+    let config_is = opened_config pool c.args.blank c.args.config.now (sym c.requires.named) c.requires.made_with in
     let some : 1 ≤ pool.limits.passes = search rules in
     have_run pool c.args.config.now c.serve-end.result.1.items _ _ _ _ c.serve-end.result.0 c.from.result c.close.result
     limits_are config_is some c.serve-end.ensures.served c.from.ensures c.close.ensures.legal c.close.ensures.caused c.close.ensures.sound c.close.ensures.passes
 
 pub returns-clause-kept : goal.returns-clause-kept
 returns-clause-kept g c =
-    let pool = c.in-Ok.engine in
-    let limits_are = opened_limits pool c.args.blank c.args.config.now c.in-Ok.ensures.engine c.requires.limits in
+    let pool = g.N.PoolName.pool in
+    let limits_are = opened_limits pool c.args.blank c.args.config.now (sym c.requires.named) c.requires.limits in
     keeps_last pool c.args.config.now c.close.result limits_are c.close.ensures.base

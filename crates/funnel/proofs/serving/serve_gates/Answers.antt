@@ -4,34 +4,16 @@ use Rattle.funnel_model.specs.declared.config.Config.{Config}
 use Rattle.funnel_server.specs.Gates.{gate_state}
 use Rattle.funnel.proofs.Endings.{keeps_last}
 use Rattle.funnel.proofs.Opened.{opened_config, opened_counted, opened_limits}
-use Rattle.funnel.proofs.Served.{back_every, back_rest, has_served, worked_count}
+use Rattle.funnel.proofs.Served.{has_served, worked_count}
 use Rattle.funnel.proofs.serving.serve_gates.Goals as goal
-
-pub close-requires-clause-rest : goal.close-requires-clause-rest
-close-requires-clause-rest g c =
-    let pool = c.in-Ok-open.engine in
-    let states = map (gate_state g.G.Gate.is_closed g.G.Gate.gate_faults g.G.Gate.waiting g.G.Conn.Source.incoming g.G.Conn.Sink.outgoing g.G.Gate.served) in
-    let counted = opened_counted pool c.args.blank c.args.config.now c.in-Ok-open.ensures.engine c.requires.made_with c.requires.limits in
-    let enough = subst (λ (k : Config). length c.args.gates.items ≤ k.passes) (sym (opened_config pool c.args.blank c.args.config.now c.in-Ok-open.ensures.engine c.requires.made_with)) c.requires.enough in
-    back_rest pool c.args.connections (states c.args.gates.items) (states c.answer_all-why.result.1.items) c.answer_all-why.result.0 c.answer_all-why.result.2.items
-    c.answer_all-why.ensures.worked (omega (arith, enough, length-map c.args.gates.items (gate_state g.G.Gate.is_closed g.G.Gate.gate_faults g.G.Gate.waiting g.G.Conn.Source.incoming g.G.Conn.Sink.outgoing g.G.Gate.served))) counted
-
-pub close-requires-clause-every : goal.close-requires-clause-every
-close-requires-clause-every g c =
-    let pool = c.in-Ok-open.engine in
-    let states = map (gate_state g.G.Gate.is_closed g.G.Gate.gate_faults g.G.Gate.waiting g.G.Conn.Source.incoming g.G.Conn.Sink.outgoing g.G.Gate.served) in
-    let counted = opened_counted pool c.args.blank c.args.config.now c.in-Ok-open.ensures.engine c.requires.made_with c.requires.limits in
-    let enough = subst (λ (k : Config). length c.args.gates.items ≤ k.passes) (sym (opened_config pool c.args.blank c.args.config.now c.in-Ok-open.ensures.engine c.requires.made_with)) c.requires.enough in
-    back_every pool c.args.connections (states c.args.gates.items) (states c.answer_all-why.result.1.items) c.answer_all-why.result.0 c.answer_all-why.result.2.items
-    c.answer_all-why.ensures.worked (omega (arith, enough, length-map c.args.gates.items (gate_state g.G.Gate.is_closed g.G.Gate.gate_faults g.G.Gate.waiting g.G.Conn.Source.incoming g.G.Conn.Sink.outgoing g.G.Gate.served))) counted
 
 pub returns-clause-ends : goal.returns-clause-ends
 returns-clause-ends g c =
-    let pool = c.in-Ok-open.engine in
-    let limits_are = opened_limits pool c.args.blank c.args.config.now c.in-Ok-open.ensures.engine c.requires.limits in
-    let config_is = opened_config pool c.args.blank c.args.config.now c.in-Ok-open.ensures.engine c.requires.made_with in
-    let counted = opened_counted pool c.args.blank c.args.config.now c.in-Ok-open.ensures.engine c.requires.made_with c.requires.limits in
-    let enough = subst (λ (k : Config). length c.args.gates.items ≤ k.passes) (sym (opened_config pool c.args.blank c.args.config.now c.in-Ok-open.ensures.engine c.requires.made_with)) c.requires.enough in
+    let pool = g.N.PoolName.pool in
+    let limits_are = opened_limits pool c.args.blank c.args.config.now (sym c.requires.named) c.requires.limits in
+    let config_is = opened_config pool c.args.blank c.args.config.now (sym c.requires.named) c.requires.made_with in
+    let counted = opened_counted pool c.args.blank c.args.config.now (sym c.requires.named) c.requires.made_with c.requires.limits in
+    let enough = subst (λ (k : Config). length c.args.gates.items ≤ k.passes) (sym (opened_config pool c.args.blank c.args.config.now (sym c.requires.named) c.requires.made_with)) c.requires.enough in
     has_served g.G.Gate.next_gives g.G.Gate.done_gives g.G.Gate.end_gives g.G.Conn.Source.read_gives g.G.Conn.Sink.write_gives g.G.Conn.Source.incoming g.G.Conn.Sink.outgoing
     (gate_state g.G.Gate.is_closed g.G.Gate.gate_faults g.G.Gate.waiting g.G.Conn.Source.incoming g.G.Conn.Sink.outgoing g.G.Gate.served)
     pool c.args.config.now c.args.connections c.args.gates.items c.answer_all-why.result.1.items c.answer_all-why.result.0 c.answer_all-why.result.2.items
@@ -41,13 +23,13 @@ returns-clause-ends g c =
 
 pub returns-clause-kept : goal.returns-clause-kept
 returns-clause-kept g c =
-    let pool = c.in-Ok-open.engine in
-    let limits_are = opened_limits pool c.args.blank c.args.config.now c.in-Ok-open.ensures.engine c.requires.limits in
+    let pool = g.N.PoolName.pool in
+    let limits_are = opened_limits pool c.args.blank c.args.config.now (sym c.requires.named) c.requires.limits in
     keeps_last pool c.args.config.now c.close.result limits_are c.close.ensures.base
 
 pub returns-clause-count : goal.returns-clause-count
 returns-clause-count g c =
     let state = gate_state g.G.Gate.is_closed g.G.Gate.gate_faults g.G.Gate.waiting g.G.Conn.Source.incoming g.G.Conn.Sink.outgoing g.G.Gate.served in
     sym (length-map c.answer_all-why.result.1.items state)
-    ∙ worked_count c.in-Ok-open.engine c.args.connections _ _ c.answer_all-why.result.0 c.answer_all-why.result.2.items c.answer_all-why.ensures.worked
+    ∙ worked_count g.N.PoolName.pool c.args.connections _ _ c.answer_all-why.result.0 c.answer_all-why.result.2.items c.answer_all-why.ensures.worked
     ∙ length-map c.args.gates.items state

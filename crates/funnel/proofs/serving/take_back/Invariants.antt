@@ -7,7 +7,7 @@ use Rattle.funnel.proofs.serving.take_back.Given as goal
 abbrev pub invariant-loop-worker : goal.invariant-loop-worker
 invariant-loop-worker g l =
     let states = map (gate_state g.G.Gate.is_closed g.G.Gate.gate_faults g.G.Gate.waiting g.G.Conn.Source.incoming g.G.Conn.Sink.outgoing g.G.Gate.served) in
-    GaveBack g.N.PoolName.pool (states_of l.fn.workers.items) (states_of (into_iter_items l.worker-iterator)) (states l.fn.gates.items) (states l.gates.items) l.fn.passes.items l.passes.items
+    GaveBack (states_of l.fn.workers.items) (states_of (into_iter_items l.worker-iterator)) (states l.fn.gates.items) (states l.gates.items) l.fn.passes.items l.passes.items
     × (l.gates.items ++ gates_of (into_iter_items l.worker-iterator) ≡ l.fn.gates.items ++ gates_of l.fn.workers.items)
     × (length l.gates.items + length (into_iter_items l.worker-iterator) ≤ vec_capacity l.gates)
     × (length l.passes.items + length (into_iter_items l.worker-iterator) ≤ vec_capacity l.passes)

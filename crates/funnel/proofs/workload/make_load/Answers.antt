@@ -1,15 +1,14 @@
 use Rattle.std.proofs.Common.{[], length, refl, subst, inl, arith, sym, ap, ◌∙◌}
 use Rattle.std.proofs.lemmas.List.FromFn.{length-map-range_with_len}
-use Rattle.std.specs.List.{All, range_with_len}
+use Rattle.std.specs.List.{range_with_len}
 use Rattle.std.specs.Prelude.{map}
-use Rattle.commit_desk.specs.Passes.{IsResting}
-use Rattle.engine.proofs.NewPasses.{new_numbers, new_rest}
+use Rattle.engine.proofs.NewPasses.{new_numbers}
+use Rattle.engine.specs.Passes.{new_pass}
 use Rattle.funnel_server.specs.Loads.{IsCutShort, IsPut, front_at}
 use Rattle.load_gen.specs.Documents.{documents}
-use Rattle.slice_rule.specs.Seats.{new_pass_state}
 use Rattle.funnel.proofs.Endings.{keeps_last}
 use Rattle.funnel.proofs.LoadEnds.{HasClosed, ends_load, from_nothing, load_fits, on_fault, on_ok, part_of_load, whole_load}
-use Rattle.funnel.proofs.LoadPasses.{AreUsedBy, every_pass}
+use Rattle.funnel.proofs.LoadPasses.{AreUsedBy}
 use Rattle.funnel.proofs.Opened.{opened_config, opened_counted, opened_limits, opened_passes}
 use Rattle.funnel.proofs.Passes.{number_of}
 use Rattle.funnel.specs.Runs.{limits_by}
@@ -17,46 +16,32 @@ use Rattle.funnel.proofs.workload.make_load.Goals as goal
 
 pub run_load-passes-requires-clause-enough : goal.run_load-passes-requires-clause-enough
 run_load-passes-requires-clause-enough g c κs within =
-    let pool = c.in-Ok-open.engine in
-    let new = opened_passes pool c.args.blank c.args.config.now c.in-Ok-open.ensures.engine c.requires.made_with c.in-Ok-open.passes.items c.in-Ok-open.ensures.passes in
-    let config_is = opened_config pool c.args.blank c.args.config.now c.in-Ok-open.ensures.engine c.requires.made_with in
+    let pool = g.N.PoolName.pool in
+    let new = opened_passes pool c.args.blank c.args.config.now (sym c.requires.named) c.requires.made_with c.in-Ok-open.passes.items c.in-Ok-open.ensures.passes in
+    let config_is = opened_config pool c.args.blank c.args.config.now (sym c.requires.named) c.requires.made_with in
     let fits = load_fits c.args.command c.args.config.now c.requires.fits in
-    let count = ap length new ∙ length-map-range_with_len (new_pass_state pool) 0 pool.config.passes in
+    let count = ap length new ∙ length-map-range_with_len new_pass 0 pool.config.passes in
     omega (arith, fits.passes, count, ap (λ k. k.passes) config_is)
-
-pub run_load-passes-requires-clause-rest : goal.run_load-passes-requires-clause-rest
-run_load-passes-requires-clause-rest g c κs within =
-    let pool = c.in-Ok-open.engine in
-    let new = opened_passes pool c.args.blank c.args.config.now c.in-Ok-open.ensures.engine c.requires.made_with c.in-Ok-open.passes.items c.in-Ok-open.ensures.passes in
-    subst (All (IsResting pool)) (sym new) (new_rest pool (range_with_len 0 pool.config.passes))
 
 pub run_load-passes-requires-clause-numbers : goal.run_load-passes-requires-clause-numbers
 run_load-passes-requires-clause-numbers g c κs within =
-    let pool = c.in-Ok-open.engine in
-    let new = opened_passes pool c.args.blank c.args.config.now c.in-Ok-open.ensures.engine c.requires.made_with c.in-Ok-open.passes.items c.in-Ok-open.ensures.passes in
-    ap (map number_of) new ∙ new_numbers pool 0 pool.config.passes
-    ∙ ap (range_with_len 0) (sym (ap length new ∙ length-map-range_with_len (new_pass_state pool) 0 pool.config.passes))
-
-pub close-closed-requires-clause-every : goal.close-closed-requires-clause-every
-close-closed-requires-clause-every g c =
-    let pool = c.in-Ok-open.engine in
-    let new = opened_passes pool c.args.blank c.args.config.now c.in-Ok-open.ensures.engine c.requires.made_with c.in-Ok-open.passes.items c.in-Ok-open.ensures.passes in
-    let counted = opened_counted pool c.args.blank c.args.config.now c.in-Ok-open.ensures.engine c.requires.made_with c.requires.limits in
-    every_pass pool c.args.command.workers c.in-Ok-open.passes.items c.run_load-passes.result.0.items
-    (record { counted = counted; new = new; numbers = c.run_load-passes.ensures.numbers; others = c.run_load-passes.ensures.others })
+    let pool = g.N.PoolName.pool in
+    let new = opened_passes pool c.args.blank c.args.config.now (sym c.requires.named) c.requires.made_with c.in-Ok-open.passes.items c.in-Ok-open.ensures.passes in
+    ap (map number_of) new ∙ new_numbers 0 pool.config.passes
+    ∙ ap (range_with_len 0) (sym (ap length new ∙ length-map-range_with_len new_pass 0 pool.config.passes))
 
 pub returns-in-Ok-results-clause-ends : goal.returns-in-Ok-results-clause-ends
 returns-in-Ok-results-clause-ends g c =
-    let pool = c.in-Ok-open.engine in
+    let pool = g.N.PoolName.pool in
     let workers = c.args.command.workers in
     let before = c.in-Ok-open.passes.items in
     let after = c.run_load-passes.result.0.items in
     let config = c.args.config.now in
     let texts = documents c.args.command.docs c.args.command.words c.args.command.seed in
-    let new = opened_passes pool c.args.blank c.args.config.now c.in-Ok-open.ensures.engine c.requires.made_with c.in-Ok-open.passes.items c.in-Ok-open.ensures.passes in
-    let counted = opened_counted pool c.args.blank c.args.config.now c.in-Ok-open.ensures.engine c.requires.made_with c.requires.limits in
-    let limits_are = opened_limits pool c.args.blank c.args.config.now c.in-Ok-open.ensures.engine c.requires.limits in
-    let config_is = opened_config pool c.args.blank c.args.config.now c.in-Ok-open.ensures.engine c.requires.made_with in
+    let new = opened_passes pool c.args.blank c.args.config.now (sym c.requires.named) c.requires.made_with c.in-Ok-open.passes.items c.in-Ok-open.ensures.passes in
+    let counted = opened_counted pool c.args.blank c.args.config.now (sym c.requires.named) c.requires.made_with c.requires.limits in
+    let limits_are = opened_limits pool c.args.blank c.args.config.now (sym c.requires.named) c.requires.limits in
+    let config_is = opened_config pool c.args.blank c.args.config.now (sym c.requires.named) c.requires.made_with in
     let used : AreUsedBy pool c.args.command.workers c.in-Ok-open.passes.items c.run_load-passes.result.0.items =
     record { counted = counted; new = new; numbers = c.run_load-passes.ensures.numbers; others = c.run_load-passes.ensures.others } in
     let ended : HasClosed pool c.args.config.now c.args.command c.in-Ok-open.passes.items c.run_load-passes.result.0.items c.close-closed.result = record {
@@ -80,16 +65,16 @@ returns-in-Ok-results-clause-ends g c =
 
 pub returns-clause-ends : goal.returns-clause-ends
 returns-clause-ends g c =
-    let pool = c.in-Ok-open.engine in
+    let pool = g.N.PoolName.pool in
     let workers = c.args.command.workers in
     let before = c.in-Ok-open.passes.items in
     let after = c.run_load-passes.result.0.items in
     let config = c.args.config.now in
     let texts = documents c.args.command.docs c.args.command.words c.args.command.seed in
-    let new = opened_passes pool c.args.blank c.args.config.now c.in-Ok-open.ensures.engine c.requires.made_with c.in-Ok-open.passes.items c.in-Ok-open.ensures.passes in
-    let counted = opened_counted pool c.args.blank c.args.config.now c.in-Ok-open.ensures.engine c.requires.made_with c.requires.limits in
-    let limits_are = opened_limits pool c.args.blank c.args.config.now c.in-Ok-open.ensures.engine c.requires.limits in
-    let config_is = opened_config pool c.args.blank c.args.config.now c.in-Ok-open.ensures.engine c.requires.made_with in
+    let new = opened_passes pool c.args.blank c.args.config.now (sym c.requires.named) c.requires.made_with c.in-Ok-open.passes.items c.in-Ok-open.ensures.passes in
+    let counted = opened_counted pool c.args.blank c.args.config.now (sym c.requires.named) c.requires.made_with c.requires.limits in
+    let limits_are = opened_limits pool c.args.blank c.args.config.now (sym c.requires.named) c.requires.limits in
+    let config_is = opened_config pool c.args.blank c.args.config.now (sym c.requires.named) c.requires.made_with in
     let used : AreUsedBy pool c.args.command.workers c.in-Ok-open.passes.items c.run_load-passes.result.0.items =
     record { counted = counted; new = new; numbers = c.run_load-passes.ensures.numbers; others = c.run_load-passes.ensures.others } in
     let ended : HasClosed pool c.args.config.now c.args.command c.in-Ok-open.passes.items c.run_load-passes.result.0.items c.close-closed.result = record {
@@ -112,12 +97,12 @@ returns-clause-ends g c =
 
 pub returns-in-Ok-results-clause-kept : goal.returns-in-Ok-results-clause-kept
 returns-in-Ok-results-clause-kept g c =
-    let pool = c.in-Ok-open.engine in
-    let limits_are = opened_limits pool c.args.blank c.args.config.now c.in-Ok-open.ensures.engine c.requires.limits in
+    let pool = g.N.PoolName.pool in
+    let limits_are = opened_limits pool c.args.blank c.args.config.now (sym c.requires.named) c.requires.limits in
     keeps_last pool c.args.config.now c.close-closed.result limits_are c.close-closed.ensures.base
 
 pub returns-clause-kept : goal.returns-clause-kept
 returns-clause-kept g c =
-    let pool = c.in-Ok-open.engine in
-    let limits_are = opened_limits pool c.args.blank c.args.config.now c.in-Ok-open.ensures.engine c.requires.limits in
+    let pool = g.N.PoolName.pool in
+    let limits_are = opened_limits pool c.args.blank c.args.config.now (sym c.requires.named) c.requires.limits in
     keeps_last pool c.args.config.now c.close-closed.result limits_are c.close-closed.ensures.base

@@ -1,8 +1,7 @@
 use Rattle.std.proofs.Common.{rules, ◌≡◌, [], ◌∷◌, ◌++◌, List, length, reverse, sym, ap, ◌∙◌, subst, arith, length-append}
 use Rattle.std.proofs.lemmas.List.Elements.{All-push}
 use Rattle.std.specs.List.{All}
-use Rattle.commit_desk.specs.Passes.{IsResting}
-use Rattle.slice_rule.specs.Seats.{PassState}
+use Rattle.engine.specs.Passes.{PassView}
 use Rattle.funnel_server.specs.Parts.{LoaderState, passes_of}
 use Rattle.funnel_server.proofs.LoadPasses.{one_moved}
 use Rattle.funnel_server.proofs.loads.take_back.Goals as goal
@@ -18,10 +17,9 @@ loop-loader-preserved g c =
     let pass_is : pass ≡ loader.pass = c.client.view_is ∙ ap (λ (l : LoaderState). l.pass) c.loader.view_is in
     let fewer = ap length popped ∙ length-append left (loader ∷ []) in
     let more = ap length pushed ∙ length-append passes (pass ∷ []) in (
-      ap (λ (ps : List PassState). passes_of left ++ reverse ps) (pushed ∙ ap (λ (p : PassState). passes ++ p ∷ []) pass_is)
+      ap (λ (ps : List PassView). passes_of left ++ reverse ps) (pushed ∙ ap (λ (p : PassView). passes ++ p ∷ []) pass_is)
           ∙ sym (one_moved left loader passes)
           ∙ ap (λ (ls : List LoaderState). passes_of ls ++ reverse passes) (sym popped)
           ∙ c.loop-loader.invariant.0,
       omega (arith, fewer, more, c.push.ensures.capacity, c.loop-loader.invariant.1),
-      subst (All (IsResting g.N.PoolName.pool)) (sym pushed) (All-push (IsResting g.N.PoolName.pool) passes pass c.loop-loader.invariant.2 c.client.invariant),
     )

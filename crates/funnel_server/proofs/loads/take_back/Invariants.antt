@@ -1,6 +1,5 @@
 use Rattle.std.proofs.Common.{◌≡◌, ◌≤◌, ◌+◌, ◌++◌, length, reverse, vec_capacity}
 use Rattle.std.specs.List.{All}
-use Rattle.commit_desk.specs.Passes.{IsResting}
 use Rattle.funnel_server.specs.Parts.{passes_of}
 use Rattle.funnel_server.proofs.loads.take_back.Given as goal
 
@@ -8,7 +7,6 @@ abbrev pub invariant-loop-loader : goal.invariant-loop-loader
 invariant-loop-loader g l =
     (passes_of l.loaders.items ++ reverse l.passes.items ≡ passes_of l.fn.loaders.items ++ reverse l.fn.passes.items)
     × (length l.loaders.items + length l.passes.items ≤ vec_capacity l.passes)
-    × All (IsResting g.N.PoolName.pool) l.passes.items
 
 abbrev pub decreases-loop-loader : goal.decreases-loop-loader
 decreases-loop-loader g l = length l.loaders.items

@@ -19,6 +19,6 @@ loop-place-preserved g c =
     let met_is : (d : LoaderState) → slice_index_or (slice_set now n c.note-note.new.self) last met ≡ slice_index_or now last d =
     λ d. ap (λ (loaders : List LoaderState). slice_index_or loaders last met) same ∙ get_or_default now last met d inside in
     subst (λ (loaders : List LoaderState). LastHasMet last (n + 1) before (slice_set loaders last c.meet.new.self)) (sym same)
-    (last_met_one last n before now c.note-note.result.front c.meet.new.self c.loop-place.invariant less (omega (arith, c.requires.some))
+    (last_met_one last n before now c.note-note.result c.meet.new.self c.loop-place.invariant less (omega (arith, c.requires.some))
     (λ d. c.note-note.ensures.front ∙ ap (λ (s : LoaderState). s.pass.front) (get_or_default now n other d there))
-    (λ d. subst (λ (s : LoaderState). Meets c.note-note.result.front s c.meet.new.self) (met_is d) c.meet.ensures))
+    (λ d. subst (λ (s : LoaderState). Meets c.note-note.result s c.meet.new.self) (met_is d) c.meet.ensures))

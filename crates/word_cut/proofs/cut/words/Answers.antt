@@ -6,5 +6,8 @@ use Rattle.word_cut.proofs.cut.words.Goals as goal
 
 pub returns : goal.returns
 returns c word =
+    let found : Contains c.in_ok-found.field-0 word ↔ Contains (words c.args.text.now) word =
+    subst (λ folded. Contains c.in_ok-found.field-0 word ↔ Contains folded word) c.in_ok-folded.ensures (c.in_ok-found.ensures word) in
+    let distinct = c.in_ok-distinct.ensures.same word in
     subst (λ set. Contains set word ↔ Contains (words c.args.text.now) word) (sym (c.in_ok-from_sorted.ensures ∙ ap (map (λ w. w.now)) c.as_slice.ensures.value))
-    (subst (λ folded. Contains (map (λ w. w.now) c.in_ok-distinct.distinct.items) word ↔ Contains folded word) c.in_ok-folded.ensures (c.in_ok-distinct.ensures.same word))
+    (λ has. found.0 (distinct.0 has), λ has. distinct.1 (found.1 has))

@@ -14,7 +14,7 @@ use Rattle.commit_desk.specs.Answers.{TakesCalls}
 use Rattle.commit_desk.specs.Desks.{DeskState, Makes}
 use Rattle.commit_desk.proofs.Few.{few-start}
 use Rattle.commit_desk.proofs.Inside.{books_of}
-use Rattle.commit_desk.proofs.MadeEvents.{desk_at, made_one, number_is}
+use Rattle.commit_desk.proofs.MadeEvents.{desk_at, made_one, number_is, unwritten}
 use Rattle.commit_desk.proofs.RecordFacts.{is_column, taken_is_free, taken_is_there}
 use Rattle.commit_desk.proofs.SliceEvents.{books_after, desk-with, kept-as, kept-take}
 use Rattle.commit_desk.proofs.StageReadings.{claimed_count, in_use_stage, room_has_left, used_slice}
@@ -139,3 +139,11 @@ pub returns-clause-column : goal.returns-clause-column
 returns-clause-column c =
     let then = c.before.before.before.before.before.before.before.before in
     (told then).2 ∙ ap (λ (d : DeskState). length (claimed c.args.slice d.history)) c.self.view_is
+
+pub returns-clause-nothing_yet : goal.returns-clause-nothing_yet
+returns-clause-nothing_yet c =
+    let made = c.make_event-self-inside.ensures in
+    let next = c.make_event-self-inside.new.seat in
+    let home = c.make_event-self-inside.new.home in
+    unwritten next c.args.seat.now.front (event.Take c.number-pass.result c.args.slice c.claim-column.result) c.make_event-self-inside.result home.history
+    (c.number-pass.ensures.number ∙ sym made.seat.number) made.seat.front (returns-clause-made c).front made.number made.nothing_yet (invariant_of-self c).kept.untuned

@@ -1,4 +1,4 @@
-use Rattle.std.proofs.Common.{◌≡◌, ◌∙◌, subst}
+use Rattle.std.proofs.Common.{◌≡◌, ◌+◌, ◌*◌, ◌≤◌, ◌∙◌, length, subst, arith}
 use Rattle.funnel_model.specs.History.{MovesAreCaused, base}
 use Rattle.row_layout.specs.Sound.{IsSound}
 use Rattle.commit_desk.specs.Desks.{DeskState}
@@ -10,6 +10,10 @@ returns-clause-sound c = subst (λ (d : DeskState). IsSound d.pool.config d.hist
 
 pub returns-clause-caused : goal.returns-clause-caused
 returns-clause-caused c = subst (λ (d : DeskState). MovesAreCaused d.history) c.self.view_is c.self.invariant.kept.caused
+
+pub returns-clause-few : goal.returns-clause-few
+returns-clause-few c =
+    subst (λ (d : DeskState). length d.history ≤ d.events_limit + 3 * d.pool.limits.passes) c.self.view_is (let few = c.self.invariant.kept.few in omega arith)
 
 pub returns-clause-base : goal.returns-clause-base
 returns-clause-base c =

@@ -1,13 +1,19 @@
 use Rattle.std.proofs.Common.{sym, subst, ◌∙◌}
+use Rattle.commit_desk.specs.Resolving.{IsRestOf}
 use Rattle.commit_desk.specs.Scans.{WereScanned}
-use Rattle.commit_desk_tests.proofs.Scans.{words_later}
+use Rattle.commit_desk_tests.proofs.Scans.{rest_later}
 use Rattle.slice_rule.specs.Pools.{PoolId}
 use Rattle.commit_desk_tests.proofs.setting.Setting.turn.Goals as goal
 
 pub resolve_part-from-requires-clause-scanned : goal.resolve_part-from-requires-clause-scanned
 resolve_part-from-requires-clause-scanned g c =
     let at = c.looking.inside in
-    subst (λ (p : PoolId). WereScanned p.config at.seat at.token at.words at.columns) (sym c.self.invariant.desk_of_name) c.looking.invariant.scanned
+    subst (λ (p : PoolId). WereScanned p.config at.seat at.token at.columns) (sym c.self.invariant.desk_of_name) c.looking.invariant.scanned
+
+pub resolve_part-from-requires-clause-rest : goal.resolve_part-from-requires-clause-rest
+resolve_part-from-requires-clause-rest g c begun =
+    let at = c.looking.inside in
+    subst (λ (p : PoolId). IsRestOf p.config begun.query at.rest) (sym c.self.invariant.desk_of_name) (c.looking.invariant.rest_of begun)
 
 pub invariant_of-next : goal.invariant_of-next
 invariant_of-next g c =
@@ -17,8 +23,8 @@ invariant_of-next g c =
     let next = c.resolve_part-from.new.seat in
     record {
       finding = record { seated = record { same = did.events.same ∙ is.finding.seated.same; none_outstanding = did.none_outstanding }; holds = did.token };
-      of_query = words_later c.self.inside.desk c.resolve_part-from.new.self at.seat next at.token at.words did.events is.finding.holds.begun is.of_query;
-      scanned = subst (λ (p : PoolId). WereScanned p.config next at.token at.words at.columns) (did.events.pool ∙ c.self.invariant.desk_of_name) did.scanned;
+      rest_of = rest_later g.N.PoolName.pool.config c.self.inside.desk c.resolve_part-from.new.self at.seat next at.token at.rest did.events is.finding.holds.begun is.rest_of;
+      scanned = subst (λ (p : PoolId). WereScanned p.config next at.token at.columns) (did.events.pool ∙ c.self.invariant.desk_of_name) did.scanned;
       within = did.within;
       room = did.enough;
     }

@@ -1,4 +1,4 @@
-use Rattle.std.proofs.Common.{ℕ, List, sym, subst}
+use Rattle.std.proofs.Common.{ℕ, List, sym, subst, ◌∙◌}
 use Rattle.funnel_model.specs.Legal.{IsIdle}
 use Rattle.funnel_model.specs.Words.{AreWordsOf}
 use Rattle.engine.specs.Adds.{OwnTurns}
@@ -11,9 +11,9 @@ add_prepared-requires-clause-of_text g c = subst (AreWordsOf c.in-Ok.prepared.0.
 
 -- the turns after the moves are those of this add
 own_turns : (g : Over) (c : goal.After-add_prepared g) →
-    OwnTurns c.args.self.now.config c.args.self.now.limits c.args.pass.now.number c.args.id c.args.text.now c.move_some.new.pass.front c.add_prepared.new.pass.front c.add_prepared.result
+    OwnTurns g.N.PoolName.pool.config g.N.PoolName.pool.limits c.pass.inside.seat.number c.args.id c.args.text.now c.move_some.new.pass.front c.add_prepared.new.pass.front c.add_prepared.result
 own_turns g c =
-    let pool = c.args.self.now in
+    let pool = g.N.PoolName.pool in
     let doc = c.in-Ok.prepared.0 in
     let start = c.move_some.new.pass in
     let after = c.add_prepared.new.pass.front in
@@ -24,16 +24,23 @@ own_turns g c =
 
 pub returns-in-Ok-clause-turns : goal.returns-in-Ok-clause-turns
 returns-in-Ok-clause-turns g c =
-    let pool = c.args.self.now in
-    let pass = c.args.pass.now in
+    let pool = g.N.PoolName.pool in
+    let seat = c.pass.inside.seat in
+    let after = c.add_prepared.new.pass.front in
     let moved = c.move_some.ensures.moves in
-    moved_turns pool.limits pass.number c.args.id c.args.text.now pool.config pass.front c.move_some.new.pass.front c.add_prepared.new.pass.front moved.0 moved.1 moved.2 c.add_prepared.result (own_turns g c)
+    rw (← c.pass.view_is)
+    (moved_turns pool.limits seat.number c.args.id c.args.text.now pool.config seat.front c.move_some.new.pass.front after moved.0 moved.1 moved.2 c.add_prepared.result (own_turns g c))
 
-pub returns-in-Ok-clause-step : goal.returns-in-Ok-clause-step
-returns-in-Ok-clause-step g c =
-    let pool = c.args.self.now in
-    let pass = c.args.pass.now in
+pub returns-in-Ok-clause-call : goal.returns-in-Ok-clause-call
+returns-in-Ok-clause-call g c =
+    let pool = g.N.PoolName.pool in
+    let seat = c.pass.inside.seat in
     let start = c.move_some.new.pass in
+    let next = c.add_prepared.new.pass in
     let moved = c.move_some.ensures.moves in
-    moved_step pool.limits pass.number c.args.id c.args.text.now pool.config pass.front start.front c.add_prepared.new.pass.front moved.0 moved.1 moved.2 c.add_prepared.result (own_turns g c)
-    c.requires.pass.idle (subst (λ (n : ℕ). IsIdle n start.front) c.move_some.ensures.number c.move_some.ensures.rests.idle) c.add_prepared.ensures.legal
+    rw (← c.pass.view_is)
+    (record {
+      step = moved_step pool.limits seat.number c.args.id c.args.text.now pool.config seat.front start.front next.front moved.0 moved.1 moved.2 c.add_prepared.result (own_turns g c)
+          c.pass.invariant.idle (subst (λ (n : ℕ). IsIdle n start.front) c.move_some.ensures.number c.move_some.ensures.rests.idle) c.add_prepared.ensures.legal;
+      number = c.add_prepared.ensures.number ∙ c.move_some.ensures.number;
+    })

@@ -16,6 +16,6 @@ returns-in-Ok-open_find-clause-begun g c =
     let next = c.open_find.new.pass in
     let opened = c.in-Ok-open_find.ensures in
     let planned = c.in-Ok-plan.ensures in
-    let laid_out : c.self.inside.layout ≡ c.args.self.now.config = c.self.invariant.laid_out ∙ ap (λ (p : PoolId). p.config) c.self.view_is in
-    scan_begun c.args.self.now.limits pass.number c.args.query.now pass.front c.args.self.now c.self.inside.layout next c.in-Ok-open_find.token c.in-Ok.words c.in-Ok-plan.plan laid_out opened.number
-    (record { earlier = opened.turn.earlier; seen = opened.turn.seen; answer = opened.turn.answer.0; made = opened.turn.made }) opened.next c.in-Ok.ensures planned.rows planned.laid
+    let laid_out : c.self.inside.layout ≡ g.N.PoolName.pool.config = c.self.invariant.laid_out ∙ ap (λ (p : PoolId). p.config) c.self.invariant.of_name in
+    scan_begun g.N.PoolName.pool.limits pass.number c.args.query.now pass.front g.N.PoolName.pool c.self.inside.layout next c.in-Ok-open_find.token c.in-Ok.words c.in-Ok-plan.planned.1 c.in-Ok-plan.planned.0 laid_out opened.number
+    (record { earlier = opened.turn.earlier; seen = opened.turn.seen; answer = opened.turn.answer.0; made = opened.turn.made }) opened.next c.in-Ok.ensures planned.rest planned.rows planned.laid

@@ -10,7 +10,7 @@ opened_take-requires g c =
     let job = c.in-Clear.to_clear.job in
     let seat = c.take.new.pass in
     let next = c.clear.new.seat in
-    let view : c.self.inside.pool ≡ c.args.self.now = c.self.view_is in
+    let view : c.self.inside.pool ≡ g.N.PoolName.pool = c.self.invariant.of_name in
     record {
       cleared = subst (λ (p : PoolId). HasCleared p job next) view
           (has_cleared c.self.inside.pool job seat next (subst (λ (p : PoolId). IsToClear p job seat) (sym view) c.in-Clear.ensures.next.0) c.clear.ensures.seat c.clear.ensures.zeros);
@@ -22,5 +22,5 @@ returns-in-Clear-clause-turns g c =
     let pass = c.args.pass.now in
     let doc = c.args.doc.now in
     let opened = c.opened_take.ensures in
-    inr (cleared_first c.args.self.now.limits pass.number doc.id doc.text pass.front c.opened_take.new.pass.front c.in-Clear.to_clear c.opened_take.result c.take.new.pass c.clear.new.seat
+    inr (cleared_first g.N.PoolName.pool.limits pass.number doc.id doc.text pass.front c.opened_take.new.pass.front c.in-Clear.to_clear c.opened_take.result c.take.new.pass c.clear.new.seat
     c.in-Clear.ensures.turn c.in-Clear.ensures.next.1 c.take.ensures.number c.clear.ensures.seat opened.turn opened.slice opened.column)

@@ -1,45 +1,74 @@
-use Rattle.std.proofs.Common.{◌∙◌, subst}
+use Rattle.std.proofs.Common.{◌∙◌, subst, inr}
 use Rattle.std.proofs.lemmas.Result.{err_from_is_err_and}
 use Rattle.engine.proofs.Finds.{dropped_step, ended_turns, found_step, found_turns, refused_step}
 use Rattle.funnel_model.specs.Legal.{IsIdle}
 use Rattle.engine.proofs.engine.Engine.find_by.Goals as goal
 
-pub returns-in_err-begun-clause-step : goal.returns-in_err-begun-clause-step
-returns-in_err-begun-clause-step g c =
+pub returns-in_err-begun-clause-call : goal.returns-in_err-begun-clause-call
+returns-in_err-begun-clause-call g c =
     let p = err_from_is_err_and c.from_residual.result c.from_residual.ensures.1 in
-    let pass = c.args.pass.now in
+    let limits = g.N.PoolName.pool.limits in
+    let query = c.args.query.now in
+    let seat = c.pass.inside.seat in
     let next = c.begin.new.pass in
     let did = c.in_err-begun.ensures in
     rw (p.1, p.2)
-    (refused_step c.args.self.now.limits pass.number c.args.query.now pass.front next.front c.requires.pass.idle did.legal (subst (λ n. IsIdle n next.front) did.number did.rests.idle)
-    c.in_err-begun.field-0.0 did.turns)
+    (rw (← c.pass.view_is)
+    (record {
+      step = refused_step limits seat.number query seat.front next.front c.pass.invariant.idle did.legal (subst (λ n. IsIdle n next.front) did.number did.rests.idle) c.in_err-begun.field-0.0 did.turns;
+      number = did.number;
+    }))
 
-pub returns-in-Ok-clause-step : goal.returns-in-Ok-clause-step
-returns-in-Ok-clause-step g c =
-    let limits = c.args.self.now.limits in
-    let pass = c.args.pass.now in
+pub returns-clause-call : goal.returns-clause-call
+returns-clause-call g c =
+    let limits = g.N.PoolName.pool.limits in
+    let seat = c.pass.inside.seat in
     let query = c.args.query.now in
     let middle = c.begin.new.pass in
     let end = c.finish.new.pass in
     let began = c.in_ok-begun.ensures in
     let did = c.in-Ok.ensures in
-    found_step limits pass.number query pass.front end.front c.requires.pass.idle did.legal (subst (λ n. IsIdle n end.front) (did.number ∙ began.number) did.rests.idle) c.in-Ok.ids
-    (found_turns limits pass.number query pass.front middle began.number began.turns end.front did.ended c.in-Ok.ids did.found)
+    let number = did.number ∙ began.number in
+    rw (← c.pass.view_is)
+    (record {
+      step = found_step limits seat.number query seat.front end.front c.pass.invariant.idle did.legal (subst (λ n. IsIdle n end.front) number did.rests.idle) c.in-Ok.ids
+          (found_turns limits seat.number query seat.front middle began.number began.turns end.front did.ended c.in-Ok.ids did.found);
+      number = number;
+    })
 
-pub returns-in-Ok-clause-turns : goal.returns-in-Ok-clause-turns
-returns-in-Ok-clause-turns g c =
-    let pass = c.args.pass.now in
+pub returns-clause-turns : goal.returns-clause-turns
+returns-clause-turns g c =
+    let limits = g.N.PoolName.pool.limits in
+    let seat = c.pass.inside.seat in
+    let query = c.args.query.now in
+    let after = c.finish.new.pass.front in
     let began = c.in_ok-begun.ensures in
     let did = c.in-Ok.ensures in
-    found_turns c.args.self.now.limits pass.number c.args.query.now pass.front c.begin.new.pass began.number began.turns c.finish.new.pass.front did.ended c.in-Ok.ids did.found
+    rw (← c.pass.view_is)
+    (found_turns limits seat.number query seat.front c.begin.new.pass began.number began.turns after did.ended c.in-Ok.ids did.found)
 
-pub returns-in-Err-clause-step : goal.returns-in-Err-clause-step
-returns-in-Err-clause-step g c =
-    let limits = c.args.self.now.limits in
-    let pass = c.args.pass.now in
+pub returns-in_default-clause-call : goal.returns-in_default-clause-call
+returns-in_default-clause-call g c =
+    let limits = g.N.PoolName.pool.limits in
+    let seat = c.pass.inside.seat in
     let query = c.args.query.now in
     let end = c.finish.new.pass in
     let began = c.in_ok-begun.ensures in
-    let did = c.in-Err.ensures in
-    dropped_step limits pass.number query pass.front end.front c.requires.pass.idle did.legal (subst (λ n. IsIdle n end.front) (did.number ∙ began.number) did.rests.idle)
-    (ended_turns limits pass.number query pass.front c.begin.new.pass began.number began.turns end.front did.ended)
+    let did = c.finish.ensures in
+    let number = did.number ∙ began.number in
+    rw (← c.pass.view_is)
+    (record {
+      step = dropped_step limits seat.number query seat.front end.front c.pass.invariant.idle did.legal (subst (λ n. IsIdle n end.front) number did.rests.idle)
+          (ended_turns limits seat.number query seat.front c.begin.new.pass began.number began.turns end.front did.ended);
+      number = number;
+    })
+
+pub returns-in_default-clause-turns : goal.returns-in_default-clause-turns
+returns-in_default-clause-turns g c =
+    let limits = g.N.PoolName.pool.limits in
+    let seat = c.pass.inside.seat in
+    let query = c.args.query.now in
+    let after = c.finish.new.pass.front in
+    let began = c.in_ok-begun.ensures in
+    rw (← c.pass.view_is)
+    (inr (ended_turns limits seat.number query seat.front c.begin.new.pass began.number began.turns after c.finish.ensures.ended))

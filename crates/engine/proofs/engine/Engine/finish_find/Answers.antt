@@ -1,13 +1,15 @@
-use Rattle.std.proofs.Common.{subst}
 use Rattle.engine.proofs.Finds.{end_is_quiet}
-use Rattle.funnel_model.specs.Steps.{AddsNone}
 use Rattle.slice_recycler.proofs.Steps.{quiet_adds_none}
-use Rattle.slice_rule.specs.Seats.{PassState}
 use Rattle.engine.proofs.engine.Engine.finish_find.Goals as goal
 
-pub returns-clause-calls : goal.returns-clause-calls
-returns-clause-calls g c =
-    let pass = c.find.inside.pass in
-    let after = c.finish-answer.new.pass.front in
-    subst (λ (s : PassState). AddsNone s.number s.front after) c.find.view_is
-    (quiet_adds_none pass.number 0 pass.front after (end_is_quiet pass.number pass.front after c.finish-answer.ensures.ended))
+pub returns-clause-pass : goal.returns-clause-pass
+returns-clause-pass g c =
+    let seat = c.find.inside.seat in
+    let next = c.finish-answer.new.pass in
+    let did = c.finish-answer.ensures in
+    rw (← c.find.view_is)
+    (record {
+      calls = quiet_adds_none seat.number 0 seat.front next.front (end_is_quiet seat.number seat.front next.front did.ended);
+      legal = did.legal;
+      number = did.number;
+    })

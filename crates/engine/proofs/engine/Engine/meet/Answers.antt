@@ -1,25 +1,34 @@
-use Rattle.std.proofs.Common.{◌++◌}
+use Rattle.std.proofs.Common.{◌++◌, subst}
+use Rattle.funnel_model.specs.Legal.{IsLegal}
+use Rattle.slice_rule.specs.Pools.{PoolId}
 use Rattle.slice_rule.specs.Views.{longer}
-use Rattle.engine.proofs.Ends.{meets_no_call, meets_others, rests_met}
+use Rattle.engine.proofs.Ends.{meets_no_call, meets_others, rests_met, same_number}
 use Rattle.engine.proofs.engine.Engine.meet.Goals as goal
 
 pub returns-clause-seen : goal.returns-clause-seen
 returns-clause-seen g c =
-    let seat = c.args.pass.now in
-    let note = c.args.note in
+    let seat = c.pass.inside.seat in
+    let note = c.note.inside.note in
     let met = c.join.ensures in
-    meets_others seat c.join.new.seat (longer seat.front note.front) (note.facts ++ seat.told) met.seat (met.none_since c.requires.pass.seated.none_outstanding)
+    rw (← c.pass.view_is)
+    (meets_others seat c.join.new.seat (longer seat.front note.front) (note.facts ++ seat.told) met.seat (met.none_since c.pass.invariant.seated.none_outstanding))
 
-pub returns-clause-calls : goal.returns-clause-calls
-returns-clause-calls g c =
-    let seat = c.args.pass.now in
-    let note = c.args.note in
+pub returns-clause-pass : goal.returns-clause-pass
+returns-clause-pass g c =
+    let seat = c.pass.inside.seat in
+    let next = c.join.new.seat in
+    let note = c.note.inside.note in
     let met = c.join.ensures in
-    meets_no_call seat c.join.new.seat (longer seat.front note.front) (note.facts ++ seat.told) met.seat (met.none_since c.requires.pass.seated.none_outstanding)
+    rw (← c.pass.view_is)
+    (record {
+      calls = meets_no_call seat next (longer seat.front note.front) (note.facts ++ seat.told) met.seat (met.none_since c.pass.invariant.seated.none_outstanding);
+      legal = subst (λ (p : PoolId). IsLegal p.limits next.front) c.self.invariant.of_name met.legal;
+      number = same_number seat next (longer seat.front note.front) (note.facts ++ seat.told) met.seat (met.none_since c.pass.invariant.seated.none_outstanding);
+    })
 
-pub returns-clause-rests : goal.returns-clause-rests
-returns-clause-rests g c =
-    let seat = c.args.pass.now in
-    let note = c.args.note in
+pub invariant_of-pass : goal.invariant_of-pass
+invariant_of-pass g c =
+    let seat = c.pass.inside.seat in
+    let note = c.note.inside.note in
     let met = c.join.ensures in
-    rests_met seat c.join.new.seat (longer seat.front note.front) (note.facts ++ seat.told) met.seat (met.none_since c.requires.pass.seated.none_outstanding) c.args.self.now c.requires.pass met.own met.asked
+    rests_met seat c.join.new.seat (longer seat.front note.front) (note.facts ++ seat.told) met.seat (met.none_since c.pass.invariant.seated.none_outstanding) g.N.PoolName.pool c.pass.invariant met.own met.asked

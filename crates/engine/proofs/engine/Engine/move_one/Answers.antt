@@ -16,15 +16,15 @@ use Rattle.engine.proofs.engine.Engine.move_one.Goals as goal
 
 pub write-requires-clause-can_place : goal.write-requires-clause-can_place
 write-requires-clause-can_place g c =
-    let laid : c.self.inside.layout ≡ c.args.self.now.config = c.self.invariant.laid_out ∙ ap (λ (p : PoolId). p.config) c.self.view_is in
+    let laid : c.self.inside.layout ≡ g.N.PoolName.pool.config = c.self.invariant.laid_out ∙ ap (λ (p : PoolId). p.config) c.self.invariant.of_name in
     subst (λ (k : Config). CanPlace k c.in-Ok.bits.rows) laid c.in-Ok.ensures.can_place
 
 pub end_move-requires-clause-written : goal.end_move-requires-clause-written
 end_move-requires-clause-written g c =
     let look = c.in-Ok-Some.look in
-    let config = c.args.self.now.config in
-    let rows = rows_laid c.self.inside.pool c.self.inside.layout config c.words.result.now look.doc.words c.in-Ok.bits.rows c.self.invariant.laid_out (ap (λ (p : PoolId). p.config) c.self.view_is) c.words.ensures.words c.in-Ok.ensures.rows in
-    subst (λ (k : Look). HasWritten c.args.self.now c.in-Some.claim k.doc.words c.write.new.bits.bits c.write.new.pass) (sym c.in-Some.ensures.turn.answer.3)
+    let config = g.N.PoolName.pool.config in
+    let rows = rows_laid c.self.inside.pool c.self.inside.layout config c.words.result.now look.doc.words c.in-Ok.bits.rows c.self.invariant.laid_out (ap (λ (p : PoolId). p.config) c.self.invariant.of_name) c.words.ensures.words c.in-Ok.ensures.rows in
+    subst (λ (k : Look). HasWritten g.N.PoolName.pool c.in-Some.claim k.doc.words c.write.new.bits.bits c.write.new.pass) (sym c.in-Some.ensures.turn.answer.3)
     (c.write.ensures.written look.doc.words rows)
 
 pub end_move-requires-clause-look : goal.end_move-requires-clause-look
@@ -34,7 +34,7 @@ end_move-requires-clause-look g c =
     let took = c.take_move.new.pass in
     let claim = c.in-Some.claim in
     let takes = event.Take seen.number claim.slice claim.column ∷ [] in
-    let limits = c.args.self.now.limits in
+    let limits = g.N.PoolName.pool.limits in
     let answers : List Event → Type 0 = λ history. AnswersTakeMove limits.events limits history seen.number look (Some (claim, c.in-Some.look)) in
     let held : HoldsLook seen look = subst (λ (o : Option Look). IfSome o (HoldsLook seen)) c.in-Ok-Some.field-0-is c.in-Ok-Some.ensures.look in
     subst (HoldsLook c.write.new.pass) (sym c.in-Some.ensures.turn.answer.3)
@@ -42,7 +42,7 @@ end_move-requires-clause-look g c =
 
 pub returns-clause-moved : goal.returns-clause-moved
 returns-clause-moved g c =
-    let pool = c.args.self.now in
+    let pool = g.N.PoolName.pool in
     let config = pool.config in
     let pass = c.args.pass.now in
     let seen = c.look.new.pass in
@@ -51,7 +51,7 @@ returns-clause-moved g c =
     let looked = subst (λ (o : Option Look). IsTurn pass.number pass.front seen.front (λ history. (looks : LooksState) × AnswersLook config.reserve pool.limits.events pool.limits looks history c.args.id (Ok o)) [])
     c.in-Ok-Some.field-0-is c.in-Ok-Some.ensures.turn in
     let held : HoldsLook seen look = subst (λ (o : Option Look). IfSome o (HoldsLook seen)) c.in-Ok-Some.field-0-is c.in-Ok-Some.ensures.look in
-    let rows = rows_laid c.self.inside.pool c.self.inside.layout config c.words.result.now look.doc.words c.in-Ok.bits.rows c.self.invariant.laid_out (ap (λ (p : PoolId). p.config) c.self.view_is) c.words.ensures.words c.in-Ok.ensures.rows in
+    let rows = rows_laid c.self.inside.pool c.self.inside.layout config c.words.result.now look.doc.words c.in-Ok.bits.rows c.self.invariant.laid_out (ap (λ (p : PoolId). p.config) c.self.invariant.of_name) c.words.ensures.words c.in-Ok.ensures.rows in
     move_turns config pool.limits pass.number c.args.id pass.front c.end_move.new.pass.front look c.in-Some.look c.in-Some.claim c.write.new.bits.bits c.end_move.result seen c.take_move.new.pass
     c.write.new.pass looked c.look.ensures.number c.in-Some.ensures.turn c.in-Some.ensures.turn.answer.3 c.take_move.ensures.number c.write.ensures.seat
     (c.write.ensures.written (words text) (rows_of_text config look.doc.words text c.in-Ok.bits.rows held.of_text rows)).document c.end_move.ensures.turn

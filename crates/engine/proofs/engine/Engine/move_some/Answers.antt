@@ -6,7 +6,7 @@ use Rattle.engine.proofs.engine.Engine.move_some.Goals as goal
 
 pub returns-then-not-move_one-clause-moves : goal.returns-then-not-move_one-clause-moves
 returns-then-not-move_one-clause-moves g c =
-    let pool = c.args.self.now in
+    let pool = g.N.PoolName.pool in
     let pass = c.args.pass.now in
     let so_far = c.loop.invariant in
     let low = c.loop-test.true in (
@@ -17,7 +17,7 @@ returns-then-not-move_one-clause-moves g c =
 
 pub loop-preserved : goal.loop-preserved
 loop-preserved g c =
-    let pool = c.args.self.now in
+    let pool = g.N.PoolName.pool in
     let pass = c.args.pass.now in
     let so_far = c.loop.invariant in
     record {

@@ -1,5 +1,6 @@
-use Rattle.std.proofs.Common.{◌≡◌, ◌*◌, false, length, sym, ap, ap₂, ◌∙◌}
+use Rattle.std.proofs.Common.{◌≡◌, ◌*◌, false, length, map, sym, ap, ap₂, ◌∙◌}
 use Rattle.std.proofs.lemmas.List.{length-replicate}
+use Rattle.std.specs.List.{range_with_len}
 use Rattle.slice_rule.specs.Pools.{PoolId, limits_of}
 use Rattle.slice_rule.specs.Seats.{HomeState}
 use Rattle.commit_desk.specs.Desks.{DeskState}
@@ -7,6 +8,8 @@ use Rattle.commit_desk.specs.Moving.{LooksState}
 use Rattle.funnel_model.specs.Legal.{Limits}
 use Rattle.funnel_model.specs.Sizes.{columns_of_slice, words_of_slice}
 use Rattle.funnel_model.specs.declared.config.Config.{Config}
+use Rattle.engine.specs.Passes.{new_pass, view_of}
+use Rattle.engine.proofs.NewPasses.{new_seats_rest, new_views}
 use Rattle.engine.proofs.engine.Engine.open.Goals as goal
 
 pub invariant_of-new : goal.invariant_of-new
@@ -28,4 +31,27 @@ invariant_of-new g c =
       marks =
           ap (λ (looks : LooksState). length looks.marks) c.in_ok-looks.ensures ∙ length-replicate (c.args.config.now.slices * c.columns.result) false
           ∙ ap₂ (λ s k. s * k) slices columns;
+    }
+
+pub name_passes-requires : goal.name_passes-requires
+name_passes-requires g c =
+    let pool_is : c.blank.inside.pool ≡ g.N.PoolName.pool = c.blank.view_is ∙ c.requires.named in
+    record { rest = new_seats_rest g.N.PoolName.pool c.blank.inside.pool c.blank.inside.passes.items pool_is c.blank.invariant.new_passes }
+
+pub returns-clause-passes : goal.returns-clause-passes
+returns-clause-passes g c =
+    let config_is : c.blank.inside.pool.config ≡ c.args.config.now = ap (λ (p : PoolId). p.config) c.blank.view_is ∙ c.requires.made_with in
+    c.in_ok-passes.ensures ∙ ap (map view_of) c.blank.invariant.new_passes ∙ new_views c.blank.inside.pool (range_with_len 0 c.blank.inside.pool.config.passes)
+    ∙ ap (λ (k : Config). map new_pass (range_with_len 0 k.passes)) config_is
+
+pub invariant_of-engine : goal.invariant_of-engine
+invariant_of-engine g c =
+    let of_config = c.blank.invariant.of_config in
+    let config_is : c.args.config.now ≡ c.blank.inside.pool.config = sym (ap (λ (p : PoolId). p.config) c.blank.view_is ∙ c.requires.made_with) in
+    record {
+      of_name = c.blank.view_is ∙ c.requires.named;
+      of_config = of_config;
+      laid_out = c.in_ok-layout.ensures ∙ config_is;
+      count = ap (λ (k : Config). k.slices) config_is;
+      kept_free = ap (λ (k : Config). k.reserve) config_is;
     }

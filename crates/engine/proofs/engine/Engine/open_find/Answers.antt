@@ -5,5 +5,5 @@ pub returns-clause-next : goal.returns-clause-next
 returns-clause-next g c =
     let rests = c.requires.rests in
     let found = c.open_find.ensures in
-    finds_or_rests c.args.self.now c.deref_mut.result.now.desk c.open_find.new.self c.args.pass.now c.open_find.new.seat rests.seated.same found.none_outstanding rests.idle c.args.query.now
+    finds_or_rests g.N.PoolName.pool c.deref_mut.result.now.desk c.open_find.new.self c.args.pass.now c.open_find.new.seat rests.seated.same found.none_outstanding rests.idle c.args.query.now
     c.open_find.result found.token found.events

@@ -6,5 +6,5 @@ pub returns-clause-next : goal.returns-clause-next
 returns-clause-next g c =
     let opened = c.opened_take.ensures in
     let start = c.requires.cleared.to_clear in
-    claims_first c.args.self.now c.deref_mut.result.now.desk c.opened_take.new.self c.args.pass.now c.opened_take.new.seat c.args.job.slice c.opened_take.result start.seated.same opened.none_outstanding
-    (c.deref_mut.result.now.of_pool ∙ sym c.self.invariant.of_name ∙ c.self.view_is) start.in_range opened.slice opened.column opened.nothing_yet opened.events
+    claims_first g.N.PoolName.pool c.deref_mut.result.now.desk c.opened_take.new.self c.args.pass.now c.opened_take.new.seat c.args.job.slice c.opened_take.result start.seated.same opened.none_outstanding
+    c.deref_mut.result.now.of_pool start.in_range opened.slice opened.column opened.nothing_yet opened.events

@@ -17,11 +17,11 @@ returns-clause-of_text g c =
 pub returns-clause-rows : goal.returns-clause-rows
 returns-clause-rows g c =
     let rows = c.in_ok-bits.bits.rows in
-    let laid : c.self.inside.layout ≡ c.args.self.now.config = c.self.invariant.laid_out ∙ ap (λ (p : PoolId). p.config) c.self.view_is in
-    subst (λ (set : List (List ℕ)). HasRowsOf c.args.self.now.config set rows) (sym (ap (λ (d : Parts). d.words) c.new.ensures))
+    let laid : c.self.inside.layout ≡ g.N.PoolName.pool.config = c.self.invariant.laid_out ∙ ap (λ (p : PoolId). p.config) c.self.invariant.of_name in
+    subst (λ (set : List (List ℕ)). HasRowsOf g.N.PoolName.pool.config set rows) (sym (ap (λ (d : Parts). d.words) c.new.ensures))
     (subst (λ (k : Config). HasRowsOf k c.in-Ok.words rows) laid c.in_ok-bits.ensures.rows)
 
 pub returns-clause-can_place : goal.returns-clause-can_place
 returns-clause-can_place g c =
-    let laid : c.self.inside.layout ≡ c.args.self.now.config = c.self.invariant.laid_out ∙ ap (λ (p : PoolId). p.config) c.self.view_is in
+    let laid : c.self.inside.layout ≡ g.N.PoolName.pool.config = c.self.invariant.laid_out ∙ ap (λ (p : PoolId). p.config) c.self.invariant.of_name in
     subst (λ (k : Config). CanPlace k c.in_ok-bits.bits.rows) laid c.in_ok-bits.ensures.can_place

@@ -6,7 +6,7 @@ use Rattle.engine.proofs.engine.Engine.resolve.Given as goal
 -- what the candidates before this one give is found, by turns without an event
 abbrev pub invariant-loop-open : goal.invariant-loop-open
 invariant-loop-open g l = record {
-  so_far : IsFoundUpTo l.self l.pass l.token l.words l.candidates l.out l.from;
+  so_far : IsFoundUpTo g.N.PoolName.pool l.pass l.token l.rest l.candidates l.out l.from;
   same : l.token ≡ l.fn.token;
   seen : IsFrontOf l.fn.pass.number l.fn.pass.front l.pass.front;
   number : l.pass.number ≡ l.fn.pass.number;

@@ -1,6 +1,7 @@
 use Rattle.std.proofs.Common.{◌≡◌, ◌<◌, [], ◌∷◌, length, refl, sym, ◌∙◌, subst, arith}
 use Rattle.commit_desk.proofs.CallEnds.{rests_one}
 use Rattle.commit_desk.proofs.Turns.{makes_more}
+use Rattle.commit_desk.specs.Resolving.{IsRestOf}
 use Rattle.commit_desk.specs.Scans.{WereScanned}
 use Rattle.engine.proofs.FoundUpTo.{all_found, found_on}
 use Rattle.funnel_model.specs.declared.event.Event.TheVariants as event
@@ -9,24 +10,29 @@ use Rattle.engine.proofs.engine.Engine.resolve_turn.Goals as goal
 
 pub resolve_part-next-requires-clause-scanned : goal.resolve_part-next-requires-clause-scanned
 resolve_part-next-requires-clause-scanned g c =
-    subst (λ (p : PoolId). WereScanned p.config c.args.pass.now c.args.token c.args.words.now c.args.candidates.now)
-    (sym (c.deref_mut.result.now.of_pool ∙ sym c.self.invariant.of_name ∙ c.self.view_is)) c.requires.so_far.scanned
+    subst (λ (p : PoolId). WereScanned p.config c.args.pass.now c.args.token c.args.candidates.now)
+    (sym c.deref_mut.result.now.of_pool) c.requires.so_far.scanned
+
+pub resolve_part-next-requires-clause-rest : goal.resolve_part-next-requires-clause-rest
+resolve_part-next-requires-clause-rest g c begun =
+    subst (λ (p : PoolId). IsRestOf p.config begun.query c.args.rest.now)
+    (sym c.deref_mut.result.now.of_pool) (c.requires.so_far.rest_of begun)
 
 pub returns-then-next-len-clause-next : goal.returns-then-next-len-clause-next
 returns-then-next-len-clause-next g c =
-    let pool = c.args.self.now in
+    let pool = g.N.PoolName.pool in
     let pass = c.args.pass.now in
     let next = c.resolve_part-next.new.seat in
     let token = c.args.token in
-    let words = c.args.words.now in
+    let rest = c.args.rest.now in
     let candidates = c.args.candidates.now in
     let did = c.resolve_part-next.ensures in
     let so_far = c.requires.so_far in
-    let of : c.resolve_part-next.new.self.pool ≡ pool = did.events.pool ∙ c.deref_mut.result.now.of_pool ∙ sym c.self.invariant.of_name ∙ c.self.view_is in
-    found_on pool pass token words candidates c.args.out.now c.resolve_part-next.new.out c.args.from c.resolve_part-next.result so_far did.onward did.found next c.deref_mut.result.now.desk
+    let of : c.resolve_part-next.new.self.pool ≡ pool = did.events.pool ∙ c.deref_mut.result.now.of_pool in
+    found_on pool pass token rest candidates c.args.out.now c.resolve_part-next.new.out c.args.from c.resolve_part-next.result so_far did.onward did.found next c.deref_mut.result.now.desk
     c.resolve_part-next.new.self did.events
     (record { seated = record { same = did.events.same ∙ so_far.finding.seated.same; none_outstanding = did.none_outstanding }; holds = did.token })
-    (subst (λ (p : PoolId). WereScanned p.config next token words candidates) of did.scanned) did.within did.enough
+    (subst (λ (p : PoolId). WereScanned p.config next token candidates) of did.scanned) did.within did.enough
 
 pub returns-then-next-len-clause-further : goal.returns-then-next-len-clause-further
 returns-then-next-len-clause-further g c =
@@ -39,12 +45,12 @@ returns-then-next-len-clause-further g c =
 pub returns-clause-found : goal.returns-clause-found
 returns-clause-found g c last =
     let did = c.resolve_part-next.ensures in
-    all_found c.args.self.now c.args.pass.now c.args.token c.args.words.now c.args.candidates.now c.args.out.now c.resolve_part-next.new.out c.args.from c.resolve_part-next.result c.requires.so_far did.onward did.found
+    all_found g.N.PoolName.pool c.args.pass.now c.args.token c.args.rest.now c.args.candidates.now c.args.out.now c.resolve_part-next.new.out c.args.from c.resolve_part-next.result c.requires.so_far did.onward did.found
     (omega (arith, c.if-next-len.false, c.len.ensures)) did.all
 
 pub returns-clause-rests : goal.returns-clause-rests
 returns-clause-rests g c last =
     let seat = c.args.pass.now in
     let made = makes_more [] (event.End c.resolve_part-next.new.seat.number ∷ []) c.deref_mut.result.now.desk c.resolve_part-next.new.self c.end_find.new.self seat c.resolve_part-next.new.seat c.end_find.new.seat c.resolve_part-next.ensures.events c.end_find.ensures.events in
-    rests_one c.args.self.now c.deref_mut.result.now.desk c.end_find.new.self seat c.end_find.new.seat c.requires.so_far.finding.seated.same c.end_find.ensures.none_outstanding
+    rests_one g.N.PoolName.pool c.deref_mut.result.now.desk c.end_find.new.self seat c.end_find.new.seat c.requires.so_far.finding.seated.same c.end_find.ensures.none_outstanding
     (event.End c.resolve_part-next.new.seat.number) c.resolve_part-next.ensures.events.number refl made

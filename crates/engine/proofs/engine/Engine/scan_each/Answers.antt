@@ -2,22 +2,25 @@ use Rattle.std.proofs.Common.{◌≡◌, ap, refl, subst, sym, ◌∙◌, arith}
 use Rattle.engine.proofs.Scans.{in_pool, scan_kept, scanned_all, scanned_none}
 use Rattle.engine.specs.Engines.{IsOfConfig}
 use Rattle.engine.specs.Scans.{AreScannedBelow}
+use Rattle.funnel_model.specs.Legal.{Limits}
 use Rattle.slice_rule.specs.Pools.{PoolId}
 use Rattle.engine.proofs.engine.Engine.scan_each.Goals as goal
 
 pub loop-slice-init : goal.loop-slice-init
 loop-slice-init g c =
-    let config = c.args.self.now.config in
+    let config = g.N.PoolName.pool.config in
     let rows = c.args.rows.now in
     let words = c.args.begun.now.words in
+    let of_config = subst IsOfConfig c.self.invariant.of_name c.self.invariant.of_config in
+    let laid = ap (λ (p : PoolId). p.limits.slice_words) c.requires.scan.can_read.same ∙ ap (λ (l : Limits). l.slice_words) of_config.limits in
     record {
       kept = refl;
-      scanned = subst (AreScannedBelow config rows.seat.now rows.token.now words 0) (sym c.requires.empty) (scanned_none config rows.seat.now rows.token.now words);
+      scanned = subst (AreScannedBelow config rows.seat.now rows.token.now words 0) (sym c.requires.empty) (scanned_none config rows.seat.now rows.token.now words laid);
     }
 
 pub scan_slice-requires-clause-scan : goal.scan_slice-requires-clause-scan
 scan_slice-requires-clause-scan g c =
-    scan_kept c.args.self.now c.args.rows.now c.loop-slice.rows c.args.begun.now.words c.args.begun.now.plan c.loop-slice.invariant.kept c.requires.scan
+    scan_kept g.N.PoolName.pool c.args.rows.now c.loop-slice.rows c.args.begun.now.words c.args.begun.now.plan c.loop-slice.invariant.kept c.requires.scan
 
 pub scan_slice-requires-clause-below : goal.scan_slice-requires-clause-below
 scan_slice-requires-clause-below g c = c.loop-slice.invariant.scanned
@@ -33,13 +36,13 @@ loop-slice-preserved g c = record {
 
 pub returns-clause-scanned : goal.returns-clause-scanned
 returns-clause-scanned g c =
-    let pool = c.args.self.now in
+    let pool = g.N.PoolName.pool in
     let rows = c.loop-slice.rows in
     let words = c.args.begun.now.words in
     let plan = c.args.begun.now.plan in
     let scan = scan_kept pool c.args.rows.now rows words plan c.loop-slice.invariant.kept c.requires.scan in
-    let of_config = subst IsOfConfig c.self.view_is c.self.invariant.of_config in
-    let count : c.self.inside.slices ≡ pool.config.slices = c.self.invariant.count ∙ ap (λ (p : PoolId). p.config.slices) c.self.view_is in
+    let of_config = subst IsOfConfig c.self.invariant.of_name c.self.invariant.of_config in
+    let count : c.self.inside.slices ≡ pool.config.slices = c.self.invariant.count ∙ ap (λ (p : PoolId). p.config.slices) c.self.invariant.of_name in
     let over = c.loop-slice-test.false in
     scanned_all pool.config rows.seat.now rows.token.now words c.loop-slice.slice c.loop-slice.out
     (λ slice has. let low = in_pool pool rows words plan of_config scan slice has in omega (arith, low, count, over)) c.loop-slice.invariant.scanned

@@ -7,5 +7,5 @@ use Rattle.engine.proofs.engine.Engine.scan_each.Given as goal
 abbrev pub invariant-loop-slice : goal.invariant-loop-slice
 invariant-loop-slice g l = record {
   kept : kept_of l.rows ≡ kept_of l.fn.rows;
-  scanned : AreScannedBelow l.self.config l.rows.seat.now l.rows.token.now l.begun.words l.slice l.out;
+  scanned : AreScannedBelow g.N.PoolName.pool.config l.rows.seat.now l.rows.token.now l.begun.words l.slice l.out;
 }

@@ -16,7 +16,7 @@ use Rattle.engine.proofs.engine.Engine.scan_slice.Goals as goal
 
 pub has-requires : goal.has-requires
 has-requires g c =
-    let of_config = subst IsOfConfig c.self.view_is c.self.invariant.of_config in
+    let of_config = subst IsOfConfig c.self.invariant.of_name c.self.invariant.of_config in
     let low = c.requires.slice in
     let slices = ap (λ (l : Limits). l.slices) of_config.limits in
     let few = of_config.valid.in_range.slices in
@@ -24,12 +24,12 @@ has-requires g c =
 
 pub scan-requires-clause-laid : goal.scan-requires-clause-laid
 scan-requires-clause-laid g c =
-    let laid_out : c.self.inside.layout ≡ c.args.self.now.config = c.self.invariant.laid_out ∙ ap (λ (p : PoolId). p.config) c.self.view_is in
+    let laid_out : c.self.inside.layout ≡ g.N.PoolName.pool.config = c.self.invariant.laid_out ∙ ap (λ (p : PoolId). p.config) c.self.invariant.of_name in
     subst (λ (config : Config). All (IsRowOf config) c.args.begun.now.plan) (sym laid_out) c.requires.scan.laid
 
 pub returns-then-has-clause-scanned : goal.returns-then-has-clause-scanned
 returns-then-has-clause-scanned g c =
-    let pool = c.args.self.now in
+    let pool = g.N.PoolName.pool in
     let layout = c.self.inside.layout in
     let before = c.args.rows.now in
     let after = c.scan.new.rows in
@@ -39,8 +39,8 @@ returns-then-has-clause-scanned g c =
     let old = c.args.out.now in
     let new = c.scan.new.out in
     let did = c.scan.ensures in
-    let of_config = subst IsOfConfig c.self.view_is c.self.invariant.of_config in
-    let laid_out : layout ≡ pool.config = c.self.invariant.laid_out ∙ ap (λ (p : PoolId). p.config) c.self.view_is in
+    let of_config = subst IsOfConfig c.self.invariant.of_name c.self.invariant.of_config in
+    let laid_out : layout ≡ pool.config = c.self.invariant.laid_out ∙ ap (λ (p : PoolId). p.config) c.self.invariant.of_name in
     let columns = ap (λ (p : PoolId). p.limits.columns) c.requires.scan.can_read.same ∙ ap (λ (l : Limits). l.columns) of_config.limits ∙ ap columns_of_slice (sym laid_out) in
     let rows = subst (λ (config : Config). HasRowsOf config words plan) (sym laid_out) c.requires.scan.rows in
     let below = subst (λ (config : Config). AreScannedBelow config before.seat.now before.token.now words slice old) (sym laid_out) c.requires.below in
@@ -54,4 +54,4 @@ returns-then-has-clause-scanned g c =
 pub returns-else-has-clause-scanned : goal.returns-else-has-clause-scanned
 returns-else-has-clause-scanned g c =
     let rows = c.args.rows.now in
-    scanned_without c.args.self.now.config rows.seat.now rows.token.now c.args.begun.now.words c.args.slice c.args.out.now (λ has. true≢false (sym (c.if-has.ensures.1 has))) c.requires.below
+    scanned_without g.N.PoolName.pool.config rows.seat.now rows.token.now c.args.begun.now.words c.args.slice c.args.out.now (λ has. true≢false (sym (c.if-has.ensures.1 has))) c.requires.below

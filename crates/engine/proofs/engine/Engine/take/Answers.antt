@@ -8,5 +8,5 @@ returns-clause-next g c =
     let doc = c.args.doc.now in
     let rests = c.requires.rests in
     let took = c.take.ensures in
-    is_to_do c.args.self.now desk c.take.new.self c.args.pass.now c.take.new.seat rests.seated.same took.none_outstanding rests.idle
-    (c.deref_mut.result.now.of_pool ∙ sym c.self.invariant.of_name ∙ c.self.view_is) desk.events_limit doc.id doc.text c.take.result took.answer took.nothing_yet took.events
+    is_to_do g.N.PoolName.pool desk c.take.new.self c.args.pass.now c.take.new.seat rests.seated.same took.none_outstanding rests.idle
+    c.deref_mut.result.now.of_pool desk.events_limit doc.id doc.text c.take.result took.answer took.nothing_yet took.events

@@ -17,7 +17,7 @@ returns g c =
     } in
     let worker : GateState → WorkerState = λ told. record {
       gate = told;
-      caller = caller_of c.self.inside.client;
+      caller = caller_of g.N.PoolName.pool.limits c.self.inside.client;
       front = c.self.inside.client.front;
       left = c.self.inside.left;
       fault = c.self.inside.fault;

@@ -1,9 +1,13 @@
-use Rattle.std.proofs.Common.{◌≡◌, ◌<◌, List, get_or, ap, sym, subst, ◌∙◌, arith}
+use Rattle.std.proofs.Common.{◌≡◌, ◌<◌, List, map, get_or, ap, sym, subst, ◌∙◌, arith}
 use Rattle.std.specs.List.{All}
 use Rattle.funnel_model.specs.Legal.{IsInSlice}
 use Rattle.funnel_model.specs.Sizes.{words_of_slice}
 use Rattle.funnel_model.specs.declared.bit_list.Bit.{Bit}
-use Rattle.row_layout.specs.DocumentBits.{AreDocumentBits, in_order}
+use Rattle.std.proofs.lemmas.List.Elements.{All-map, All-weaker}
+use Rattle.row_layout.specs.DocumentBits.{AreDocumentBits, bit_of_row, in_order}
+use Rattle.row_layout.specs.Owners.{IsOwnedOnlyAt}
+use Rattle.row_layout.proofs.InOrder.{in_order-all}
+use Rattle.row_layout.proofs.Owners.{own-column}
 use Rattle.row_layout.specs.Rows.{IsRowOf}
 use Rattle.row_layout.specs.declared.row.Row.{Row}
 use Rattle.row_layout.proofs.BitLemmas.{all_bits, bit-fits, bits-in_slice, bits-of_words, bits_of_rows, rank-small}
@@ -40,6 +44,19 @@ returns-clause-document_bits c words exactly =
     (omega (arith, c.loop-i.invariant.end)) (omega (arith, c.loop-i.invariant.end, c.loop-i.invariant.many)) c.loop-i.invariant.moved in
     subst (λ bits. AreDocumentBits config words c.args.slice c.args.column (in_order bits)) (sym moved)
     (bits_of_rows config c.args.slice c.args.column rows words exactly)
+
+pub returns-clause-own : goal.returns-clause-own
+returns-clause-own c =
+    let config = c.args.layout.now in
+    let room = words_of_slice config in
+    let rows = c.args.self.now.rows in
+    let moved = all_bits config c.args.slice c.args.column c.loop-i.i rows c.loop-i.self-inside.bits.items
+    (omega (arith, c.loop-i.invariant.end)) (omega (arith, c.loop-i.invariant.end, c.loop-i.invariant.many)) c.loop-i.invariant.moved in
+    subst (λ bits. All (IsOwnedOnlyAt room config c.args.slice c.args.column) (in_order bits)) (sym moved)
+    (in_order-all (IsOwnedOnlyAt room config c.args.slice c.args.column) (map (bit_of_row room c.args.slice c.args.column) rows)
+    (All-map (IsOwnedOnlyAt room config c.args.slice c.args.column) (bit_of_row room c.args.slice c.args.column) rows
+    (All-weaker (IsRowOf config) (λ row. IsOwnedOnlyAt room config c.args.slice c.args.column (bit_of_row room c.args.slice c.args.column row))
+    (λ row laid at. own-column room config c.args.slice c.args.column at row c.requires.column laid) rows c.requires.rows)))
 
 pub returns-clause-of_words : goal.returns-clause-of_words
 returns-clause-of_words c =

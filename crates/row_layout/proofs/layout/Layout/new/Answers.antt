@@ -17,4 +17,5 @@ invariant_of-result c =
       classes_are = c.new-classes.ensures;
       slice_words_are = c.sizes-sizes.ensures.slice_words;
       listed_are = c.in_ok-listed.ensures;
+      table_is = c.in_ok-table.ensures;
     }

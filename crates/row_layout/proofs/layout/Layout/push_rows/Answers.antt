@@ -1,8 +1,8 @@
 -- The rows of a word are its private row, or those of its class.
 use Rattle.std.proofs.Common.{◌≡◌, ◌++◌, ◌∷◌, [], ◌<◌, ℕ, length, ap, sym, subst, ◌∙◌, inl, arith}
 use Rattle.std.specs.List.{All}
-use Rattle.std.specs.Result.{OnOk}
-use Rattle.funnel_model.specs.Sizes.{private_words}
+use Rattle.std.proofs.lemmas.Bool.{le-ltb, lt-ltb}
+use Rattle.funnel_model.specs.Sizes.{class_of_word, private_words}
 use Rattle.std.proofs.lemmas.List.Elements.{All-push}
 use Rattle.row_layout.specs.Rows.{IsRowOf, hashed_rows, private_row}
 use Rattle.row_layout.proofs.Listing.{word_rows-private, word_rows-shared, class_of_word-small, private_number-below}
@@ -41,10 +41,20 @@ returns-in_ok-push-in-Private-clause-laid c =
     subst (All (IsRowOf config)) (sym c.in_ok-push-in-Private.ensures.items)
     (All-push (IsRowOf config) c.args.rows.now.items c.private.result c.requires (inl (c.in-Private.number, below, c.private.ensures)))
 
-pub returns-in-Shared-clause-rows : goal.returns-in-Shared-clause-rows
-returns-in-Shared-clause-rows c =
+pub returns-in_ok-push_hashed-in-Shared-clause-rows : goal.returns-in_ok-push_hashed-in-Shared-clause-rows
+returns-in_ok-push_hashed-in-Shared-clause-rows c =
     let config = c.args.self.now in
     let word = c.args.word.now in
     let shared = word_rows-shared config word c.in-Shared.class c.in-Shared.ensures.value in
-    subst (λ rows. OnOk c.push_hashed.result (c.push_hashed.new.rows.items ≡ c.args.rows.now.items ++ rows))
-    (ap (hashed_rows config word) shared.1 ∙ sym (rows_of_word-shared config word shared.0)) (c.push_hashed.ensures.rows word c.new.ensures)
+    c.in_ok-push_hashed-in-Shared.ensures.rows word c.new-hash.ensures
+    ∙ ap (λ rows. c.args.rows.now.items ++ rows) (ap (hashed_rows config word) shared.1 ∙ sym (rows_of_word-shared config word shared.0))
+
+pub returns-in_ok-push-in-Private-clause-exact : goal.returns-in_ok-push-in-Private-clause-exact
+returns-in_ok-push-in-Private-clause-exact c =
+    let private = word_rows-private c.args.self.now c.args.word.now c.in-Private.number c.in-Private.ensures.value in
+    sym (lt-ltb (class_of_word c.args.self.now c.args.word.now) 3 private.0)
+
+pub returns-in_ok-push_hashed-in-Shared-clause-exact : goal.returns-in_ok-push_hashed-in-Shared-clause-exact
+returns-in_ok-push_hashed-in-Shared-clause-exact c =
+    let shared = word_rows-shared c.args.self.now c.args.word.now c.in-Shared.class c.in-Shared.ensures.value in
+    sym (le-ltb (class_of_word c.args.self.now c.args.word.now) 3 shared.0)

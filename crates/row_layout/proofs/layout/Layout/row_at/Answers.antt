@@ -45,4 +45,4 @@ pub returns-in-Shared-clause-value : goal.returns-in-Shared-clause-value
 returns-in-Shared-clause-value c =
     let config = c.args.self.now in
     let shared = word_rows-shared config c.args.word.now c.in-Shared.class c.in-Shared.ensures.value in
-    c.hashed.ensures.value c.args.word.now c.new.ensures ∙ ap (λ k. hashed_row config c.args.word.now k c.args.j) shared.1 ∙ sym (row_of_word-shared config c.args.word.now c.args.j shared.0)
+    c.hashed.ensures.value c.args.word.now c.new-hash.ensures ∙ ap (λ k. hashed_row config c.args.word.now k c.args.j) shared.1 ∙ sym (row_of_word-shared config c.args.word.now c.args.j shared.0)

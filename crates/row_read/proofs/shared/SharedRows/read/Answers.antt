@@ -1,8 +1,6 @@
-use Rattle.std.proofs.Common.{◌≡◌, List, ◌∷◌, sym, ap, subst}
-use Rattle.std.specs.List.{Contains}
-use Rattle.slice_rule.specs.declared.view.Fact.{Fact}
+use Rattle.std.proofs.Common.{◌≡◌, sym, subst}
 use Rattle.slice_rule.specs.declared.view.Fact.TheVariants as fact
-use Rattle.slice_rule.specs.Seats.{PassState}
+use Rattle.slice_rule.specs.Seats.{PassState, WasReadUnder}
 use Rattle.row_read.specs.SharedRows.{CanRead}
 use Rattle.row_read.proofs.Readings.{read_before, read_now}
 use Rattle.row_read.proofs.shared.SharedRows.read.Goals as goal
@@ -27,15 +25,23 @@ returns-clause-least c = λ bit under. c.read_word.ensures.least under.0 bit und
 
 pub returns-clause-seen : goal.returns-clause-seen
 returns-clause-seen c = λ bit has.
-    let before = c.args.self.now.seat.now.own in
+    let before = c.args.self.now.seat.now in
     let f = fact.WordRead c.args.self.now.token.now.opened_at c.args.word c.read_word.result in
-    let own : c.read_word.new.seat.own ≡ f ∷ before = ap (λ (s : PassState). s.own) c.read_word.ensures.seat in
-    (c.read_word.result, subst (λ (fs : List Fact). Contains fs f) (sym own) (read_now f before), has)
+    subst (λ (s : PassState). WasReadUnder s c.args.self.now.token.now.opened_at (record { word = c.args.word; bit = bit })) (sym c.read_word.ensures.seat) (record {
+      value = c.read_word.result;
+      read = read_now f before.own;
+      set = has;
+      owned = λ slice column event may. c.read_word.ensures.owned slice column bit event may has;
+    })
 
 pub returns-clause-seen_stays : goal.returns-clause-seen_stays
 returns-clause-seen_stays c = λ b seen.
-    let before = c.args.self.now.seat.now.own in
+    let before = c.args.self.now.seat.now in
     let f = fact.WordRead c.args.self.now.token.now.opened_at c.args.word c.read_word.result in
-    let g = fact.WordRead c.args.self.now.token.now.opened_at b.word seen.0 in
-    let own : c.read_word.new.seat.own ≡ f ∷ before = ap (λ (s : PassState). s.own) c.read_word.ensures.seat in
-    (seen.0, subst (λ (fs : List Fact). Contains fs g) (sym own) (read_before f g before seen.1), seen.2)
+    let g = fact.WordRead c.args.self.now.token.now.opened_at b.word seen.value in
+    subst (λ (s : PassState). WasReadUnder s c.args.self.now.token.now.opened_at b) (sym c.read_word.ensures.seat) (record {
+      value = seen.value;
+      read = read_before f g before.own seen.read;
+      set = seen.set;
+      owned = seen.owned;
+    })

@@ -18,7 +18,7 @@ fetch_add-requires g c =
     let asked = subst (λ (h : HomeState). IsOutstanding h e) (sym c.home.view_is) c.requires.asked in (
       search rules,
       search rules,
-      appends key c.self.inside.table.shared.table_id.slots c.home.inside.seat.id me me.0.limits.passes me.0.limits.passes g.J.EventName.named
+      appends key c.self.inside.table.shared.key.config.shared.key c.self.inside.table.shared.table_id.slots c.home.inside.seat.id me me.0.limits.passes me.0.limits.passes g.J.EventName.named
           c.home.invariant.role
           (subst (λ (h : HomeState). length h.history < 2 ^ 63 - 1) (sym c.home.view_is) c.requires.room)
           (subst (λ (x : Event). IsAllowed key me.0.front x) (sym c.requires.named) allowed)

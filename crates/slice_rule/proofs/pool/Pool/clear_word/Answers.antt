@@ -17,7 +17,7 @@ store-requires c =
     let job = c.args.job.now in (
       search rules,
       (steps.job_word at job c.args.word c.requires.job c.requires.inside).within,
-      rw (c.self.invariant.row) (clears_word c.self.inside.table.shared.key.sizes c.self.inside.table.shared.table_id.slots c.seat.inside.seat.id c.seat.inside.seat.me
+      rw (c.self.invariant.row) (clears_word c.self.inside.table.shared.key.sizes c.self.inside.table.shared.key.config.shared.key c.self.inside.table.shared.table_id.slots c.seat.inside.seat.id c.seat.inside.seat.me
           c.seat.inside.number job.slice c.args.word (steps.sizes_are at) c.seat.invariant.role (steps.job_is at job c.requires.job)
           (steps.all_seen at c.requires.none_outstanding) (steps.inside_here at job.slice c.args.word c.requires.inside)),
     )

@@ -16,7 +16,7 @@ of_words-requires c =
     let config = made.config.shared.key in
     let words : c.as_slice.result.now ≡ replicate (pool_words made.sizes) 0 =
     c.as_slice.ensures.value ∙ c.in_ok-words.ensures ∙ ap (λ (l : Limits). replicate (pool_words l) 0) (c.sizes.view_is ∙ same) in
-    subst (λ (ws : List ℕ). IsKept made.sizes (opening ws [] (home_at_start made.sizes config))) (sym words) (opens made.sizes config)
+    subst (λ (ws : List ℕ). IsKept made.sizes config (opening ws [] (home_at_start made.sizes config))) (sym words) (opens made.sizes config)
 
 pub invariant_of-result : goal.invariant_of-result
 invariant_of-result c =

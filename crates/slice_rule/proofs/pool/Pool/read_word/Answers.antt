@@ -18,8 +18,8 @@ load-requires c =
     let at = steps.at c.self.invariant c.self.view_is c.seat.invariant c.seat.view_is c.requires.pool in (
       search rules,
       (steps.token_word at c.args.token.now c.args.word c.requires.token c.requires.inside).within,
-      rw (c.self.invariant.row) (reads c.self.inside.table.shared.key.sizes c.self.inside.table.shared.table_id.slots c.seat.inside.seat.id c.seat.inside.seat.me
-          c.seat.inside.number c.args.word (steps.sizes_are at) c.seat.invariant.role (steps.all_seen at c.requires.none_outstanding)),
+      rw (c.self.invariant.row) (reads c.self.inside.table.shared.key.sizes c.self.inside.table.shared.key.config.shared.key c.self.inside.table.shared.table_id.slots c.seat.inside.seat.id c.seat.inside.seat.me
+          c.seat.inside.number c.args.word (steps.sizes_are at) (steps.made_with at) c.seat.invariant.role (steps.all_seen at c.requires.none_outstanding)),
     )
 
 pub invariant_of-seat : goal.invariant_of-seat
@@ -38,3 +38,9 @@ returns-clause-least c = λ slice bit has committed.
     let at = steps.at c.self.invariant c.self.view_is c.seat.invariant c.seat.view_is c.requires.pool in
     c.load.ensures.2.least c.args.word slice bit (steps.there at c.args.word) (steps.token_reads at c.args.token.now c.requires.token slice has)
     (subst (λ (s : PassState). IsCommitted s.front slice (record { word = c.args.word; bit = bit })) (sym c.seat.view_is) committed)
+
+pub returns-clause-owned : goal.returns-clause-owned
+returns-clause-owned c = λ slice column bit event may set owns stands.
+    let at = steps.at c.self.invariant c.self.view_is c.seat.invariant c.seat.view_is c.requires.pool in
+    c.load.ensures.2.owned c.args.word slice column bit event (steps.there at c.args.word) (steps.reads_here at slice may) set
+    (steps.owns_here at slice column (record { word = c.args.word; bit = bit }) owns) (steps.stands_here at slice column event stands)

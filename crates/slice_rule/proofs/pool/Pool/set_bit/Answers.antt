@@ -18,9 +18,10 @@ fetch_or-requires c =
     let mask : 1 * 2 ^ c.args.bit % 2 ^ 64 ≡ 2 ^ c.args.bit = one_shifted c.args.bit c.requires.bit in (
       search rules,
       (steps.claim_word at claim c.args.word c.requires.claim c.requires.inside).within,
-      rw (c.self.invariant.row, mask) (sets c.self.inside.table.shared.key.sizes c.self.inside.table.shared.table_id.slots c.seat.inside.seat.id c.seat.inside.seat.me
+      rw (c.self.invariant.row, mask) (sets c.self.inside.table.shared.key.sizes c.self.inside.table.shared.key.config.shared.key c.self.inside.table.shared.table_id.slots c.seat.inside.seat.id c.seat.inside.seat.me
           c.seat.inside.number claim.slice claim.column c.args.word c.args.bit (steps.sizes_are at) c.seat.invariant.role (steps.claim_is at claim c.requires.claim)
-          (steps.all_seen at c.requires.none_outstanding) (steps.inside_here at claim.slice c.args.word c.requires.inside)),
+          (steps.all_seen at c.requires.none_outstanding) (steps.inside_here at claim.slice c.args.word c.requires.inside)
+          (steps.keeps_here at claim (record { word = c.args.word; bit = c.args.bit }) c.requires.owner)),
     )
 
 pub invariant_of-seat : goal.invariant_of-seat

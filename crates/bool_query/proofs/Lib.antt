@@ -1,0 +1,5 @@
+pub mod FaultLemmas
+pub mod Lexing
+pub mod Progress
+pub mod Trees
+pub mod WordListLemmas

@@ -1,0 +1,5 @@
+pub mod Faults
+pub mod Levels
+pub mod Parsers
+pub mod Progress
+pub mod WordLists

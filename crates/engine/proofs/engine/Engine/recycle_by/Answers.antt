@@ -1,0 +1,11 @@
+use Rattle.std.proofs.Common.{subst}
+use Rattle.slice_recycler.specs.Recycles.{RecycleTurns}
+use Rattle.slice_rule.specs.Pools.{PoolId}
+use Rattle.engine.proofs.engine.Engine.recycle_by.Goals as goal
+
+pub returns-clause-turns : goal.returns-clause-turns
+returns-clause-turns g c =
+    let seat = c.pass.inside.seat in
+    let next = c.recycle_by.new.seat in
+    rw (← c.pass.view_is)
+    (subst (λ (p : PoolId). RecycleTurns p.limits seat.number seat.front next.front c.recycle_by.result) c.self.invariant.of_name c.recycle_by.ensures.turns)

@@ -1,0 +1,22 @@
+//! What the turns of an add say of the history, and what is left of an engine. Each is the contract of a function that does nothing.
+ghost use Rattle.engine.specs.Laws.{AddsAreMadeWithTheirBits, AddsWithoutMemoryDoNothing, ClearedSlicesAreFilledFromTheFirst, ClosedEnginesCountTheirEvents};
+
+/// An add that found no memory left the history as its pass had seen it.
+pub fn adds_without_memory_do_nothing()
+    ensures { AddsWithoutMemoryDoNothing }
+{}
+
+/// An add that is answered by its place is in the history, with exactly the bits of its text at its column.
+pub fn adds_are_made_with_their_bits()
+    ensures { AddsAreMadeWithTheirBits }
+{}
+
+/// An add that has a slice cleared takes the first column of it.
+pub fn cleared_slices_are_filled_from_the_first()
+    ensures { ClearedSlicesAreFilledFromTheFirst }
+{}
+
+/// What is left of an engine tells how many events there were.
+pub fn closed_engines_count_their_events()
+    ensures { ClosedEnginesCountTheirEvents }
+{}

@@ -1,0 +1,101 @@
+ghost use Rattle.std.specs.Prelude.{◌≡◌, map, IfOk};
+ghost use Rattle.std.specs.List.{All};
+ghost use Rattle.commit_desk.specs.Passes.{IsResting};
+ghost use Rattle.engine.specs.Engines.{EndsIn};
+ghost use Rattle.engine.specs.Passes.{view_of};
+
+use funnel_model::Memory;
+use slice_rule::{Home, Note as SeatNote, PassSeat, Pool, PoolName};
+use std::alloc::Global;
+use std::marker::{Model, PhantomData};
+
+/// A pass of the engine that `N` names, between its calls. Contracts see its number, and the part of the history that it has
+/// seen.
+#[derive(Drop)]
+pub struct Pass<N: PoolName> {
+    pub(crate) seat: PassSeat,
+    pub(crate) of: PhantomData<N>,
+}
+
+impl<N: PoolName> Model for Pass<N> {
+    ghost use Rattle.commit_desk.specs.Passes.{IsResting};
+    ghost use Rattle.engine.specs.Passes.{PassView, view_of};
+
+    ghost Value = { PassView };
+
+    ghost view = { λ p. view_of p.seat };
+
+    ghost invariant = { λ p. IsResting N.pool p.seat };
+}
+
+impl<N: PoolName> Pass<N> {
+    ghost use Rattle.std.specs.Prelude.{◌≡◌, ◌<◌};
+    ghost use Rattle.funnel_model.specs.Legal.{IsLegal};
+
+    /// Its number.
+    pub fn number(&self) -> u32
+        ensures number { result ≡ self.now.number }
+        ensures in_range { result < N.pool.limits.passes }
+        ensures legal { IsLegal N.pool.limits self.now.front }
+    {
+        self.seat.number()
+    }
+}
+
+/// What a pass of the engine that `N` names had seen at a time. Contracts see that part of the history.
+#[derive(Drop)]
+pub struct Note<N: PoolName> {
+    pub(crate) note: SeatNote,
+    pub(crate) of: PhantomData<N>,
+}
+
+impl<N: PoolName> Model for Note<N> {
+    ghost use Rattle.std.specs.Prelude.{◌≡◌, List};
+    ghost use Rattle.funnel_model.specs.declared.event.Event.{Event};
+
+    ghost Value = { List Event };
+
+    ghost view = { λ n. n.note.front };
+
+    ghost invariant = { λ n. n.note.pool ≡ N.pool };
+}
+
+// The passes of a new engine.
+pub(crate) fn name_passes<N: PoolName>(
+    alloc: Global,
+    seats: Vec<PassSeat>,
+) -> Result<Vec<Pass<N>>, Memory>
+    requires rest { All (IsResting N.pool) seats.items }
+    ensures { IfOk result (λ passes. passes.items ≡ map view_of seats.items) }
+{
+    let mut passes = Vec::with_capacity(alloc, seats.len())?;
+    for seat in seats {
+        let of = PhantomData;
+        passes.push(Pass { seat, of })?;
+    }
+    Ok(passes)
+}
+
+// The passes come back, before the pool is closed.
+pub(crate) fn end_passes<N: PoolName>(pool: &Pool, home: &mut Home, mut passes: Vec<Pass<N>>)
+    requires named { pool.now ≡ N.pool }
+    requires home { home.old.pool ≡ pool.now }
+    ensures pool { home.new.pool ≡ home.old.pool }
+    ensures history { home.new.history ≡ home.old.history }
+    ensures passes { All (EndsIn home.old.history) passes.items }
+{
+    while let Some(pass) = passes.pop() {
+        end_pass(pool, home, pass);
+    }
+}
+
+fn end_pass<N: PoolName>(pool: &Pool, home: &mut Home, pass: Pass<N>)
+    requires named { pool.now ≡ N.pool }
+    requires home { home.old.pool ≡ pool.now }
+    ensures pool { home.new.pool ≡ home.old.pool }
+    ensures history { home.new.history ≡ home.old.history }
+    ensures pass { EndsIn home.old.history pass }
+{
+    let Pass { seat, of: _ } = pass;
+    pool.end_pass(home, seat);
+}

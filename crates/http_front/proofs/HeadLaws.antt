@@ -1,0 +1,147 @@
+-- What stands at the front of bytes, by the grammar of heads.
+use Rattle.std.proofs.Common.{◌≡◌, ◌≢◌, ◌⊎◌, ℕ, ◌+◌, ◌-◌, ◌*◌, ◌<◌, ◌≤◌, Bool, true, List, [], ◌∷◌, ◌++◌, Some, None, Result, Err, length, take, drop, map, refl, sym, ap, ◌∙◌, subst, inl, inr, arith, append-nil, append_assoc, length-append, length-take, take_all, All}
+use Rattle.std.proofs.lemmas.List.{take-append-drop, nil_from_length, length-map}
+use Rattle.std.proofs.lemmas.List.Elements.{All-head, All-tail}
+use Rattle.std.proofs.lemmas.Bool.Decides.{leb_tells}
+use Rattle.std.proofs.Math.Seq.{take-append-add}
+use Rattle.httparse.specs.Grammar.{EndsInTarget, Field, HasNoRequest, IsField, IsRequestHead, LineEnd, MayBecomeRequest, NeverHasRequest, ReadsRequest, RequestHead, crlf, lf, print_end, print_field, print_request, print_section}
+use Rattle.httparse.specs.declared.Error.{Error}
+use Rattle.httparse.specs.declared.Error.TheVariants.{TooManyHeaders}
+use Rattle.httparse.specs.declared.Status.{Status}
+use Rattle.httparse.specs.declared.spans.RequestSpans.{RequestSpans}
+use Rattle.httparse.specs.Spans.{RequestExceeds, RequestOverflows, name_and_value}
+use Rattle.httparse.proofs.GrammarLemmas.{ReadsRequest-append, print_request-append, request_unique}
+use Rattle.http_front.specs.Entries.{Asks, Entry, HasBadBody, HasNoEntry, IsRefusedAtHead, ReadsEntry, Refused}
+use Rattle.http_front.specs.Heads.{HasHead, HasRequest, IsBadHead, IsNoPrefix, IsTooLong, HasManyFields, codings, fields_of, length_said, lengths}
+use Rattle.http_front.specs.Steps.{IsGoodHead, IsRefusedByFields, IsUndecided}
+use Rattle.http_front.specs.declared.cause.Cause.{Cause}
+use Rattle.http_front.specs.declared.cause.Cause.TheVariants as cause
+
+-- bytes that hold no head, but can come to, decide nothing
+pub no_entry_without_head : (bytes : List ℕ) → HasNoRequest bytes → MayBecomeRequest bytes → length bytes < 16384 → HasNoEntry bytes
+no_entry_without_head bytes none may few (Asks asked closing) rest reads = none _ _ reads.2.whole.begins.reads
+no_entry_without_head bytes none may few (Refused cause.Route closing) rest reads = none _ _ reads.2.begins.reads
+no_entry_without_head bytes none may few (Refused cause.Body closing) rest reads = none _ _ reads.1.whole.begins.reads
+no_entry_without_head bytes none may few (Refused cause.Query closing) rest reads = none _ _ reads.2.whole.begins.reads
+no_entry_without_head bytes none may few (Refused cause.Head closing) rest (last, inl no_prefix) = no_prefix.never may
+no_entry_without_head bytes none may few (Refused cause.Head closing) rest (last, inr (inl long)) = omega (arith, long.many)
+no_entry_without_head bytes none may few (Refused cause.Head closing) rest (last, inr (inr many)) = none _ _ many.reads
+no_entry_without_head bytes none may few (Refused cause.Coding closing) rest reads = none _ _ reads.1.2.reads
+no_entry_without_head bytes none may few (Refused cause.Length closing) rest reads = none _ _ reads.1.2.reads
+no_entry_without_head bytes none may few (Refused cause.Long closing) rest reads = none _ _ reads.1.2.reads
+
+-- so they wait for one more byte
+pub undecided_without_head : (bytes : List ℕ) → HasNoRequest (take 16384 bytes) → MayBecomeRequest (take 16384 bytes) → length bytes < 16384 → IsUndecided bytes (length bytes + 1)
+undecided_without_head bytes none may few =
+    let whole : take 16384 bytes ≡ bytes = take_all 16384 bytes (omega arith) in
+    record {
+      more = omega arith;
+      fits = omega arith;
+      none = λ others short.
+          let nothing : others ≡ [] = nil_from_length others (omega (arith, length-append bytes others)) in
+          subst HasNoEntry (sym (append-nil bytes) ∙ ap (λ o. bytes ++ o) (sym nothing))
+          (no_entry_without_head bytes (subst HasNoRequest whole none) (subst MayBecomeRequest whole may) few);
+    }
+
+-- a head that is short is read of the bytes that a head may have
+front_head : (bytes : List ℕ) (head : RequestHead) (after : List ℕ) (n : ℕ) → ReadsRequest bytes head after → length (print_request head) ≤ n
+    → ReadsRequest (take n bytes) head (take (n - length (print_request head)) after)
+front_head bytes head after n reads short =
+    let text = print_request head in
+    let whole : n ≡ length text + (n - length text) = omega arith in
+    (reads.0, ap (take n) reads.1 ∙ ap (λ k. take k (text ++ after)) whole ∙ take-append-add text after (n - length text))
+
+-- where the body isn't whole, nothing is answered
+pub no_entry_without_body : (bytes : List ℕ) (head : RequestHead) (after : List ℕ) (count : ℕ) → HasHead bytes head after → IsGoodHead (fields_of head) count
+    → length after < count → HasNoEntry bytes
+no_entry_without_body bytes head after count has good short entry rest reads = go entry reads where
+  other : (head' : RequestHead) (body rest' : List ℕ) → HasRequest bytes head' body rest' → ⊥
+  other head' body rest' is =
+      let same = request_unique bytes head head' after (body ++ rest') has.reads is.begins.reads in
+      let said : Some (length body) ≡ Some count = sym (subst (λ (h : RequestHead). length_said (lengths (fields_of h)) ≡ Some (length body)) (sym same.0) is.said) ∙ good.said in
+      let count_is : length body ≡ count = cc in
+      omega (arith, count_is, ap length same.1, length-append body rest')
+
+  same_head : (head' : RequestHead) (after' : List ℕ) → HasHead bytes head' after' → head ≡ head'
+  same_head head' after' is = (request_unique bytes head head' after after' has.reads is.reads).0
+
+  bad_head : IsBadHead bytes → ⊥
+  bad_head (inl no_prefix) = no_prefix.none head after has.reads
+  bad_head (inr (inl long)) = long.none head _ (front_head bytes head after 16384 has.reads has.short)
+  bad_head (inr (inr many)) =
+      let same = (request_unique bytes head many.head after many.after has.reads many.reads).0 in
+      omega (arith, has.few, many.many, ap (λ (h : RequestHead). length h.fields) same)
+
+  bad_body : (why : Cause) → HasBadBody (fields_of head) why → ⊥
+  bad_body cause.Coding bad = bad good.plain
+  bad_body cause.Length bad = let none : Some count ≡ None = sym good.said ∙ bad.1 in cc
+  bad_body cause.Long bad = let same : Some count ≡ Some bad.1 = sym good.said ∙ bad.2 in let is : count ≡ bad.1 = cc in omega (arith, is, bad.3, good.short)
+  bad_body cause.Head bad = bad
+  bad_body cause.Route bad = bad
+  bad_body cause.Body bad = bad
+  bad_body cause.Query bad = bad
+
+  at_head : (why : Cause) (head' : RequestHead) (after' : List ℕ) → HasHead bytes head' after' → HasBadBody (fields_of head') why → ⊥
+  at_head why head' after' is bad = bad_body why (subst (λ (h : RequestHead). HasBadBody (fields_of h) why) (sym (same_head head' after' is)) bad)
+
+  go : (entry : Entry) → ReadsEntry bytes entry rest → ⊥
+  go (Asks asked closing) reads = other _ _ _ reads.2.whole
+  go (Refused cause.Route closing) reads = other _ _ _ reads.2
+  go (Refused cause.Body closing) reads = other _ _ _ reads.1.whole
+  go (Refused cause.Query closing) reads = other _ _ _ reads.2.whole
+  go (Refused cause.Head closing) reads = bad_head reads.1
+  go (Refused cause.Coding closing) reads = at_head cause.Coding _ _ reads.1.2 reads.1.3
+  go (Refused cause.Length closing) reads = at_head cause.Length _ _ reads.1.2 reads.1.3
+  go (Refused cause.Long closing) reads = at_head cause.Long _ _ reads.1.2 reads.1.3
+
+-- each field has three bytes at least
+end_room : (end : LineEnd) → 1 ≤ length (print_end end)
+end_room crlf = omega arith
+end_room lf = omega arith
+
+field_room : (f : Field) → IsField f → 3 ≤ length (print_field f)
+field_room f is = omega (arith, is.name.0, end_room f.end, length-append {A = ℕ})
+
+fields_room : (fields : List Field) (last : LineEnd) → All IsField fields → 3 * length fields ≤ length (print_section fields last)
+fields_room [] last all = omega arith
+fields_room (f ∷ fields) last all =
+    omega (arith, field_room f (All-head IsField f fields all), fields_room fields last (All-tail IsField f fields all), length-append {A = ℕ})
+
+-- so bytes of a head have fewer fields than that
+pub few_fields : (front : List ℕ) → length front ≤ 16384 → RequestExceeds 5461 front → ⊥
+few_fields front short (begin, rest, joined, head, reads, many) =
+    omega (
+      arith,
+      many,
+      fields_room head.fields head.last reads.0.fields,
+      ap length joined,
+      ap length reads.1,
+      ap length (print_request-append head []),
+      length-append {A = ℕ},
+    )
+
+-- so an error says that no bytes can follow that make a head
+pub never_head : (front : List ℕ) (room : ℕ) (e : Error) → length front ≤ 16384 → room ≡ 5461 → (e ≢ TooManyHeaders → NeverHasRequest front)
+    → (◌≡◌ {A = Result (Status RequestSpans) Error} (Err e) (Err TooManyHeaders) → RequestExceeds room front) → NeverHasRequest front
+never_head front room e short room_is invalid too_many =
+    invalid (λ is. few_fields front short (subst (λ (n : ℕ). RequestExceeds n front) room_is (too_many (ap (λ (x : Error). Err x) is))))
+
+-- the bytes that a head may have never become one
+pub bad_front : (bytes : List ℕ) → NeverHasRequest (take 16384 bytes) → (MayBecomeRequest (take 16384 bytes) → ⊥) → IsBadHead bytes
+bad_front bytes never no_may =
+    let none = subst HasNoRequest (append-nil (take 16384 bytes)) (never []) in
+    elim (leb_tells 16384 (length bytes)) [
+      | inl many ↦ inr (inl (record { many = many.1; none = none }))
+      | inr few ↦
+          let whole : take 16384 bytes ≡ bytes = take_all 16384 bytes (omega (arith, few.1)) in
+          inl (record { none = subst HasNoRequest whole none; never = λ may. no_may (subst MayBecomeRequest (sym whole) may) })
+    ]
+
+-- bytes that never become a head hold none
+pub no_head : (bytes : List ℕ) → NeverHasRequest bytes → HasNoRequest bytes
+no_head bytes never = subst HasNoRequest (append-nil bytes) (never [])
+
+-- and are no prefix of one, but within a target
+pub no_prefix : (bytes : List ℕ) → NeverHasRequest (take 16384 bytes) → (EndsInTarget (take 16384 bytes) → ⊥) → MayBecomeRequest (take 16384 bytes) → ⊥
+no_prefix bytes never outside (inl more) = never more.0 more.1 [] more.2
+no_prefix bytes never outside (inr within) = outside within

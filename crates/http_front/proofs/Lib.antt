@@ -1,0 +1,14 @@
+pub mod Buffers
+pub mod FieldLaws
+pub mod NumberLaws
+pub mod OptionLaws
+pub mod QueryLaws
+pub mod TargetLaws
+pub mod Progress
+pub mod DocumentLaws
+pub mod RouteLaws
+pub mod HeadLaws
+pub mod JudgeLaws
+pub mod ResponseLaws
+pub mod AnswerLaws
+pub mod ReadLaws

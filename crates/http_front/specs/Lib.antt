@@ -1,0 +1,11 @@
+pub mod Heads
+pub mod Routes
+pub mod Queries
+pub mod Documents
+pub mod Entries
+pub mod Responses
+pub mod Sessions
+pub mod Ends
+pub mod Tokens
+pub mod Steps
+pub mod Ready

@@ -1,0 +1,148 @@
+ghost use Rattle.std.specs.Prelude.{◌≡◌, ◌<◌, ◌≤◌, ◌+◌, ◌-◌, min, [], ◌++◌, IfOk, length, take, drop, ⊤};
+ghost use Rattle.std.specs.Io.KnownBytes.{IsAtEnd};
+ghost use Rattle.funnel_io.specs.Answers.{MatchGot, bytes_got, read_failed};
+ghost use Rattle.funnel_io.specs.Counts.{counted};
+ghost use Rattle.funnel_io.specs.Streams.{Takes};
+ghost use Rattle.http_front.specs.Steps.{HasRead};
+
+use crate::front::{MAX_BODY, MAX_HEAD};
+use funnel_io::{Got, Source};
+use std::alloc::{AllocError, Global};
+use std::marker::Model;
+
+/// As many bytes as a request may have.
+pub(crate) const CAPACITY: usize = MAX_HEAD + MAX_BODY;
+
+/// The bytes that were read and not yet answered, in a buffer of fixed size. They lie from `start` to `end`.
+#[derive(Drop)]
+pub(crate) struct Buffer {
+    room: Vec<u8>,
+    start: usize,
+    end: usize,
+}
+
+impl Model for Buffer {
+    ghost use Rattle.std.specs.Prelude.{◌-◌, length, slice_range};
+    ghost use Rattle.http_front.specs.Steps.{Held, IsInPlace};
+
+    ghost Value = { Held };
+
+    ghost view = { λ b. record {
+      bytes = slice_range b.room.items b.start b.end;
+      room = length b.room.items - b.end;
+    } };
+
+    ghost invariant = { λ b. IsInPlace b.room.items b.start b.end };
+}
+
+impl Buffer {
+    pub(crate) fn new(alloc: Global) -> Result<Buffer, AllocError>
+        ensures { IfOk result (λ buffer. buffer.bytes ≡ []) }
+    {
+        Ok(Buffer {
+            room: vec![in alloc; 0; CAPACITY]?,
+            start: 0,
+            end: 0,
+        })
+    }
+
+    /// The bytes that were read and not yet answered.
+    pub(crate) fn bytes(&self) -> &[u8]
+        ensures bytes { result.now ≡ self.now.bytes }
+        ensures few { length result.now ≤ CAPACITY }
+    {
+        &self.room[self.start..self.end]
+    }
+
+    pub(crate) fn len(&self) -> usize
+        ensures { result ≡ length self.now.bytes }
+    {
+        self.end - self.start
+    }
+
+    /// Lets the first bytes go.
+    pub(crate) fn skip(&mut self, count: usize)
+        requires { count ≤ length self.old.bytes }
+        ensures { self.new.bytes ≡ drop count self.old.bytes }
+    {
+        self.start += count;
+        if self.start == self.end {
+            self.start = 0;
+            self.end = 0;
+        }
+    }
+
+    /// Reads further bytes, at most `left` of them, and counts them down.
+    pub(crate) fn read<C: Source>(&mut self, conn: &mut C, left: &mut u64) -> Got
+        requires few { length self.old.bytes < CAPACITY }
+        requires some { 0 < left.old }
+        ensures borrowed { C.borrowed conn.new ≡ C.borrowed conn.old }
+        ensures beside { C.beside_read conn.new ≡ C.beside_read conn.old }
+        ensures read { HasRead (C.incoming conn.old) (C.incoming conn.new) self.old.bytes self.new.bytes left.old left.new }
+        ensures left { MatchGot result (λ _. left.new < left.old) (left.new ≡ left.old) (left.new ≡ left.old) }
+        ensures end { MatchGot result (λ _. ⊤) (IsAtEnd (C.incoming conn.new).left) ⊤ }
+        ensures faults { (C.incoming conn.new).faults ≡ counted (read_failed result) (C.incoming conn.old).faults }
+    {
+        self.make_room();
+        self.read_on(conn, left)
+    }
+
+    /// Moves the bytes to the front where none fits behind them.
+    fn make_room(&mut self)
+        requires { length self.old.bytes < CAPACITY }
+        ensures bytes { self.new.bytes ≡ self.old.bytes }
+        ensures some { 0 < self.new.room }
+    {
+        if self.end == CAPACITY {
+            self.move_to_front();
+        }
+    }
+
+    /// Reads into the room behind the bytes.
+    fn read_on<C: Source>(&mut self, conn: &mut C, left: &mut u64) -> Got
+        requires room { 0 < self.old.room }
+        requires some { 0 < left.old }
+        ensures borrowed { C.borrowed conn.new ≡ C.borrowed conn.old }
+        ensures beside { C.beside_read conn.new ≡ C.beside_read conn.old }
+        ensures read { HasRead (C.incoming conn.old) (C.incoming conn.new) self.old.bytes self.new.bytes left.old left.new }
+        ensures left { MatchGot result (λ _. left.new < left.old) (left.new ≡ left.old) (left.new ≡ left.old) }
+        ensures end { MatchGot result (λ _. ⊤) (IsAtEnd (C.incoming conn.new).left) ⊤ }
+        ensures faults { (C.incoming conn.new).faults ≡ counted (read_failed result) (C.incoming conn.old).faults }
+    {
+        match read_behind(conn, &mut self.room, self.end, *left) {
+            Got::Bytes(n) => {
+                self.end += n;
+                *left -= n as u64;
+                Got::Bytes(n)
+            }
+            Got::End => Got::End,
+            Got::Failed => Got::Failed,
+        }
+    }
+
+    /// Moves the bytes to the front of the buffer.
+    fn move_to_front(&mut self)
+        ensures bytes { self.new.bytes ≡ self.old.bytes }
+        ensures room { self.new.room + length self.old.bytes ≡ CAPACITY }
+    {
+        self.room.copy_within(self.start..self.end, 0);
+        self.end -= self.start;
+        self.start = 0;
+    }
+}
+
+/// Reads into the buffer from `end` on.
+fn read_behind<C: Source>(conn: &mut C, room: &mut [u8], end: usize, left: u64) -> Got
+    requires room { end < length room.old }
+    requires some { 0 < left }
+    ensures borrowed { C.borrowed conn.new ≡ C.borrowed conn.old }
+    ensures beside { C.beside_read conn.new ≡ C.beside_read conn.old }
+    ensures kept { take end room.new ≡ take end room.old }
+    ensures count { MatchGot result (λ n. (1 ≤ n) × (n ≤ left) × (end + n ≤ length room.new)) ⊤ ⊤ }
+    ensures takes { Takes (bytes_got result (drop end room.new)) (C.incoming conn.old) (C.incoming conn.new) }
+    ensures end { MatchGot result (λ _. ⊤) (IsAtEnd (C.incoming conn.new).left) ⊤ }
+    ensures faults { (C.incoming conn.new).faults ≡ counted (read_failed result) (C.incoming conn.old).faults }
+{
+    let most = left.min((room.len() - end) as u64) as usize;
+    conn.read(&mut room[end..end + most])
+}

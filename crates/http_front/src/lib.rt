@@ -1,0 +1,25 @@
+//! An HTTP front of the engine: the requests of one connection (RFC 9112), answered by a service. A request's head and
+//! body are read into one buffer and parsed where they lie. Each response is written whole, by one write, before anything
+//! more is read than the next request needs, so pipelined requests are answered in order. Heads are read by `httparse`,
+//! bodies by `json`.
+#![tactic(auto)]
+
+mod answering;
+mod buffer;
+mod cause;
+mod closing;
+mod document;
+mod fields;
+mod front;
+mod head_end;
+mod numbers;
+mod outcome;
+mod query;
+mod response;
+mod routing;
+mod serving;
+
+pub use cause::Cause;
+pub use front::{MAX_BODY, MAX_FIELDS, MAX_HEAD};
+pub use outcome::Outcome;
+pub use serving::serve_http;

@@ -1,0 +1,246 @@
+ghost use Rattle.std.specs.Prelude.{◌≡◌, ◌+◌, ◌≤◌, ◌<◌, ◌++◌, ◌∷◌, false, length, decimal, map, OnOk, OnErr, IsOk, vec_len, vec_capacity};
+ghost use Rattle.line_proto.specs.Texts.{is_list};
+ghost use Rattle.http_front.specs.Responses.{after_commas, body_of, body_of_reply, end_of_head, error_body, ids_body, is_long, joined, place_body, response, start_of_head, status_of, status_of_cause, status_of_reply, text_of, word_of_cause};
+ghost use Rattle.http_front.specs.Steps.{IsRendered};
+
+use crate::cause::Cause;
+use crate::outcome::Outcome;
+use funnel_model::Reply;
+use itoa::Buffer;
+use std::alloc::AllocError;
+
+/// The room that a response needs, and its body, where it is no list.
+pub(crate) const TEXT_ROOM: usize = 256;
+
+/// Sets `text` to the response, or to that of a want of memory where none is found for a list.
+pub(crate) fn render(told: &Outcome, closing: bool, body: &mut Vec<u8>, text: &mut Vec<u8>)
+    requires body { TEXT_ROOM ≤ vec_capacity body.old }
+    requires text { TEXT_ROOM ≤ vec_capacity text.old }
+    ensures text { IsRendered closing told.now text.new.items }
+    ensures body_room { TEXT_ROOM ≤ vec_capacity body.new }
+    ensures text_room { TEXT_ROOM ≤ vec_capacity text.new }
+{
+    if write_response(told, closing, body, text).is_ok() {
+        return;
+    }
+    if write_response(&Outcome::Replied(Reply::Memory), closing, body, text).is_err() {
+        unreachable!()
+    }
+}
+
+/// Sets `text` to the response, and `body` to its body. Where no memory is found, what stands in them is no response.
+fn write_response(
+    told: &Outcome,
+    closing: bool,
+    body: &mut Vec<u8>,
+    text: &mut Vec<u8>,
+) -> Result<(), AllocError>
+    ensures ok { OnOk result (text.new.items ≡ text_of closing told.now) }
+    ensures room { is_long told.now ≡ false → TEXT_ROOM ≤ vec_capacity body.old → TEXT_ROOM ≤ vec_capacity text.old → IsOk result }
+    ensures body_capacity { vec_capacity body.old ≤ vec_capacity body.new }
+    ensures text_capacity { vec_capacity text.old ≤ vec_capacity text.new }
+{
+    body.clear();
+    push_body(body, told)?;
+    text.clear();
+    push_response(text, closing, status(told), body.as_slice())
+}
+
+/// The status of a response, with its reason.
+fn status(told: &Outcome) -> &'static [u8]
+    ensures value { result.now ≡ status_of told.now }
+    ensures short { length result.now ≤ 24 }
+{
+    match told {
+        Outcome::Replied(Reply::Added(_)) => b"201 Created",
+        Outcome::Replied(Reply::Present(_)) => b"409 Conflict",
+        Outcome::Replied(Reply::Deleted(_) | Reply::Found(_) | Reply::Place(_)) => b"200 OK",
+        Outcome::Replied(Reply::Absent) | Outcome::Refused(Cause::Route) => b"404 Not Found",
+        Outcome::Replied(_) => b"503 Service Unavailable",
+        Outcome::Refused(Cause::Coding) => b"501 Not Implemented",
+        Outcome::Refused(Cause::Long) => b"413 Content Too Large",
+        Outcome::Refused(_) => b"400 Bad Request",
+    }
+}
+
+/// Appends a response: its status line, its fields, and its body with its length.
+fn push_response(
+    out: &mut Vec<u8>,
+    closing: bool,
+    status: &[u8],
+    body: &[u8],
+) -> Result<(), AllocError>
+    ensures ok { OnOk result (out.new.items ≡ out.old.items ++ response closing status.now body.now) }
+    ensures full { OnErr result (vec_capacity out.old < vec_len out.old + length (response closing status.now body.now)) }
+    ensures capacity { vec_capacity out.old ≤ vec_capacity out.new }
+{
+    push_start(out, status)?;
+    push_number(out, body.len() as u64)?;
+    push_rest(out, closing, body)
+}
+
+/// Appends the status line and the fields up to the number of the body's length.
+fn push_start(out: &mut Vec<u8>, status: &[u8]) -> Result<(), AllocError>
+    ensures ok { OnOk result (out.new.items ≡ out.old.items ++ start_of_head status.now) }
+    ensures full { OnErr result (vec_capacity out.old < vec_len out.old + length (start_of_head status.now)) }
+    ensures capacity { vec_capacity out.old ≤ vec_capacity out.new }
+{
+    out.extend_from_slice(b"HTTP/1.1 ")?;
+    out.extend_from_slice(status)?;
+    out.extend_from_slice(b"\r\nContent-Type: application/json\r\nContent-Length: ")
+}
+
+/// Appends what follows that number.
+fn push_rest(out: &mut Vec<u8>, closing: bool, body: &[u8]) -> Result<(), AllocError>
+    ensures ok { OnOk result (out.new.items ≡ out.old.items ++ (end_of_head closing ++ body.now)) }
+    ensures full { OnErr result (vec_capacity out.old < vec_len out.old + length (end_of_head closing ++ body.now)) }
+    ensures capacity { vec_capacity out.old ≤ vec_capacity out.new }
+{
+    out.extend_from_slice(end_of_head(closing))?;
+    out.extend_from_slice(body)
+}
+
+/// What ends a head.
+fn end_of_head(closing: bool) -> &'static [u8]
+    ensures { result.now ≡ end_of_head closing }
+{
+    if closing {
+        b"\r\nConnection: close\r\n\r\n"
+    } else {
+        b"\r\n\r\n"
+    }
+}
+
+/// Appends the body of a response.
+fn push_body(out: &mut Vec<u8>, told: &Outcome) -> Result<(), AllocError>
+    ensures ok { OnOk result (out.new.items ≡ out.old.items ++ body_of told.now) }
+    ensures full { OnErr result (vec_capacity out.old < vec_len out.old + length (body_of told.now)) }
+    ensures short { is_long told.now ≡ false → length (body_of told.now) ≤ 64 }
+    ensures capacity { vec_capacity out.old ≤ vec_capacity out.new }
+{
+    match told {
+        Outcome::Replied(reply) => push_reply(out, reply),
+        Outcome::Refused(cause) => push_error(out, word(*cause)),
+    }
+}
+
+/// The word of a refusal.
+fn word(cause: Cause) -> &'static [u8]
+    ensures value { result.now ≡ word_of_cause cause }
+    ensures short { length result.now ≤ 6 }
+{
+    match cause {
+        Cause::Head => b"head",
+        Cause::Coding => b"coding",
+        Cause::Length => b"length",
+        Cause::Long => b"long",
+        Cause::Route => b"route",
+        Cause::Body => b"body",
+        Cause::Query => b"query",
+    }
+}
+
+/// Appends the body that tells a reply. No call of a route is given another reply than those named here.
+fn push_reply(out: &mut Vec<u8>, reply: &Reply) -> Result<(), AllocError>
+    ensures short { is_list reply.now ≡ false → length (body_of_reply reply.now) ≤ 64 }
+    ensures ok { OnOk result (out.new.items ≡ out.old.items ++ body_of_reply reply.now) }
+    ensures full { OnErr result (vec_capacity out.old < vec_len out.old + length (body_of_reply reply.now)) }
+    ensures capacity { vec_capacity out.old ≤ vec_capacity out.new }
+{
+    match reply {
+        Reply::Added(place) | Reply::Deleted(place) | Reply::Place(place) => {
+            push_number_between(out, b"{\"place\":", *place, b"}")
+        }
+        Reply::Present(place) => {
+            push_number_between(out, b"{\"error\":\"present\",\"place\":", *place, b"}")
+        }
+        Reply::Full => push_error(out, b"full"),
+        Reply::Absent => push_error(out, b"absent"),
+        Reply::Found(ids) => push_ids(out, ids.as_slice()),
+        Reply::Spent => push_error(out, b"spent"),
+        _ => push_error(out, b"memory"),
+    }
+}
+
+/// Appends an object that tells an error.
+fn push_error(out: &mut Vec<u8>, word: &[u8]) -> Result<(), AllocError>
+    ensures ok { OnOk result (out.new.items ≡ out.old.items ++ error_body word.now) }
+    ensures full { OnErr result (vec_capacity out.old < vec_len out.old + length (error_body word.now)) }
+    ensures capacity { vec_capacity out.old ≤ vec_capacity out.new }
+{
+    out.extend_from_slice(b"{\"error\":\"")?;
+    out.extend_from_slice(word)?;
+    out.extend_from_slice(b"\"}")
+}
+
+/// Appends the object of numbers.
+fn push_ids(out: &mut Vec<u8>, ids: &[u64]) -> Result<(), AllocError>
+    ensures ok { OnOk result (out.new.items ≡ out.old.items ++ ids_body ids.now) }
+    ensures full { OnErr result (vec_capacity out.old < vec_len out.old + length (ids_body ids.now)) }
+    ensures capacity { vec_capacity out.old ≤ vec_capacity out.new }
+{
+    out.extend_from_slice(b"{\"ids\":[")?;
+    push_joined(out, ids)?;
+    out.extend_from_slice(b"]}")
+}
+
+/// Appends the numbers, with a comma between each two.
+fn push_joined(out: &mut Vec<u8>, ids: &[u64]) -> Result<(), AllocError>
+    ensures ok { OnOk result (out.new.items ≡ out.old.items ++ joined ids.now) }
+    ensures full { OnErr result (vec_capacity out.old < vec_len out.old + length (joined ids.now)) }
+    ensures capacity { vec_capacity out.old ≤ vec_capacity out.new }
+{
+    let Some((first, others)) = ids.split_first() else {
+        return Ok(());
+    };
+    push_number(out, *first)?;
+    push_after_commas(out, others)
+}
+
+/// Appends each number after a comma.
+fn push_after_commas(out: &mut Vec<u8>, ids: &[u64]) -> Result<(), AllocError>
+    ensures ok { OnOk result (out.new.items ≡ out.old.items ++ after_commas ids.now) }
+    ensures full { OnErr result (vec_capacity out.old < vec_len out.old + length (after_commas ids.now)) }
+    ensures capacity { vec_capacity out.old ≤ vec_capacity out.new }
+{
+    for id in ids {
+        push_after_comma(out, *id)?;
+    }
+    Ok(())
+}
+
+/// Appends a comma and the number.
+fn push_after_comma(out: &mut Vec<u8>, id: u64) -> Result<(), AllocError>
+    ensures ok { OnOk result (out.new.items ≡ out.old.items ++ 44 ∷ decimal id) }
+    ensures full { OnErr result (vec_capacity out.old < vec_len out.old + length (44 ∷ decimal id)) }
+    ensures capacity { vec_capacity out.old ≤ vec_capacity out.new }
+{
+    out.extend_from_slice(b",")?;
+    push_number(out, id)
+}
+
+fn push_number_between(
+    out: &mut Vec<u8>,
+    before: &[u8],
+    number: u64,
+    after: &[u8],
+) -> Result<(), AllocError>
+    ensures ok { OnOk result (out.new.items ≡ out.old.items ++ (before.now ++ (decimal number ++ after.now))) }
+    ensures full { OnErr result (vec_capacity out.old < vec_len out.old + length (before.now ++ (decimal number ++ after.now))) }
+    ensures digits { length (decimal number) ≤ 20 }
+    ensures capacity { vec_capacity out.old ≤ vec_capacity out.new }
+{
+    out.extend_from_slice(before)?;
+    push_number(out, number)?;
+    out.extend_from_slice(after)
+}
+
+fn push_number(out: &mut Vec<u8>, number: u64) -> Result<(), AllocError>
+    ensures ok { OnOk result (out.new.items ≡ out.old.items ++ decimal number) }
+    ensures full { OnErr result (vec_capacity out.old < vec_len out.old + length (decimal number)) }
+    ensures digits { length (decimal number) ≤ 20 }
+    ensures capacity { vec_capacity out.old ≤ vec_capacity out.new }
+{
+    let mut buffer = Buffer::new();
+    out.extend_from_slice(buffer.format(number).as_bytes())
+}
