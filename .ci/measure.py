@@ -95,14 +95,14 @@ def refusals(log):
 
 
 def with_refusals(text, refused):
-    """The page of edits, with what refused each in the last column."""
+    """The page of edits, with what refused each at the end of its line."""
     crate, lines = None, []
     for line in text.splitlines():
         heading = re.match(r"## (\w+)$", line)
         crate = heading[1] if heading else crate
-        row = re.match(r"\| `(\w+)` \| (.*?) \|(.*)$", line)
+        row = re.match(r"- `(\w+)`: (.*?)\.(?: (.*))?$", line)
         if row and crate in crates():
-            line = f"| `{row[1]}` | {row[2]} | {refused.get((crate, row[1]), row[3].strip(' |'))} |"
+            line = f"- `{row[1]}`: {row[2]}. {refused.get((crate, row[1]), row[3] or '')}".rstrip()
         lines.append(line)
     return "\n".join(lines) + "\n"
 

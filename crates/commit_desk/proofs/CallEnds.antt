@@ -22,7 +22,7 @@ use Rattle.funnel_model.proofs.Histories.{allowed_within, legal_before}
 use Rattle.funnel_model.proofs.Spans.{last_by-own}
 use Rattle.slice_rule.specs.Pools.{PoolId}
 use Rattle.row_layout.specs.Owners.{IsOwnedOnlyAt, OwnsIn}
-use Rattle.slice_rule.specs.Seats.{HasNoneOutstanding, HoldsToken, KeepsToColumn, PassState}
+use Rattle.slice_rule.specs.Seats.{HasNoneOutstanding, HoldsToken, IsSeated, KeepsToColumn, PassState}
 use Rattle.commit_desk.specs.Answers.{AnswersClear, AnswersTake, events_of_clear, events_of_commit, events_of_delete, events_of_find, events_of_journal, events_of_place, events_of_take}
 use Rattle.commit_desk.specs.declared.answers.AddFault.TheVariants as add
 use Rattle.commit_desk.specs.declared.answers.ClearRefusal.{ClearRefusal}
@@ -37,7 +37,7 @@ use Rattle.commit_desk.specs.declared.answers.Taken.{Taken}
 use Rattle.commit_desk.specs.declared.answers.Taken.TheVariants as taken
 use Rattle.commit_desk.specs.declared.answers.ToClear.{ToClear}
 use Rattle.commit_desk.specs.Desks.{DeskState, IsUnwritten, Makes, NothingYet}
-use Rattle.commit_desk.specs.Passes.{IsFinding, IsResting, IsSeated, IsToClear, IsToDo, IsToWrite}
+use Rattle.commit_desk.specs.Passes.{IsFinding, IsResting, IsToClear, IsToDo, IsToWrite}
 
 -- the last event of the pass is the one that it made
 last_made : (before after : DeskState) (seat next : PassState) (e : Event) → pass_of e ≡ seat.number → Makes (e ∷ []) before after seat next → last_by next.number next.front ≡ Some e

@@ -14,6 +14,7 @@ use Rattle.funnel_model.specs.declared.event.Event.{Event}
 use Rattle.funnel_model.specs.Legal.{IsLegal, Limits}
 use Rattle.funnel_model.specs.Reserve.{CanBeEmptied, HasReadyColumns, HasReadyIn, HasSpareColumns, HasSpareIn, HoldsColumns, IsSource, unclaimed_in}
 use Rattle.funnel_model.specs.Slices.{AllOver, ColumnState, Deleted, Dropped, Live, Pending, Unclaimed, IsFilled, IsInState, IsOver, claimed, is_claimed, is_clearing}
+use Rattle.funnel_model.proofs.Blocks.{by_is_clearing}
 use Rattle.funnel_model.proofs.ClaimLemmas.{any_in_range, filled_by, none_in_range, unclaimed_next}
 use Rattle.funnel_model.proofs.Columns.{clearing_is_over, one_state, some_state}
 use Rattle.funnel_model.proofs.Ranges.{count_by-range_more}
@@ -26,7 +27,7 @@ use Rattle.commit_desk.specs.Moving.{HasLive, IsPartlyHeld, is_fewer}
 use Rattle.commit_desk.specs.Records.{AreRecorded, state_of}
 use Rattle.commit_desk.proofs.Marks.{IsNextMark, after_mark, by_mark}
 use Rattle.commit_desk.proofs.Slots.{column_by_over}
-use Rattle.commit_desk.proofs.StageFacts.{by_is_clearing, in_table, retired_since, state_is, used_by_stage}
+use Rattle.commit_desk.proofs.StageFacts.{in_table, retired_since, state_is, used_by_stage}
 use Rattle.commit_desk.proofs.StageReadings.{none_left, not_over_by_state}
 
 -- ---- sums

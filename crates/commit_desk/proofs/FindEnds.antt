@@ -4,7 +4,7 @@ use Rattle.std.specs.List.{list_any}
 use Rattle.std.specs.Option.{is_some}
 use Rattle.std.proofs.lemmas.Bool.{or_parts}
 use Rattle.std.proofs.lemmas.List.Folds.{list_any-append}
-use Rattle.document_store.specs.Finding.{found_at}
+use Rattle.document_store.specs.Finding.{found_at, looked_at}
 use Rattle.document_store.specs.Slots.{IsColumn, Table}
 use Rattle.funnel_model.specs.Configuration.{IsInRange}
 use Rattle.funnel_model.specs.declared.bit_list.Bit.{Bit}
@@ -30,14 +30,14 @@ use Rattle.slice_rule.specs.declared.view.Fact.TheVariants as fact
 use Rattle.slice_rule.specs.Pools.{PoolId}
 use Rattle.slice_rule.specs.Seats.{HoldsToken, IsSamePass, PassState, WasReadUnder}
 use Rattle.commit_desk.specs.Records.{AreRecorded}
-use Rattle.commit_desk.specs.Resolving.{AreGiven, GiveAll, IsRestOf}
+use Rattle.commit_desk.specs.Resolving.{AreGiven, AreLookedFor, GiveAll, IsRestOf}
 use Rattle.commit_desk.specs.Scans.{AreScanned, IsOfToken, WereScanned}
 use Rattle.commit_desk.proofs.ExactWords.{has_exact}
 use Rattle.commit_desk.proofs.FindTurns.{begun_later}
-use Rattle.commit_desk.proofs.Found.{scan_gives_all, table_gives_each}
+use Rattle.commit_desk.proofs.Found.{scan_gives_all, table_gives_each, table_looks}
 
 -- a find began once: the events before it are those before its event, which has its query
-begun_once : (history : List Event) (pass number : ℕ) (one other : HasToken history pass number) → (one.earlier ≡ other.earlier) × (one.query ≡ other.query)
+pub begun_once : (history : List Event) (pass number : ℕ) (one other : HasToken history pass number) → (one.earlier ≡ other.earlier) × (one.query ≡ other.query)
 begun_once history pass number one other =
     let count = one.count in
     let also = other.count in
@@ -95,6 +95,15 @@ module _ (config : Config) (limits : Limits) (history : List Event) (table : Tab
             (or_parts (list_any (λ e. is_some (tuning_of e)) begun.earlier) (list_any (λ e. is_some (tuning_of e)) later)
             (sym (list_any-append (λ e. is_some (tuning_of e)) begun.earlier later) ∙ ap (list_any (λ e. is_some (tuning_of e))) (sym whole) ∙ untuned)).0
             seat made same token (scanned begun).0 candidates (scanned begun).1 used scan candidate.0 candidate.1 (among candidate has),
+      ))
+
+  -- and so many words are looked for in them by the records
+  pub candidates_look : (rest : List (List ℕ)) → AreLookedFor begun.earlier rest candidates (looked_at table rest token.opened_at)
+  candidates_look rest =
+      let scan = (scanned begun).2 in
+      table_looks config limits history table legal sound untuned recorded seat.number token.opened_at now rest candidates (λ candidate has. (
+        scanned_in_table limits history table seat token candidates recorded same holds scan.of_token candidate.0 candidate.1 has,
+        ((held_are candidate.0).0 (scan.of_token candidate has).slice).1,
       ))
 
   -- all candidates give all of the answer

@@ -5,10 +5,10 @@ use Rattle.std.proofs.lemmas.List.Folds.{list_any-append}
 use Rattle.std.specs.List.{list_any}
 use Rattle.std.specs.Option.{is_some}
 use Rattle.std.specs.Prelude.{◌==◌, nat_lt}
-use Rattle.document_store.proofs.FoundLemmas.{AddedAt, WasLiveAt, found_in-gives, found_in-tells}
+use Rattle.document_store.proofs.FoundLemmas.{AddedAt, WasLiveAt, found_in-gives, found_in-tells, looked_elsewhere, looked_where_live}
 use Rattle.document_store.proofs.WordSets.{meets_by_words}
 use Rattle.document_store.specs.Documents.{HasEvery, Parts}
-use Rattle.document_store.specs.Finding.{found_at}
+use Rattle.document_store.specs.Finding.{found_at, looked_at}
 use Rattle.document_store.specs.Slots.{FitsColumn, IsColumn, Table, slot_at}
 use Rattle.document_store.specs.declared.column.Column.{Column}
 use Rattle.document_store.specs.declared.column.Column.TheVariants as became
@@ -40,17 +40,17 @@ use Rattle.row_layout.specs.Owners.{is_exact}
 use Rattle.row_layout.specs.Sound.{IsSound}
 use Rattle.slice_rule.specs.Seats.{PassState}
 use Rattle.commit_desk.specs.Records.{AreRecorded, document_added_at, state_in, state_of}
-use Rattle.commit_desk.specs.Resolving.{AreGiven, GiveAll, Gives, IsRestOf}
+use Rattle.commit_desk.specs.Resolving.{AreGiven, AreLookedFor, GiveAll, Gives, IsRestOf}
 use Rattle.commit_desk.specs.Scans.{AreScanned}
 use Rattle.commit_desk.proofs.LaterStates.{not_cleared_since}
 
 -- a column is recorded with a document that the find with this number sees
-record KeptAt (c : Column) (doc : Option Parts) (d : Document) (number : ℕ) : Type 0 where
-  parts : Parts
-  kept : doc ≡ Some parts
-  live_at : WasLiveAt c number
-  added : AddedAt c d.place
-  is : document_added_at d.place parts ≡ d
+pub record KeptAt (c : Column) (doc : Option Parts) (d : Document) (number : ℕ) : Type 0 where
+  pub parts : Parts
+  pub kept : doc ≡ Some parts
+  pub live_at : WasLiveAt c number
+  pub added : AddedAt c d.place
+  pub is : document_added_at d.place parts ≡ d
 
 -- a document that is chosen by a test
 seen_parts : (b : Bool) (d e : Document) → cond {A = Option Document} b (Some d) None ≡ Some e → (b ≡ true) × (d ≡ e)
@@ -58,7 +58,7 @@ seen_parts true d e sees = (refl, cc)
 seen_parts false d e sees = cc
 
 -- it is where the find sees the document in the state of the column
-kept_seen : (number : ℕ) (d : Document) (c : Column) (doc : Option Parts) → FitsColumn c doc → seen_by number (state_in c doc) ≡ Some d → KeptAt c doc d number
+pub kept_seen : (number : ℕ) (d : Document) (c : Column) (doc : Option Parts) → FitsColumn c doc → seen_by number (state_in c doc) ≡ Some d → KeptAt c doc d number
 kept_seen number d became.Free doc fits sees = cc
 kept_seen number d (became.Pending pass) doc fits sees = cc
 kept_seen number d (became.Live added since) doc fits sees =
@@ -85,7 +85,7 @@ kept_seen number d (became.Over added since until) doc fits sees =
 kept_seen number d became.Dropped doc fits sees = cc
 
 -- and the find sees such a document in the state of its column
-seen_then : (number added : ℕ) (doc : Parts) (c : Column) (kept : Option Parts) → WasLiveAt c number → AddedAt c added → kept ≡ Some doc →
+pub seen_then : (number added : ℕ) (doc : Parts) (c : Column) (kept : Option Parts) → WasLiveAt c number → AddedAt c added → kept ≡ Some doc →
     seen_by number (state_in c kept) ≡ Some (document_added_at added doc)
 seen_then number added doc became.Free kept was at is = absurd was
 seen_then number added doc (became.Pending pass) kept was at is = absurd was
@@ -112,7 +112,7 @@ added_bits slice column (event.Move pass id s c bits) bit has = bits_of_both (s 
 added_bits slice column _ bit has = has
 
 module _ (config : Config) (limits : Limits) (history : List Event) (table : Table) (legal : IsLegal limits history) (sound : IsSound config history) (untuned : list_any (λ e. is_some (tuning_of e)) history ≡ false) (recorded : AreRecorded limits history table) (pass number : ℕ) (token : HasToken history pass number) where
-  legal_earlier : IsLegal limits token.earlier
+  pub legal_earlier : IsLegal limits token.earlier
   legal_earlier = legal_before limits token.earlier (event.Find pass token.query ∷ token.later) (subst (IsLegal limits) token.whole legal)
 
   -- the events up to the find, and those after it
@@ -131,18 +131,18 @@ module _ (config : Config) (limits : Limits) (history : List Event) (table : Tab
       })).0
 
   -- nor is it being cleared
-  open_now : (slice : ℕ) → IsInUse limits.columns slice token.earlier → is_clearing slice history ≡ false
+  pub open_now : (slice : ℕ) → IsInUse limits.columns slice token.earlier → is_clearing slice history ≡ false
   open_now slice used = read_not_clearing limits history pass slice legal (record { number = number; token = token; in_use = used })
 
   -- the slice of a live column was in use
-  live_in_use : (slice column : ℕ) (d : Document) (since : ℕ) → column < limits.columns → IsLiveOn token.earlier slice column d since → IsInUse limits.columns slice token.earlier
+  pub live_in_use : (slice column : ℕ) (d : Document) (since : ℕ) → column < limits.columns → IsLiveOn token.earlier slice column d since → IsInUse limits.columns slice token.earlier
   live_in_use slice column d since below is = record {
     not_retired = not_retired_by limits token.earlier slice column (Live d since) legal_earlier below is (λ over. over);
     not_clearing = false_from_ne_true (is_clearing slice token.earlier) (λ clearing. clearing_is_over limits token.earlier slice column (Live d since) legal_earlier clearing below is);
   }
 
   -- the bits of a live document are committed in each front that has the find
-  bits_committed : (front rest : List Event) (slice column : ℕ) (d : Document) (since : ℕ) (between : List Event) → column < limits.columns → IsLiveOn token.earlier slice column d since →
+  pub bits_committed : (front rest : List Event) (slice column : ℕ) (d : Document) (since : ℕ) (between : List Event) → column < limits.columns → IsLiveOn token.earlier slice column d since →
       front ≡ token.earlier ++ event.Find pass token.query ∷ between → token.later ≡ between ++ rest → (bit : Bit) → IsDocumentBit config (words d.text) slice column bit →
       IsCommitted front slice bit
   bits_committed front rest slice column d since between below is front_is later_is bit of =
@@ -191,6 +191,38 @@ module _ (config : Config) (limits : Limits) (history : List Event) (table : Tab
   met_rest rest doc of_text is_rest met word left =
       (meets_by_words doc.text token.query doc.words (words token.query) of_text (λ other. (λ has. has, λ has. has))).1 met word (is_rest.part word left)
 
+  -- a column in which a document was live is recorded with it
+  kept_where_live : (slice column : ℕ) (d : Document) (since : ℕ) → IsColumn table slice column → IsInUse limits.columns slice token.earlier → IsLiveOn token.earlier slice column d since →
+      KeptAt (slot_at table slice column).column (slot_at table slice column).doc d number
+  kept_where_live slice column d since in_table used lives =
+      let slot = slot_at table slice column in
+      let rec = recorded.each slice column in_table (open_now slice used) in
+      let seen = sees_all_that_was_live limits history pass number d legal token (live_column_is_live token.earlier slice column d since lives) in
+      let one = live_on_one_column limits token.earlier seen.0 seen.1 slice column seen.2 since d d legal_earlier seen.6 lives refl in
+      let here : IsInState history slice column seen.3 = subst (λ s. IsInState history s column seen.3) one.0 (subst (λ k. IsInState history seen.0 k seen.3) one.1 seen.9) in
+      kept_seen number d slot.column slot.doc rec.fits (ap (seen_by number) (one_state limits history slice column (state_of slot) seen.3 legal rec.state here) ∙ seen.10)
+
+  -- so many words are looked for in candidates by the table
+  pub table_looks : (rest : List (List ℕ)) (candidates : List (ℕ × ℕ)) →
+      ((candidate : ℕ × ℕ) → Contains candidates candidate → IsColumn table candidate.0 candidate.1 × IsInUse limits.columns candidate.0 token.earlier) →
+      AreLookedFor token.earlier rest candidates (looked_at table rest number)
+  table_looks rest candidates each = record {
+    where_live = λ candidate has d since lives.
+        let of = each candidate has in
+        let at = kept_where_live candidate.0 candidate.1 d since of.0 of.1 lives in
+        looked_where_live (slot_at table candidate.0 candidate.1) rest number d.place at.parts at.live_at at.added at.kept;
+    elsewhere = λ candidate has none.
+        let of = each candidate has in
+        let slot = slot_at table candidate.0 candidate.1 in
+        looked_elsewhere slot rest number (λ had.
+        let rec = recorded.each candidate.0 candidate.1 of.0 (open_now candidate.0 of.1) in
+        let d = document_added_at had.place had.doc in
+        let was =
+        sees_what_was_live limits history pass number candidate.0 candidate.1 (state_of slot) d legal token of.1 rec.state
+        (seen_then number had.place had.doc slot.column slot.doc had.was_live had.added had.kept) in
+        none d was.0 was.1);
+  }
+
   -- what the table gives of a candidate is what the candidate gives
   table_gives : (rest : List (List ℕ)) (slice column : ℕ) → IsRestOf config token.query rest → HasExactWords slice column → IsColumn table slice column → IsInUse limits.columns slice token.earlier →
       (given : Option (ℕ × ℕ)) → found_at table rest number (slice, column) ≡ given → Gives token.earlier token.query (slice, column) given
@@ -211,10 +243,7 @@ module _ (config : Config) (limits : Limits) (history : List Event) (table : Tab
       false_from_ne_true (meets d.text token.query) (λ met.
       let slot = slot_at table slice column in
       let rec = recorded.each slice column in_table (open_now slice used) in
-      let seen = sees_all_that_was_live limits history pass number d legal token (live_column_is_live token.earlier slice column d since lives) in
-      let one = live_on_one_column limits token.earlier seen.0 seen.1 slice column seen.2 since d d legal_earlier seen.6 lives refl in
-      let here : IsInState history slice column seen.3 = subst (λ s. IsInState history s column seen.3) one.0 (subst (λ k. IsInState history seen.0 k seen.3) one.1 seen.9) in
-      let at = kept_seen number d slot.column slot.doc rec.fits (ap (seen_by number) (one_state limits history slice column (state_of slot) seen.3 legal rec.state here) ∙ seen.10) in
+      let at = kept_where_live slice column d since in_table used lives in
       let text : at.parts.text ≡ d.text = ap (λ (y : Document). y.text) at.is in
       let every = met_rest rest at.parts (rec.words_of_text at.parts at.kept) is_rest (ap (λ t. meets t token.query) text ∙ met) in
       let gives =

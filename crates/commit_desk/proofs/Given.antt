@@ -1,5 +1,5 @@
 -- What a find finds of its candidates, as the history before it tells.
-use Rattle.std.proofs.Common.{◌≡◌, ⊎_elim, ℕ, zero, suc, ◌+◌, ◌-◌, ◌<◌, ◌≤◌, false, List, [], ◌∷◌, ◌++◌, length, get_or, take, drop, map, filter, Option, Some, None, refl, sym, ap, ◌∙◌, subst, arith, Contains, IsSorted, IsPermutation}
+use Rattle.std.proofs.Common.{◌≡◌, ⊎_elim, ℕ, zero, suc, ◌+◌, ◌-◌, ◌<◌, ◌≤◌, Bool, false, List, [], ◌∷◌, ◌++◌, length, get_or, take, drop, map, filter, Option, Some, None, refl, sym, ap, ◌∙◌, subst, arith, Contains, IsSorted, IsPermutation}
 use Rattle.std.proofs.lemmas.Bool.{both_ways, eqb-true, false_from_ne_true}
 use Rattle.std.proofs.lemmas.Cmp.{nat_eq_equiv, ranked}
 use Rattle.std.proofs.lemmas.List.{get_or-drop, get_or-take, length-drop, length-take}
@@ -16,22 +16,20 @@ use Rattle.std.specs.Prelude.{◌==◌}
 use Rattle.std.specs.declared.cmp.Ordering.TheVariants.{Less}
 use Rattle.document_store.specs.Finding.{pair_cmp}
 use Rattle.funnel_model.specs.declared.event.Event.{Event}
-use Rattle.funnel_model.specs.History.{Document, answer, live}
+use Rattle.funnel_model.specs.History.{Document, live}
 use Rattle.funnel_model.specs.Legal.{IsLegal, Limits}
 use Rattle.funnel_model.specs.Slices.{Live, IsLiveOn}
-use Rattle.funnel_model.specs.Words.{meets}
 use Rattle.funnel_model.proofs.AnswerLemmas.{Contains-cons, Contains-filter, Contains-map}
 use Rattle.funnel_model.proofs.Columns.{one_state}
 use Rattle.funnel_model.proofs.LiveColumns.{live_column_is_live, live_on_one_column}
 use Rattle.funnel_model.proofs.LiveLemmas.{live_in_order}
 use Rattle.row_layout.proofs.OneList.{first_or_rest, same_members}
-use Rattle.commit_desk.specs.Answers.{found_of}
-use Rattle.commit_desk.specs.Resolving.{AreGiven, GiveAll, Gives}
+use Rattle.commit_desk.specs.Judging.{AreGivenWhere, GiveAllWhere, GivesWhere, answer_where, found_where}
 use Rattle.commit_desk.proofs.Sorting.{pair_below, pairs_in_order, pairs_rise, rising-map, rising_from_pairs}
 
 -- the numbers of what a find finds are its answer
-pub numbers_are_answer : (history : List Event) (query : List ℕ) → map (λ (f : ℕ × ℕ). f.1) (found_of history query) ≡ answer history query
-numbers_are_answer history query = numbers (filter (λ d. meets d.text query) (live history)) where
+pub numbers_are_answer : (history : List Event) (test : List ℕ → Bool) → map (λ (f : ℕ × ℕ). f.1) (found_where history test) ≡ answer_where history test
+numbers_are_answer history test = numbers (filter (λ d. test d.text) (live history)) where
   numbers : (ds : List Document) → map (λ (f : ℕ × ℕ). f.1) (map (λ (d : Document). (d.place, d.id)) ds) ≡ map (λ (d : Document). d.id) ds
   numbers [] = refl
   numbers (d ∷ ds) = ap (λ ids. d.id ∷ ids) (numbers ds)
@@ -67,11 +65,11 @@ kept_beside : {Y : Type 0} (o : Option Y) (ys : List Y) (y : Y) → Contains ys 
 kept_beside None ys y has = has
 kept_beside (Some z) ys y has = Contains-cons z ys y has
 
-module _ (earlier : List Event) (query : List ℕ) where
+module _ (earlier : List Event) (test : List ℕ → Bool) where
   -- what some candidates give, and then others
-  pub given_both : (candidates others found more : List (ℕ × ℕ)) → AreGiven earlier query candidates found → AreGiven earlier query others more →
-      AreGiven earlier query (candidates ++ others) (found ++ more)
-  given_both [] others found more none given = subst (λ xs. AreGiven earlier query others (xs ++ more)) (sym none) given
+  pub given_both : (candidates others found more : List (ℕ × ℕ)) → AreGivenWhere earlier test candidates found → AreGivenWhere earlier test others more →
+      AreGivenWhere earlier test (candidates ++ others) (found ++ more)
+  given_both [] others found more none given = subst (λ xs. AreGivenWhere earlier test others (xs ++ more)) (sym none) given
   given_both (candidate ∷ later) others found more first given = (
     first.0,
     first.1 ++ more,
@@ -81,39 +79,39 @@ module _ (earlier : List Event) (query : List ℕ) where
   )
 
   -- each candidate gives one at most
-  pub given_few : (candidates found : List (ℕ × ℕ)) → AreGiven earlier query candidates found → length found ≤ length candidates
+  pub given_few : (candidates found : List (ℕ × ℕ)) → AreGivenWhere earlier test candidates found → length found ≤ length candidates
   given_few [] found none = omega (arith, ap (λ (xs : List (ℕ × ℕ)). length xs) none)
   given_few (candidate ∷ later) found given =
       let few = given_few later given.1 given.3 in
       omega (arith, ap (λ (xs : List (ℕ × ℕ)). length xs) given.4, one_at_most given.0 given.1)
 
   -- what is given, a candidate gives
-  pub given_by_one : (candidates found : List (ℕ × ℕ)) (pair : ℕ × ℕ) → AreGiven earlier query candidates found → Contains found pair →
-      (candidate : ℕ × ℕ) × Contains candidates candidate × Gives earlier query candidate (Some pair)
+  pub given_by_one : (candidates found : List (ℕ × ℕ)) (pair : ℕ × ℕ) → AreGivenWhere earlier test candidates found → Contains found pair →
+      (candidate : ℕ × ℕ) × Contains candidates candidate × GivesWhere earlier test candidate (Some pair)
   given_by_one [] found pair none has = let at : Contains [] pair = subst (λ (xs : List (ℕ × ℕ)). Contains xs pair) none has in absurd (omega (arith, at.1))
   given_by_one (candidate ∷ later) found pair given has =
       by_first (λ rest. let one = given_by_one later given.1 pair given.3 rest in (one.0, Contains-cons candidate later one.0 one.1, one.2)) given.0 given.2
       (subst (λ (xs : List (ℕ × ℕ)). Contains xs pair) given.4 has)
     where
-      by_first : (Contains given.1 pair → (one : ℕ × ℕ) × Contains (candidate ∷ later) one × Gives earlier query one (Some pair)) → (o : Option (ℕ × ℕ)) → Gives earlier query candidate o → Contains (cons_option o given.1) pair → (one : ℕ × ℕ) × Contains (candidate ∷ later) one × Gives earlier query one (Some pair)
+      by_first : (Contains given.1 pair → (one : ℕ × ℕ) × Contains (candidate ∷ later) one × GivesWhere earlier test one (Some pair)) → (o : Option (ℕ × ℕ)) → GivesWhere earlier test candidate o → Contains (cons_option o given.1) pair → (one : ℕ × ℕ) × Contains (candidate ∷ later) one × GivesWhere earlier test one (Some pair)
       by_first of_rest None gives there = of_rest there
       by_first of_rest (Some first) gives there =
-          ⊎_elim (λ (this : first ≡ pair). (candidate, (zero, omega arith, refl), subst (λ f. Gives earlier query candidate (Some f)) this gives)) of_rest (first_or_rest first given.1 pair there)
+          ⊎_elim (λ (this : first ≡ pair). (candidate, (zero, omega arith, refl), subst (λ f. GivesWhere earlier test candidate (Some f)) this gives)) of_rest (first_or_rest first given.1 pair there)
 
   -- what a candidate gives is of the answer
-  pub given_met : (candidate pair : ℕ × ℕ) → Gives earlier query candidate (Some pair) → Contains (found_of earlier query) pair
+  pub given_met : (candidate pair : ℕ × ℕ) → GivesWhere earlier test candidate (Some pair) → Contains (found_where earlier test) pair
   given_met candidate pair (d, since, lives, met, is) =
       let in_live = live_column_is_live earlier candidate.0 candidate.1 d since lives in
-      subst (Contains (found_of earlier query)) (sym is)
-      (Contains-map (λ (x : Document). (x.place, x.id)) (filter (λ x. meets x.text query) (live earlier)) d (Contains-filter (λ (x : Document). meets x.text query) (live earlier) d in_live met))
+      subst (Contains (found_where earlier test)) (sym is)
+      (Contains-map (λ (x : Document). (x.place, x.id)) (filter (λ x. test x.text) (live earlier)) d (Contains-filter (λ (x : Document). test x.text) (live earlier) d in_live met))
 
   -- the answer rises
-  met_rises : IsStrictlySortedBy pair_cmp (found_of earlier query)
+  met_rises : IsStrictlySortedBy pair_cmp (found_where earlier test)
   met_rises =
       rising-map (λ (d e : Document). nat_cmp d.place e.place) pair_cmp (λ d. (d.place, d.id))
       (λ d e less. pair_below (d.place, d.id) (e.place, e.id) (ranked d.place e.place Less (sym less)))
-      (filter (λ d. meets d.text query) (live earlier))
-      (IsStrictlySortedBy-filter (λ (d e : Document). nat_cmp d.place e.place) (λ d. meets d.text query) (live earlier) (live_rises earlier))
+      (filter (λ d. test d.text) (live earlier))
+      (IsStrictlySortedBy-filter (λ (d e : Document). nat_cmp d.place e.place) (λ d. test d.text) (live earlier) (live_rises earlier))
 
   module _ (limits : Limits) (legal : IsLegal limits earlier) where
     -- a column has one live document
@@ -121,27 +119,27 @@ module _ (earlier : List Event) (query : List ℕ) where
     one_document slice column since other d e is also = let same = one_state limits earlier slice column (Live d since) (Live e other) legal is also in cc
 
     -- a candidate gives one pair
-    pub gives_once : (candidate pair : ℕ × ℕ) (given : Option (ℕ × ℕ)) → Gives earlier query candidate given → Gives earlier query candidate (Some pair) → given ≡ Some pair
-    gives_once candidate pair None gives (d, since, lives, met, is) = absurd (both_ways (meets d.text query) (gives d since lives) met)
+    pub gives_once : (candidate pair : ℕ × ℕ) (given : Option (ℕ × ℕ)) → GivesWhere earlier test candidate given → GivesWhere earlier test candidate (Some pair) → given ≡ Some pair
+    gives_once candidate pair None gives (d, since, lives, met, is) = absurd (both_ways (test d.text) (gives d since lives) met)
     gives_once candidate pair (Some other) (e, after, also, also_met, also_is) (d, since, lives, met, is) =
         let same = one_document candidate.0 candidate.1 after since e d also lives in
         ap Some (also_is ∙ ap (λ (x : Document). (x.place, x.id)) same ∙ sym is)
 
     -- and it is among what all of them give
-    pub given_among : (candidates found : List (ℕ × ℕ)) (candidate pair : ℕ × ℕ) → AreGiven earlier query candidates found → Contains candidates candidate →
-        Gives earlier query candidate (Some pair) → Contains found pair
+    pub given_among : (candidates found : List (ℕ × ℕ)) (candidate pair : ℕ × ℕ) → AreGivenWhere earlier test candidates found → Contains candidates candidate →
+        GivesWhere earlier test candidate (Some pair) → Contains found pair
     given_among [] found candidate pair given has gives = absurd (omega (arith, has.1))
     given_among (first ∷ later) found candidate pair given has gives =
         subst (λ (xs : List (ℕ × ℕ)). Contains xs pair) (sym given.4)
         (⊎_elim
         (λ (this : first ≡ candidate).
-        let is = gives_once first pair given.0 given.2 (subst (λ c. Gives earlier query c (Some pair)) (sym this) gives) in
+        let is = gives_once first pair given.0 given.2 (subst (λ c. GivesWhere earlier test c (Some pair)) (sym this) gives) in
         subst (λ o. Contains (cons_option o given.1) pair) (sym is) (zero, omega arith, refl))
         (λ (rest : Contains later candidate). kept_beside given.0 given.1 pair (given_among later given.1 candidate pair given.3 rest gives))
         (first_or_rest first later candidate has))
 
     -- two candidates give documents of two numbers
-    given_apart : (candidate other pair also : ℕ × ℕ) → (candidate ≡ other → ⊥) → Gives earlier query candidate (Some pair) → Gives earlier query other (Some also) → (pair.1 == also.1) ≡ false
+    given_apart : (candidate other pair also : ℕ × ℕ) → (candidate ≡ other → ⊥) → GivesWhere earlier test candidate (Some pair) → GivesWhere earlier test other (Some also) → (pair.1 == also.1) ≡ false
     given_apart candidate other pair also apart (d, since, lives, met, is) (e, after, also_lives, also_met, also_is) =
         false_from_ne_true (pair.1 == also.1)
         (λ same.
@@ -150,7 +148,7 @@ module _ (earlier : List Event) (query : List ℕ) where
         apart (λ k. (one.0 k, one.1 k)))
 
     -- no number is given twice
-    given_distinct : (candidates found : List (ℕ × ℕ)) → AllPairs (λ (candidate other : ℕ × ℕ). candidate ≡ other → ⊥) candidates → AreGiven earlier query candidates found →
+    given_distinct : (candidates found : List (ℕ × ℕ)) → AllPairs (λ (candidate other : ℕ × ℕ). candidate ≡ other → ⊥) candidates → AreGivenWhere earlier test candidates found →
         IsDistinct (λ (x y : ℕ × ℕ). x.1 == y.1) found
     unfolding IsDistinct
     given_distinct [] found once given = subst (IsDistinct (λ (x y : ℕ × ℕ). x.1 == y.1)) (sym given) tt
@@ -161,7 +159,7 @@ module _ (earlier : List Event) (query : List ℕ) where
         others : All (λ other. candidate ≡ other → ⊥) later
         others k d in' = once 0 (suc k) d (omega arith) (omega arith)
 
-        by_first : (o : Option (ℕ × ℕ)) → Gives earlier query candidate o → IsDistinct (λ (x y : ℕ × ℕ). x.1 == y.1) given.1 →
+        by_first : (o : Option (ℕ × ℕ)) → GivesWhere earlier test candidate o → IsDistinct (λ (x y : ℕ × ℕ). x.1 == y.1) given.1 →
             IsDistinct (λ (x y : ℕ × ℕ). x.1 == y.1) (cons_option o given.1)
         by_first None gives rest = rest
         by_first (Some pair) gives rest = (
@@ -173,11 +171,11 @@ module _ (earlier : List Event) (query : List ℕ) where
         )
 
     -- what all candidates give, in the order of the places, is the answer
-    pub given_is_answer : (candidates found sorted : List (ℕ × ℕ)) → AllPairs (λ (candidate other : ℕ × ℕ). candidate ≡ other → ⊥) candidates → GiveAll earlier query candidates →
-        AreGiven earlier query candidates found → IsPermutation found sorted → IsSorted pair_cmp sorted → sorted ≡ found_of earlier query
+    pub given_is_answer : (candidates found sorted : List (ℕ × ℕ)) → AllPairs (λ (candidate other : ℕ × ℕ). candidate ≡ other → ⊥) candidates → GiveAllWhere earlier test candidates →
+        AreGivenWhere earlier test candidates found → IsPermutation found sorted → IsSorted pair_cmp sorted → sorted ≡ found_where earlier test
     given_is_answer candidates found sorted once all given permuted rises =
         let distinct = IsDistinct-IsPermutation (λ (x y : ℕ × ℕ). x.1 == y.1) (λ x y. nat_eq_equiv.symm x.1 y.1) found sorted permuted (given_distinct candidates found once given) in
-        same_members pair_cmp pairs_in_order sorted (found_of earlier query) (pairs_rise sorted rises distinct) met_rises
+        same_members pair_cmp pairs_in_order sorted (found_where earlier test) (pairs_rise sorted rises distinct) met_rises
         (λ pair has.
         let one = given_by_one candidates found pair given (Contains-permutation sorted found pair (IsPermutation-sym found sorted permuted) has) in
         given_met one.0 pair one.2)

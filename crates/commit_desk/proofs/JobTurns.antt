@@ -13,10 +13,10 @@ use Rattle.funnel_model.proofs.NextEvents.{clears_in_range}
 use Rattle.funnel_model.proofs.Progress.{allowed_by}
 use Rattle.row_layout.proofs.BitLemmas.{columns-positive}
 use Rattle.slice_rule.specs.Pools.{PoolId}
-use Rattle.slice_rule.specs.Seats.{HasMade, HasNoneOutstanding, HoldsJob, HomeState, IsSameHome, IsSamePass, PassState, after_append}
+use Rattle.slice_rule.specs.Seats.{HasMade, HasNoneOutstanding, HoldsJob, HomeState, IsSameHome, IsSamePass, IsSeated, PassState, after_append}
 use Rattle.slice_stages.specs.Stages.{StageTable, empty_stage, stage_of, with_stage}
 use Rattle.slice_stages.specs.declared.stage.Stage.TheVariants as stage
-use Rattle.commit_desk.specs.Desks.{DeskState, IsCaughtUp, IsSeatOf, Makes}
+use Rattle.commit_desk.specs.Desks.{DeskState, IsCaughtUp, Makes}
 use Rattle.commit_desk.specs.Kept.{Books, IsDesk, AreBooksOf, events_left}
 use Rattle.commit_desk.proofs.Few.{few-next}
 use Rattle.commit_desk.proofs.FindTurns.{desk_is}
@@ -37,7 +37,7 @@ pub record JobTurn (before : DeskState) (most : ℕ) (caught : HomeState) (books
 
 -- what catching up tells
 pub job_turn : (pool : PoolId) (before : DeskState) (most : ℕ) (home caught : HomeState) (books : Books) (seat up : PassState) (pass : ℕ) (job : ClearJob) → pool ≡ before.pool →
-    IsSeatOf before seat → HoldsJob seat job → desk_at home most ≡ before → IsDesk home.pool most home.history books → IsSameHome home caught → IsSamePass seat up →
+    IsSeated before.pool seat → HoldsJob seat job → desk_at home most ≡ before → IsDesk home.pool most home.history books → IsSameHome home caught → IsSamePass seat up →
     up.front ≡ caught.history → IsFrontOf up.number seat.front up.front → HasNoneOutstanding up → up.number < pool.limits.passes → pass ≡ up.number →
     JobTurn before most caught books seat up pass job.slice
 job_turn pool before most home caught books seat up pass job same_pool of holds view is same_home same front goes none in' number =

@@ -16,6 +16,7 @@ pub mod HeldColumns
 pub mod Inside
 pub mod JobTurns
 pub mod Journals
+pub mod Judged
 pub mod KeptNew
 pub mod LaterStates
 pub mod ListedKept

@@ -44,7 +44,7 @@ unwritten next before e events history its made seen count nothing untuned =
 -- a pass that made events has seen the whole history still
 pub caught_after : (events : List Event) (before after : DeskState) (seat next : PassState) → IsCaughtUp before seat → Makes events before after seat next → HasNoneOutstanding next → IsCaughtUp after next
 caught_after events before after seat next caught made none = record {
-  seat_of = record { pool = made.same ∙ caught.seat_of.pool ∙ sym made.pool; none_outstanding = none };
+  seated = record { same = made.same ∙ caught.seated.same ∙ sym made.pool; none_outstanding = none };
   in_range = subst (λ (p : PoolId). next.number < p.limits.passes) (sym made.pool) (subst (λ n. n < before.pool.limits.passes) (sym made.number) caught.in_range);
   front = made.front;
 }

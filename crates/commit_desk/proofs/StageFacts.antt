@@ -1,18 +1,17 @@
 -- How far a slice is by the history, told from what is kept of it.
 use Rattle.std.proofs.Common.{◌≡◌, ◌↔◌, ℕ, ◌<◌, true, List, [], ◌∷◌, ◌++◌, false, length, count_by, refl, sym, ap, ◌∙◌, subst, arith, append_assoc, Option, Contains}
 use Rattle.std.specs.List.{list_any}
-use Rattle.std.specs.Prelude.{◌==◌, ◌&&◌}
-use Rattle.std.proofs.lemmas.Bool.{and_parts, both_ways, or_parts}
+use Rattle.std.proofs.lemmas.Bool.{both_ways, or_parts}
 use Rattle.std.proofs.lemmas.List.Elements.{All-from_get_or}
 use Rattle.document_store.proofs.CountLemmas.{count_by-all}
 use Rattle.document_store.proofs.SlotLemmas.{length-slots_of, slot_at-slots_of}
 use Rattle.document_store.specs.Slots.{IsColumn, Table, free_slot, slot_at, slots_of, is_over}
 use Rattle.document_store.specs.declared.slots.Slot.{Slot}
 use Rattle.funnel_model.specs.declared.event.Event.{Event}
-use Rattle.funnel_model.specs.Events.{clears, opens, pass_of}
+use Rattle.funnel_model.specs.Events.{opens}
 use Rattle.funnel_model.specs.Legal.{Limits, IsLegal}
-use Rattle.funnel_model.specs.Slices.{ColumnState, AllOver, IsInState, IsInUse, IsOver, IsRetired, IsRetiredAt, is_clearing, is_clearing_by, span}
-use Rattle.funnel_model.proofs.AnswerLemmas.{any_contained, contained_any}
+use Rattle.funnel_model.specs.Slices.{ColumnState, AllOver, IsInState, IsInUse, IsOver, IsRetired, IsRetiredAt, is_clearing}
+use Rattle.funnel_model.proofs.Blocks.{by_is_clearing}
 use Rattle.funnel_model.proofs.Columns.{one_state}
 use Rattle.funnel_model.proofs.Retirement.{all_over-append}
 use Rattle.slice_stages.specs.Stages.{IsUsed, StageTable, stage_of}
@@ -21,12 +20,6 @@ use Rattle.slice_stages.specs.declared.stage.Stage.TheVariants as stage
 use Rattle.commit_desk.specs.Kept.{AreStages, IsAtStage, IsRetiredSlice}
 use Rattle.commit_desk.specs.Records.{AreRecorded, state_of}
 use Rattle.commit_desk.proofs.Slots.{column_by_over}
-
--- a slice that a pass clears is being cleared
-pub by_is_clearing : (pass slice : ℕ) (history : List Event) → is_clearing_by pass slice history ≡ true → is_clearing slice history ≡ true
-by_is_clearing pass slice history by =
-    let found = contained_any (λ e. pass_of e == pass && clears slice e) (span slice history) by in
-    any_contained (clears slice) (span slice history) found.0 found.1 (and_parts (pass_of found.0 == pass) (clears slice found.0) found.2).1
 
 -- a slice that retired at some event is retired while it isn't being cleared
 pub retired_since : (columns slice number : ℕ) (history : List Event) → IsRetiredSlice columns history slice number → IsRetired columns slice history

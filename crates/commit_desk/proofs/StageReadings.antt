@@ -15,6 +15,7 @@ use Rattle.funnel_model.specs.History.{last_by}
 use Rattle.funnel_model.specs.Legal.{HasRoom, IsFull, IsIdle, IsLegal, Limits, MayTake, NoneCanClear}
 use Rattle.funnel_model.specs.Slices.{AllOver, ColumnState, HasUnclaimed, IsFilled, IsInState, IsInUse, IsOver, IsRetired, IsRetiredAt, Pending, claimed, is_claimed, is_clearing, is_clearing_by}
 use Rattle.funnel_model.specs.Tokens.{IsGuarded}
+use Rattle.funnel_model.proofs.Blocks.{by_is_clearing}
 use Rattle.funnel_model.proofs.ClaimLemmas.{filled_by, unclaimed_next}
 use Rattle.funnel_model.proofs.Clears.{pending_in_range, pending_not_clearing, pending_not_retired}
 use Rattle.funnel_model.proofs.Columns.{last_is_pending, not_retired_by}
@@ -26,7 +27,7 @@ use Rattle.commit_desk.specs.Kept.{IsAtStage, IsRetiredSlice, IsUsedSlice}
 use Rattle.commit_desk.specs.Records.{AreRecorded, IsLiveIn, state_of}
 use Rattle.commit_desk.proofs.RecordFacts.{live_is_open}
 use Rattle.commit_desk.proofs.Slots.{over_by_column, state-live}
-use Rattle.commit_desk.proofs.StageFacts.{by_is_clearing, in_table, retired_since, used_by_stage, used_stage}
+use Rattle.commit_desk.proofs.StageFacts.{in_table, retired_since, used_by_stage, used_stage}
 
 -- each slice is as far as it is kept to be
 abbrev pub AreAtStages : Limits → List Event → Table → StageTable → Type 0

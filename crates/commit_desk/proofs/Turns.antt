@@ -6,8 +6,8 @@ use Rattle.funnel_model.specs.Events.{leaves_open}
 use Rattle.funnel_model.specs.History.{IsFrontOf, last_by}
 use Rattle.funnel_model.specs.Legal.{IsIdle, IsLegal}
 use Rattle.funnel_model.proofs.Clears.{last_by-front}
-use Rattle.slice_rule.specs.Seats.{HasMade, HasNoneOutstanding, IsSamePass, PassState}
-use Rattle.commit_desk.specs.Desks.{DeskState, IsCaughtUp, IsSeatOf, Makes}
+use Rattle.slice_rule.specs.Seats.{HasMade, HasNoneOutstanding, IsSamePass, IsSeated, PassState}
+use Rattle.commit_desk.specs.Desks.{DeskState, IsCaughtUp, Makes}
 
 -- the whole history has no event after itself
 pub whole_is_front : (pass : ℕ) (history : List Event) → IsFrontOf pass history history
@@ -78,10 +78,10 @@ makes_more first second before middle after seat between next one two = record {
 }
 
 -- a pass of the desk that caught up
-pub caught_up : (before : DeskState) (seat caught : PassState) → IsSeatOf before seat → IsSamePass seat caught → caught.front ≡ before.history → HasNoneOutstanding caught →
+pub caught_up : (before : DeskState) (seat caught : PassState) → IsSeated before.pool seat → IsSamePass seat caught → caught.front ≡ before.history → HasNoneOutstanding caught →
     caught.number < before.pool.limits.passes → IsCaughtUp before caught
 caught_up before seat caught is same front none in' = record {
-  seat_of = record { pool = same.pool ∙ is.pool; none_outstanding = none };
+  seated = record { same = same.pool ∙ is.same; none_outstanding = none };
   in_range = in';
   front = front;
 }

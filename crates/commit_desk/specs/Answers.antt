@@ -1,5 +1,5 @@
 -- What each call of the desk answers, after the events of a history and in the order of its checks, and the events that it makes.
-use Rattle.std.specs.Prelude.{◌≡◌, ℕ, ◌+◌, ◌<◌, ◌≤◌, ◌↔◌, true, false, List, [], ◌∷◌, length, map, filter, Result, Ok, Err, Some, Contains}
+use Rattle.std.specs.Prelude.{◌≡◌, ℕ, ◌+◌, ◌<◌, ◌≤◌, ◌↔◌, true, false, List, [], ◌∷◌, length, Result, Ok, Err, Some, Contains}
 use Rattle.funnel_model.specs.Blocks.{AreBlocks, IsLowestGuard}
 use Rattle.funnel_model.specs.declared.bit_list.Bit.{Bit}
 use Rattle.funnel_model.specs.declared.call.Call.TheVariants as call
@@ -8,11 +8,10 @@ use Rattle.funnel_model.specs.declared.claim.Token.{Token}
 use Rattle.funnel_model.specs.declared.commit.Commit.{Commit}
 use Rattle.funnel_model.specs.declared.event.Event.{Event}
 use Rattle.funnel_model.specs.declared.event.Event.TheVariants as event
-use Rattle.funnel_model.specs.History.{base, commits_after, is_live, live, live_place, place}
+use Rattle.funnel_model.specs.History.{base, commits_after, is_live, live_place, place}
 use Rattle.funnel_model.specs.Legal.{HasRoom, IsFull, Limits, MayClear, MayTake, NoneCanClear}
 use Rattle.funnel_model.specs.Slices.{IsInUse, IsRetired}
 use Rattle.funnel_model.specs.Steps.{NoneRetired}
-use Rattle.funnel_model.specs.Words.{meets}
 use Rattle.commit_desk.specs.declared.answers.AddFault.{AddFault}
 use Rattle.commit_desk.specs.declared.answers.AddFault.TheVariants as add
 use Rattle.commit_desk.specs.declared.answers.ClearRefusal.{ClearRefusal}
@@ -68,6 +67,10 @@ events_of_take pass id text (taken.Claim claim) = event.Take pass claim.slice cl
 events_of_take pass id text (taken.Clear work) = event.Clear pass work.job.slice ∷ []
 events_of_take pass id text (taken.Refused (add.Spent events)) = []
 events_of_take pass id text (taken.Refused _) = event.No pass (call.Add id text) ∷ []
+
+-- the events of a pass that opens a slice and takes its first column
+abbrev pub events_of_opened_take : ℕ → ℕ → List Event
+events_of_opened_take pass slice = event.Opened pass slice false ∷ event.Take pass slice 0 ∷ []
 
 -- a document is added where its number is not live, and else dropped
 abbrev pub AnswersCommit : List Event → ℕ → Result ℕ CommitFault → Type 0
@@ -146,10 +149,6 @@ AnswersFind most limits history (Ok token) =
     TakesCalls most history × (token.place ≡ place history) × (token.opened_at ≡ length history + 1)
     × ((slice : ℕ) → Contains token.slices slice ↔ ((slice < limits.slices) × IsInUse limits.columns slice history))
 AnswersFind most limits history (Err spent) = IsSpentAt most history spent.events
-
--- the places and the numbers of the live documents that have every word of the query, in the order of their adds
-abbrev pub found_of : List Event → List ℕ → List (ℕ × ℕ)
-found_of history query = map (λ d. (d.place, d.id)) (filter (λ d. meets d.text query) (live history))
 
 abbrev pub events_of_find : ℕ → List ℕ → Result Token Spent → List Event
 events_of_find pass query (Ok token) = event.Find pass query ∷ []

@@ -6,7 +6,7 @@ use Rattle.funnel_model.specs.Legal.{IsLegal}
 use Rattle.funnel_model.specs.Tunings.{treat}
 use Rattle.slice_rule.specs.Numbers.{last_number}
 use Rattle.slice_rule.specs.Pools.{PoolId}
-use Rattle.slice_rule.specs.Seats.{HasNoneOutstanding, PassState, number_under}
+use Rattle.slice_rule.specs.Seats.{IsSeated, PassState, number_under}
 use Rattle.commit_desk.specs.declared.answers.Taken.{Taken}
 use Rattle.commit_desk.specs.declared.answers.Taken.TheVariants as taken
 
@@ -16,14 +16,9 @@ pub record DeskState : Type 0 where
   pub events_limit : ℕ
   pub history : List Event
 
--- the seat is of the desk's pool, and the pass asked nothing that its front lacks
-pub record IsSeatOf (desk : DeskState) (seat : PassState) : Type 0 where
-  pub pool : seat.pool ≡ desk.pool
-  pub none_outstanding : HasNoneOutstanding seat
-
 -- the pass has seen the whole history
 pub record IsCaughtUp (desk : DeskState) (seat : PassState) : Type 0 where
-  pub seat_of : IsSeatOf desk seat
+  pub seated : IsSeated desk.pool seat
   pub in_range : seat.number < desk.pool.limits.passes
   pub front : seat.front ≡ desk.history
 

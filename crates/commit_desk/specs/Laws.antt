@@ -7,8 +7,10 @@ use Rattle.funnel_model.specs.declared.config.Config.{Config}
 use Rattle.funnel_model.specs.declared.event.Event.{Event}
 use Rattle.funnel_model.specs.declared.bit_list.Bit.{Bit}
 use Rattle.funnel_model.specs.declared.claim.Claim.{Claim}
-use Rattle.funnel_model.specs.History.{Document, base, commits_after, live, place}
+use Rattle.funnel_model.specs.Expressions.{Tree, answer_by, keeps}
+use Rattle.funnel_model.specs.History.{Document, answer, base, commits_after, live, place}
 use Rattle.funnel_model.specs.Legal.{IsLegal, Limits}
+use Rattle.funnel_model.specs.Words.{meets}
 use Rattle.slice_rule.specs.declared.view.Fact.{Fact}
 use Rattle.slice_rule.specs.Seats.{PassState}
 use Rattle.slice_stages.specs.Stages.{empty_stage}
@@ -20,6 +22,7 @@ use Rattle.commit_desk.specs.declared.answers.CommitFault.{CommitFault}
 use Rattle.commit_desk.specs.declared.answers.DeleteFault.{DeleteFault}
 use Rattle.commit_desk.specs.declared.answers.Taken.TheVariants as taken
 use Rattle.commit_desk.specs.declared.look.Look.{Look}
+use Rattle.commit_desk.specs.Judging.{answer_where}
 use Rattle.commit_desk.specs.Kept.{Books, AreBooksOf}
 use Rattle.commit_desk.specs.Moving.{AnswersTakeMove, HoldsLook, IsNextLook, IsThereStill, LooksState, document_of}
 
@@ -89,3 +92,8 @@ MovesKeepTexts = (limits : Limits) (history : List Event) (seat : PassState) (lo
 abbrev pub CallsDoNothingElse : Type 0
 CallsDoNothingElse = (events : List Event) (before after : DeskState) (seat next : PassState) → Makes events before after seat next →
     (done : Fact) → Contains next.own done ↔ Contains seat.own done
+
+-- the answer of a find is that of a test: whether a text meets the query, or whether the expression keeps it
+pub record AnswersAreByTests : Type 0 where
+  pub query : (history : List Event) (query : List ℕ) → answer history query ≡ answer_where history (λ text. meets text query)
+  pub expression : (history : List Event) (expr : Tree) → answer_by history expr ≡ answer_where history (keeps expr)

@@ -1,6 +1,7 @@
 pub mod Answers
 pub mod Desks
 pub mod Journals
+pub mod Judging
 pub mod Kept
 pub mod Laws
 pub mod Moving

@@ -10,15 +10,10 @@ use Rattle.row_layout.specs.DocumentBits.{AreDocumentBits}
 use Rattle.slice_rule.specs.declared.view.Fact.TheVariants as fact
 use Rattle.slice_rule.specs.Numbers.{last_number}
 use Rattle.slice_rule.specs.Pools.{PoolId}
-use Rattle.slice_rule.specs.Seats.{HasNoneOutstanding, HoldsClaim, HoldsJob, HoldsToken, PassState}
+use Rattle.slice_rule.specs.Seats.{HasZeroed, HoldsClaim, HoldsJob, HoldsToken, IsSeated, PassState}
 use Rattle.commit_desk.specs.Desks.{NothingUnderLast}
 use Rattle.commit_desk.specs.declared.answers.Taken.{Taken}
 use Rattle.commit_desk.specs.declared.answers.Taken.TheVariants as taken
-
--- the pass is of the pool, and asked nothing that it hasn't seen
-pub record IsSeated (pool : PoolId) (seat : PassState) : Type 0 where
-  pub same : seat.pool ≡ pool
-  pub none_outstanding : HasNoneOutstanding seat
 
 -- the pass is not in the middle of a call
 pub record IsResting (pool : PoolId) (seat : PassState) : Type 0 where
@@ -56,7 +51,7 @@ pub record IsToClear (pool : PoolId) (job : ClearJob) (seat : PassState) : Type 
 -- the pass made each word of the slice zero
 pub record HasCleared (pool : PoolId) (job : ClearJob) (seat : PassState) : Type 0 where
   pub to_clear : IsToClear pool job seat
-  pub zeros : (word : ℕ) → IsInSlice pool.limits.slice_words job.slice word → Contains seat.own (fact.WordZero (last_number seat.number seat.front) word)
+  pub zeros : HasZeroed pool.limits job.slice seat
 
 -- what the pass is to do after its take
 abbrev pub IsToDo : PoolId → Taken → PassState → Type 0

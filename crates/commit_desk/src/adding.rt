@@ -1,4 +1,4 @@
-ghost use Rattle.std.specs.Prelude.{◌≡◌, ℕ, ◌+◌, ◌<◌, ◌≤◌, ◌↔◌, true, false, [], ◌∷◌, MatchResult, Ok, Err, Contains, All, length, vec_capacity};
+ghost use Rattle.std.specs.Prelude.{◌≡◌, ◌+◌, ◌<◌, ◌≤◌, ◌↔◌, true, false, [], ◌∷◌, MatchOption, MatchResult, Ok, Err, Contains, All, length, vec_capacity};
 ghost use Rattle.funnel_model.specs.declared.bit_list.Bit.{Bit};
 ghost use Rattle.funnel_model.specs.declared.call.Call.TheVariants as call;
 ghost use Rattle.funnel_model.specs.declared.event.Event.TheVariants as event;
@@ -8,9 +8,9 @@ ghost use Rattle.funnel_model.specs.Slices.{claimed};
 ghost use Rattle.row_layout.specs.DocumentBits.{AreDocumentBits};
 ghost use Rattle.slice_rule.specs.declared.view.Fact.TheVariants as fact;
 ghost use Rattle.slice_rule.specs.Numbers.{last_number};
-ghost use Rattle.slice_rule.specs.Seats.{HasNoneOutstanding, HoldsClaim, HoldsJob};
-ghost use Rattle.commit_desk.specs.Answers.{AnswersCommit, AnswersTake, MayEnter, RefusesAdd, TakesCalls, events_of_commit, events_of_take};
-ghost use Rattle.commit_desk.specs.Desks.{IsCaughtUp, IsSeatOf, IsUnwritten, Makes, NothingYet};
+ghost use Rattle.slice_rule.specs.Seats.{HasNoneOutstanding, HasZeroed, HoldsClaim, HoldsJob, IsSeated};
+ghost use Rattle.commit_desk.specs.Answers.{AnswersCommit, AnswersTake, MayEnter, RefusesAdd, TakesCalls, events_of_commit, events_of_opened_take, events_of_take};
+ghost use Rattle.commit_desk.specs.Desks.{IsCaughtUp, IsUnwritten, Makes, NothingYet};
 
 use crate::answers::{AddFault, CommitFault, Taken};
 use crate::desk::Desk;
@@ -22,13 +22,19 @@ use slice_rule::{PassSeat, Pool};
 
 impl Desk {
     /// Claims a column for a document, or begins to clear a slice for it, or says why the document can't be added. `room`
-    /// is an empty list with room for a block of each slice, for the answer `Full`.
-    pub fn take(&mut self, pool: &Pool, seat: &mut PassSeat, doc: &Doc, room: Vec<Block>) -> Taken
+    /// is an empty list with room for a block of each slice, for the answer `Full`, which alone takes it: else it stays the
+    /// caller's, who drops it where the desk is free.
+    pub fn take(
+        &mut self,
+        pool: &Pool,
+        seat: &mut PassSeat,
+        doc: &Doc,
+        room: &mut Option<Vec<Block>>,
+    ) -> Taken
         requires pool { pool.now ≡ self.old.pool }
-        requires seat { IsSeatOf self.old seat.old }
+        requires seat { IsSeated self.old.pool seat.old }
         requires idle { IsIdle seat.old.number seat.old.front }
-        requires empty { room.items ≡ [] }
-        requires enough { self.old.pool.limits.slices ≤ vec_capacity room }
+        requires room { MatchOption room.old ⊥ (λ empty. (empty.items ≡ []) × (self.old.pool.limits.slices ≤ vec_capacity empty)) }
         ensures answer { AnswersTake self.old.events_limit self.old.pool.limits self.old.history seat.old.number doc.now.id result }
         ensures events { Makes (events_of_take seat.old.number doc.now.id doc.now.text result) self.old self.new seat.old seat.new }
         ensures none_outstanding { HasNoneOutstanding seat.new }
@@ -57,13 +63,13 @@ impl Desk {
         slots: FreeSlots,
     ) -> Claim
         requires pool { pool.now ≡ self.old.pool }
-        requires seat { IsSeatOf self.old seat.old }
+        requires seat { IsSeated self.old.pool seat.old }
         requires job { HoldsJob seat.old job }
-        requires zero { (word : ℕ) → IsInSlice self.old.pool.limits.slice_words job.slice word → Contains seat.old.own (fact.WordZero (last_number seat.old.number seat.old.front) word) }
+        requires zero { HasZeroed self.old.pool.limits job.slice seat.old }
         requires slots { slots ≡ self.old.pool.limits.columns }
         ensures slice { result.slice ≡ job.slice }
         ensures column { result.column ≡ 0 }
-        ensures events { Makes (event.Opened seat.old.number job.slice false ∷ event.Take seat.old.number job.slice 0 ∷ []) self.old self.new seat.old seat.new }
+        ensures events { Makes (events_of_opened_take seat.old.number job.slice) self.old self.new seat.old seat.new }
         ensures none_outstanding { HasNoneOutstanding seat.new }
         ensures nothing_yet { IsUnwritten seat.new }
     {
@@ -97,7 +103,7 @@ impl Desk {
         bits: &Bits,
     ) -> Result<u64, CommitFault>
         requires pool { pool.now ≡ self.old.pool }
-        requires seat { IsSeatOf self.old seat.old }
+        requires seat { IsSeated self.old.pool seat.old }
         requires claim { HoldsClaim seat.old claim }
         requires bits { AreDocumentBits self.old.pool.config doc.words claim.slice claim.column bits.now.bits }
         requires inside { All (λ b. IsInSlice self.old.pool.limits.slice_words claim.slice b.word) bits.now.bits }
@@ -140,13 +146,18 @@ impl Desk {
     }
 
     // Claims a column, or begins to clear a slice, or refuses the document for want of room.
-    fn take_room(&mut self, pool: &Pool, seat: &mut PassSeat, doc: &Doc, room: Vec<Block>) -> Taken
+    fn take_room(
+        &mut self,
+        pool: &Pool,
+        seat: &mut PassSeat,
+        doc: &Doc,
+        room: &mut Option<Vec<Block>>,
+    ) -> Taken
         requires pool { pool.now ≡ self.old.pool }
         requires caught_up { IsCaughtUp self.old seat.old }
         requires idle { IsIdle seat.old.number self.old.history }
         requires may { MayEnter self.old.events_limit self.old.history doc.now.id }
-        requires empty { room.items ≡ [] }
-        requires enough { self.old.pool.limits.slices ≤ vec_capacity room }
+        requires room { MatchOption room.old ⊥ (λ empty. (empty.items ≡ []) × (self.old.pool.limits.slices ≤ vec_capacity empty)) }
         ensures answer { AnswersTake self.old.events_limit self.old.pool.limits self.old.history seat.old.number doc.now.id result }
         ensures events { Makes (events_of_take seat.old.number doc.now.id doc.now.text result) self.old self.new seat.old seat.new }
         ensures none_outstanding { HasNoneOutstanding seat.new }
@@ -158,6 +169,9 @@ impl Desk {
         if let Some(work) = self.begin_clear(pool, seat) {
             return Taken::Clear(work);
         }
+        let Some(room) = room.take() else {
+            unreachable!()
+        };
         let blocks = self.blocks(room);
         self.refuse_add(pool, seat, doc);
         Taken::Refused(AddFault::Full(blocks))

@@ -1,11 +1,9 @@
-ghost use Rattle.std.specs.Prelude.{◌≡◌, ℕ, ◌<◌, ◌≤◌, true, [], ◌∷◌, MatchOption, MatchResult, Ok, Err, Contains, IfSome};
+ghost use Rattle.std.specs.Prelude.{◌≡◌, ◌<◌, true, [], ◌∷◌, MatchOption, Ok, Err, IfSome};
 ghost use Rattle.funnel_model.specs.declared.event.Event.TheVariants as event;
-ghost use Rattle.funnel_model.specs.Legal.{IsIdle, IsInSlice, MayClear, NoneCanClear};
-ghost use Rattle.slice_rule.specs.declared.view.Fact.TheVariants as fact;
-ghost use Rattle.slice_rule.specs.Numbers.{last_number};
-ghost use Rattle.slice_rule.specs.Seats.{HasNoneOutstanding, HoldsJob};
+ghost use Rattle.funnel_model.specs.Legal.{IsIdle, MayClear, NoneCanClear};
+ghost use Rattle.slice_rule.specs.Seats.{HasNoneOutstanding, HasZeroed, HoldsJob, IsSeated};
 ghost use Rattle.commit_desk.specs.Answers.{AnswersClear, TakesCalls, events_of_clear};
-ghost use Rattle.commit_desk.specs.Desks.{IsCaughtUp, IsSeatOf, Makes};
+ghost use Rattle.commit_desk.specs.Desks.{IsCaughtUp, Makes};
 
 use crate::answers::{ClearRefusal, ToClear};
 use crate::desk::Desk;
@@ -18,7 +16,7 @@ impl Desk {
     /// the slice's words and empties its slots, and then calls `opened`.
     pub fn start_clear(&mut self, pool: &Pool, seat: &mut PassSeat) -> Result<ToClear, ClearRefusal>
         requires pool { pool.now ≡ self.old.pool }
-        requires seat { IsSeatOf self.old seat.old }
+        requires seat { IsSeated self.old.pool seat.old }
         requires idle { IsIdle seat.old.number seat.old.front }
         ensures answer { AnswersClear self.old.events_limit self.old.pool.limits self.old.history seat.old.number result }
         ensures events { Makes (events_of_clear seat.old.number result) self.old self.new seat.old seat.new }
@@ -48,9 +46,9 @@ impl Desk {
         slots: FreeSlots,
     ) -> u32
         requires pool { pool.now ≡ self.old.pool }
-        requires seat { IsSeatOf self.old seat.old }
+        requires seat { IsSeated self.old.pool seat.old }
         requires job { HoldsJob seat.old job }
-        requires zero { (word : ℕ) → IsInSlice self.old.pool.limits.slice_words job.slice word → Contains seat.old.own (fact.WordZero (last_number seat.old.number seat.old.front) word) }
+        requires zero { HasZeroed self.old.pool.limits job.slice seat.old }
         requires slots { slots ≡ self.old.pool.limits.columns }
         ensures slice { result ≡ job.slice }
         ensures events { Makes (event.Opened seat.old.number job.slice true ∷ []) self.old self.new seat.old seat.new }

@@ -3,9 +3,9 @@ ghost use Rattle.funnel_model.specs.declared.call.Call.TheVariants as call;
 ghost use Rattle.funnel_model.specs.declared.event.Event.TheVariants as event;
 ghost use Rattle.funnel_model.specs.History.{place};
 ghost use Rattle.funnel_model.specs.Legal.{IsIdle, IsRefused};
-ghost use Rattle.slice_rule.specs.Seats.{HasNoneOutstanding};
+ghost use Rattle.slice_rule.specs.Seats.{HasNoneOutstanding, IsSeated};
 ghost use Rattle.commit_desk.specs.Answers.{AnswersDelete, MayDeleteNow, TakesCalls, events_of_delete};
-ghost use Rattle.commit_desk.specs.Desks.{IsCaughtUp, IsSeatOf, Makes};
+ghost use Rattle.commit_desk.specs.Desks.{IsCaughtUp, Makes};
 
 use crate::answers::DeleteFault;
 use crate::desk::Desk;
@@ -17,7 +17,7 @@ impl Desk {
     /// column until it is cleared. It takes no memory.
     pub fn delete(&mut self, pool: &Pool, seat: &mut PassSeat, id: u64) -> Result<u64, DeleteFault>
         requires pool { pool.now ≡ self.old.pool }
-        requires seat { IsSeatOf self.old seat.old }
+        requires seat { IsSeated self.old.pool seat.old }
         requires idle { IsIdle seat.old.number seat.old.front }
         ensures answer { AnswersDelete self.old.events_limit self.old.history id result }
         ensures events { Makes (events_of_delete seat.old.number id result) self.old self.new seat.old seat.new }

@@ -1,13 +1,12 @@
-ghost use Rattle.std.specs.Prelude.{◌≡◌, ℕ, ◌+◌, ◌<◌, ◌≤◌, List, [], ◌∷◌, ◌++◌, length, IfOk, Ok, Err};
+ghost use Rattle.std.specs.Prelude.{◌≡◌, ℕ, ◌+◌, ◌≤◌, List, [], ◌∷◌, ◌++◌, length, IfOk, Ok, Err};
 ghost use Rattle.std.specs.List.{slice_range};
-ghost use Rattle.document_store.specs.declared.resolving.TheConstants.{MOST_LOOK_UPS};
 ghost use Rattle.funnel_model.specs.declared.event.Event.TheVariants as event;
 ghost use Rattle.funnel_model.specs.Legal.{IsIdle};
 ghost use Rattle.funnel_model.specs.Tokens.{HasToken};
-ghost use Rattle.slice_rule.specs.Seats.{HasNoneOutstanding, HoldsToken};
+ghost use Rattle.slice_rule.specs.Seats.{HasNoneOutstanding, HoldsToken, IsSeated};
 ghost use Rattle.commit_desk.specs.Answers.{AnswersFind, TakesCalls, events_of_find};
-ghost use Rattle.commit_desk.specs.Desks.{IsCaughtUp, IsSeatOf, Makes};
-ghost use Rattle.commit_desk.specs.Resolving.{AreGiven, GiveAll, IsRestOf};
+ghost use Rattle.commit_desk.specs.Desks.{IsCaughtUp, Makes};
+ghost use Rattle.commit_desk.specs.Resolving.{AreGiven, GiveAll, IsRestOf, LooksUpTo};
 ghost use Rattle.commit_desk.specs.Scans.{WereScanned};
 
 use crate::answers::Spent;
@@ -26,7 +25,7 @@ impl Desk {
         query: &str,
     ) -> Result<Token, Spent>
         requires pool { pool.now ≡ self.old.pool }
-        requires seat { IsSeatOf self.old seat.old }
+        requires seat { IsSeated self.old.pool seat.old }
         requires idle { IsIdle seat.old.number seat.old.front }
         ensures answer { AnswersFind self.old.events_limit self.old.pool.limits self.old.history result }
         ensures token { IfOk result (λ token. HoldsToken seat.new token) }
@@ -42,10 +41,11 @@ impl Desk {
         Ok(self.make_find(pool, seat, query))
     }
 
-    /// A turn of a find that looks at its candidates from this one on, until the turn is over or there are no more, and answers
-    /// where the next turn goes on. `out` gets those whose document was live when the find began and has every word, in the order
-    /// of the candidates; it has room for all that are left. The words of the query but for `rest` are exact: the scan has told
-    /// that each candidate's document has them, and only `rest` is looked for. It makes no event, and takes no memory.
+    /// A turn of a find that looks at its candidates from this one on, until there are no more, it has looked up 4,096 of them, or
+    /// looked for 256 words, but never ends within a document; and answers where the next turn goes on. `out` gets those whose
+    /// document was live when the find began and has every word of the query, in the order of the candidates; it has room for all
+    /// that are left. The words of the query but for `rest` are exact: the scan has told that each candidate's document has them,
+    /// and only `rest` is looked for. It makes no event, and takes no memory.
     pub fn resolve_part(
         &mut self,
         pool: &Pool,
@@ -57,7 +57,7 @@ impl Desk {
         out: &mut Found,
     ) -> usize
         requires pool { pool.now ≡ self.old.pool }
-        requires seat { IsSeatOf self.old seat.old }
+        requires seat { IsSeated self.old.pool seat.old }
         requires token { HoldsToken seat.old token.now }
         requires rest { (begun : HasToken seat.old.front seat.old.number token.now.opened_at) → IsRestOf self.old.pool.config begun.query rest.now }
         requires scanned { WereScanned self.old.pool.config seat.old token.now candidates.now }
@@ -66,10 +66,7 @@ impl Desk {
         ensures found { (begun : HasToken seat.old.front seat.old.number token.now.opened_at) → (more : List (ℕ × ℕ)) ×
             AreGiven begun.earlier begun.query (slice_range candidates.now from result) more × (out.new.found ≡ out.old.found ++ more) }
         ensures all { (begun : HasToken seat.old.front seat.old.number token.now.opened_at) → GiveAll begun.earlier begun.query candidates.now }
-        ensures onward { from ≤ result }
-        ensures further { from < length candidates.now → from < result }
-        ensures within { result ≤ length candidates.now }
-        ensures few { result ≤ from + MOST_LOOK_UPS }
+        ensures turn { (begun : HasToken seat.old.front seat.old.number token.now.opened_at) → LooksUpTo begun.earlier rest.now candidates.now from result }
         ensures enough { length candidates.now ≤ out.new.room + result }
         ensures events { Makes [] self.old self.new seat.old seat.new }
         ensures token { HoldsToken seat.new token.now }
@@ -83,7 +80,7 @@ impl Desk {
     /// Ends a find, whatever it has found.
     pub fn end_find(&mut self, pool: &Pool, seat: &mut PassSeat, token: Token)
         requires pool { pool.now ≡ self.old.pool }
-        requires seat { IsSeatOf self.old seat.old }
+        requires seat { IsSeated self.old.pool seat.old }
         requires token { HoldsToken seat.old token }
         ensures events { Makes (event.End seat.old.number ∷ []) self.old self.new seat.old seat.new }
         ensures none_outstanding { HasNoneOutstanding seat.new }
@@ -95,7 +92,7 @@ impl Desk {
     /// Ends a find that found no memory.
     pub fn drop_find(&mut self, pool: &Pool, seat: &mut PassSeat, token: Token)
         requires pool { pool.now ≡ self.old.pool }
-        requires seat { IsSeatOf self.old seat.old }
+        requires seat { IsSeated self.old.pool seat.old }
         requires token { HoldsToken seat.old token }
         ensures events { Makes (event.End seat.old.number ∷ []) self.old self.new seat.old seat.new }
         ensures none_outstanding { HasNoneOutstanding seat.new }

@@ -1,5 +1,5 @@
 //! What holds of what a desk keeps, whatever the history. Each is the contract of a function that does nothing.
-ghost use Rattle.commit_desk.specs.Laws.{CallsDoNothingElse, DesksHaveTheirCommits, MovesAreOne, MovesKeepTexts, NewDesksAreKept, RefusedCallsKeepDocuments};
+ghost use Rattle.commit_desk.specs.Laws.{AnswersAreByTests, CallsDoNothingElse, DesksHaveTheirCommits, MovesAreOne, MovesKeepTexts, NewDesksAreKept, RefusedCallsKeepDocuments};
 
 /// A desk that keeps nothing yet stands for the history without events, so what is kept of a history can be met.
 pub fn new_desks_are_kept()
@@ -32,4 +32,10 @@ pub fn moves_keep_texts()
 /// A call of the desk makes events alone: it sets no bit and reads and clears no word for its pass.
 pub fn calls_do_nothing_else()
     ensures { CallsDoNothingElse }
+{}
+
+/// What a find answers is what it answers by a test of the texts: whether they have every word of the query, or whether the
+/// expression keeps them.
+pub fn answers_are_by_tests()
+    ensures { AnswersAreByTests }
 {}

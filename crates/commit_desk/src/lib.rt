@@ -15,6 +15,7 @@ mod desk;
 mod entries;
 mod finding;
 mod journal;
+mod judging;
 pub mod laws;
 mod look;
 mod making;

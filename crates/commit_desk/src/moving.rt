@@ -12,8 +12,8 @@ ghost use Rattle.std.specs.List.{list_any};
 ghost use Rattle.row_layout.specs.DocumentBits.{AreDocumentBits};
 ghost use Rattle.slice_rule.specs.declared.view.Fact.TheVariants as fact;
 ghost use Rattle.slice_rule.specs.Numbers.{last_number};
-ghost use Rattle.slice_rule.specs.Seats.{HasNoneOutstanding, HoldsClaim};
-ghost use Rattle.commit_desk.specs.Desks.{IsCaughtUp, IsSeatOf, IsUnwritten, Makes};
+ghost use Rattle.slice_rule.specs.Seats.{HasNoneOutstanding, HoldsClaim, IsSeated};
+ghost use Rattle.commit_desk.specs.Desks.{IsCaughtUp, IsUnwritten, Makes};
 ghost use Rattle.commit_desk.specs.Moving.{AnswersLook, AnswersTakeMove, HoldsLook, HasLive, IsLowestFree, IsLowestLive, IsPartlyHeld, document_of, is_fewer, IsFreeToMove, IsNextToMove, IsThereStill, IsToBeEmptied, event_of_move, events_of_take_move, looks_after, looks_after_take, with_mark};
 
 use crate::desk::Desk;
@@ -39,7 +39,7 @@ impl Desk {
         id: u64,
     ) -> Result<Option<Look>, Memory>
         requires pool { pool.now ≡ self.old.pool }
-        requires seat { IsSeatOf self.old seat.old }
+        requires seat { IsSeated self.old.pool seat.old }
         requires idle { IsIdle seat.old.number seat.old.front }
         ensures answer { AnswersLook reserve self.old.events_limit self.old.pool.limits looks.old self.old.history id result }
         ensures events { Makes [] self.old self.new seat.old seat.new }
@@ -66,7 +66,7 @@ impl Desk {
         look: Look,
     ) -> Option<(Claim, Look)>
         requires pool { pool.now ≡ self.old.pool }
-        requires seat { IsSeatOf self.old seat.old }
+        requires seat { IsSeated self.old.pool seat.old }
         requires idle { IsIdle seat.old.number seat.old.front }
         ensures answer { AnswersTakeMove self.old.events_limit self.old.pool.limits self.old.history seat.old.number look result }
         ensures events { Makes (events_of_take_move seat.old.number result) self.old self.new seat.old seat.new }
@@ -98,7 +98,7 @@ impl Desk {
         bits: &Bits,
     ) -> bool
         requires pool { pool.now ≡ self.old.pool }
-        requires seat { IsSeatOf self.old seat.old }
+        requires seat { IsSeated self.old.pool seat.old }
         requires claim { HoldsClaim seat.old claim }
         requires look { HoldsLook seat.old look }
         requires bits { AreDocumentBits self.old.pool.config look.doc.words claim.slice claim.column bits.now.bits }

@@ -2,9 +2,9 @@ ghost use Rattle.std.specs.Prelude.{◌≡◌, [], ◌∷◌};
 ghost use Rattle.funnel_model.specs.declared.call.Call.TheVariants as call;
 ghost use Rattle.funnel_model.specs.declared.event.Event.TheVariants as event;
 ghost use Rattle.funnel_model.specs.Legal.{IsIdle};
-ghost use Rattle.slice_rule.specs.Seats.{HasNoneOutstanding};
+ghost use Rattle.slice_rule.specs.Seats.{HasNoneOutstanding, IsSeated};
 ghost use Rattle.commit_desk.specs.Answers.{AnswersJournal, AnswersPlace, TakesCalls, events_of_journal, events_of_place};
-ghost use Rattle.commit_desk.specs.Desks.{IsCaughtUp, IsSeatOf, Makes};
+ghost use Rattle.commit_desk.specs.Desks.{IsCaughtUp, Makes};
 
 use crate::answers::{JournalFault, Spent};
 use crate::desk::Desk;
@@ -16,7 +16,7 @@ impl Desk {
     /// The number of commits so far. It takes no memory.
     pub fn read_place(&mut self, pool: &Pool, seat: &mut PassSeat) -> Result<u64, Spent>
         requires pool { pool.now ≡ self.old.pool }
-        requires seat { IsSeatOf self.old seat.old }
+        requires seat { IsSeated self.old.pool seat.old }
         requires idle { IsIdle seat.old.number seat.old.front }
         ensures answer { AnswersPlace self.old.events_limit self.old.history result }
         ensures events { Makes (events_of_place seat.old.number result) self.old self.new seat.old seat.new }
@@ -45,7 +45,7 @@ impl Desk {
         from: u64,
     ) -> Result<Commits, JournalFault>
         requires pool { pool.now ≡ self.old.pool }
-        requires seat { IsSeatOf self.old seat.old }
+        requires seat { IsSeated self.old.pool seat.old }
         requires idle { IsIdle seat.old.number seat.old.front }
         ensures answer { AnswersJournal self.old.events_limit self.old.pool.limits self.old.history from result }
         ensures events { Makes (events_of_journal seat.old.number from result) self.old self.new seat.old seat.new }

@@ -44,9 +44,10 @@ impl<N: PoolName> Setting<N> {
         let Ok(room) = Vec::with_capacity(self.alloc, 1) else {
             return Err((caller, AddFault::Memory));
         };
+        let mut room = Some(room);
         let Caller { mut seat, of } = caller;
         let cleared = false;
-        match self.desk.take(&self.pool, &mut seat, &draft.doc, room) {
+        match self.desk.take(&self.pool, &mut seat, &draft.doc, &mut room) {
             Taken::Claim(claim) => Ok(Claiming {
                 seat,
                 claim,

@@ -1,11 +1,11 @@
 -- What a find makes of a candidate: the pair by the test is that of the document found.
 use Rattle.std.proofs.Common.{◌≡◌, ℕ, suc, ◌<◌, ◌≤◌, Bool, true, false, cond, ltb, List, [], ◌∷◌, length, Option, Some, None, refl, ap, ◌∙◌, subst, arith, filter_map}
 use Rattle.std.specs.List.{cons_option}
-use Rattle.std.specs.Option.{option_and_then}
+use Rattle.std.specs.Option.{option_and_then, option_map_or}
 use Rattle.std.proofs.lemmas.Bool.{cond-true, ltb-true, lt-ltb, and_parts, and_from}
 use Rattle.std.proofs.lemmas.Option.{option_and_then_some}
 use Rattle.document_store.specs.Documents.{HasEvery, Parts}
-use Rattle.document_store.specs.Finding.{place_if_live, found_in, has_every}
+use Rattle.document_store.specs.Finding.{found_in, has_every, looked_for, place_if_live}
 use Rattle.document_store.specs.declared.column.Column.{Column}
 use Rattle.document_store.specs.declared.column.Column.TheVariants as column
 use Rattle.document_store.specs.declared.slots.Slot.{Slot}
@@ -34,7 +34,7 @@ found_in-parts slot words number place doc b live kept every =
     ∙ ap (λ t. cond t (Some (place, doc.id)) None) every
 
 -- the place of the add is given exactly where the column was live
-place_if_live-gives : (x : Column) (number place : ℕ) → WasLiveAt x number → AddedAt x place → place_if_live x number ≡ Some place
+pub place_if_live-gives : (x : Column) (number place : ℕ) → WasLiveAt x number → AddedAt x place → place_if_live x number ≡ Some place
 place_if_live-gives (column.Live p since) number place live is = cond-true (ltb since number) (Some p) None (lt-ltb since number live) ∙ ap Some is
 place_if_live-gives (column.Over p since until) number place live is =
     cond-true _ (Some p) None (and_from (ltb since number) (ltb number until) (lt-ltb since number live.0) (lt-ltb number until live.1)) ∙ ap Some is
@@ -42,11 +42,11 @@ place_if_live-gives column.Free number place live is = absurd live
 place_if_live-gives (column.Pending pass) number place live is = absurd live
 place_if_live-gives column.Dropped number place live is = absurd live
 
-chosen_some : {X : Type 0} (b : Bool) (x y : X) → cond b (Some x) None ≡ Some y → (b ≡ true) × (x ≡ y)
+pub chosen_some : {X : Type 0} (b : Bool) (x y : X) → cond b (Some x) None ≡ Some y → (b ≡ true) × (x ≡ y)
 chosen_some true x y e = (refl, cc)
 chosen_some false x y e = cc
 
-place_if_live-tells : (x : Column) (number place : ℕ) → place_if_live x number ≡ Some place → WasLiveAt x number × AddedAt x place
+pub place_if_live-tells : (x : Column) (number place : ℕ) → place_if_live x number ≡ Some place → WasLiveAt x number × AddedAt x place
 place_if_live-tells (column.Live p since) number place e =
     let parts = chosen_some (ltb since number) p place e in (ltb-true since number parts.0, parts.1)
 place_if_live-tells (column.Over p since until) number place e =
@@ -56,6 +56,33 @@ place_if_live-tells (column.Over p since until) number place e =
 place_if_live-tells column.Free number place e = cc
 place_if_live-tells (column.Pending pass) number place e = cc
 place_if_live-tells column.Dropped number place e = cc
+
+-- all words are looked for where the column's document was live
+pub looked_where_live : (slot : Slot) (words : List (List ℕ)) (number place : ℕ) (doc : Parts) → WasLiveAt slot.column number → AddedAt slot.column place → slot.doc ≡ Some doc →
+    looked_for slot words number ≡ length words
+looked_where_live slot words number place doc live at kept =
+    ap (λ (p : Option ℕ). option_map_or (λ (_ : ℕ). option_map_or (λ (_ : Parts). length words) slot.doc 0) p 0) (place_if_live-gives slot.column number place live at)
+    ∙ ap (λ (d : Option Parts). option_map_or (λ (_ : Parts). length words) d 0) kept
+
+-- a column with a document that was live in it, as the find with this number began
+pub record HadLive (slot : Slot) (number : ℕ) : Type 0 where
+  pub place : ℕ
+  pub doc : Parts
+  pub was_live : WasLiveAt slot.column number
+  pub added : AddedAt slot.column place
+  pub kept : slot.doc ≡ Some doc
+
+-- and where there is none, no word is
+pub looked_elsewhere : (slot : Slot) (words : List (List ℕ)) (number : ℕ) → (HadLive slot number → ⊥) → looked_for slot words number ≡ 0
+looked_elsewhere slot words number none =
+    looked_none (place_if_live slot.column number) slot.doc (length words)
+    (λ place doc live kept. let told = place_if_live-tells slot.column number place live in none (record { place = place; doc = doc; was_live = told.0; added = told.1; kept = kept }))
+  where
+    looked_none : (place : Option ℕ) (doc : Option Parts) (count : ℕ) → ((p : ℕ) (d : Parts) → place ≡ Some p → doc ≡ Some d → ⊥) →
+        option_map_or (λ (_ : ℕ). option_map_or (λ (_ : Parts). count) doc 0) place 0 ≡ 0
+    looked_none None doc count none = refl
+    looked_none (Some p) None count none = refl
+    looked_none (Some p) (Some d) count none = absurd (none p d refl refl)
 
 -- what a column gives: its document was live in it as the find with this number began, and has every word; the pair is the place of its add and
 -- its number

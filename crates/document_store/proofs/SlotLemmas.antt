@@ -28,7 +28,7 @@ pub slot_at-with_slot : (table : Table) (slice at : ℕ) (slot : Slot) → IsCol
 slot_at-with_slot table slice at slot in' every = get_or-set_same table.slots (slice * table.columns + at) slot free_slot (column_within table slice at in' every)
 
 -- two columns of a slice, or of two, stand apart
-apart : (n slice at other place : ℕ) → at < n → place < n → (slice ≡ other → at ≡ place → ⊥) → slice * n + at ≢ other * n + place
+pub apart : (n slice at other place : ℕ) → at < n → place < n → (slice ≡ other → at ≡ place → ⊥) → slice * n + at ≢ other * n + place
 apart n slice at other place low high differ same =
     ⊎_elim
     (λ (less : slice < other). let le = mul-le-mul_left n (let l : slice + 1 ≤ other = omega arith in l) in omega (arith, le))

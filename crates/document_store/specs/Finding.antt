@@ -44,20 +44,20 @@ abbrev pub looked_for : Slot → List (List ℕ) → ℕ → ℕ
 looked_for slot words number =
     option_map_or (λ (place : ℕ). option_map_or (λ (doc : Parts). length words) slot.doc 0) (place_if_live slot.column number) 0
 
--- and in the columns of several candidates
-abbrev pub looked_for_in : Table → List (List ℕ) → ℕ → List (ℕ × ℕ) → ℕ
-looked_for_in table words number candidates = sum_by (λ (candidate : ℕ × ℕ). looked_for (slot_at table candidate.0 candidate.1) words number) candidates
+-- and in a candidate's
+abbrev pub looked_at : Table → List (List ℕ) → ℕ → ℕ × ℕ → ℕ
+looked_at table words number candidate = looked_for (slot_at table candidate.0 candidate.1) words number
 
--- A turn of a find, from the candidate with this number up to another, comes one further at least where there are more, and not past the
--- last. It looks up no more than it may, and before its last candidate it hasn't looked for as many words as end it; and where it ends
--- before the last of all, it has looked up or looked for as many as that.
-pub record EndsTurn (table : Table) (candidates : List (ℕ × ℕ)) (words : List (List ℕ)) (number from to : ℕ) : Type 0 where
+-- A turn of a find, from the candidate with this number up to another, where so many words are looked for in each. It comes one further at
+-- least where there are more, and not past the last. It looks up no more than it may, and before its last candidate it hasn't looked for as
+-- many words as end it; and where it ends before the last of all, it has looked up or looked for as many as that.
+pub record EndsTurn (candidates : List (ℕ × ℕ)) (looked : ℕ × ℕ → ℕ) (from to : ℕ) : Type 0 where
   pub within : to ≤ length candidates
   pub onward : from ≤ to
   pub further : from < length candidates → from < to
   pub looked_up : to ≤ from + MOST_LOOK_UPS
-  pub looked_before : (at : ℕ) → at < to → looked_for_in table words number (slice_range candidates from at) < MOST_LOOKED_FOR
-  pub over : to < length candidates → to < from + MOST_LOOK_UPS → MOST_LOOKED_FOR ≤ looked_for_in table words number (slice_range candidates from to)
+  pub looked_before : (at : ℕ) → at < to → sum_by looked (slice_range candidates from at) < MOST_LOOKED_FOR
+  pub over : to < length candidates → to < from + MOST_LOOK_UPS → MOST_LOOKED_FOR ≤ sum_by looked (slice_range candidates from to)
 
 -- pairs in order of their first parts, and of their second parts where these are equal
 abbrev pub pair_cmp : ℕ × ℕ → ℕ × ℕ → Ordering

@@ -1,11 +1,12 @@
 //! What an engine keeps of documents beside their bits: the document in each column and what became of it, and the
 //! column of each live number. A find resolves its candidates here: those that were live in their columns as it
-//! began and have every word are the answer, in the order in which they were added.
+//! began and have every word that is looked for are the answer, in the order in which they were added.
 #![tactic(auto)]
 
 mod column;
 mod doc;
 mod found;
+mod judging;
 mod live_list;
 mod records;
 mod resolving;
@@ -14,6 +15,7 @@ mod slots;
 pub use column::Column;
 pub use doc::{Doc, verify};
 pub use found::Found;
+pub use judging::{Judge, MOST_JUDGED, resolve_by_part};
 pub use live_list::LiveList;
 pub use records::Records;
 pub use resolving::{MOST_LOOK_UPS, MOST_LOOKED_FOR, resolve_part};

@@ -1,6 +1,6 @@
 ghost use Rattle.std.specs.Prelude.{◌≡◌, ℕ, ◌+◌, ◌-◌, ◌<◌, ◌≤◌, ◌++◌, [], length, filter_map, Contains};
 ghost use Rattle.std.specs.List.{cons_option, slice_range};
-ghost use Rattle.document_store.specs.Finding.{EndsTurn, found_at, found_in, looked_for, place_if_live};
+ghost use Rattle.document_store.specs.Finding.{EndsTurn, found_at, found_in, looked_at, looked_for, place_if_live};
 ghost use Rattle.document_store.specs.Slots.{IsColumn, slot_at};
 
 use crate::column::Column;
@@ -17,8 +17,8 @@ pub const MOST_LOOK_UPS: usize = 4096;
 pub const MOST_LOOKED_FOR: usize = 256;
 
 /// Looks at the candidates from this one on, until the turn is over or there are no more, and answers where the next turn goes
-/// on. `out` gets those whose document was live in its column as the find with this number began and has every word. It takes
-/// no memory.
+/// on. `out` gets those whose document was live in its column as the find with this number began and has every word that is
+/// looked for. It takes no memory.
 pub fn resolve_part(
     records: &Records,
     candidates: &Candidates,
@@ -31,7 +31,7 @@ pub fn resolve_part(
     requires room { length candidates.now ≤ out.old.room + from }
     requires in_range { (slice column : ℕ) → Contains candidates.now (slice, column) → IsColumn records.now slice column }
     ensures found { out.new.found ≡ out.old.found ++ filter_map (found_at records.now words.now opened_at) (slice_range candidates.now from result) }
-    ensures turn { EndsTurn records.now candidates.now words.now opened_at from result }
+    ensures turn { EndsTurn candidates.now (looked_at records.now words.now opened_at) from result }
     ensures enough { length candidates.now ≤ out.new.room + result }
     ensures room { out.new.room + length out.new.found ≡ out.old.room + length out.old.found }
 {
@@ -67,7 +67,7 @@ fn look_up(slot: &Slot, words: &WordSet, opened_at: u64, left: usize, out: &mut 
 }
 
 /// The place of the add, where the column's document was live in it as the find with this number began.
-fn place_if_live(column: Column, opened_at: u64) -> Option<u64>
+pub(crate) fn place_if_live(column: Column, opened_at: u64) -> Option<u64>
     ensures { result ≡ place_if_live column opened_at }
 {
     match column {

@@ -11,7 +11,7 @@ use Rattle.funnel_model.specs.Steps.{AddsNone}
 use Rattle.funnel_model.proofs.Clears.{last_by-front}
 use Rattle.slice_rule.specs.declared.view.Fact.{Fact}
 use Rattle.slice_rule.specs.Pools.{PoolId}
-use Rattle.slice_rule.specs.Seats.{CanEnd, HasEnded, HasNoneOutstanding, PassState}
+use Rattle.slice_rule.specs.Seats.{HasEnded, HasNoneOutstanding, IsSeated, PassState}
 use Rattle.slice_rule.specs.Worlds.{LacksAtMostOne, made_by}
 use Rattle.slice_rule.proofs.Prefixes.{front_is, none_since}
 use Rattle.commit_desk.specs.Passes.{IsResting}
@@ -45,7 +45,7 @@ module _ (before after : PassState) (front : List Event) (told : List Fact) (is 
       }
 
 -- a pass that rests can end
-pub can_end : (pool named : PoolId) (seat : PassState) → pool ≡ named → IsResting named seat → CanEnd pool seat
+pub can_end : (pool named : PoolId) (seat : PassState) → pool ≡ named → IsResting named seat → IsSeated pool seat
 can_end pool named seat is rests = record { same = rests.seated.same ∙ sym is; none_outstanding = rests.seated.none_outstanding }
 
 -- the history has no further event of a pass that ended

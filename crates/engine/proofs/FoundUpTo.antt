@@ -12,7 +12,7 @@ use Rattle.funnel_model.specs.Events.{finds_or_ends}
 use Rattle.funnel_model.specs.History.{IsFrontOf, answer}
 use Rattle.funnel_model.specs.Legal.{IsLegal}
 use Rattle.funnel_model.specs.Tokens.{HasToken}
-use Rattle.funnel_model.specs.Words.{AreWordsOf}
+use Rattle.funnel_model.specs.Words.{AreWordsOf, meets}
 use Rattle.slice_rule.specs.Pools.{PoolId}
 use Rattle.slice_rule.specs.Seats.{PassState}
 use Rattle.commit_desk.specs.Desks.{DeskState, Makes}
@@ -63,7 +63,7 @@ module _ (pool : PoolId) (pass : PassState) (token : Token) (rest : List (List �
       let added = adds begun in
       subst (λ cs. AreGiven begun.earlier begun.query cs after.found) (sym (take_part candidates from to low))
       (subst (AreGiven begun.earlier begun.query (take from candidates ++ slice_range candidates from to)) (sym added.2)
-      (given_both begun.earlier begun.query (take from candidates) (slice_range candidates from to) found.found added.0 (is.given begun) added.1))
+      (given_both begun.earlier (λ text. meets text begun.query) (take from candidates) (slice_range candidates from to) found.found added.0 (is.given begun) added.1))
 
   -- the turn was the last
   pub all_found : length candidates ≤ to → ((begun : HasToken pass.front pass.number token.opened_at) → GiveAll begun.earlier begun.query candidates) → IsAllFound pass token candidates after.found
@@ -101,8 +101,8 @@ found_is_answer pool pass token words candidates found sorted after legal grows 
     sym grows.1 ∙ ap (λ h. h ++ grows.0) begun.whole ∙ append_assoc begun.earlier (find ∷ begun.later) grows.0 in
     let legal_then = legal_before limits begun.earlier (find ∷ (begun.later ++ grows.0)) (subst (IsLegal limits) whole legal) in
     let given = all begun in
-    ap (map (λ (f : ℕ × ℕ). f.1)) (given_is_answer begun.earlier begun.query limits legal_then candidates found sorted scanned.each_once given.1 given.0 permuted rises)
-    ∙ numbers_are_answer begun.earlier begun.query
+    ap (map (λ (f : ℕ × ℕ). f.1)) (given_is_answer begun.earlier (λ text. meets text begun.query) limits legal_then candidates found sorted scanned.each_once given.1 given.0 permuted rises)
+    ∙ numbers_are_answer begun.earlier (λ text. meets text begun.query)
 
 -- what was found since the pass's first turn is what it has found
 pub all_found_later : (first pass : PassState) (token now : Token) (candidates found : List (ℕ × ℕ)) → now ≡ token → pass.number ≡ first.number → IsFrontOf first.number first.front pass.front →

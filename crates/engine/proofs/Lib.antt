@@ -12,3 +12,6 @@ pub mod NotTaken
 pub mod OpenFinds
 pub mod Scans
 pub mod Sizes
+pub mod JudgedFinds
+pub mod JudgedScans
+pub mod MergedColumns

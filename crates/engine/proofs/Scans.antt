@@ -177,21 +177,25 @@ module _ (before after : Shared) (kept : kept_of after ≡ kept_of before) where
 pub holds_still : (seat : PassState) (own told : List Fact) (token : Token) → HoldsToken seat token → HoldsToken (record seat { own = own; told = told }) token
 holds_still seat own told token holds = record { begun = holds.begun; at_place = holds.at_place; slices = holds.slices }
 
-pub scan_kept : (pool : PoolId) (before after : Shared) (words : List (List ℕ)) (plan : List Row) → kept_of after ≡ kept_of before → CanScan pool before words plan → CanScan pool after words plan
-scan_kept pool before after words plan kept scan =
+-- nor do they change what it may read
+pub read_kept : (pool : PoolId) (before after : Shared) → kept_of after ≡ kept_of before → CanRead pool before.seat.now before.token.now → CanRead pool after.seat.now after.token.now
+read_kept pool before after kept can_read =
     let own = after.seat.now.own in
     let told = after.seat.now.told in
-    let can_read : CanRead pool (record before.seat.now { own = own; told = told }) before.token.now = record {
-      same = scan.can_read.same;
-      holds = holds_still before.seat.now own told before.token.now scan.can_read.holds;
-      none_outstanding = scan.can_read.none_outstanding;
+    let did : CanRead pool (record before.seat.now { own = own; told = told }) before.token.now = record {
+      same = can_read.same;
+      holds = holds_still before.seat.now own told before.token.now can_read.holds;
+      none_outstanding = can_read.none_outstanding;
     } in
-    record {
-      same = ap (λ (k : SharedKept). k.pool) kept ∙ scan.same;
-      can_read = subst (CanRead pool after.seat.now) (sym (token_kept before after kept)) (subst (λ (s : PassState). CanRead pool s before.token.now) (sym (seat_kept before after kept)) can_read);
-      rows = scan.rows;
-      laid = scan.laid;
-    }
+    subst (CanRead pool after.seat.now) (sym (token_kept before after kept)) (subst (λ (s : PassState). CanRead pool s before.token.now) (sym (seat_kept before after kept)) did)
+
+pub scan_kept : (pool : PoolId) (before after : Shared) (words : List (List ℕ)) (plan : List Row) → kept_of after ≡ kept_of before → CanScan pool before words plan → CanScan pool after words plan
+scan_kept pool before after words plan kept scan = record {
+  same = ap (λ (k : SharedKept). k.pool) kept ∙ scan.same;
+  can_read = read_kept pool before after kept scan.can_read;
+  rows = scan.rows;
+  laid = scan.laid;
+}
 
 -- the slices of the token are slices of the pool
 pub in_pool : (pool : PoolId) (shared : Shared) (words : List (List ℕ)) (plan : List Row) → IsOfConfig pool → CanScan pool shared words plan →

@@ -1,14 +1,13 @@
 -- The turns of an add at the desk: those of its moves, and those for its own document.
-use Rattle.std.specs.Prelude.{◌≡◌, ℕ, ◌≤◌, ◌⊎◌, false, List, [], ◌∷◌, Result, Ok, Err}
+use Rattle.std.specs.Prelude.{◌≡◌, ℕ, ◌≤◌, ◌⊎◌, List, Result, Ok, Err}
 use Rattle.funnel_model.specs.declared.bit_list.Bit.{Bit}
 use Rattle.funnel_model.specs.declared.call.TheConstants.{MOST_MOVES}
 use Rattle.funnel_model.specs.declared.claim.Claim.{Claim}
 use Rattle.funnel_model.specs.declared.config.Config.{Config}
 use Rattle.funnel_model.specs.declared.event.Event.{Event}
-use Rattle.funnel_model.specs.declared.event.Event.TheVariants as event
 use Rattle.funnel_model.specs.Legal.{Limits}
 use Rattle.funnel_model.specs.Words.{words}
-use Rattle.commit_desk.specs.Answers.{AnswersCommit, AnswersTake, events_of_commit, events_of_take}
+use Rattle.commit_desk.specs.Answers.{AnswersCommit, AnswersTake, events_of_commit, events_of_opened_take, events_of_take}
 use Rattle.commit_desk.specs.declared.answers.AddFault.{AddFault}
 use Rattle.commit_desk.specs.declared.answers.AddFault.TheVariants as add
 use Rattle.commit_desk.specs.declared.answers.CommitFault.{CommitFault}
@@ -28,7 +27,7 @@ TakeTurn limits pass id text before after answer =
 pub record ClearsFirst (limits : Limits) (pass id : ℕ) (text : List ℕ) (before after : List Event) (claim : Claim) : Type 0 where
   pub middle : List Event
   pub cleared : TakeTurn limits pass id text before middle (taken.Clear (record { job = record { slice = claim.slice }; slots = limits.columns }))
-  pub opened : IsTurn pass middle after (λ history. Unit {0}) (event.Opened pass claim.slice false ∷ event.Take pass claim.slice 0 ∷ [])
+  pub opened : IsTurn pass middle after (λ history. Unit {0}) (events_of_opened_take pass claim.slice)
   pub first : claim.column ≡ 0
 
 -- the pass took a column: at once, or after it cleared a slice

@@ -1,5 +1,5 @@
 -- Finds: what an open one scans for, and the turns of a find at the desk.
-use Rattle.std.specs.Prelude.{◌≡◌, ℕ, ◌+◌, ◌≤◌, ◌⊎◌, List, [], ◌∷◌, ◌++◌, length, take, All, Option, None, Some, Result, Ok, Err}
+use Rattle.std.specs.Prelude.{◌≡◌, ℕ, ◌+◌, ◌<◌, ◌≤◌, ◌⊎◌, List, [], ◌∷◌, ◌++◌, length, take, All, Option, None, Some, Result, Ok, Err}
 use Rattle.document_store.specs.Finding.{FoundState}
 use Rattle.funnel_model.specs.declared.claim.Token.{Token}
 use Rattle.funnel_model.specs.declared.event.Event.{Event}
@@ -56,6 +56,17 @@ pub record IsFoundUpTo (pool : PoolId) (pass : PassState) (token : Token) (rest 
 abbrev pub IsAllFound : PassState → Token → List (ℕ × ℕ) → List (ℕ × ℕ) → Type 0
 IsAllFound pass token candidates found =
     (begun : HasToken pass.front pass.number token.opened_at) → AreGiven begun.earlier begun.query candidates found × GiveAll begun.earlier begun.query candidates
+
+-- a turn of a find which isn't the last keeps its token, and comes to a later candidate
+pub record ComesTo (token : Token) (candidates : List (ℕ × ℕ)) (from : ℕ) (next : Token × ℕ) : Type 0 where
+  pub same : next.0 ≡ token
+  pub further : from < next.1
+  pub more : next.1 < length candidates
+
+-- how many candidates are looked at after a turn
+abbrev pub end_of_turn : List (ℕ × ℕ) → Option (Token × ℕ) → ℕ
+end_of_turn candidates None = length candidates
+end_of_turn candidates (Some next) = next.1
 
 -- the events of a turn that looks at candidates: the last one ends the find
 abbrev pub events_of_turn : ℕ → Option (Token × ℕ) → List Event

@@ -2,6 +2,8 @@ pub mod Adds
 pub mod Clients
 pub mod Engines
 pub mod Finds
+pub mod Judged
+pub mod Marks
 pub mod Moves
 pub mod Passes
 pub mod Replies

@@ -1,5 +1,6 @@
 //! Finds.
 ghost use Rattle.std.specs.Prelude.{◌≡◌, ℕ, ◌+◌, ◌<◌, List, ◌≤◌, [], IfErr, IfOk, MatchResult, length, vec_capacity};
+ghost use Rattle.funnel_model.specs.declared.bit_list.Bit.{Bit};
 ghost use Rattle.funnel_model.specs.declared.call.Call.TheVariants as call;
 ghost use Rattle.funnel_model.specs.declared.event.Event.{Event};
 ghost use Rattle.funnel_model.specs.History.{answer};
@@ -10,7 +11,8 @@ ghost use Rattle.engine.specs.Finds.{FindBegins, FindEnds, FindTurns, IsAllFound
 ghost use Rattle.engine.specs.Passes.{BeginsCall, MakesCall, MakesNoCall, view_of};
 ghost use Rattle.engine.specs.Replies.{reply_of_find, reply_of_find_fault};
 ghost use Rattle.engine.specs.Scans.{AreScannedBelow, CanScan};
-ghost use Rattle.row_read.specs.SharedRows.{kept_of};
+ghost use Rattle.plan_rows.specs.Rests.{words_of_rest};
+ghost use Rattle.row_read.specs.SharedRows.{WasReadSet, kept_of};
 
 use crate::engine::Engine;
 use crate::open_find::{Begun, OpenFind};
@@ -20,6 +22,7 @@ use commit_desk::Spent;
 use document_store::Found;
 use funnel_model::{Candidates, Ids, Memory, Token, WordSet};
 use plan_rows::plan;
+use row_layout::Plan;
 use row_read::Shared;
 use slice_rule::{PassSeat, PoolName};
 use std::alloc::Global;
@@ -31,15 +34,15 @@ use word_cut::words;
 pub enum FindFault {
     /// The history has this many events, and no call is taken any more.
     Spent(u64),
-    /// There was no memory: for the words and their rows, before the find began, or for the candidates and the answer, and
-    /// then the find was ended.
+    /// There was no memory: for the words and their rows, before the find began, or, with the rows of a judge's branches, for the
+    /// candidates and the answer, and then the find was ended.
     Memory,
 }
 
 impl<N: PoolName> Engine<N> {
-    /// The numbers of the documents that are live when the find begins and have every word of the query, in the order in
-    /// which they were added. It waits for the lock to begin, and then for each turn that looks at its candidates; once where the
-    /// engine is spent, and not at all where there is no memory for its words and their rows.
+    /// The numbers of the documents that are live when the find begins and have every word of the query, in the order of their
+    /// adds. It waits for the lock to begin, unless it has no memory for its words and their rows, and then, unless the engine is
+    /// spent, for each turn. One ends after 4,096 look-ups, or with the document at which it has looked for 256 words.
     pub fn find<R: Wait>(
         &self,
         rt: &R,
@@ -124,7 +127,7 @@ impl<N: PoolName> Engine<N> {
         query: &str,
     ) -> Result<Begun, FindFault>
         requires pass { IsResting N.pool pass.old }
-        ensures begun { IfOk result (λ begun. IsScanFor N.pool pass.new begun.token begun.words begun.rest begun.plan) }
+        ensures begun { IfOk result (λ begun. IsScanFor N.pool pass.new begun.token begun.words (words_of_rest begun.words begun.rest) begun.plan) }
         ensures turns { MatchResult result (λ _. FindBegins N.pool.limits pass.old.number query.now pass.old.front pass.new.front)
             (λ fault. RefusedTurns N.pool.limits pass.old.number pass.old.front pass.new.front fault) }
         ensures rests { IfErr result (λ _. IsResting N.pool pass.new) }
@@ -159,7 +162,7 @@ impl<N: PoolName> Engine<N> {
         begun: Begun,
         work: &mut W,
     ) -> Result<Ids, Memory>
-        requires begun { IsScanFor N.pool pass.old begun.token begun.words begun.rest begun.plan }
+        requires begun { IsScanFor N.pool pass.old begun.token begun.words (words_of_rest begun.words begun.rest) begun.plan }
         ensures found { IfOk result (λ ids. (earlier : List Event) (query : List ℕ) → IsBegunAt (view_of pass.old) earlier query → ids ≡ answer earlier query) }
         ensures ended { FindEnds pass.old.number pass.old.front pass.new.front }
         ensures rests { IsResting N.pool pass.new }
@@ -170,12 +173,13 @@ impl<N: PoolName> Engine<N> {
             Ok((candidates, found, ids)) => {
                 let Begun {
                     token,
-                    words: _,
+                    words,
                     rest,
                     plan: _,
                 } = begun;
                 let mut found = found;
-                self.resolve(rt, pass, token, &candidates, &rest, &mut found);
+                let rest = rest.words(&words);
+                self.resolve(rt, pass, token, &candidates, rest, &mut found);
                 found.sort();
                 Ok(found.into_ids(ids))
             }
@@ -192,7 +196,7 @@ impl<N: PoolName> Engine<N> {
         }
     }
 
-    // Looks at the candidates turn by turn, until the last turn ends the find.
+    // Looks at the candidates turn by turn, with the lock free between two, until the last turn ends the find.
     fn resolve<R: Wait>(
         &self,
         rt: &R,
@@ -227,7 +231,7 @@ impl<N: PoolName> Engine<N> {
         begun: &Begun,
         work: &mut W,
     ) -> Result<(Candidates, Found, Vec<u64>), Memory>
-        requires begun { IsScanFor N.pool pass.old begun.now.token begun.now.words begun.now.rest begun.now.plan }
+        requires begun { IsScanFor N.pool pass.old begun.now.token begun.now.words (words_of_rest begun.now.words begun.now.rest) begun.now.plan }
         ensures scanned { IfOk result (λ scanned. AreScanned N.pool.config pass.new begun.now.token begun.now.words scanned.0) }
         ensures none { IfOk result (λ scanned. scanned.1.found ≡ []) }
         ensures room { IfOk result (λ scanned. length scanned.0 ≤ scanned.1.room) }
@@ -250,30 +254,32 @@ impl<N: PoolName> Engine<N> {
         work: &mut W,
         out: &mut Candidates,
     ) -> Result<(), Memory>
-        requires begun { IsScanFor N.pool pass.old begun.now.token begun.now.words begun.now.rest begun.now.plan }
+        requires begun { IsScanFor N.pool pass.old begun.now.token begun.now.words (words_of_rest begun.now.words begun.now.rest) begun.now.plan }
         requires empty { out.old ≡ [] }
         ensures scanned { IfOk result (λ _. AreScanned N.pool.config pass.new begun.now.token begun.now.words out.new) }
         ensures seat { pass.new ≡ record pass.old { own = pass.new.own; told = pass.new.told } }
     {
         let mut rows = Shared::new(&self.pool, pass, &begun.token);
-        self.scan_each(&mut rows, begun, work, out)
+        self.scan_each(&mut rows, &begun.words, &begun.plan, work, out)
     }
 
-    // Scans the slices of the token, one after the other.
-    fn scan_each<W: Work>(
+    // Scans the slices of the token for these words, one after the other.
+    pub(crate) fn scan_each<W: Work>(
         &self,
         rows: &mut Shared<'_>,
-        begun: &Begun,
+        words: &WordSet,
+        plan: &Plan,
         work: &mut W,
         out: &mut Candidates,
     ) -> Result<(), Memory>
-        requires scan { CanScan N.pool rows.old begun.now.words begun.now.plan }
+        requires scan { CanScan N.pool rows.old words.now plan.now }
         requires empty { out.old ≡ [] }
-        ensures scanned { IfOk result (λ _. AreScanned N.pool.config rows.new.seat.now rows.new.token.now begun.now.words out.new) }
+        ensures scanned { IfOk result (λ _. AreScanned N.pool.config rows.new.seat.now rows.new.token.now words.now out.new) }
+        ensures seen_stays { (bit : Bit) → WasReadSet rows.old bit → WasReadSet rows.new bit }
         ensures kept { kept_of rows.new ≡ kept_of rows.old }
     {
         for slice in 0..self.slices {
-            self.scan_slice(rows, begun, slice, work, out)?;
+            self.scan_slice(rows, words, plan, slice, work, out)?;
         }
         Ok(())
     }
@@ -282,20 +288,22 @@ impl<N: PoolName> Engine<N> {
     fn scan_slice<W: Work>(
         &self,
         rows: &mut Shared<'_>,
-        begun: &Begun,
+        words: &WordSet,
+        plan: &Plan,
         slice: u32,
         work: &mut W,
         out: &mut Candidates,
     ) -> Result<(), Memory>
-        requires scan { CanScan N.pool rows.old begun.now.words begun.now.plan }
+        requires scan { CanScan N.pool rows.old words.now plan.now }
         requires slice { slice < N.pool.limits.slices }
-        requires below { AreScannedBelow N.pool.config rows.old.seat.now rows.old.token.now begun.now.words slice out.old }
-        ensures scanned { IfOk result (λ _. AreScannedBelow N.pool.config rows.new.seat.now rows.new.token.now begun.now.words (slice + 1) out.new) }
+        requires below { AreScannedBelow N.pool.config rows.old.seat.now rows.old.token.now words.now slice out.old }
+        ensures scanned { IfOk result (λ _. AreScannedBelow N.pool.config rows.new.seat.now rows.new.token.now words.now (slice + 1) out.new) }
+        ensures seen_stays { (bit : Bit) → WasReadSet rows.old bit → WasReadSet rows.new bit }
         ensures kept { kept_of rows.new ≡ kept_of rows.old }
     {
         let layout = &self.layout;
         if rows.token.slices.has(slice) {
-            work.scan(rows, layout, &begun.plan, slice, out)
+            work.scan(rows, layout, plan, slice, out)
         } else {
             Ok(())
         }

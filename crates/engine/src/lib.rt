@@ -6,15 +6,28 @@
 //! by `Step` (the two calls of an open find give one together); after `close` the calls of all passes stand in that history,
 //! each once.
 //!
-//! A program makes a `Blank`, and hands it to a function over a name of its pool, in which it opens the engine, uses it and
-//! closes it. The type of an engine, and of what it hands out, has that name: a pass is one of the engine with the same name, and
-//! rests whenever a caller has it. So no call asks for anything but the arguments that its types say.
+//! A program reads a valid configuration (`parse_config`), makes a `Blank` of it, and hands it to a function over a name of its
+//! pool, in which it opens the engine, uses it and closes it. The type of an engine, and of what it hands out, has that name: a
+//! pass is one of the engine with the same name, and rests whenever a caller has it. So `Blank::new` asks for a valid
+//! configuration, `open` for the one that its blank was made with and for the name of that blank's pool, and no other call of an
+//! engine asks for anything but the arguments that its types say.
 //!
 //! ```text
-//! use engine::{Blank, Closed, Config, Engine, Memory, Pass, PoolName};
+//! ghost use Rattle.std.specs.Prelude.{◌≡◌};
+//!
+//! use engine::{Blank, Closed, Config, ConfigFault, Engine, Memory, Pass, PoolName, parse_config};
 //! use std::alloc::Global;
+//! use std::marker::Brand;
 //! use std::sync::Wait;
 //! use std::thread::{Threads, join};
+//!
+//! /// Uses an engine with two passes, whose other sizes are the defaults.
+//! fn run<R: Threads + Wait + Sync>(rt: &R, alloc: Global) -> Result<(Closed, bool), ConfigFault> {
+//!     let config = parse_config(alloc, b"{\"passes\": 2}")?;
+//!     let blank = Blank::new(alloc, &config)?;
+//!     let used = use_engine::<Brand, R>(rt, alloc, &config, blank)?;
+//!     Ok(used)
+//! }
 //!
 //! /// Opens an engine, has two threads use it, and closes it.
 //! fn use_engine<N: PoolName + Send + Sync, R: Threads + Wait + Sync>(
@@ -68,21 +81,21 @@
 //! }
 //! ```
 //!
-//! Its caller makes the blank of a valid configuration, by `Blank::new(alloc, &config)?`, and picks the name:
-//! `use_engine::<Brand, _>(&rt, alloc, &config, blank)?`, with `Brand` of `std::marker`. A line in the caller's `Invariants.antt` says
-//! which pool that is: `ghosts-use_engine g a = record { pool = a.blank }`. This program is a proved test (`example.rt` of the crate
-//! `engine_tests`).
+//! A line in the `Invariants.antt` of `run` says which pool its `Brand` stands for:
+//! `ghosts-use_engine g a = record { pool = a.blank }`. This program is a proved test (`example.rt` of the crate `engine_tests`);
+//! docs/library.md tells how to build one.
 //!
 //! What a user should know:
 //!
 //! - An engine has as many passes as its configuration says, at most 64. A pass makes one call at a time; a find that is open
 //!   (`begin_find`, `finish_find`) has its pass, and may be ended on another thread than that which began it.
 //! - The calls that make events wait for the lock. No column is written, no slice is scanned and none is cleared under it. A find
-//!   verifies its candidates there in short turns of at most 4,096 look-ups, and sorts its answer afterwards. What else is
-//!   done there takes the longer the more there is of it: a journal copies its commits, an add that is refused as full looks through
-//!   the slices, and one that moves a document copies it. `Blank::new`, `open`, `note`, `meet` and `close` wait for nobody.
-//! - `Blank::new`, `open`, `add`, `find`, `begin_find`, `finish_find` and `journal` take memory, and answer so where there is none; the
-//!   others take none.
+//!   verifies its candidates there in turns, each of which ends after 4,096 look-ups, or with the document at which it has looked
+//!   for 256 words, and that of a judge with the 32nd document; it sorts its answer afterwards. What else is done there takes the
+//!   longer the more there is of it: a journal copies its commits, an add that is refused as full looks through the slices, and
+//!   one that moves a document copies it. `Blank::new`, `open`, `note`, `meet` and `close` wait for nobody.
+//! - `Blank::new`, `open`, `add`, `find`, `find_any`, `begin_find`, `finish_find` and `journal` take memory, and answer so where there
+//!   is none; the others take none.
 //! - A deleted document keeps its column until all columns of its slice are done with, and the slice is cleared. So one live
 //!   document keeps its whole slice, unless the configuration has a `reserve`, for which adds move documents.
 //! - `AddFault::Full` tells what keeps documents out of each slice. It may pass without a delete: where another pass clears a slice,
@@ -96,7 +109,9 @@ mod client;
 mod closed;
 mod engine;
 mod finding;
+mod judging;
 pub mod laws;
+mod merged;
 mod moving;
 mod open_find;
 mod pass;
@@ -108,11 +123,14 @@ pub use client::Client;
 pub use closed::Closed;
 pub use column_writer::write_column;
 pub use commit_desk::{AddFault, DeleteFault, JournalFault, Spent};
+pub use document_store::{Doc, Judge};
 pub use engine::Engine;
 pub use finding::FindFault;
 pub use funnel_model::{
-    Block, Blocked, Candidates, Claim, ClearJob, Commit, Commits, Config, Ids, Listed, Memory,
+    Block, Blocked, Branches, Candidates, Claim, ClearJob, Commit, Commits, Config, Ids, Listed,
+    Memory,
 };
+pub use funnel_stats::{ConfigFault, parse_config};
 pub use open_find::OpenFind;
 pub use pass::{Note, Pass};
 pub use rank_matcher::scan;

@@ -1,4 +1,5 @@
 use funnel_model::{Token, WordSet};
+use plan_rows::Rest;
 use row_layout::Plan;
 use slice_rule::{PassSeat, PoolName};
 use std::marker::{Model, PhantomData};
@@ -14,12 +15,13 @@ pub struct OpenFind<N: PoolName> {
 impl<N: PoolName> Model for OpenFind<N> {
     ghost use Rattle.engine.specs.Finds.{IsScanFor};
     ghost use Rattle.engine.specs.Passes.{PassView, view_of};
+    ghost use Rattle.plan_rows.specs.Rests.{words_of_rest};
 
     ghost Value = { PassView };
 
     ghost view = { λ f. view_of f.seat };
 
-    ghost invariant = { λ f. IsScanFor N.pool f.seat f.begun.token f.begun.words f.begun.rest f.begun.plan };
+    ghost invariant = { λ f. IsScanFor N.pool f.seat f.begun.token f.begun.words (words_of_rest f.begun.words f.begun.rest) f.begun.plan };
 }
 
 // What an open find scans for: its token, the words of its query, those of them that are looked for in documents too, and the
@@ -27,6 +29,6 @@ impl<N: PoolName> Model for OpenFind<N> {
 pub(crate) struct Begun {
     pub token: Token,
     pub words: WordSet,
-    pub rest: WordSet,
+    pub rest: Rest,
     pub plan: Plan,
 }

@@ -30,13 +30,14 @@ impl<N: PoolName> Model for Pass<N> {
 
 impl<N: PoolName> Pass<N> {
     ghost use Rattle.std.specs.Prelude.{◌≡◌, ◌<◌};
-    ghost use Rattle.funnel_model.specs.Legal.{IsLegal};
+    ghost use Rattle.funnel_model.specs.Legal.{IsIdle, IsLegal};
 
-    /// Its number.
+    /// Its number. The pass is not in the middle of a call.
     pub fn number(&self) -> u32
         ensures number { result ≡ self.now.number }
         ensures in_range { result < N.pool.limits.passes }
         ensures legal { IsLegal N.pool.limits self.now.front }
+        ensures idle { IsIdle self.now.number self.now.front }
     {
         self.seat.number()
     }

@@ -1,10 +1,13 @@
-//! The turns of adds and finds at the desk. Each holds the lock for one call of the desk alone.
-ghost use Rattle.std.specs.Prelude.{◌≡◌, ◌<◌, ◌≤◌, [], ◌∷◌, false, length, IfSome, MatchResult, None, vec_capacity};
+//! The turns of adds and finds at the desk. Each holds the lock for one call of the desk, and the last of a find for its end too.
+ghost use Rattle.std.specs.Prelude.{◌≡◌, ◌<◌, ◌≤◌, [], ◌∷◌, length, IfSome, MatchResult, None, vec_capacity};
 ghost use Rattle.funnel_model.specs.declared.event.Event.TheVariants as event;
 ghost use Rattle.funnel_model.specs.Legal.{IsLegal};
-ghost use Rattle.commit_desk.specs.Answers.{AnswersCommit, AnswersFind, AnswersTake, events_of_commit, events_of_find, events_of_take};
+ghost use Rattle.funnel_model.specs.Tokens.{HasToken};
+ghost use Rattle.commit_desk.specs.Answers.{AnswersCommit, AnswersFind, events_of_commit, events_of_find, events_of_opened_take};
 ghost use Rattle.commit_desk.specs.Passes.{HasCleared, HasWritten, IsFinding, IsResting, IsToDo, IsToWrite};
-ghost use Rattle.engine.specs.Finds.{IsAllFound, IsFoundUpTo, events_of_turn};
+ghost use Rattle.commit_desk.specs.Resolving.{LooksUpTo};
+ghost use Rattle.engine.specs.Adds.{TakeTurn};
+ghost use Rattle.engine.specs.Finds.{ComesTo, IsAllFound, IsFoundUpTo, end_of_turn, events_of_turn};
 ghost use Rattle.slice_recycler.specs.Turns.{IsTurn};
 
 use crate::engine::Engine;
@@ -16,7 +19,7 @@ use slice_rule::{PassSeat, PoolName};
 use std::sync::Wait;
 
 impl<N: PoolName> Engine<N> {
-    // The first turn of an add.
+    // The first turn of an add. Room that it doesn't need is dropped when the lock is free again.
     pub(crate) fn take<R: Wait>(
         &self,
         rt: &R,
@@ -27,14 +30,19 @@ impl<N: PoolName> Engine<N> {
         requires rests { IsResting N.pool pass.old }
         requires empty { room.items ≡ [] }
         requires enough { N.pool.limits.slices ≤ vec_capacity room }
-        ensures turn { IsTurn pass.old.number pass.old.front pass.new.front
-            (λ history. AnswersTake N.pool.limits.events N.pool.limits history pass.old.number doc.now.id result) (events_of_take pass.old.number doc.now.id doc.now.text result) }
+        ensures turn { TakeTurn N.pool.limits pass.old.number doc.now.id doc.now.text pass.old.front pass.new.front result }
         ensures next { IsToDo N.pool result pass.new }
         ensures number { pass.new.number ≡ pass.old.number }
         ensures legal { IsLegal N.pool.limits pass.new.front }
     {
         let _ = &self.pool;
-        self.desk.lock(rt).desk.take(&self.pool, pass, doc, room)
+        let mut room = Some(room);
+        let taken = self
+            .desk
+            .lock(rt)
+            .desk
+            .take(&self.pool, pass, doc, &mut room);
+        taken
     }
 
     // The turn of an add that cleared a slice.
@@ -49,8 +57,7 @@ impl<N: PoolName> Engine<N> {
         requires slots { slots ≡ N.pool.limits.columns }
         ensures slice { result.slice ≡ job.slice }
         ensures column { result.column ≡ 0 }
-        ensures turn { IsTurn pass.old.number pass.old.front pass.new.front (λ history. Unit {0})
-            (event.Opened pass.old.number job.slice false ∷ event.Take pass.old.number job.slice 0 ∷ []) }
+        ensures turn { IsTurn pass.old.number pass.old.front pass.new.front (λ history. Unit {0}) (events_of_opened_take pass.old.number job.slice) }
         ensures next { IsToWrite N.pool result pass.new }
         ensures number { pass.new.number ≡ pass.old.number }
         ensures legal { IsLegal N.pool.limits pass.new.front }
@@ -103,8 +110,8 @@ impl<N: PoolName> Engine<N> {
         self.desk.lock(rt).desk.open_find(&self.pool, pass, query)
     }
 
-    // A turn of a find that looks at its candidates from this one on. The last turn ends the find; any other hands its token back,
-    // and tells where the next goes on.
+    // A turn of a find that looks at its candidates from this one on, while the turn isn't over. The last turn ends the find; any
+    // other hands its token back, and tells where the next goes on.
     pub(crate) fn resolve_turn<R: Wait>(
         &self,
         rt: &R,
@@ -117,8 +124,8 @@ impl<N: PoolName> Engine<N> {
     ) -> Option<(Token, usize)>
         requires so_far { IsFoundUpTo N.pool pass.old token rest.now candidates.now out.old from }
         ensures next { IfSome result (λ next. IsFoundUpTo N.pool pass.new next.0 rest.now candidates.now out.new next.1) }
-        ensures same { IfSome result (λ next. next.0 ≡ token) }
-        ensures further { IfSome result (λ next. (from < next.1) × (next.1 < length candidates.now)) }
+        ensures onward { IfSome result (ComesTo token candidates.now from) }
+        ensures bounds { (begun : HasToken pass.old.front pass.old.number token.opened_at) → LooksUpTo begun.earlier rest.now candidates.now from (end_of_turn candidates.now result) }
         ensures found { result ≡ None → IsAllFound pass.old token candidates.now out.new.found }
         ensures turn { IsTurn pass.old.number pass.old.front pass.new.front (λ history. Unit {0}) (events_of_turn pass.old.number result) }
         ensures rests { result ≡ None → IsResting N.pool pass.new }

@@ -5,9 +5,8 @@ ghost use Rattle.column_writer.specs.Written.{IsBitOf};
 ghost use Rattle.funnel_model.specs.declared.bit_list.Bit.{Bit};
 ghost use Rattle.funnel_model.specs.Legal.{IsInSlice};
 ghost use Rattle.funnel_model.specs.Sizes.{columns_of_slice, words_of_slice};
-ghost use Rattle.rank_matcher.specs.Appended.{appended, candidates_of};
+ghost use Rattle.rank_matcher.specs.Appended.{HasBits, HasEach, appended, candidates_of};
 ghost use Rattle.rank_matcher.specs.Reads.{shown_reads, words_of_plan};
-ghost use Rattle.row_layout.specs.DocumentBits.{bit_of_row};
 ghost use Rattle.row_layout.specs.Rows.{IsRowOf};
 ghost use Rattle.row_read.specs.SharedRows.{IsCommittedUnder, IsInReach, WasReadSet, kept_of};
 ghost use Rattle.slice_rule.specs.declared.view.Fact.{Fact};
@@ -50,11 +49,10 @@ pub trait Work: Clearer {
         requires laid { All (IsRowOf layout.now) plan.now }
         requires reach { (word : ℕ) → IsInSlice (words_of_slice layout.now) slice word → IsInReach rows.old word }
         ensures appends { out.new ≡ out.old ++ candidates_of slice (appended out.old out.new) }
-        ensures covered { OnOk result ((column : ℕ) → column < columns_of_slice layout.now →
-            All (λ row. IsCommittedUnder rows.old (bit_of_row (words_of_slice layout.now) slice column row)) plan.now → Contains (appended out.old out.new) column) }
+        ensures covered { OnOk result (HasEach (IsCommittedUnder rows.old) layout.now plan.now slice (appended out.old out.new)) }
         ensures in_slice { All (λ column. column < columns_of_slice layout.now) (appended out.old out.new) }
         ensures rising { IsStrictlySortedBy nat_cmp (appended out.old out.new) }
-        ensures seen { All (λ column. All (λ row. WasReadSet rows.new (bit_of_row (words_of_slice layout.now) slice column row)) plan.now) (appended out.old out.new) }
+        ensures seen { All (HasBits (WasReadSet rows.new) layout.now plan.now slice) (appended out.old out.new) }
         ensures seen_stays { (bit : Bit) → WasReadSet rows.old bit → WasReadSet rows.new bit }
         ensures reads_at_most { shown_reads rows.new.count ≤ rows.old.count + words_of_plan plan.now }
         ensures kept { kept_of rows.new ≡ kept_of rows.old };

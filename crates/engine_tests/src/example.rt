@@ -1,12 +1,20 @@
 //! The program at the head of the crate `engine`. All that it needs comes from that crate.
 ghost use Rattle.std.specs.Prelude.{◌≡◌};
 
-use engine::{Blank, Closed, Config, Engine, Memory, Pass, PoolName};
+use engine::{Blank, Closed, Config, ConfigFault, Engine, Memory, Pass, PoolName, parse_config};
 use std::alloc::Global;
 use std::marker::Brand;
 use std::sync::Wait;
 use std::test::*;
 use std::thread::{Threads, join};
+
+/// Uses an engine with two passes, whose other sizes are the defaults.
+fn run<R: Threads + Wait + Sync>(rt: &R, alloc: Global) -> Result<(Closed, bool), ConfigFault> {
+    let config = parse_config(alloc, b"{\"passes\": 2}")?;
+    let blank = Blank::new(alloc, &config)?;
+    let used = use_engine::<Brand, R>(rt, alloc, &config, blank)?;
+    Ok(used)
+}
 
 /// Opens an engine, has two threads use it, and closes it.
 fn use_engine<N: PoolName + Send + Sync, R: Threads + Wait + Sync>(
@@ -61,10 +69,7 @@ fn add_and_find<N: PoolName, R: Wait>(
 
 #[test]
 fn two_threads_use_an_engine(rt: HostRuntime) -> Result<(), Fail> {
-    let alloc = rt.alloc();
-    let config = crate::setting::config(alloc, 2, 2, 1, 1024);
-    let blank = crate::setting::blank(alloc, &config)?;
-    let (closed, found) = use_engine::<Brand, _>(&rt, alloc, &config, blank)?;
+    let (closed, found) = run(&rt, rt.alloc())?;
     assert!(rt; found);
     assert_eq!(rt; (closed.base, closed.commits.len()), (0, 2));
     Ok(())

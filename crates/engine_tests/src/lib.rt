@@ -18,7 +18,11 @@ mod free_lock;
 #[cfg(test)]
 mod guards;
 #[cfg(test)]
+mod judging;
+#[cfg(test)]
 mod large;
+#[cfg(test)]
+mod many_hits;
 #[cfg(test)]
 mod moving;
 #[cfg(test)]

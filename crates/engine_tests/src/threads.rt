@@ -117,7 +117,7 @@ fn add_and_delete<N: PoolName, R: Wait>(caller: &mut Caller<'_, N, R>) -> bool {
 }
 
 /// Adds a document as soon as the engine isn't full, after so many turns at most.
-fn add_at_last<N: PoolName, R: Wait>(caller: &mut Caller<'_, N, R>, id: u64) -> bool {
+pub(crate) fn add_at_last<N: PoolName, R: Wait>(caller: &mut Caller<'_, N, R>, id: u64) -> bool {
     for _turn in 0..1_000_000 {
         match caller.add(id, "x") {
             Ok(_) => return true,

@@ -63,9 +63,9 @@ plain_end open_gives next_gives done_gives end_gives read_gives write_gives inco
 -- a serve ended so between these states of its gates
 record ServedInTurns {G C : Type 0} (open_gives : G → Opening → G → Type 0) (next_gives : G → Next C → G → Type 0) (done_gives : G → C → End → G → Type 0) (end_gives : G → G → Type 0)
     (read_gives : C → Read → C → Type 0) (write_gives : C → Write → C → Type 0) (incoming : C → Incoming) (outgoing : C → Outgoing)
-    (config : Config) (connections : ℕ) (before after : List GateState) (gates laters : List G) (why : Why) (closed : Option ClosedState) : Type 0 where
-  ends : EndsServe config connections before after why closed
-  in_turns : ServeGoesInTurns open_gives next_gives done_gives end_gives read_gives write_gives incoming outgoing config connections before after why closed ends gates laters
+    (config : Config) (serve : ServeCommand) (before after : List GateState) (gates laters : List G) (why : Why) (closed : Option ClosedState) : Type 0 where
+  ends : EndsServe config serve before after why closed
+  in_turns : ServeGoesInTurns open_gives next_gives done_gives end_gives read_gives write_gives incoming outgoing config serve before after why closed ends gates laters
 
 pub serve_in_turns : {G C : Type 0} (open_gives : G → Opening → G → Type 0) (next_gives : G → Next C → G → Type 0) (done_gives : G → C → End → G → Type 0) (end_gives : G → G → Type 0)
     (read_gives : C → Read → C → Type 0) (write_gives : C → Write → C → Type 0) (incoming : C → Incoming) (outgoing : C → Outgoing)
@@ -73,13 +73,13 @@ pub serve_in_turns : {G C : Type 0} (open_gives : G → Opening → G → Type 0
     (serve : ServeCommand) (config : Config) → before.gates ≡ map state gates → after.gates ≡ map state laters →
     IsConfigured words before after (command.Serve serve) config → misfit_of (command.Serve serve) (length before.gates) config ≡ None →
     after.input ≡ before.input → after.output ≡ before.output →
-    EndsServeInTurns open_gives next_gives done_gives end_gives read_gives write_gives incoming outgoing state config serve.connections gates laters why closed →
+    EndsServeInTurns open_gives next_gives done_gives end_gives read_gives write_gives incoming outgoing state config serve gates laters why closed →
     IfSome closed (KeepsLast config) →
     EndsInTurns open_gives next_gives done_gives end_gives read_gives write_gives incoming outgoing words before after why closed gates laters
 serve_in_turns {G} {C} open_gives next_gives done_gives end_gives read_gives write_gives incoming outgoing state words before after why closed gates laters serve config from to configured fits input output served kept =
-    let told : ServedInTurns open_gives next_gives done_gives end_gives read_gives write_gives incoming outgoing config serve.connections before.gates after.gates gates laters why closed =
-    subst (λ (gs : List GateState). ServedInTurns open_gives next_gives done_gives end_gives read_gives write_gives incoming outgoing config serve.connections gs after.gates gates laters why closed) (sym from)
-    (subst (λ (gs : List GateState). ServedInTurns open_gives next_gives done_gives end_gives read_gives write_gives incoming outgoing config serve.connections (map state gates) gs gates laters why closed) (sym to)
+    let told : ServedInTurns open_gives next_gives done_gives end_gives read_gives write_gives incoming outgoing config serve before.gates after.gates gates laters why closed =
+    subst (λ (gs : List GateState). ServedInTurns open_gives next_gives done_gives end_gives read_gives write_gives incoming outgoing config serve gs after.gates gates laters why closed) (sym from)
+    (subst (λ (gs : List GateState). ServedInTurns open_gives next_gives done_gives end_gives read_gives write_gives incoming outgoing config serve (map state gates) gs gates laters why closed) (sym to)
     (record { ends = served.ends; in_turns = served.in_turns })) in
     inr (inr (inr (inr (inl (record {
       ends = record { serve = serve; config = config; configured = configured; fits = fits; input = input; output = output; served = told.ends; kept = kept };
@@ -90,12 +90,12 @@ serve_in_turns {G} {C} open_gives next_gives done_gives end_gives read_gives wri
 
 module _ {G C : Type 0} (open_gives : G → Opening → G → Type 0) (next_gives : G → Next C → G → Type 0) (done_gives : G → C → End → G → Type 0)
     (end_gives : G → G → Type 0) (read_gives : C → Read → C → Type 0) (write_gives : C → Write → C → Type 0) (incoming : C → Incoming) (outgoing : C → Outgoing)
-    (state : G → GateState) (config : Config) (connections : ℕ) (gates opened : List G) where
+    (state : G → GateState) (config : Config) (serve : ServeCommand) (gates opened : List G) where
   abbrev EndsServing : List G → Why → Option ClosedState → Type 0
-  EndsServing = EndsServeInTurns open_gives next_gives done_gives end_gives read_gives write_gives incoming outgoing state config connections gates
+  EndsServing = EndsServeInTurns open_gives next_gives done_gives end_gives read_gives write_gives incoming outgoing state config serve gates
 
   abbrev EndsServingOpen : List G → Why → Option ClosedState → Type 0
-  EndsServingOpen = EndsOpenServeInTurns next_gives done_gives end_gives read_gives write_gives incoming outgoing state config connections opened
+  EndsServingOpen = EndsOpenServeInTurns next_gives done_gives end_gives read_gives write_gives incoming outgoing state config serve opened
 
   -- one of them was not opened
   pub not_opened : (laters : List G) → OneDidNotOpen (map state gates) (map state opened) → AreOpenedUntilOneFails open_gives gates opened →
@@ -115,8 +115,8 @@ module _ {G C : Type 0} (open_gives : G → Opening → G → Type 0) (next_give
 
   -- they were opened and served, as gates that tell what they told before
   record Served (laters : List G) (before : List GateState) (why : Why) (closed : Option ClosedState) : Type 0 where
-    ends : EndsServe config connections before (map state laters) why closed
-    in_turns : OpenGatesGoInTurns next_gives done_gives end_gives read_gives write_gives incoming outgoing config connections before (map state laters) why closed ends
+    ends : EndsServe config serve before (map state laters) why closed
+    in_turns : OpenGatesGoInTurns next_gives done_gives end_gives read_gives write_gives incoming outgoing config serve before (map state laters) why closed ends
         opened laters
 
   pub opened_and_served : (laters : List G) (why : Why) (closed : ClosedState) → map state opened ≡ map state gates → AreOpened open_gives gates opened →

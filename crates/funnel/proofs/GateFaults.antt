@@ -19,6 +19,7 @@ use Rattle.funnel_server.specs.GateTurns.{WorksInTurns}
 use Rattle.funnel_server.specs.Workers.{WorkerState}
 use Rattle.funnel_stats.specs.declared.fault.ConfigFault.{ConfigFault}
 use Rattle.funnel_stats.specs.declared.fault.ConfigFault.TheVariants as config
+use Rattle.funnel.specs.declared.command.ServeCommand.{ServeCommand}
 use Rattle.funnel.specs.declared.command.LoadCommand.{LoadCommand}
 use Rattle.funnel.specs.declared.ended.Why.{Why}
 use Rattle.funnel.specs.declared.ended.Why.TheVariants as why_of
@@ -123,16 +124,16 @@ module _ {G C : Type 0} (open_gives : G → Opening → G → Type 0) (next_give
   }
   one_not_opened (gate ∷ gates) (one ∷ tried) (later ∷ laters) (inr opens) ended = one_more later laters (one_not_opened gates tried laters opens.1 ended.1)
 
-  of_serve : (config : Config) (connections : ℕ) (before after : List GateState) (why : Why) (closed : Option ClosedState)
-      (served : EndsServe config connections before after why closed) (gates laters : List G) →
-      ServeGoesInTurns open_gives next_gives done_gives end_gives read_gives write_gives incoming outgoing config connections before after why closed served gates laters →
+  of_serve : (config : Config) (serve : ServeCommand) (before after : List GateState) (why : Why) (closed : Option ClosedState)
+      (served : EndsServe config serve before after why closed) (gates laters : List G) →
+      ServeGoesInTurns open_gives next_gives done_gives end_gives read_gives write_gives incoming outgoing config serve before after why closed served gates laters →
       why ≡ why_of.GateFault → Failed laters
-  of_serve config connections before after why None served gates laters turns is = by_cause turns.opened where
+  of_serve config serve before after why None served gates laters turns is = by_cause turns.opened where
     by_cause : ((why ≡ why_of.Memory) × AreOpened open_gives gates turns.tried) ⊎ ((why ≡ why_of.GateFault) × AreOpenedUntilOneFails open_gives gates turns.tried) → Failed laters
     by_cause (inl memory) = let other : why_of.Memory ≡ why_of.GateFault = sym memory.0 ∙ is in cc
     by_cause (inr fails) = one_not_opened gates turns.tried laters fails.1 turns.ended
-  of_serve config connections before after why (Some closed) served gates laters turns is =
-      one_failed (new_workers (limits_by config) connections 0 before) served.workers served.work turns.0 laters turns.2
+  of_serve config serve before after why (Some closed) served gates laters turns is =
+      one_failed (new_workers (limits_by config) serve 0 before) served.workers served.work turns.0 laters turns.2
       (some_fault (list_any (λ (w : WorkerState). w.fault) served.workers) (list_any (λ (w : WorkerState). w.memory) served.workers) (sym served.cause ∙ is))
 
   module _ (words : List (List ℕ)) (before after : Streams) (why : Why) (closed : Option ClosedState) (gates laters : List G) where
@@ -147,17 +148,17 @@ module _ {G C : Type 0} (open_gives : G → Opening → G → Type 0) (next_give
     told_by_gate (inr (inr (inr (inl ends)))) is =
         absurd (not_run ends.config before.input after.input before.output after.output why closed ends.ran is)
     told_by_gate (inr (inr (inr (inr (inl serve))))) is =
-        of_serve serve.ends.config serve.ends.serve.connections before.gates after.gates why closed serve.ends.served gates laters serve.in_turns is
+        of_serve serve.ends.config serve.ends.serve before.gates after.gates why closed serve.ends.served gates laters serve.in_turns is
     told_by_gate (inr (inr (inr (inr (inr (inl ends)))))) is =
         absurd (not_load ends.config ends.load before.output after.output closed
         (subst (λ (w : Why). EndsLoad ends.config ends.load before.output after.output w closed) is ends.ends))
     told_by_gate (inr (inr (inr (inr (inr (inr ends)))))) is = absurd (not_fit ends.ends.end (sym ends.ends.cause ∙ is))
 
 -- with no engine it was told as a gate was opened
-of_unopened : (config : Config) (connections : ℕ) (before after : List GateState) → EndsServe config connections before after why_of.GateFault None →
+of_unopened : (config : Config) (serve : ServeCommand) (before after : List GateState) → EndsServe config serve before after why_of.GateFault None →
     OneDidNotOpen before after
-of_unopened config connections before after (inl memory) = let other : why_of.GateFault ≡ why_of.Memory = memory.0 in cc
-of_unopened config connections before after (inr fails) = fails.1
+of_unopened config serve before after (inl memory) = let other : why_of.GateFault ≡ why_of.Memory = memory.0 in cc
+of_unopened config serve before after (inr fails) = fails.1
 
 pub told_at_opening : (words : List (List ℕ)) (before after : Streams) → Ends words before after why_of.GateFault None → OneDidNotOpen before.gates after.gates
 told_at_opening words before after (inl ends) = by_cause ends.cause where
@@ -168,6 +169,6 @@ told_at_opening words before after (inr (inl ends)) = absurd (not_config ends.fa
 told_at_opening words before after (inr (inr (inl ends))) = let other : why_of.GateFault ≡ why_of.Misfit ends.misfit = ends.cause in cc
 told_at_opening words before after (inr (inr (inr (inl ends)))) =
     absurd (not_run ends.config before.input after.input before.output after.output why_of.GateFault None ends.ran refl)
-told_at_opening words before after (inr (inr (inr (inr (inl serve))))) = of_unopened serve.config serve.serve.connections before.gates after.gates serve.served
+told_at_opening words before after (inr (inr (inr (inr (inl serve))))) = of_unopened serve.config serve.serve before.gates after.gates serve.served
 told_at_opening words before after (inr (inr (inr (inr (inr (inl ends)))))) = absurd (not_load ends.config ends.load before.output after.output None ends.ends)
 told_at_opening words before after (inr (inr (inr (inr (inr (inr ends)))))) = absurd (not_fit ends.ends.end (sym ends.ends.cause))

@@ -106,7 +106,7 @@ record IsRun (before after : Streams) (asked : Command) (value : Config) (why : 
 record IsServe (before after : Streams) (asked : Command) (value : Config) (why : Why) (closed : Option ClosedState) : Type 0 where
   serve : ServeCommand
   is : asked ≡ command.Serve serve
-  ends : EndsServe value serve.connections before.gates after.gates why closed
+  ends : EndsServe value serve before.gates after.gates why closed
 
 -- or a load, and this is how it went
 record IsLoad (before after : Streams) (asked : Command) (value : Config) (why : Why) (closed : Option ClosedState) : Type 0 where
@@ -164,7 +164,7 @@ module _ (words : List (List ℕ)) (before after : Streams) (why : Why) (closed 
   after_serve ends = record {
     serve = ends.serve;
     is = some_same asked (command.Serve ends.serve) (sym accepted.words_are ∙ ends.configured.words_are);
-    ends = subst (λ (c : Config). EndsServe c ends.serve.connections before.gates after.gates why closed)
+    ends = subst (λ (c : Config). EndsServe c ends.serve before.gates after.gates why closed)
         (read_as_told before.config after.config accepted.bytes value accepted.told accepted.valid ends.config ends.configured.read) ends.served;
   }
 
@@ -317,23 +317,23 @@ load_completes words before after why closed value load ends none accepted =
           (subst (λ (l : LoadCommand). EndsLoad value l before.output after.output why closed) (sym (same_load load made.load made.is)) made.ends) none.output
 
 -- where no call of a gate failed, no worker's did
-no_worker_failed : (limits : Limits) (connections pass : ℕ) (gates : List GateState) (workers : List WorkerState) →
-    AllWork (new_workers limits connections pass gates) workers → NoneFailed gates (map (λ (worker : WorkerState). worker.gate) workers) →
+no_worker_failed : (limits : Limits) (serve : ServeCommand) (pass : ℕ) (gates : List GateState) (workers : List WorkerState) →
+    AllWork (new_workers limits serve pass gates) workers → NoneFailed gates (map (λ (worker : WorkerState). worker.gate) workers) →
     list_any (λ (worker : WorkerState). worker.fault) workers ≡ false
-no_worker_failed limits connections pass [] [] work none = refl
-no_worker_failed limits connections pass [] (worker ∷ workers) work none = absurd work
-no_worker_failed limits connections pass (gate ∷ gates) [] work none = absurd work
-no_worker_failed limits connections pass (gate ∷ gates) (worker ∷ workers) work none =
+no_worker_failed limits serve pass [] [] work none = refl
+no_worker_failed limits serve pass [] (worker ∷ workers) work none = absurd work
+no_worker_failed limits serve pass (gate ∷ gates) [] work none = absurd work
+no_worker_failed limits serve pass (gate ∷ gates) (worker ∷ workers) work none =
     ap (λ b. b || list_any (λ (w : WorkerState). w.fault) workers) (not_failed worker.fault gate.faults worker.gate.faults work.0.serves.faults none.0)
-    ∙ no_worker_failed limits connections (pass + 1) gates workers work.1 none.1
+    ∙ no_worker_failed limits serve (pass + 1) gates workers work.1 none.1
 
 -- and each gate was served as far as it may be
-none_failed : (connections : ℕ) (why : Why) (before after : List GateState) → AllZip (IsServedUnlessFailed connections why) before after → NoneFailed before after →
-    AllZip (GateIsServed connections why) before after
-none_failed connections why [] [] served none = tt
-none_failed connections why [] (later ∷ laters) served none = absurd served
-none_failed connections why (gate ∷ gates) [] served none = absurd served
-none_failed connections why (gate ∷ gates) (later ∷ laters) served none = (served.0 none.0, none_failed connections why gates laters served.1 none.1)
+none_failed : (serve : ServeCommand) (why : Why) (before after : List GateState) → AllZip (IsServedUnlessFailed serve why) before after → NoneFailed before after →
+    AllZip (GateIsServed serve why) before after
+none_failed serve why [] [] served none = tt
+none_failed serve why [] (later ∷ laters) served none = absurd served
+none_failed serve why (gate ∷ gates) [] served none = absurd served
+none_failed serve why (gate ∷ gates) (later ∷ laters) served none = (served.0 none.0, none_failed serve why gates laters served.1 none.1)
 
 -- where one gate did not open, a call of a gate failed
 none_did_not_open : (before after : List GateState) → OneDidNotOpen before after → NoneFailed before after → ⊥
@@ -343,39 +343,39 @@ none_did_not_open (gate ∷ gates) (later ∷ laters) (inl fails) none = none.0 
 none_did_not_open (gate ∷ gates) (later ∷ laters) (inr opens) none = none_did_not_open gates laters opens.1 none.1
 
 -- how a serve ends, where no call of a gate failed
-of_serve : (value : Config) (connections : ℕ) (before after : List GateState) (why : Why) (closed : Option ClosedState) →
-    EndsServe value connections before after why closed → NoneFailed before after → CompletesServe value connections before after why closed
-of_serve value connections before after why None (inl ends) none = subst (λ (w : Why). CompletesServe value connections before after w None) (sym ends.0) ends.1
-of_serve value connections before after why None (inr ends) none = absurd (none_did_not_open before after ends.1 none)
-of_serve value connections before after why (Some state) served none =
-    let faults = no_worker_failed (limits_by value) connections 0 before served.workers served.work (subst (NoneFailed before) served.gates none) in
+of_serve : (value : Config) (serve : ServeCommand) (before after : List GateState) (why : Why) (closed : Option ClosedState) →
+    EndsServe value serve before after why closed → NoneFailed before after → CompletesServe value serve before after why closed
+of_serve value serve before after why None (inl ends) none = subst (λ (w : Why). CompletesServe value serve before after w None) (sym ends.0) ends.1
+of_serve value serve before after why None (inr ends) none = absurd (none_did_not_open before after ends.1 none)
+of_serve value serve before after why (Some state) served none =
+    let faults = no_worker_failed (limits_by value) serve 0 before served.workers served.work (subst (NoneFailed before) served.gates none) in
     by_memory (list_any (λ (worker : WorkerState). worker.memory) served.workers)
     (served.cause ∙ ap (λ b. cond b why_of.GateFault (cond (list_any (λ (worker : WorkerState). worker.memory) served.workers) why_of.Memory why_of.Done)) faults) where
-      all : ServesAllGates value connections before after why state
-      all = (served, none_failed connections why before after (gates_without_a_fault value connections before after why state served) none)
+      all : ServesAllGates value serve before after why state
+      all = (served, none_failed serve why before after (gates_without_a_fault value serve before after why state served) none)
 
-      by_memory : (memory : Bool) → why ≡ cond memory why_of.Memory why_of.Done → CompletesServe value connections before after why (Some state)
+      by_memory : (memory : Bool) → why ≡ cond memory why_of.Memory why_of.Done → CompletesServe value serve before after why (Some state)
       by_memory true is =
-          subst (λ (w : Why). CompletesServe value connections before after w (Some state)) (sym is)
-          (subst (λ (w : Why). ServesAllGates value connections before after w state) is all)
+          subst (λ (w : Why). CompletesServe value serve before after w (Some state)) (sym is)
+          (subst (λ (w : Why). ServesAllGates value serve before after w state) is all)
       by_memory false is =
-          subst (λ (w : Why). CompletesServe value connections before after w (Some state)) (sym is)
-          (subst (λ (w : Why). ServesAllGates value connections before after w state) is all)
+          subst (λ (w : Why). CompletesServe value serve before after w (Some state)) (sym is)
+          (subst (λ (w : Why). ServesAllGates value serve before after w state) is all)
 
 -- a serve that is accepted answers the connections of its gates, or memory ran out before it could
 pub serve_completes : (words : List (List ℕ)) (before after : Streams) (why : Why) (closed : Option ClosedState) (value : Config) (serve : ServeCommand) →
     Ends words before after why closed → NoStreamFailed before after → IsAccepted words before (command.Serve serve) value →
-    CompletesServe value serve.connections before.gates after.gates why closed
+    CompletesServe value serve before.gates after.gates why closed
 serve_completes words before after why closed value serve ends none accepted =
     by_case (carried_out words before after why closed (command.Serve serve) value refl none accepted ends) where
-      by_case : IsCarriedOut before after (command.Serve serve) value why closed → CompletesServe value serve.connections before.gates after.gates why closed
+      by_case : IsCarriedOut before after (command.Serve serve) value why closed → CompletesServe value serve before.gates after.gates why closed
       by_case (inl lacks) =
-          subst (λ (c : Option ClosedState). CompletesServe value serve.connections before.gates after.gates why c) (sym lacks.none)
-          (subst (λ (w : Why). CompletesServe value serve.connections before.gates after.gates w None) (sym lacks.memory) lacks.gates)
+          subst (λ (c : Option ClosedState). CompletesServe value serve before.gates after.gates why c) (sym lacks.none)
+          (subst (λ (w : Why). CompletesServe value serve before.gates after.gates w None) (sym lacks.memory) lacks.gates)
       by_case (inr (inl run)) = absurd (not_a_serve serve (sym run.is))
       by_case (inr (inr (inl served))) =
-          of_serve value serve.connections before.gates after.gates why closed
-          (subst (λ (s : ServeCommand). EndsServe value s.connections before.gates after.gates why closed) (sym (same_serve serve served.serve served.is)) served.ends) none.gates
+          of_serve value serve before.gates after.gates why closed
+          (subst (λ (s : ServeCommand). EndsServe value s before.gates after.gates why closed) (sym (same_serve serve served.serve served.is)) served.ends) none.gates
       by_case (inr (inr (inr load))) = absurd (no_load_serves load.load serve (sym load.is))
 
 -- how a fit ends, where no read and no write failed

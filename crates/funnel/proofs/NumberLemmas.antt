@@ -124,10 +124,10 @@ fit_in_range found has =
     record { some_documents = documents.0; few_documents = documents.1 }
 
 -- a serve with the numbers of its options is the one that was found
-pub serve_is : (found : List Row) (port workers connections idle : ℕ) (one_port : Bool) → port ≡ option_number (codes "port") found → workers ≡ option_number (codes "workers") found →
-    connections ≡ option_number (codes "connections") found → idle ≡ option_number (codes "idle") found → one_port ≡ is_given (codes "one-port") found →
-    ◌≡◌ {A = ServeCommand} (record { port = port; workers = workers; connections = connections; idle = idle; one_port = one_port }) (serve_of found)
-serve_is found port workers connections idle one_port p w c d o = λ i. record { port = p i; workers = w i; connections = c i; idle = d i; one_port = o i }
+pub serve_is : (found : List Row) (port workers connections idle : ℕ) (one_port http : Bool) → port ≡ option_number (codes "port") found → workers ≡ option_number (codes "workers") found →
+    connections ≡ option_number (codes "connections") found → idle ≡ option_number (codes "idle") found → one_port ≡ is_given (codes "one-port") found → http ≡ is_given (codes "http") found →
+    ◌≡◌ {A = ServeCommand} (record { port = port; workers = workers; connections = connections; idle = idle; one_port = one_port; http = http }) (serve_of found)
+serve_is found port workers connections idle one_port http p w c d o h = λ i. record { port = p i; workers = w i; connections = c i; idle = d i; one_port = o i; http = h i }
 
 -- and so is a load
 pub load_is : (found : List Row) (docs workers words seed : ℕ) → docs ≡ option_number (codes "docs") found → workers ≡ option_number (codes "workers") found →

@@ -23,6 +23,7 @@ use Rattle.funnel_server.specs.Workers.{HasMetNoFault, WorkerState, WorkerWithGa
 use Rattle.row_layout.specs.Sound.{IsSound}
 use Rattle.slice_rule.specs.Pools.{PoolId}
 use Rattle.funnel.proofs.Passes.{of_first_passes}
+use Rattle.funnel.specs.declared.command.ServeCommand.{ServeCommand}
 use Rattle.funnel.specs.declared.ended.Why.{Why}
 use Rattle.funnel.specs.Runs.{limits_by}
 use Rattle.funnel.specs.Served.{AllWork, new_worker, new_workers, why_of_workers}
@@ -33,10 +34,10 @@ use Rattle.funnel.specs.Workers.{AreEquipped, EndsOpenServeInTurns, GaveBack, Ha
 -- ---- the gates and passes go to workers
 
 -- no worker is made yet
-pub equip-begin : (pool : PoolId) (connections : ℕ) (all : List GateState) (passes : List PassView) (workers : List WorkerState) → workers ≡ [] →
-    passes ≡ new_passes 0 pool.config.passes → AreEquipped pool connections all all passes workers
-equip-begin pool connections all passes workers none new =
-    subst (AreEquipped pool connections all all passes) (sym none) (record { made = refl; count = omega arith; passes_left = new ∙ ap (new_passes 0) (omega arith) })
+pub equip-begin : (pool : PoolId) (serve : ServeCommand) (all : List GateState) (passes : List PassView) (workers : List WorkerState) → workers ≡ [] →
+    passes ≡ new_passes 0 pool.config.passes → AreEquipped pool serve all all passes workers
+equip-begin pool serve all passes workers none new =
+    subst (AreEquipped pool serve all all passes) (sym none) (record { made = refl; count = omega arith; passes_left = new ∙ ap (new_passes 0) (omega arith) })
 
 -- the passes that are left are the next one and the others
 next_passes : (pool : PoolId) (n : ℕ) → n < pool.config.passes →
@@ -46,39 +47,39 @@ next_passes pool n small =
     ap (new_passes n) more
 
 -- the next pass is new
-pub next_pass : (pool : PoolId) (connections : ℕ) (all left : List GateState) (passes : List PassView) (workers : List WorkerState) (pass : PassView) →
-    AreEquipped pool connections all left passes workers → 0 < length left → length all ≤ pool.config.passes → pass ≡ slice_index_or passes 0 pass →
+pub next_pass : (pool : PoolId) (serve : ServeCommand) (all left : List GateState) (passes : List PassView) (workers : List WorkerState) (pass : PassView) →
+    AreEquipped pool serve all left passes workers → 0 < length left → length all ≤ pool.config.passes → pass ≡ slice_index_or passes 0 pass →
     pass ≡ new_pass (length workers)
-next_pass pool connections all left passes workers pass so_far some enough is =
+next_pass pool serve all left passes workers pass so_far some enough is =
     is ∙ ap (λ xs. slice_index_or xs 0 pass) (so_far.passes_left ∙ next_passes pool (length workers) (omega (arith, so_far.count)))
 
 -- so many passes are left that there is a next one
-pub some_passes : (pool : PoolId) (connections : ℕ) (all left : List GateState) (passes : List PassView) (workers : List WorkerState) →
-    AreEquipped pool connections all left passes workers → 0 < length left → length all ≤ pool.config.passes → 0 < length passes
-some_passes pool connections all left passes workers so_far some enough =
+pub some_passes : (pool : PoolId) (serve : ServeCommand) (all left : List GateState) (passes : List PassView) (workers : List WorkerState) →
+    AreEquipped pool serve all left passes workers → 0 < length left → length all ≤ pool.config.passes → 0 < length passes
+some_passes pool serve all left passes workers so_far some enough =
     let many = ap length (so_far.passes_left ∙ next_passes pool (length workers) (omega (arith, so_far.count))) in
     omega (arith, many)
 
 -- one more worker is made
-equip-one : (pool : PoolId) (connections : ℕ) (all : List GateState) (gate : GateState) (rest : List GateState) (passes others : List PassView) (pass : PassView)
+equip-one : (pool : PoolId) (serve : ServeCommand) (all : List GateState) (gate : GateState) (rest : List GateState) (passes others : List PassView) (pass : PassView)
     (workers more : List WorkerState) (worker : WorkerState) →
-    AreEquipped pool connections all (gate ∷ rest) passes workers → length all ≤ pool.config.passes →
+    AreEquipped pool serve all (gate ∷ rest) passes workers → length all ≤ pool.config.passes →
     pass ≡ slice_index_or passes 0 pass → others ≡ remove passes 0 →
-    worker ≡ record { gate = gate; caller = caller_of pool.limits pass; front = pass.front; left = connections; fault = false; memory = false } →
-    more ≡ workers ++ worker ∷ [] → AreEquipped pool connections all rest others more
-equip-one pool connections all gate rest passes others pass workers more worker so_far enough is left_are made_of more_are =
+    worker ≡ record { gate = gate; caller = caller_of pool.limits pass; front = pass.front; http = serve.http; left = serve.connections; fault = false; memory = false } →
+    more ≡ workers ++ worker ∷ [] → AreEquipped pool serve all rest others more
+equip-one pool serve all gate rest passes others pass workers more worker so_far enough is left_are made_of more_are =
     let n = length workers in
     let passes_are = so_far.passes_left ∙ next_passes pool n (omega (arith, so_far.count)) in
     let pass_is : pass ≡ new_pass n = is ∙ ap (λ xs. slice_index_or xs 0 pass) passes_are in
-    let worker_is : worker ≡ new_worker pool.limits connections n gate =
-    made_of ∙ ap (λ (p : PassView). record { gate = gate; caller = caller_of pool.limits p; front = p.front; left = connections; fault = false; memory = false }) pass_is in
+    let worker_is : worker ≡ new_worker pool.limits serve n gate =
+    made_of ∙ ap (λ (p : PassView). record { gate = gate; caller = caller_of pool.limits p; front = p.front; http = serve.http; left = serve.connections; fault = false; memory = false }) pass_is in
     let longer : length more ≡ n + 1 = ap length more_are ∙ length-append workers (worker ∷ []) in
     record {
       made =
-          ap (λ k. more ++ new_workers pool.limits connections k rest) longer
-          ∙ ap (λ ws. ws ++ new_workers pool.limits connections (n + 1) rest) more_are
-          ∙ append_assoc workers (worker ∷ []) (new_workers pool.limits connections (n + 1) rest)
-          ∙ ap (λ w. workers ++ w ∷ new_workers pool.limits connections (n + 1) rest) worker_is
+          ap (λ k. more ++ new_workers pool.limits serve k rest) longer
+          ∙ ap (λ ws. ws ++ new_workers pool.limits serve (n + 1) rest) more_are
+          ∙ append_assoc workers (worker ∷ []) (new_workers pool.limits serve (n + 1) rest)
+          ∙ ap (λ w. workers ++ w ∷ new_workers pool.limits serve (n + 1) rest) worker_is
           ∙ so_far.made;
       count = omega (arith, longer, so_far.count);
       passes_left =
@@ -87,17 +88,17 @@ equip-one pool connections all gate rest passes others pass workers more worker 
     }
 
 -- of a gate that was the first of those that were left
-pub equip-more : {G : Type 0} (state : G → GateState) (pool : PoolId) (connections : ℕ) (all gates rest : List G) (gate : G) (passes others : List PassView)
+pub equip-more : {G : Type 0} (state : G → GateState) (pool : PoolId) (serve : ServeCommand) (all gates rest : List G) (gate : G) (passes others : List PassView)
     (pass : PassView) (workers more : List WorkerState) (worker : WorkerState) →
-    AreEquipped pool connections (map state all) (map state gates) passes workers → length all ≤ pool.config.passes → 0 < length gates →
+    AreEquipped pool serve (map state all) (map state gates) passes workers → length all ≤ pool.config.passes → 0 < length gates →
     gate ≡ slice_index_or gates 0 gate → rest ≡ remove gates 0 → pass ≡ slice_index_or passes 0 pass → others ≡ remove passes 0 →
-    worker ≡ record { gate = state gate; caller = caller_of pool.limits pass; front = pass.front; left = connections; fault = false; memory = false } →
-    more ≡ workers ++ worker ∷ [] → AreEquipped pool connections (map state all) (map state rest) others more
-equip-more {G} state pool connections all [] rest gate passes others pass workers more worker so_far enough some first rest_are is left_are made_of more_are = absurd (omega arith)
-equip-more {G} state pool connections all (g ∷ gs) rest gate passes others pass workers more worker so_far enough some first rest_are is left_are made_of more_are =
-    subst (λ (xs : List G). AreEquipped pool connections (map state all) (map state xs) others more) (sym rest_are)
-    (equip-one pool connections (map state all) (state g) (map state gs) passes others pass workers more worker so_far (omega (arith, enough, length-map all state)) is left_are
-    (made_of ∙ ap (λ (x : G). record { gate = state x; caller = caller_of pool.limits pass; front = pass.front; left = connections; fault = false; memory = false }) first) more_are)
+    worker ≡ record { gate = state gate; caller = caller_of pool.limits pass; front = pass.front; http = serve.http; left = serve.connections; fault = false; memory = false } →
+    more ≡ workers ++ worker ∷ [] → AreEquipped pool serve (map state all) (map state rest) others more
+equip-more {G} state pool serve all [] rest gate passes others pass workers more worker so_far enough some first rest_are is left_are made_of more_are = absurd (omega arith)
+equip-more {G} state pool serve all (g ∷ gs) rest gate passes others pass workers more worker so_far enough some first rest_are is left_are made_of more_are =
+    subst (λ (xs : List G). AreEquipped pool serve (map state all) (map state xs) others more) (sym rest_are)
+    (equip-one pool serve (map state all) (state g) (map state gs) passes others pass workers more worker so_far (omega (arith, enough, length-map all state)) is left_are
+    (made_of ∙ ap (λ (x : G). record { gate = state x; caller = caller_of pool.limits pass; front = pass.front; http = serve.http; left = serve.connections; fault = false; memory = false }) first) more_are)
 
 -- a gate that was the first of those that were left is the last one that has a worker
 pub moved_on : {G : Type 0} (workers more : List (WorkerWithGate G)) (worker : WorkerWithGate G) (gates rest all : List G) → gates_of workers ++ gates ≡ all →
@@ -112,30 +113,30 @@ moved_on {G} workers more worker (gate ∷ gates) rest all so_far some first res
     ∙ so_far
 
 -- all workers are made
-pub equip-end : (pool : PoolId) (connections : ℕ) (all left : List GateState) (passes : List PassView) (workers : List WorkerState) →
-    AreEquipped pool connections all left passes workers → left ≡ [] →
-    (workers ≡ new_workers pool.limits connections 0 all) × (passes ≡ new_passes (length all) (pool.config.passes - length all))
-equip-end pool connections all left passes workers so_far none =
+pub equip-end : (pool : PoolId) (serve : ServeCommand) (all left : List GateState) (passes : List PassView) (workers : List WorkerState) →
+    AreEquipped pool serve all left passes workers → left ≡ [] →
+    (workers ≡ new_workers pool.limits serve 0 all) × (passes ≡ new_passes (length all) (pool.config.passes - length all))
+equip-end pool serve all left passes workers so_far none =
     let count : length workers ≡ length all = omega (arith, so_far.count, ap length none) in (
-      sym (append-nil workers) ∙ ap (λ gs. workers ++ new_workers pool.limits connections (length workers) gs) (sym none) ∙ so_far.made,
+      sym (append-nil workers) ∙ ap (λ gs. workers ++ new_workers pool.limits serve (length workers) gs) (sym none) ∙ so_far.made,
       so_far.passes_left ∙ ap (λ k. new_passes k (pool.config.passes - k)) count,
     )
 
-pub length-new_workers : (limits : Limits) (connections pass : ℕ) (gates : List GateState) → length (new_workers limits connections pass gates) ≡ length gates
-length-new_workers limits connections pass [] = refl
-length-new_workers limits connections pass (gate ∷ gates) = ap suc (length-new_workers limits connections (pass + 1) gates)
+pub length-new_workers : (limits : Limits) (serve : ServeCommand) (pass : ℕ) (gates : List GateState) → length (new_workers limits serve pass gates) ≡ length gates
+length-new_workers limits serve pass [] = refl
+length-new_workers limits serve pass (gate ∷ gates) = ap suc (length-new_workers limits serve (pass + 1) gates)
 
 -- there are as many workers as gates
-pub workers_count : {G : Type 0} (state : G → GateState) (limits : Limits) (connections : ℕ) (gates : List G) (fresh workers : List WorkerState) →
-    fresh ≡ new_workers limits connections 0 (map state gates) → length workers ≡ length fresh → length workers ≡ length gates
-workers_count {G} state limits connections gates fresh workers made same =
-    same ∙ ap length made ∙ length-new_workers limits connections 0 (map state gates) ∙ length-map gates state
+pub workers_count : {G : Type 0} (state : G → GateState) (limits : Limits) (serve : ServeCommand) (gates : List G) (fresh workers : List WorkerState) →
+    fresh ≡ new_workers limits serve 0 (map state gates) → length workers ≡ length fresh → length workers ≡ length gates
+workers_count {G} state limits serve gates fresh workers made same =
+    same ∙ ap length made ∙ length-new_workers limits serve 0 (map state gates) ∙ length-map gates state
 
-pub all_ready : (limits : Limits) (connections pass : ℕ) (gates : List GateState) → All HasMetNoFault (new_workers limits connections pass gates)
-all_ready limits connections pass [] = All-nil HasMetNoFault
-all_ready limits connections pass (gate ∷ gates) =
-    All-cons HasMetNoFault (new_worker limits connections pass gate) (new_workers limits connections (pass + 1) gates) (record { no_fault = refl; no_memory = refl })
-    (all_ready limits connections (pass + 1) gates)
+pub all_ready : (limits : Limits) (serve : ServeCommand) (pass : ℕ) (gates : List GateState) → All HasMetNoFault (new_workers limits serve pass gates)
+all_ready limits serve pass [] = All-nil HasMetNoFault
+all_ready limits serve pass (gate ∷ gates) =
+    All-cons HasMetNoFault (new_worker limits serve pass gate) (new_workers limits serve (pass + 1) gates) (record { no_fault = refl; no_memory = refl })
+    (all_ready limits serve (pass + 1) gates)
 
 -- what holds of some worker holds of its state
 pub any_of_states : {G : Type 0} (test : WorkerState → Bool) (workers : List (WorkerWithGate G)) → list_any (λ worker. test worker.state) workers ≡ list_any test (states_of workers)
@@ -171,18 +172,18 @@ module _ {G C : Type 0} (next_gives : G → Next C → G → Type 0) (done_gives
       record { work = (first.works, others.work); turns = (first.in_turns, others.turns) }
 
   -- the gates had workers, and all came back
-  pub have_worked : (state : G → GateState) (pool : PoolId) (connections : ℕ) (gates none back : List G) (why : Why) (left passes : List PassView)
+  pub have_worked : (state : G → GateState) (pool : PoolId) (serve : ServeCommand) (gates none back : List G) (why : Why) (left passes : List PassView)
       (befores afters : List (WorkerWithGate G)) →
-      states_of befores ≡ new_workers pool.limits connections 0 (map state gates) → gates_of befores ≡ gates → none ≡ [] →
+      states_of befores ≡ new_workers pool.limits serve 0 (map state gates) → gates_of befores ≡ gates → none ≡ [] →
       left ≡ new_passes (length gates) (pool.config.passes - length gates) → length afters ≡ length befores →
       ((k : ℕ) (d : WorkerWithGate G) → k < length befores →
       WorksInTurns next_gives done_gives end_gives read_gives write_gives incoming outgoing (slice_index_or befores k d) (slice_index_or afters k d)) →
       map state back ≡ map state none ++ map (λ (worker : WorkerState). worker.gate) (states_of afters) → back ≡ none ++ gates_of afters →
       why ≡ why_of_workers (states_of afters) → passes ≡ left ++ map pass_of_worker (states_of afters) →
-      HaveWorkedInTurns next_gives done_gives end_gives read_gives write_gives incoming outgoing state pool connections gates back why passes
-  have_worked state pool connections gates none back why left passes befores afters made theirs empty left_are same work told back_are cause come =
+      HaveWorkedInTurns next_gives done_gives end_gives read_gives write_gives incoming outgoing state pool serve gates back why passes
+  have_worked state pool serve gates none back why left passes befores afters made theirs empty left_are same work told back_are cause come =
       let came : back ≡ gates_of afters = back_are ∙ ap (λ (gs : List G). gs ++ gates_of afters) empty in
-      let all : WorkInTurns (new_workers pool.limits connections 0 (map state gates)) (states_of afters) gates back =
+      let all : WorkInTurns (new_workers pool.limits serve 0 (map state gates)) (states_of afters) gates back =
       subst (λ (ws : List WorkerState). WorkInTurns ws (states_of afters) gates back) made
       (subst (λ (gs : List G). WorkInTurns (states_of befores) (states_of afters) gs back) theirs
       (subst (λ (gs : List G). WorkInTurns (states_of befores) (states_of afters) (gates_of befores) gs) (sym came)
@@ -264,15 +265,15 @@ all_work-length (before ∷ befores) [] work = absurd work
 all_work-length [] (after ∷ afters) work = absurd work
 all_work-length (before ∷ befores) (after ∷ afters) work = ap suc (all_work-length befores afters work.1)
 
-pub worked_count : (pool : PoolId) (connections : ℕ) (before after : List GateState) (why : Why) (passes : List PassView) → HaveWorked pool connections before after why passes →
+pub worked_count : (pool : PoolId) (serve : ServeCommand) (before after : List GateState) (why : Why) (passes : List PassView) → HaveWorked pool serve before after why passes →
     length after ≡ length before
-worked_count pool connections before after why passes worked =
+worked_count pool serve before after why passes worked =
     ap length worked.gates ∙ length-map worked.workers (λ (worker : WorkerState). worker.gate)
-    ∙ all_work-length (new_workers pool.limits connections 0 before) worked.workers worked.work ∙ length-new_workers pool.limits connections 0 before
+    ∙ all_work-length (new_workers pool.limits serve 0 before) worked.workers worked.work ∙ length-new_workers pool.limits serve 0 before
 
 -- ---- the engine is closed
 
-module _ (pool : PoolId) (connections : ℕ) (before after : List GateState) (why : Why) (passes : List PassView) (worked : HaveWorked pool connections before after why passes)
+module _ (pool : PoolId) (serve : ServeCommand) (before after : List GateState) (why : Why) (passes : List PassView) (worked : HaveWorked pool serve before after why passes)
     (enough : length before ≤ pool.config.passes) (counted : pool.limits.passes ≡ pool.config.passes) where
   abbrev others : List PassView
   others = new_passes (length before) (pool.config.passes - length before)
@@ -317,28 +318,28 @@ module _ (pool : PoolId) (connections : ℕ) (before after : List GateState) (wh
 -- so the gates were served
 module _ {G C : Type 0} (next_gives : G → Next C → G → Type 0) (done_gives : G → C → End → G → Type 0) (end_gives : G → G → Type 0)
     (read_gives : C → Read → C → Type 0) (write_gives : C → Write → C → Type 0) (incoming : C → Incoming) (outgoing : C → Outgoing) where
-  pub has_served : (state : G → GateState) (pool : PoolId) (config : Config) (connections : ℕ) (gates laters : List G) (why : Why) (passes : List PassView)
+  pub has_served : (state : G → GateState) (pool : PoolId) (config : Config) (serve : ServeCommand) (gates laters : List G) (why : Why) (passes : List PassView)
       (closed : ClosedState) → pool.limits ≡ limits_by config → pool.config ≡ config → pool.limits.passes ≡ pool.config.passes →
       length (map state gates) ≤ pool.config.passes →
-      HaveWorkedInTurns next_gives done_gives end_gives read_gives write_gives incoming outgoing state pool connections gates laters why passes →
+      HaveWorkedInTurns next_gives done_gives end_gives read_gives write_gives incoming outgoing state pool serve gates laters why passes →
       IsLegal pool.limits closed.history → MovesAreCaused closed.history → IsSound pool.config closed.history → All (EndsIn closed.history) passes →
-      EndsOpenServeInTurns next_gives done_gives end_gives read_gives write_gives incoming outgoing state config connections gates laters why (Some closed)
-  has_served state pool config connections gates laters why passes closed limits_are config_is counted enough did legal caused sound ends =
+      EndsOpenServeInTurns next_gives done_gives end_gives read_gives write_gives incoming outgoing state config serve gates laters why (Some closed)
+  has_served state pool config serve gates laters why passes closed limits_are config_is counted enough did legal caused sound ends =
       let before = map state gates in
       let after = map state laters in
       let worked = did.worked in
-      let all : WorkInTurns next_gives done_gives end_gives read_gives write_gives incoming outgoing (new_workers (limits_by config) connections 0 before) worked.workers gates laters =
-      subst (λ (l : Limits). WorkInTurns next_gives done_gives end_gives read_gives write_gives incoming outgoing (new_workers l connections 0 before) worked.workers gates laters)
+      let all : WorkInTurns next_gives done_gives end_gives read_gives write_gives incoming outgoing (new_workers (limits_by config) serve 0 before) worked.workers gates laters =
+      subst (λ (l : Limits). WorkInTurns next_gives done_gives end_gives read_gives write_gives incoming outgoing (new_workers l serve 0 before) worked.workers gates laters)
       limits_are (record { work = worked.work; turns = did.in_turns }) in
       record {
         ends = record {
           legal = subst (λ (l : Limits). IsLegal l closed.history) limits_are legal;
           caused = caused;
           sound = subst (λ (k : Config). IsSound k closed.history) config_is sound;
-          passes = of_workers pool connections before after why passes worked enough counted closed.history legal ends;
+          passes = of_workers pool serve before after why passes worked enough counted closed.history legal ends;
           workers = worked.workers;
           work = all.work;
-          fronts = workers_end pool connections before after why passes worked enough counted closed.history legal ends;
+          fronts = workers_end pool serve before after why passes worked enough counted closed.history legal ends;
           gates = worked.gates;
           cause = worked.cause;
         };

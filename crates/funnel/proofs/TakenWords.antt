@@ -26,7 +26,7 @@ use Rattle.funnel.specs.declared.command.Command.{Command}
 use Rattle.funnel.specs.declared.command.CommandFault.{CommandFault}
 use Rattle.funnel.specs.declared.command.CommandFault.TheVariants.{Memory, Usage}
 use Rattle.funnel.proofs.NumberLemmas.{IsNumber, number_in, signed_number}
-use Rattle.funnel.specs.Commands.{HasFitNumbers, HasLoadNumbers, HasNumber, HasNumbers, HasServeNumbers, IsGivenOrNot, call_words, command_of, connections_option, docs_option, documents_option, fault_by, fit_form, funnel_app, idle_option, load_form, load_workers_option, numbers_between, one_port_option, port_option, run_form, seed_option, serve_form, subcommand_as, words_option, workers_option}
+use Rattle.funnel.specs.Commands.{HasFitNumbers, HasLoadNumbers, HasNumber, HasNumbers, HasServeNumbers, IsGivenOrNot, call_words, command_of, connections_option, docs_option, documents_option, fault_by, fit_form, funnel_app, http_option, idle_option, load_form, load_workers_option, numbers_between, one_port_option, port_option, run_form, seed_option, serve_form, subcommand_as, words_option, workers_option}
 use Rattle.funnel.proofs.Faultless.{all_of_two, both, built_taken, is_open}
 use Rattle.funnel.proofs.FoundValues.{AllFit, Belongs, defaults-fit, defaults-there, found_has, given-there, has_value, settled-fits, walk-fits}
 
@@ -130,6 +130,9 @@ idle = filled idle_option
 abbrev one_port : Rule
 one_port = filled one_port_option
 
+abbrev http : Rule
+http = filled http_option
+
 serve_rules_belong : AllByRecursion (Belongs serve_rules) serve_rules
 serve_rules_belong = (
   record { own = refl; kind = inl (refl, omega arith) },
@@ -139,7 +142,10 @@ serve_rules_belong = (
       record { own = refl; kind = inl (refl, omega arith) },
       (
         record { own = refl; kind = inl (refl, omega arith) },
-        (record { own = refl; kind = inr (inl (refl, omega arith)) }, (record { own = refl; kind = inr (inr refl) }, tt)),
+        (
+          record { own = refl; kind = inr (inl (refl, omega arith)) },
+          (record { own = refl; kind = inr (inl (refl, omega arith)) }, (record { own = refl; kind = inr (inr refl) }, tt)),
+        ),
       ),
     ),
   ),
@@ -156,15 +162,17 @@ serve_numbers words e =
     let rows = rows_after serve_rules [] words in
     let given = port_and_workers_are_given rows found.valid in
     let before = rows_given (built_form serve_form) words in
-    let connections_default = defaults-there (port ∷ workers ∷ []) (idle ∷ one_port ∷ filled help_rule ∷ []) connections before (omega arith) in
-    let idle_default = defaults-there (port ∷ workers ∷ connections ∷ []) (one_port ∷ filled help_rule ∷ []) idle before (omega arith) in
-    let one_port_default = defaults-there (port ∷ workers ∷ connections ∷ idle ∷ []) (filled help_rule ∷ []) one_port before (omega arith) in
+    let connections_default = defaults-there (port ∷ workers ∷ []) (idle ∷ one_port ∷ http ∷ filled help_rule ∷ []) connections before (omega arith) in
+    let idle_default = defaults-there (port ∷ workers ∷ connections ∷ []) (one_port ∷ http ∷ filled help_rule ∷ []) idle before (omega arith) in
+    let one_port_default = defaults-there (port ∷ workers ∷ connections ∷ idle ∷ []) (http ∷ filled help_rule ∷ []) one_port before (omega arith) in
+    let http_default = defaults-there (port ∷ workers ∷ connections ∷ idle ∷ one_port ∷ []) (filled help_rule ∷ []) http before (omega arith) in
     record {
       port = signed serve_rules rows found.fit 1 MOST_PORT port (codes "port") refl refl (λ text pass. pass) (given-there (codes "port") rows given.0);
       workers = signed serve_rules rows found.fit 1 MOST_PASSES workers (codes "workers") refl refl (λ text pass. pass) (given-there (codes "workers") rows given.1);
       connections = unsigned serve_rules rows found.fit 1 MOST_CONNECTIONS connections (codes "connections") refl refl (λ text pass. pass) connections_default;
       idle = signed serve_rules rows found.fit 0 MOST_IDLE idle (codes "idle") refl refl (λ text pass. pass) idle_default;
       one_port = given_or_not serve_rules rows found.fit one_port (codes "one-port") refl refl (λ text pass. pass) one_port_default;
+      http = given_or_not serve_rules rows found.fit http (codes "http") refl refl (λ text pass. pass) http_default;
     }
 
 -- ---- the options of `load`

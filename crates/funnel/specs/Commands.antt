@@ -50,6 +50,10 @@ idle_option = record (number_option (codes "idle") (numbers_between 0 MOST_IDLE)
 abbrev pub one_port_option : Rule
 one_port_option = record (new_rule (codes "one-port")) { long = Some (codes "one-port"); action = Some SetTrue }
 
+-- whether requests over HTTP are answered: a word without a value
+abbrev pub http_option : Rule
+http_option = record (new_rule (codes "http")) { long = Some (codes "http"); action = Some SetTrue }
+
 -- a number of documents, which has to be given
 abbrev pub docs_option : Rule
 docs_option = record (number_option (codes "docs") (numbers_between 1 MOST_DOCS)) { required = true }
@@ -75,7 +79,7 @@ abbrev pub run_form : Shape
 run_form = new_shape (codes "run")
 
 abbrev pub serve_form : Shape
-serve_form = record (new_shape (codes "serve")) { rules = port_option ∷ workers_option ∷ connections_option ∷ idle_option ∷ one_port_option ∷ [] }
+serve_form = record (new_shape (codes "serve")) { rules = port_option ∷ workers_option ∷ connections_option ∷ idle_option ∷ one_port_option ∷ http_option ∷ [] }
 
 abbrev pub load_form : Shape
 load_form = record (new_shape (codes "load")) { rules = docs_option ∷ load_workers_option ∷ words_option ∷ seed_option ∷ [] }
@@ -99,13 +103,14 @@ HasNumber low high name found = IsSomeAnd (one_of name found) (λ text.
 abbrev pub IsGivenOrNot : Text → List Row → Type 0
 IsGivenOrNot name found = IsSomeAnd (one_of name found) (λ text. (text ≡ codes "true") ⊎ (text ≡ codes "false"))
 
--- each option of `serve` has one, but for the one without a value
+-- each option of `serve` has one, but for those without a value
 pub record HasServeNumbers (found : List Row) : Type 0 where
   pub port : HasNumber 1 MOST_PORT (codes "port") found
   pub workers : HasNumber 1 MOST_PASSES (codes "workers") found
   pub connections : HasNumber 1 MOST_CONNECTIONS (codes "connections") found
   pub idle : HasNumber 0 MOST_IDLE (codes "idle") found
   pub one_port : IsGivenOrNot (codes "one-port") found
+  pub http : IsGivenOrNot (codes "http") found
 
 -- each option of `load` has one
 pub record HasLoadNumbers (found : List Row) : Type 0 where
@@ -139,6 +144,7 @@ serve_of found = record {
   connections = option_number (codes "connections") found;
   idle = option_number (codes "idle") found;
   one_port = is_given (codes "one-port") found;
+  http = is_given (codes "http") found;
 }
 
 abbrev pub load_of : List Row → LoadCommand

@@ -1,5 +1,5 @@
 -- What the laws of programs say.
-use Rattle.std.specs.Prelude.{◌≡◌, ◌≢◌, ◌<◌, ◌≤◌, ◌⊎◌, ⊤, ℕ, true, false, List, [], ◌∷◌, ◌++◌, length, take, drop, All, Option, Some, None, Ok, Contains}
+use Rattle.std.specs.Prelude.{◌≡◌, ◌≢◌, ◌<◌, ◌≤◌, ◌⊎◌, ⊤, ℕ, Bool, true, false, List, [], ◌∷◌, ◌++◌, length, take, drop, All, Option, Some, None, Ok, Contains}
 use Rattle.std.specs.List.{AllZip, flat_map}
 use Rattle.std.specs.Option.{IsSomeAnd, option_map}
 use Rattle.engine.specs.Engines.{ClosedState}
@@ -40,6 +40,7 @@ use Rattle.funnel.specs.Runs.{IsOfFirst, first_caller, limits_by}
 use Rattle.funnel.specs.Served.{AllWork, HaveAllServed}
 use Rattle.funnel.specs.declared.command.Command.{Command}
 use Rattle.funnel.specs.declared.command.LoadCommand.{LoadCommand}
+use Rattle.funnel.specs.declared.command.ServeCommand.{ServeCommand}
 use Rattle.session.specs.declared.serving.TheConstants.{MOST_BYTES}
 use Rattle.funnel.specs.declared.ended.Misfit.TheVariants as misfit
 use Rattle.funnel.specs.declared.ended.Why.{Why}
@@ -149,43 +150,43 @@ pub record KeepsNoFault (served : Served) : Type 0 where
   pub reads : served.read_faults ≡ 0
   pub writes : served.write_faults ≡ 0
 
--- its session answered all lines of its input, or found no memory to begin
+-- its session answered all lines or requests of its input, or found no memory to begin
 abbrev pub KeepsGoodEnd : Served → Type 0
 KeepsGoodEnd served = (served.session_end ≡ end_of.Done) ⊎ (served.session_end ≡ end_of.Memory)
 
 -- what a gate keeps of a connection has its cause; and where the connection has few bytes and no fault, its end is good
-pub record IsKeptOf (sides : Sides) (served : Served) : Type 0 where
-  pub cause : HasCause sides served
+pub record IsKeptOf (http : Bool) (sides : Sides) (served : Served) : Type 0 where
+  pub cause : HasCause http sides served
   pub good : HasFewBytes sides → KeepsNoFault served → KeepsGoodEnd served
 
 -- A gate had connections served, no more than may be, and keeps an end for each, where it tells those that came back. Each such end fits
 -- what is kept with it. Where the gate tells which connections wait, they are the first of these, as many as may be, and the others still
 -- wait. Where the serve is done, each found memory
-pub record GateIsServed (connections : ℕ) (why : Why) (before after : GateState) : Type 0 where
+pub record GateIsServed (serve : ServeCommand) (why : Why) (before after : GateState) : Type 0 where
   pub gained : List Served
   pub kept : after.served ≡ option_map (λ earlier. earlier ++ gained) before.served
   pub fit : All FitsKept gained
-  pub most : length gained ≤ connections
-  pub first : (waiting : List Sides) → before.waiting ≡ Some waiting → AllZip IsKeptOf (take connections waiting) gained
-  pub left : (waiting : List Sides) → before.waiting ≡ Some waiting → after.waiting ≡ Some (drop connections waiting)
+  pub most : length gained ≤ serve.connections
+  pub first : (waiting : List Sides) → before.waiting ≡ Some waiting → AllZip (IsKeptOf serve.http) (take serve.connections waiting) gained
+  pub left : (waiting : List Sides) → before.waiting ≡ Some waiting → after.waiting ≡ Some (drop serve.connections waiting)
   pub memory : why ≡ why_of.Done → All (λ served. served.session_end ≢ end_of.Memory) gained
 
 -- so it is with a gate unless a call of it failed
-abbrev pub IsServedUnlessFailed : ℕ → Why → GateState → GateState → Type 0
-IsServedUnlessFailed connections why before after = (Rose before.faults after.faults → ⊥) → GateIsServed connections why before after
+abbrev pub IsServedUnlessFailed : ServeCommand → Why → GateState → GateState → Type 0
+IsServedUnlessFailed serve why before after = (Rose before.faults after.faults → ⊥) → GateIsServed serve why before after
 
 -- the gates were served by one engine, and each of them as far as it may be
-abbrev pub ServesAllGates : Config → ℕ → List GateState → List GateState → Why → ClosedState → Type 0
-ServesAllGates config connections before after why closed =
-    HaveAllServed config connections before after why closed × AllZip (GateIsServed connections why) before after
+abbrev pub ServesAllGates : Config → ServeCommand → List GateState → List GateState → Why → ClosedState → Type 0
+ServesAllGates config serve before after why closed =
+    HaveAllServed config serve before after why closed × AllZip (GateIsServed serve why) before after
 
 -- a serve is done when each gate's connections had their sessions, up to the number that was stated, each to its own end, and ends
 -- otherwise for want of memory alone: that of a session, and all had theirs, or that of the engine or its workers, and no connection was taken
-abbrev pub CompletesServe : Config → ℕ → List GateState → List GateState → Why → Option ClosedState → Type 0
-CompletesServe config connections before after why_of.Done (Some closed) = ServesAllGates config connections before after why_of.Done closed
-CompletesServe config connections before after why_of.Memory (Some closed) = ServesAllGates config connections before after why_of.Memory closed
-CompletesServe config connections before after why_of.Memory None = after ≡ before
-CompletesServe config connections before after _ closed = ⊥
+abbrev pub CompletesServe : Config → ServeCommand → List GateState → List GateState → Why → Option ClosedState → Type 0
+CompletesServe config serve before after why_of.Done (Some closed) = ServesAllGates config serve before after why_of.Done closed
+CompletesServe config serve before after why_of.Memory (Some closed) = ServesAllGates config serve before after why_of.Memory closed
+CompletesServe config serve before after why_of.Memory None = after ≡ before
+CompletesServe config serve before after _ closed = ⊥
 
 -- a gate answered that it failed, as it was opened or asked for a connection, was ended, and is one of these since
 pub record OneFailed {G C : Type 0} (open_gives : G → Opening → G → Type 0) (next_gives : G → Next C → G → Type 0) (end_gives : G → G → Type 0)

@@ -81,7 +81,7 @@ pub record EndsAfterServe (words : List (List ℕ)) (before after : Streams) (wh
   pub fits : misfit_of (command.Serve serve) (length before.gates) config ≡ None
   pub input : after.input ≡ before.input
   pub output : after.output ≡ before.output
-  pub served : EndsServe config serve.connections before.gates after.gates why closed
+  pub served : EndsServe config serve before.gates after.gates why closed
   pub kept : IfSome closed (KeepsLast config)
 
 -- the load that the words ask for fits, and is put to an engine with the configuration

@@ -11,24 +11,26 @@ use Rattle.funnel_server.specs.Gates.{GateState}
 use Rattle.funnel_server.specs.Workers.{WorkerState, Works}
 use Rattle.row_layout.specs.Sound.{IsSound}
 use Rattle.funnel.specs.Runs.{limits_by}
+use Rattle.funnel.specs.declared.command.ServeCommand.{ServeCommand}
 use Rattle.funnel.specs.declared.ended.Why.{Why}
 use Rattle.funnel.specs.declared.ended.Why.TheVariants as why_of
 
 -- the worker of a gate before its first connection
-abbrev pub new_worker : Limits → ℕ → ℕ → GateState → WorkerState
-new_worker limits connections pass gate = record {
+abbrev pub new_worker : Limits → ServeCommand → ℕ → GateState → WorkerState
+new_worker limits serve pass gate = record {
   gate = gate;
   caller = record { limits = limits; pass = pass };
   front = [];
-  left = connections;
+  http = serve.http;
+  left = serve.connections;
   fault = false;
   memory = false;
 }
 
 -- the workers of the gates, each on a pass of its own, from this one up
-abbrev pub new_workers : Limits → ℕ → ℕ → List GateState → List WorkerState
-new_workers limits connections pass [] = []
-new_workers limits connections pass (gate ∷ gates) = new_worker limits connections pass gate ∷ new_workers limits connections (pass + 1) gates
+abbrev pub new_workers : Limits → ServeCommand → ℕ → List GateState → List WorkerState
+new_workers limits serve pass [] = []
+new_workers limits serve pass (gate ∷ gates) = new_worker limits serve pass gate ∷ new_workers limits serve (pass + 1) gates
 
 -- each worker did its work, and there is no other one
 abbrev pub AllWork : List WorkerState → List WorkerState → Type 0
@@ -45,13 +47,13 @@ why_of_workers workers =
 
 -- each gate had a worker, and all workers had their sessions in one history, which goes on from what each has seen without a
 -- further event of its pass
-pub record HaveAllServed (config : Config) (connections : ℕ) (before after : List GateState) (why : Why) (closed : ClosedState) : Type 0 where
+pub record HaveAllServed (config : Config) (serve : ServeCommand) (before after : List GateState) (why : Why) (closed : ClosedState) : Type 0 where
   pub legal : IsLegal (limits_by config) closed.history
   pub caused : MovesAreCaused closed.history
   pub sound : IsSound config closed.history
   pub passes : All (λ e. pass_of e < length before) closed.history
   pub workers : List WorkerState
-  pub work : AllWork (new_workers (limits_by config) connections 0 before) workers
+  pub work : AllWork (new_workers (limits_by config) serve 0 before) workers
   pub fronts : All (λ worker. IsFrontOf worker.caller.pass worker.front closed.history) workers
   pub gates : after ≡ map (λ worker. worker.gate) workers
   pub cause : why ≡ why_of_workers workers
@@ -63,7 +65,7 @@ OneDidNotOpen (gate ∷ gates) (later ∷ laters) =
 OneDidNotOpen before after = ⊥
 
 -- the gates were served, or there was no memory for the engine or for its workers, or a gate failed as it was opened
-abbrev pub EndsServe : Config → ℕ → List GateState → List GateState → Why → Option ClosedState → Type 0
-EndsServe config connections before after why (Some closed) = HaveAllServed config connections before after why closed
-EndsServe config connections before after why None =
+abbrev pub EndsServe : Config → ServeCommand → List GateState → List GateState → Why → Option ClosedState → Type 0
+EndsServe config serve before after why (Some closed) = HaveAllServed config serve before after why closed
+EndsServe config serve before after why None =
     ((why ≡ why_of.Memory) × (after ≡ before)) ⊎ ((why ≡ why_of.GateFault) × OneDidNotOpen before after)

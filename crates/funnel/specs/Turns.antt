@@ -14,6 +14,7 @@ use Rattle.funnel_server.specs.GateTurns.{CallsInTurns}
 use Rattle.funnel_server.specs.Workers.{WorkerState}
 use Rattle.session.specs.Turns.{StopsReading}
 use Rattle.session.specs.declared.serving.TheConstants.{MOST_BYTES}
+use Rattle.funnel.specs.declared.command.ServeCommand.{ServeCommand}
 use Rattle.funnel.specs.declared.ended.Why.{Why}
 use Rattle.funnel.specs.declared.ended.Why.TheVariants as why_of
 use Rattle.funnel.specs.Programs.{EndsAfterServe, EndsBy, Streams}
@@ -47,12 +48,12 @@ GatesGoInTurns next_gives done_gives end_gives read_gives write_gives incoming o
 -- so it is with a serve that had an engine; the gates are given as they were opened
 abbrev pub OpenGatesGoInTurns : {G C : Type 0} → (G → Next C → G → Type 0) → (G → C → End → G → Type 0) → (G → G → Type 0) → (C → Read → C → Type 0) → (C → Write → C → Type 0)
     → (C → Incoming) → (C → Outgoing)
-    → (config : Config) (connections : ℕ) (before after : List GateState) (why : Why) (closed : Option ClosedState)
-    → EndsServe config connections before after why closed → List G → List G → Type 0
-OpenGatesGoInTurns next_gives done_gives end_gives read_gives write_gives incoming outgoing config connections before after why (Some closed) served gates laters =
-    GatesGoInTurns next_gives done_gives end_gives read_gives write_gives incoming outgoing (new_workers (limits_by config) connections 0 before) served.workers served.work
+    → (config : Config) (serve : ServeCommand) (before after : List GateState) (why : Why) (closed : Option ClosedState)
+    → EndsServe config serve before after why closed → List G → List G → Type 0
+OpenGatesGoInTurns next_gives done_gives end_gives read_gives write_gives incoming outgoing config serve before after why (Some closed) served gates laters =
+    GatesGoInTurns next_gives done_gives end_gives read_gives write_gives incoming outgoing (new_workers (limits_by config) serve 0 before) served.workers served.work
     gates laters
-OpenGatesGoInTurns next_gives done_gives end_gives read_gives write_gives incoming outgoing config connections before after why None served gates laters = ⊤
+OpenGatesGoInTurns next_gives done_gives end_gives read_gives write_gives incoming outgoing config serve before after why None served gates laters = ⊤
 
 -- each gate was opened
 abbrev pub AreOpened : {G : Type 0} → (G → Opening → G → Type 0) → List G → List G → Type 0
@@ -73,12 +74,12 @@ pub record AreOpenedInVain {G : Type 0} (open_gives : G → Opening → G → Ty
 -- the calls on the gates of a serve, from their opening to their end
 abbrev pub ServeGoesInTurns : {G C : Type 0} → (G → Opening → G → Type 0) → (G → Next C → G → Type 0) → (G → C → End → G → Type 0) → (G → G → Type 0) → (C → Read → C → Type 0) → (C → Write → C → Type 0)
     → (C → Incoming) → (C → Outgoing)
-    → (config : Config) (connections : ℕ) (before after : List GateState) (why : Why) (closed : Option ClosedState)
-    → EndsServe config connections before after why closed → List G → List G → Type 0
-ServeGoesInTurns {G} {C} open_gives next_gives done_gives end_gives read_gives write_gives incoming outgoing config connections before after why (Some closed) served gates laters =
+    → (config : Config) (serve : ServeCommand) (before after : List GateState) (why : Why) (closed : Option ClosedState)
+    → EndsServe config serve before after why closed → List G → List G → Type 0
+ServeGoesInTurns {G} {C} open_gives next_gives done_gives end_gives read_gives write_gives incoming outgoing config serve before after why (Some closed) served gates laters =
     (opened : List G) × AreOpened open_gives gates opened
-    × OpenGatesGoInTurns next_gives done_gives end_gives read_gives write_gives incoming outgoing config connections before after why (Some closed) served opened laters
-ServeGoesInTurns {G} {C} open_gives next_gives done_gives end_gives read_gives write_gives incoming outgoing config connections before after why None served gates laters =
+    × OpenGatesGoInTurns next_gives done_gives end_gives read_gives write_gives incoming outgoing config serve before after why (Some closed) served opened laters
+ServeGoesInTurns {G} {C} open_gives next_gives done_gives end_gives read_gives write_gives incoming outgoing config serve before after why None served gates laters =
     AreOpenedInVain open_gives end_gives why gates laters
 
 -- a serve ended so, and the calls on its gates are those of the sessions that its end tells of
@@ -86,7 +87,7 @@ pub record EndsAfterServeInTurns {G C : Type 0} (open_gives : G → Opening → 
     (read_gives : C → Read → C → Type 0) (write_gives : C → Write → C → Type 0) (incoming : C → Incoming) (outgoing : C → Outgoing)
     (words : List (List ℕ)) (before after : Streams) (why : Why) (closed : Option ClosedState) (gates laters : List G) : Type 0 where
   pub ends : EndsAfterServe words before after why closed
-  pub in_turns : ServeGoesInTurns open_gives next_gives done_gives end_gives read_gives write_gives incoming outgoing ends.config ends.serve.connections
+  pub in_turns : ServeGoesInTurns open_gives next_gives done_gives end_gives read_gives write_gives incoming outgoing ends.config ends.serve
       before.gates after.gates why closed ends.served gates laters
 
 -- so a program ends, of whose calls on gates this is told too

@@ -15,6 +15,7 @@ use Rattle.slice_rule.specs.Pools.{PoolId}
 use Rattle.funnel.specs.Served.{AllWork, EndsServe, new_workers, why_of_workers}
 use Rattle.funnel.specs.Serving.{new_passes}
 use Rattle.funnel.specs.Turns.{GatesGoInTurns, OpenGatesGoInTurns, ServeGoesInTurns}
+use Rattle.funnel.specs.declared.command.ServeCommand.{ServeCommand}
 use Rattle.funnel.specs.declared.ended.Why.{Why}
 
 -- the pass of a worker
@@ -30,8 +31,8 @@ abbrev pub gates_of : {G : Type 0} → List (WorkerWithGate G) → List G
 gates_of workers = map (λ worker. worker.gate) workers
 
 -- some of the gates and passes of a new engine have a worker, the first ones of each, and these are left
-pub record AreEquipped (pool : PoolId) (connections : ℕ) (all left : List GateState) (passes : List PassView) (workers : List WorkerState) : Type 0 where
-  pub made : workers ++ new_workers pool.limits connections (length workers) left ≡ new_workers pool.limits connections 0 all
+pub record AreEquipped (pool : PoolId) (serve : ServeCommand) (all left : List GateState) (passes : List PassView) (workers : List WorkerState) : Type 0 where
+  pub made : workers ++ new_workers pool.limits serve (length workers) left ≡ new_workers pool.limits serve 0 all
   pub count : length workers + length left ≡ length all
   pub passes_left : passes ≡ new_passes (length workers) (pool.config.passes - length workers)
 
@@ -43,9 +44,9 @@ pub record GaveBack (workers left : List WorkerState) (before after : List GateS
   pub back : passes ≡ others ++ map pass_of_worker done
 
 -- each gate had a worker, each on a pass of its own, and the gates and all passes came back, those of the workers behind the others
-pub record HaveWorked (pool : PoolId) (connections : ℕ) (before after : List GateState) (why : Why) (passes : List PassView) : Type 0 where
+pub record HaveWorked (pool : PoolId) (serve : ServeCommand) (before after : List GateState) (why : Why) (passes : List PassView) : Type 0 where
   pub workers : List WorkerState
-  pub work : AllWork (new_workers pool.limits connections 0 before) workers
+  pub work : AllWork (new_workers pool.limits serve 0 before) workers
   pub gates : after ≡ map (λ worker. worker.gate) workers
   pub cause : why ≡ why_of_workers workers
   pub back : passes ≡ new_passes (length before) (pool.config.passes - length before) ++ map pass_of_worker workers
@@ -53,23 +54,23 @@ pub record HaveWorked (pool : PoolId) (connections : ℕ) (before after : List G
 -- and the calls on the gates are those of the workers' sessions, turn by turn
 pub record HaveWorkedInTurns {G C : Type 0} (next_gives : G → Next C → G → Type 0) (done_gives : G → C → End → G → Type 0) (end_gives : G → G → Type 0)
     (read_gives : C → Read → C → Type 0) (write_gives : C → Write → C → Type 0) (incoming : C → Incoming) (outgoing : C → Outgoing)
-    (state : G → GateState) (pool : PoolId) (connections : ℕ) (gates laters : List G) (why : Why) (passes : List PassView) : Type 0 where
-  pub worked : HaveWorked pool connections (map state gates) (map state laters) why passes
+    (state : G → GateState) (pool : PoolId) (serve : ServeCommand) (gates laters : List G) (why : Why) (passes : List PassView) : Type 0 where
+  pub worked : HaveWorked pool serve (map state gates) (map state laters) why passes
   pub in_turns : GatesGoInTurns next_gives done_gives end_gives read_gives write_gives incoming outgoing
-      (new_workers pool.limits connections 0 (map state gates)) worked.workers worked.work gates laters
+      (new_workers pool.limits serve 0 (map state gates)) worked.workers worked.work gates laters
 
 -- a serve of gates that were opened ended so, and the calls on them are those of the sessions that its end tells of
 pub record EndsOpenServeInTurns {G C : Type 0} (next_gives : G → Next C → G → Type 0) (done_gives : G → C → End → G → Type 0) (end_gives : G → G → Type 0)
     (read_gives : C → Read → C → Type 0) (write_gives : C → Write → C → Type 0) (incoming : C → Incoming) (outgoing : C → Outgoing)
-    (state : G → GateState) (config : Config) (connections : ℕ) (gates laters : List G) (why : Why) (closed : Option ClosedState) : Type 0 where
-  pub ends : EndsServe config connections (map state gates) (map state laters) why closed
+    (state : G → GateState) (config : Config) (serve : ServeCommand) (gates laters : List G) (why : Why) (closed : Option ClosedState) : Type 0 where
+  pub ends : EndsServe config serve (map state gates) (map state laters) why closed
   pub in_turns : OpenGatesGoInTurns next_gives done_gives end_gives read_gives write_gives incoming outgoing
-      config connections (map state gates) (map state laters) why closed ends gates laters
+      config serve (map state gates) (map state laters) why closed ends gates laters
 
 -- a serve ended so, and the calls on its gates are those of their opening, of these sessions and of their end
 pub record EndsServeInTurns {G C : Type 0} (open_gives : G → Opening → G → Type 0) (next_gives : G → Next C → G → Type 0) (done_gives : G → C → End → G → Type 0) (end_gives : G → G → Type 0)
     (read_gives : C → Read → C → Type 0) (write_gives : C → Write → C → Type 0) (incoming : C → Incoming) (outgoing : C → Outgoing)
-    (state : G → GateState) (config : Config) (connections : ℕ) (gates laters : List G) (why : Why) (closed : Option ClosedState) : Type 0 where
-  pub ends : EndsServe config connections (map state gates) (map state laters) why closed
+    (state : G → GateState) (config : Config) (serve : ServeCommand) (gates laters : List G) (why : Why) (closed : Option ClosedState) : Type 0 where
+  pub ends : EndsServe config serve (map state gates) (map state laters) why closed
   pub in_turns : ServeGoesInTurns open_gives next_gives done_gives end_gives read_gives write_gives incoming outgoing
-      config connections (map state gates) (map state laters) why closed ends gates laters
+      config serve (map state gates) (map state laters) why closed ends gates laters

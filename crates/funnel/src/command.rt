@@ -4,7 +4,7 @@ ghost use Rattle.std.specs.Prelude.{◌≡◌, ◌↔◌, ℕ, List, [], ◌∷�
 ghost use Rattle.clap.specs.Words.{app_of, found_of, kind_of, rows_of, rule_of, subcommand_rows_of, takes};
 ghost use Rattle.clap.specs.declared.builder.command.Command.TheViews.{out-Command as fields_of};
 ghost use Rattle.funnel.specs.Commands.{HasFitNumbers, HasLoadNumbers, HasNumbers, HasNumbersInRange, HasServeNumbers, IsFitInRange, IsLoadInRange, IsServeInRange, call_words, command_of, fault_by};
-ghost use Rattle.funnel.specs.Commands.{connections_option, docs_option, documents_option, fit_form, fit_of, funnel_app, idle_option, load_form, load_of, load_workers_option, number_option, one_port_option, port_option, run_form, seed_option, serve_form, serve_of, subcommand_as, words_option, workers_option};
+ghost use Rattle.funnel.specs.Commands.{connections_option, docs_option, documents_option, fit_form, fit_of, funnel_app, http_option, idle_option, load_form, load_of, load_workers_option, number_option, one_port_option, port_option, run_form, seed_option, serve_form, serve_of, subcommand_as, words_option, workers_option};
 ghost use Rattle.funnel.specs.declared.command.CommandFault.TheVariants.{Memory};
 
 use clap::builder::ValueParser;
@@ -31,7 +31,7 @@ pub const MOST_FITTED: u32 = 4_194_304;
 pub enum Command {
     /// Answers the lines of standard input on standard output.
     Run,
-    /// Answers the lines of connections, which come by a gate for each worker.
+    /// Answers the lines of connections, or their requests over HTTP. They come by a gate for each worker.
     Serve(ServeCommand),
     /// Adds, deletes and finds made up documents, and prints a summary.
     Load(LoadCommand),
@@ -52,6 +52,8 @@ pub struct ServeCommand {
     pub idle: u32,
     /// Whether all workers take connections at the one port.
     pub one_port: bool,
+    /// Whether requests over HTTP are answered, and no lines.
+    pub http: bool,
 }
 
 /// How a load is made up.
@@ -167,7 +169,8 @@ fn serve_app<'a>(alloc: Global) -> Result<clap::Command<'a>, AllocError>
         .arg(workers_option(alloc))?
         .arg(connections_option(alloc))?
         .arg(idle_option(alloc))?
-        .arg(one_port_option(alloc))
+        .arg(one_port_option(alloc))?
+        .arg(http_option(alloc))
 }
 
 fn port_option<'a>(alloc: Global) -> Arg<'a>
@@ -208,6 +211,15 @@ fn one_port_option<'a>(alloc: Global) -> Arg<'a>
 {
     Arg::new(alloc, "one-port")
         .long("one-port")
+        .action(ArgAction::SetTrue)
+}
+
+fn http_option<'a>(alloc: Global) -> Arg<'a>
+    ensures rule { rule_of result ≡ http_option }
+    ensures local { result.global ≡ false }
+{
+    Arg::new(alloc, "http")
+        .long("http")
         .action(ArgAction::SetTrue)
 }
 
@@ -304,6 +316,7 @@ fn serve_in(found: &ArgMatches) -> ServeCommand
         connections: found.get_one("connections").unwrap(),
         idle: found.get_one("idle").unwrap(),
         one_port: found.get_flag("one-port"),
+        http: found.get_flag("http"),
     }
 }
 

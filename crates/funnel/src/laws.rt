@@ -36,7 +36,7 @@ pub fn programs_without_a_fault_end_well()
         Ends words before after why closed → NoStreamFailed before after → IsAccepted words before command.Run config → EndsWell why }
     ensures serve { (words : List (List ℕ)) (before after : Streams) (why : Why) (closed : Option ClosedState) (config : Config) (serve : ServeCommand) →
         Ends words before after why closed → NoStreamFailed before after → IsAccepted words before (command.Serve serve) config →
-        CompletesServe config serve.connections before.gates after.gates why closed }
+        CompletesServe config serve before.gates after.gates why closed }
     ensures load { (words : List (List ℕ)) (before after : Streams) (why : Why) (closed : Option ClosedState) (config : Config) (load : LoadCommand) →
         Ends words before after why closed → NoStreamFailed before after → IsAccepted words before (command.Load load) config →
         CompletesLoad config load before.output after.output why closed }
@@ -58,24 +58,24 @@ pub fn runs_take_every_call()
 
 /// The calls that each pass of a serve made are those of its worker's sessions, connection after connection, and no other ones.
 pub fn the_calls_of_a_serve_are_those_of_its_sessions()
-    ensures { (config : Config) (connections : ℕ) (before after : List GateState) (why : Why) (closed : ClosedState)
-        (served : HaveAllServed config connections before after why closed) →
-        AllCallsAreOfSessions closed.history (new_workers (limits_by config) connections 0 before) served.workers served.work }
+    ensures { (config : Config) (serve : ServeCommand) (before after : List GateState) (why : Why) (closed : ClosedState)
+        (served : HaveAllServed config serve before after why closed) →
+        AllCallsAreOfSessions closed.history (new_workers (limits_by config) serve 0 before) served.workers served.work }
 {}
 
 /// Each gate of a serve, unless a call of it failed, had the first of its connections served, up to the stated number. Where it tells
 /// those that came back, it keeps an end for each: with few bytes and no failed read or write it is Done, or want of memory where the
 /// serve as a whole isn't done.
 pub fn gates_without_a_fault_are_served()
-    ensures { (config : Config) (connections : ℕ) (before after : List GateState) (why : Why) (closed : ClosedState) →
-        HaveAllServed config connections before after why closed → AllZip (IsServedUnlessFailed connections why) before after }
+    ensures { (config : Config) (serve : ServeCommand) (before after : List GateState) (why : Why) (closed : ClosedState) →
+        HaveAllServed config serve before after why closed → AllZip (IsServedUnlessFailed serve why) before after }
 {}
 
-/// Where a serve is done, each of the connections that a gate tells of had all its lines answered, if they had few bytes and no
-/// read and no write of them failed.
+/// Where a serve is done, each of the connections that a gate tells of had all its lines answered, or all its requests up to one
+/// whose response closes it, if they had few bytes and no read and no write of them failed.
 pub fn connections_without_a_fault_are_done()
-    ensures { (connections : ℕ) (before after : GateState) (served : GateIsServed connections Why.Done before after) (waiting : List Sides) →
-        before.waiting ≡ Some waiting → All HasFewBytes (take connections waiting) → All KeepsNoFault served.gained →
+    ensures { (serve : ServeCommand) (before after : GateState) (served : GateIsServed serve Why.Done before after) (waiting : List Sides) →
+        before.waiting ≡ Some waiting → All HasFewBytes (take serve.connections waiting) → All KeepsNoFault served.gained →
         All (λ one. one.session_end ≡ End.Done) served.gained }
 {}
 
@@ -102,7 +102,7 @@ pub fn gates_that_do_not_open_leave_their_connections()
 
 /// Where no gate is closed, as gates over TCP never are, each worker of a serve that is done served the stated number of connections.
 pub fn gates_that_stay_open_are_served_to_their_number()
-    ensures { (config : Config) (connections : ℕ) (before after : List GateState) (closed : ClosedState)
-        (served : HaveAllServed config connections before after Why.Done closed) →
+    ensures { (config : Config) (serve : ServeCommand) (before after : List GateState) (closed : ClosedState)
+        (served : HaveAllServed config serve before after Why.Done closed) →
         All (λ gate. gate.is_closed ≡ false) after → All (λ worker. worker.left ≡ 0) served.workers }
 {}

@@ -20,7 +20,7 @@ use std::sync::Wait;
 use std::thread::Threads;
 
 /// Runs the command that the words are, by an engine with the configuration. `run` answers the lines of `input` on `output`.
-/// `serve` opens the gates, and answers the connections of each by a pass and a thread of its own. `load` makes its documents, has its workers
+/// `serve` opens the gates, and answers the lines of the connections of each, or with `--http` their requests, by a pass and a thread of its own. `load` makes its documents, has its workers
 /// add, delete and find them, each by a pass and a thread of its own, and writes its summary on `output`. These two read
 /// nothing from `input`. `fit` reads lines of `input`, and writes the configuration that is fitted to the add lines among them on
 /// `output`; it needs no configuration and no engine. `gates` come back in their order.
@@ -101,7 +101,7 @@ where
             let (why, closed) = run_command(rt, alloc, &config, input, output);
             Ended { why, gates, closed }
         }
-        Command::Serve(serve) => serve_command(rt, alloc, &config, serve.connections, gates),
+        Command::Serve(serve) => serve_command(rt, alloc, &config, serve, gates),
         Command::Load(load) => {
             let (why, closed) = load_command(rt, alloc, &config, load, output);
             Ended { why, gates, closed }

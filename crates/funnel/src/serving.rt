@@ -11,6 +11,7 @@ ghost use Rattle.funnel.specs.Serving.{new_passes};
 ghost use Rattle.funnel.specs.Turns.{AreOpened, AreOpenedInVain, AreOpenedUntilOneFails};
 ghost use Rattle.funnel.specs.Workers.{EndsOpenServeInTurns, EndsServeInTurns, HaveWorkedInTurns, gates_of, pass_of_worker, states_of};
 
+use crate::command::ServeCommand;
 use crate::ended::{Ended, Why};
 use engine::{Blank, Client, Engine, Pass, PoolName};
 use funnel_io::{Gate, Opening};
@@ -28,7 +29,7 @@ pub(crate) fn serve_command<R: Threads + Wait + Sync, G: Gate + Send + Drop>(
     rt: &R,
     alloc: Global,
     config: &Config,
-    connections: u64,
+    serve: ServeCommand,
     mut gates: Vec<G>,
 ) -> Ended<G>
 where
@@ -37,7 +38,7 @@ where
     requires enough { length gates.items ≤ config.now.passes }
     ensures ends { EndsServeInTurns G.open_gives G.next_gives G.done_gives G.end_gives G.Conn.read_gives G.Conn.write_gives G.Conn.incoming G.Conn.outgoing
         (gate_state G.is_closed G.gate_faults G.waiting G.Conn.incoming G.Conn.outgoing G.served)
-        config.now connections gates.items result.gates.items result.why result.closed }
+        config.now serve gates.items result.gates.items result.why result.closed }
     ensures closed { IfSome result.closed IsClosed }
     ensures kept { IfSome result.closed (KeepsLast config.now) }
     ensures unserved { IfNone result.closed (AreOpenedInVain G.open_gives G.end_gives result.why gates.items result.gates.items) }
@@ -47,7 +48,7 @@ where
         end_all(&mut gates);
         return Ended::unopened(Why::GateFault, gates);
     };
-    let ended = serve_open(rt, alloc, config, connections, gates);
+    let ended = serve_open(rt, alloc, config, serve, gates);
     if ended.closed.is_some() {
         return ended;
     }
@@ -93,7 +94,7 @@ fn serve_open<R: Threads + Wait + Sync, G: Gate + Send + Drop>(
     rt: &R,
     alloc: Global,
     config: &Config,
-    connections: u64,
+    serve: ServeCommand,
     gates: Vec<G>,
 ) -> Ended<G>
 where
@@ -102,7 +103,7 @@ where
     requires enough { length gates.items ≤ config.now.passes }
     ensures ends { EndsOpenServeInTurns G.next_gives G.done_gives G.end_gives G.Conn.read_gives G.Conn.write_gives G.Conn.incoming G.Conn.outgoing
         (gate_state G.is_closed G.gate_faults G.waiting G.Conn.incoming G.Conn.outgoing G.served)
-        config.now connections gates.items result.gates.items result.why result.closed }
+        config.now serve gates.items result.gates.items result.why result.closed }
     ensures closed { IfSome result.closed IsClosed }
     ensures kept { IfSome result.closed (KeepsLast config.now) }
     ensures untouched { IfNone result.closed ((result.why ≡ Why.Memory) × (result.gates ≡ gates)) }
@@ -111,7 +112,7 @@ where
     let Ok(blank) = Blank::new(alloc, config) else {
         return Ended::unopened(Why::Memory, gates);
     };
-    serve_gates::<Brand, _, _>(rt, alloc, config, blank, connections, gates)
+    serve_gates::<Brand, _, _>(rt, alloc, config, blank, serve, gates)
 }
 
 /// Opens an engine over the blank, answers the connections of each gate by a pass of its own, up to so many, and closes it.
@@ -121,7 +122,7 @@ fn serve_gates<N: PoolName + Send + Sync, R: Threads + Wait + Sync, G: Gate + Se
     alloc: Global,
     config: &Config,
     blank: Blank,
-    connections: u64,
+    serve: ServeCommand,
     gates: Vec<G>,
 ) -> Ended<G>
 where
@@ -133,7 +134,7 @@ where
     requires enough { length gates.items ≤ config.now.passes }
     ensures ends { EndsOpenServeInTurns G.next_gives G.done_gives G.end_gives G.Conn.read_gives G.Conn.write_gives G.Conn.incoming G.Conn.outgoing
         (gate_state G.is_closed G.gate_faults G.waiting G.Conn.incoming G.Conn.outgoing G.served)
-        config.now connections gates.items result.gates.items result.why result.closed }
+        config.now serve gates.items result.gates.items result.why result.closed }
     ensures closed { IfSome result.closed IsClosed }
     ensures kept { IfSome result.closed (KeepsLast config.now) }
     ensures untouched { IfNone result.closed ((result.why ≡ Why.Memory) × (result.gates ≡ gates)) }
@@ -145,7 +146,7 @@ where
     let Ok((engine, passes)) = Engine::<N>::open(alloc, config, blank) else {
         return Ended::unopened(Why::Memory, gates);
     };
-    let (why, gates, passes) = answer_all(rt, alloc, &engine, passes, connections, gates, room);
+    let (why, gates, passes) = answer_all(rt, alloc, &engine, passes, serve, gates, room);
     let closed = Some(engine.close(passes));
     Ended { why, gates, closed }
 }
@@ -157,7 +158,7 @@ fn answer_all<'a, N: PoolName + Send + Sync, R: Threads + Wait + Sync, G: Gate +
     alloc: Global,
     engine: &'a Engine<N>,
     passes: Vec<Pass<N>>,
-    connections: u64,
+    serve: ServeCommand,
     gates: Vec<G>,
     room: Vec<Worker<'a, G, N, R>>,
 ) -> (Why, Vec<G>, Vec<Pass<N>>)
@@ -169,7 +170,7 @@ where
     requires room { length gates.items ≤ vec_capacity room }
     ensures { HaveWorkedInTurns G.next_gives G.done_gives G.end_gives G.Conn.read_gives G.Conn.write_gives G.Conn.incoming G.Conn.outgoing
         (gate_state G.is_closed G.gate_faults G.waiting G.Conn.incoming G.Conn.outgoing G.served)
-        N.pool connections gates.items result.1.items result.0 result.2.items }
+        N.pool serve gates.items result.1.items result.0 result.2.items }
 {
     let mut gates = gates;
     let mut passes = passes;
@@ -178,7 +179,7 @@ where
         rt,
         alloc,
         engine,
-        connections,
+        serve,
         &mut gates,
         &mut passes,
         &mut workers,
@@ -194,7 +195,7 @@ fn equip<'a, N: PoolName, R: Wait, G: Gate + Drop>(
     rt: &'a R,
     alloc: Global,
     engine: &'a Engine<N>,
-    connections: u64,
+    serve: ServeCommand,
     gates: &mut Vec<G>,
     passes: &mut Vec<Pass<N>>,
     workers: &mut Vec<Worker<'a, G, N, R>>,
@@ -203,7 +204,7 @@ fn equip<'a, N: PoolName, R: Wait, G: Gate + Drop>(
     requires enough { length gates.old.items ≤ N.pool.config.passes }
     requires empty { workers.old.items ≡ [] }
     requires room { length gates.old.items ≤ vec_capacity workers.old }
-    ensures workers { states_of workers.new.items ≡ new_workers N.pool.limits connections 0
+    ensures workers { states_of workers.new.items ≡ new_workers N.pool.limits serve 0
         (map (gate_state G.is_closed G.gate_faults G.waiting G.Conn.incoming G.Conn.outgoing G.served) gates.old.items) }
     ensures theirs { gates_of workers.new.items ≡ gates.old.items }
     ensures gates { gates.new.items ≡ [] }
@@ -223,7 +224,8 @@ fn equip<'a, N: PoolName, R: Wait, G: Gate + Drop>(
         let worker = Worker {
             gate,
             client,
-            left: connections,
+            http: serve.http,
+            left: serve.connections,
             fault: false,
             memory: false,
         };

@@ -29,6 +29,7 @@ Commands:
       --port P         1 to 65535: the port of the first worker; each other one has the next port
       --workers W      1 to 64: threads, each of which answers one connection at a time
       --one-port       all workers take connections at the port P
+      --http           answers requests over HTTP/1.1 in place of lines
       --connections C  1 to 4294967296, default 4294967296: a worker stops after so many
       --idle S         0 to 86400, default 0: a connection is closed after waiting for so many seconds, with 0 never
   load       adds, deletes and finds generated documents, and prints what was found

@@ -179,12 +179,15 @@ impl<R: Net<Stream = TcpStream> + Clock> Gate for TcpGate<'_, R> {
         }
     }
 
-    /// Ends what is written before the connection is closed, so that the peer of a session that
-    /// was read to its end reads every reply.
-    fn done(&mut self, conn: TcpConn, _end: End)
+    /// Ends what is written before the connection is closed. Where its session is done, what the peer still sends is first
+    /// left aside, up to 65,536 bytes, its end, or for one second, so that it reads every reply.
+    fn done(&mut self, conn: TcpConn, end: End)
         ensures same { self.new ≡ self.old }
     {
-        conn.end_writing();
+        match end {
+            End::Done => conn.leave(self.rt),
+            _ => conn.end_writing(),
+        }
     }
 
     /// Listens no more, on a shared port by its own copy alone.

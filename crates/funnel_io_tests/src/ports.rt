@@ -1,8 +1,8 @@
 //! A gate on a port.
 use crate::network::{Network, Seen};
 use funnel_io::{
-    Connection, End, Gate, Got, Line, LineReader, Memory, Next, Opening, Put, SharedPort, TcpGate,
-    write_all,
+    Connection, End, Gate, Got, Line, LineReader, Memory, Next, Opening, Put, SharedPort, Source,
+    TcpGate, write_all,
 };
 use std::alloc::Global;
 use std::io::{ErrorKind, Read, Write};
@@ -101,6 +101,43 @@ fn lines_are_answered_over_tcp(rt: HostRuntime) -> Result<(), Fail> {
         move || ask_twice(rt, port),
     );
     assert_eq!(rt; done, (Ok(true), true));
+    Ok(())
+}
+
+/// Sends more than is read, and reads to its end what comes back. Gives whether it is the reply.
+fn send_too_much(rt: &HostRuntime, port: u16) -> io::Result<bool> {
+    let mut stream = connect(rt, port)?;
+    stream.write_all(&[b'x'; 60_000])?;
+    let mut reply = Vec::new(rt.alloc());
+    stream.read_to_end(&mut reply)?;
+    Ok(reply.as_slice() == b"enough\n".as_slice())
+}
+
+/// Whether a gate that is opened answers the first bytes of the next connection, which is done then.
+fn answer_early<G: Gate>(gate: &mut G) -> bool {
+    if gate.open() == Opening::Fault {
+        return false;
+    }
+    let Next::Conn(mut conn) = gate.next() else {
+        return false;
+    };
+    let got = conn.read(&mut [0; 4]);
+    let written = write_all(&mut conn, b"enough\n").is_ok();
+    gate.done(conn, End::Done);
+    written && got == Got::Bytes(4)
+}
+
+#[test]
+fn a_reply_is_read_though_more_was_sent(rt: HostRuntime) -> Result<(), Fail> {
+    let port = free_port(&rt)?;
+    let mut gate = TcpGate::new(&rt, u32::from(port), 0);
+    let (rt, gate) = (&rt, &mut gate);
+    let done = thread::join(
+        rt,
+        move || answer_early(gate),
+        move || matches!(send_too_much(rt, port), Ok(true)),
+    );
+    assert_eq!(rt; done, (true, true));
     Ok(())
 }
 

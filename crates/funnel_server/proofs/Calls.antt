@@ -1,5 +1,5 @@
 -- The calls that sessions add to those of their pass.
-use Rattle.std.proofs.Common.{◌≡◌, ◌≢◌, List, [], ◌∷◌, ◌++◌, ℕ, flat_map, append_assoc, append-nil, sym, refl, ap, ◌∙◌, subst, inl, inr, ⊎_elim}
+use Rattle.std.proofs.Common.{◌≡◌, ◌≢◌, List, [], ◌∷◌, ◌++◌, ℕ, Bool, true, false, flat_map, append_assoc, append-nil, sym, refl, ap, ◌∙◌, subst, inl, inr, ⊎_elim}
 use Rattle.std.specs.List.{All}
 use Rattle.std.proofs.lemmas.List.Elements.{All-cons, All-head, All-nil, All-tail}
 use mathlib.Core.List.{IsPrefix}
@@ -18,8 +18,12 @@ use Rattle.funnel_model.specs.Steps.{AddsCall, AddsNone, FindsNoMemory, Linear, 
 use Rattle.line_proto.specs.Services.{Caller}
 use Rattle.session.proofs.SessionLaws.{linear}
 use Rattle.session.specs.Laws.{calls_of, replies_to_calls}
+use Rattle.session.specs.Ends.{Stand}
 use Rattle.session.specs.Sessions.{Answers, Session}
-use Rattle.funnel_server.specs.Laws.{AreMade, GoesOnByCalls, HasSeen, IsMadeAs, MakesCalls, answered, replies_in}
+use Rattle.http_front.proofs.RunLaws.{runs_calls}
+use Rattle.http_front.specs.Sessions.{Answers as AnswersRequests, Session as RequestSession}
+use Rattle.funnel_server.specs.Laws.{AreMade, GoesOnByCalls, HasSeen, IsMadeAs, MakesCalls}
+use Rattle.funnel_server.specs.Sessions.{AreItsCalls, IsServed, answered, exchanges_in, replies_in}
 use Rattle.funnel_server.specs.Workers.{AreInOrder, IsVisit, Visit}
 
 -- the calls of a pass after these are those before and then these
@@ -81,6 +85,36 @@ session_answers caller before after taken written (end_of.ByteLimit limit) sessi
 session_answers caller before after taken written end_of.WriteFault session = session.answers
 session_answers caller before after taken written end_of.Memory session = sym session.2
 
+-- and so are a connection's requests
+requests_answered : (caller : Caller) (before after : List Event) (taken written : List ℕ) (end : End) (session : RequestSession caller before after taken written end)
+    → AnswersRequests caller before (exchanges_in caller before after taken written end session) after
+requests_answered caller before after taken written end_of.Done session = session.answers
+requests_answered caller before after taken written end_of.ReadFault session = session.all.answers
+requests_answered caller before after taken written (end_of.ByteLimit limit) session = session.1.all.answers
+requests_answered caller before after taken written end_of.WriteFault session = session.answers
+requests_answered caller before after taken written end_of.Memory session = sym session.2
+
+-- the calls of a session lead from front to front
+record ItsCalls (http : Bool) (caller : Caller) (old new : Stand) (end : End) (served : IsServed http caller old new end) : Type 0 where
+  asked : List Call
+  replies : List Reply
+  are_its : AreItsCalls http caller old new end served asked replies
+  steps : Linear caller.limits caller.pass old.front new.front asked replies
+
+its_calls : (http : Bool) (caller : Caller) (old new : Stand) (end : End) (served : IsServed http caller old new end) → ItsCalls http caller old new end served
+its_calls true caller old new end served =
+    let runs = runs_calls caller old.front new.front (exchanges_in caller old.front new.front served.taken served.written end served.session)
+    (requests_answered caller old.front new.front served.taken served.written end served.session) in
+    record { asked = runs.asked; replies = runs.replies; are_its = runs.are; steps = runs.steps }
+its_calls false caller old new end served =
+    let items = answered caller old.front new.front served.taken served.written end served.session in
+    let replies = replies_in caller old.front new.front served.taken served.written end served.session in record {
+      asked = calls_of items;
+      replies = replies_to_calls items replies;
+      are_its = (refl, refl);
+      steps = linear caller old.front new.front items replies (session_answers caller old.front new.front served.taken served.written end served.session);
+    }
+
 -- what a session makes
 record OneSession (caller : Caller) (visit : Visit) : Type 0 where
   made : List Call
@@ -89,22 +123,18 @@ record OneSession (caller : Caller) (visit : Visit) : Type 0 where
 
 one_session : (caller : Caller) (visit : Visit) → IsVisit caller visit → OneSession caller visit
 one_session caller visit session =
-    let serves = session.serves in
-    let asked = answered caller visit.before.front visit.after.front serves.taken serves.written visit.end serves.session in
-    let replies = replies_in caller visit.before.front visit.after.front serves.taken serves.written visit.end serves.session in
-    let steps = linear caller visit.before.front visit.after.front asked replies
-    (session_answers caller visit.before.front visit.after.front serves.taken serves.written visit.end serves.session) in
-    let made = all_made caller.limits caller.pass visit.before.front visit.after.front (calls_of asked) (replies_to_calls asked replies) steps in
+    let calls = its_calls visit.http caller visit.before visit.after visit.end session.serves in
+    let made = all_made caller.limits caller.pass visit.before.front visit.after.front calls.asked calls.replies calls.steps in
     record {
       made = made.0;
-      makes = record { session = session; asked = asked; asked_are = refl; replies = replies; replies_are = refl; steps = steps; are = made.1 };
+      makes = record { session = session; asked = calls.asked; replies = calls.replies; are_its = calls.are_its; steps = calls.steps; are = made.1 };
       adds = made.2;
     }
 
 -- the front of a pass goes on over a session
 session_grows : (caller : Caller) (visit : Visit) (made : List Call) → MakesCalls caller visit made → IsPrefix visit.before.front visit.after.front
 session_grows caller visit made makes =
-    linear-grows caller.limits caller.pass visit.before.front visit.after.front (calls_of makes.asked) (replies_to_calls makes.asked makes.replies) makes.steps
+    linear-grows caller.limits caller.pass visit.before.front visit.after.front makes.asked makes.replies makes.steps
 
 pub go_on_by_calls : (caller : Caller) (before after : List Event) (visits : List Visit) → All (IsVisit caller) visits → AreInOrder before visits after
     → GoesOnByCalls caller before after visits

@@ -1,5 +1,5 @@
 -- How sessions end.
-use Rattle.std.proofs.Common.{◌≡◌, ◌⊎◌, ◌<◌, ◌||◌, ℕ, Bool, true, false, List, [], ◌∷◌, ◌++◌, length, map, take, take_all, Option, Some, None, IfSome, append-nil, arith, sym, refl, ap, ◌∙◌, subst, inl, inr, length-append}
+use Rattle.std.proofs.Common.{◌≡◌, ◌⊎◌, ◌<◌, ◌||◌, ℕ, Bool, true, false, List, [], ◌∷◌, ◌++◌, length, map, take, take_all, Option, Some, None, IfSome, append-nil, arith, sym, refl, ap, ◌∙◌, subst, inl, inr, ⊎_elim, length-append}
 use Rattle.std.specs.Io.KnownBytes.{Appends, Consumes, IsAtEnd}
 use Rattle.std.specs.List.{All, list_any}
 use Rattle.std.specs.Option.{option_map}
@@ -8,14 +8,22 @@ use Rattle.std.proofs.lemmas.List.{length-map}
 use Rattle.std.proofs.lemmas.List.Elements.{All-cons, All-head, All-nil, All-tail}
 use mathlib.Core.List.{IsPrefix}
 use Rattle.funnel_io.specs.Counts.{counted}
+use Rattle.funnel_io.specs.Streams.{Takes}
 use Rattle.funnel_io.specs.declared.end.End.{End}
 use Rattle.funnel_io.specs.declared.end.End.TheVariants as end_of
 use Rattle.line_proto.specs.Services.{Caller}
-use Rattle.session.specs.Ends.{Serves, Stand, is_read_fault, is_write_fault}
+use Rattle.http_front.specs.Ends.{ServesRequests}
+use Rattle.http_front.specs.Sessions.{entries_of}
+use Rattle.session.specs.Ends.{CountsFaults, Serves, Stand, is_read_fault, is_write_fault}
 use Rattle.session.specs.declared.serving.TheConstants.{MOST_BYTES}
 use Rattle.funnel_server.specs.Gates.{Sides}
-use Rattle.funnel_server.specs.Laws.{CountsAs, FitsKept, SessionEndsWell, HasCause, HasFewBytes, VisitHasNoFault, KeepsInput, TakesAs, TellsInput}
+use Rattle.funnel_server.specs.Laws.{CountsAs, FitsKept, SessionEndsWell, HasCause, HasFewBytes, VisitHasNoFault, KeepsInput, TakesAll, TakesAs, TellsInput}
+use Rattle.funnel_server.specs.Sessions.{IsServed}
 use Rattle.funnel_server.specs.Workers.{GivesNoMore, IsStopped, IsVisit, Visit, WorkerState, Works, is_memory, served_by, sides_before}
+
+-- a limit that is told is another one's
+limit_is : (told limit : ℕ) → end_of.ByteLimit told ≡ end_of.ByteLimit limit → told ≡ MOST_BYTES → limit ≡ MOST_BYTES
+limit_is told limit is told_is = cc
 
 -- bytes that were taken of an input are its first ones, and all of it where nothing is left
 taken_first : (input taken : List ℕ) (left : Option (List ℕ)) → Consumes (Some input) left taken → IsPrefix taken input
@@ -38,47 +46,121 @@ counts_as end_of.WriteFault reads writes r w = (r, w)
 counts_as (end_of.ByteLimit limit) reads writes r w = (r, w)
 counts_as end_of.Memory reads writes r w = (r, w)
 
-visit_counts : (caller : Caller) (visit : Visit) → IsVisit caller visit → CountsAs visit.end visit.after.incoming.faults visit.after.outgoing.faults
-visit_counts caller visit session = counts_as visit.end visit.after.incoming.faults visit.after.outgoing.faults
-    (session.serves.faults.reads ∙ ap (counted (is_read_fault visit.end)) session.fresh.no_read_fault)
-    (session.serves.faults.writes ∙ ap (counted (is_write_fault visit.end)) session.fresh.no_write_fault)
+-- what each kind of session says of the bytes that it took and of the faults
+record Took (http : Bool) (old new : Stand) (end : End) : Type 0 where
+  taken : List ℕ
+  takes : Takes taken old.incoming new.incoming
+  faults : CountsFaults old new end
+  done : end ≡ end_of.Done → (input : List ℕ) → Consumes (Some input) new.incoming.left taken → TakesAll http input taken
+  limit : (limit : ℕ) → end ≡ end_of.ByteLimit limit → (limit ≡ MOST_BYTES) × (length taken ≡ MOST_BYTES)
+  none : end ≡ end_of.Memory → taken ≡ []
 
-takes_as : (caller : Caller) (old new : Stand) (end : End) (served : Serves caller MOST_BYTES old new end) (input : List ℕ)
-    → Consumes (Some input) new.incoming.left served.taken → TakesAs end input served.taken
-takes_as caller old new end_of.Done served input takes = (taken_whole input served.taken new.incoming.left takes served.leaves, served.within)
-takes_as caller old new end_of.ReadFault served input takes = tt
-takes_as caller old new end_of.WriteFault served input takes = tt
-takes_as caller old new (end_of.ByteLimit limit) served input takes = served.within
-takes_as caller old new end_of.Memory served input takes = served.session.0
+-- by an end alone
+lines_done : (caller : Caller) (old new : Stand) (end : End) (served : Serves caller MOST_BYTES old new end) → end ≡ end_of.Done → (input : List ℕ)
+    → Consumes (Some input) new.incoming.left served.taken → TakesAll false input served.taken
+lines_done caller old new end_of.Done served is input takes = (taken_whole input served.taken new.incoming.left takes served.leaves, served.within)
+lines_done caller old new end_of.ReadFault served is input takes = cc
+lines_done caller old new end_of.WriteFault served is input takes = cc
+lines_done caller old new (end_of.ByteLimit limit) served is input takes = cc
+lines_done caller old new end_of.Memory served is input takes = cc
+
+lines_limit : (caller : Caller) (old new : Stand) (end : End) (served : Serves caller MOST_BYTES old new end) (limit : ℕ) → end ≡ end_of.ByteLimit limit
+    → (limit ≡ MOST_BYTES) × (length served.taken ≡ MOST_BYTES)
+lines_limit caller old new end_of.Done served limit is = cc
+lines_limit caller old new end_of.ReadFault served limit is = cc
+lines_limit caller old new end_of.WriteFault served limit is = cc
+lines_limit caller old new (end_of.ByteLimit told) served limit is = (limit_is told limit is served.within.0, served.within.1)
+lines_limit caller old new end_of.Memory served limit is = cc
+
+lines_none : (caller : Caller) (old new : Stand) (end : End) (served : Serves caller MOST_BYTES old new end) → end ≡ end_of.Memory → served.taken ≡ []
+lines_none caller old new end_of.Done served is = cc
+lines_none caller old new end_of.ReadFault served is = cc
+lines_none caller old new end_of.WriteFault served is = cc
+lines_none caller old new (end_of.ByteLimit limit) served is = cc
+lines_none caller old new end_of.Memory served is = served.session.0
+
+requests_done : (caller : Caller) (old new : Stand) (end : End) (served : ServesRequests caller MOST_BYTES old new end) → end ≡ end_of.Done → (input : List ℕ)
+    → Consumes (Some input) new.incoming.left served.taken → TakesAll true input served.taken
+requests_done caller old new end_of.Done served is input takes = ⊎_elim
+    (λ closed. inr (record { entries = entries_of served.session.exchanges; are = served.session.requests; closes = closed.0 }, closed.1))
+    (λ ended. inl (taken_whole input served.taken new.incoming.left takes ended.0, ended.1))
+    served.over
+requests_done caller old new end_of.ReadFault served is input takes = cc
+requests_done caller old new end_of.WriteFault served is input takes = cc
+requests_done caller old new (end_of.ByteLimit limit) served is input takes = cc
+requests_done caller old new end_of.Memory served is input takes = cc
+
+requests_limit : (caller : Caller) (old new : Stand) (end : End) (served : ServesRequests caller MOST_BYTES old new end) (limit : ℕ) → end ≡ end_of.ByteLimit limit
+    → (limit ≡ MOST_BYTES) × (length served.taken ≡ MOST_BYTES)
+requests_limit caller old new end_of.Done served limit is = cc
+requests_limit caller old new end_of.ReadFault served limit is = cc
+requests_limit caller old new end_of.WriteFault served limit is = cc
+requests_limit caller old new (end_of.ByteLimit told) served limit is = (limit_is told limit is served.over.0, served.over.1)
+requests_limit caller old new end_of.Memory served limit is = cc
+
+requests_none : (caller : Caller) (old new : Stand) (end : End) (served : ServesRequests caller MOST_BYTES old new end) → end ≡ end_of.Memory → served.taken ≡ []
+requests_none caller old new end_of.Done served is = cc
+requests_none caller old new end_of.ReadFault served is = cc
+requests_none caller old new end_of.WriteFault served is = cc
+requests_none caller old new (end_of.ByteLimit limit) served is = cc
+requests_none caller old new end_of.Memory served is = served.session.0
+
+took : (http : Bool) (caller : Caller) (old new : Stand) (end : End) → IsServed http caller old new end → Took http old new end
+took true caller old new end served = record {
+  taken = served.taken;
+  takes = served.takes;
+  faults = served.faults;
+  done = requests_done caller old new end served;
+  limit = requests_limit caller old new end served;
+  none = requests_none caller old new end served;
+}
+took false caller old new end served = record {
+  taken = served.taken;
+  takes = served.takes;
+  faults = served.faults;
+  done = lines_done caller old new end served;
+  limit = lines_limit caller old new end served;
+  none = lines_none caller old new end served;
+}
+
+-- a visit's session
+abbrev took_by : (caller : Caller) (visit : Visit) → IsVisit caller visit → Took visit.http visit.before visit.after visit.end
+took_by caller visit session = took visit.http caller visit.before visit.after visit.end session.serves
+
+visit_counts : (caller : Caller) (visit : Visit) → IsVisit caller visit → CountsAs visit.end visit.after.incoming.faults visit.after.outgoing.faults
+visit_counts caller visit session =
+    let faults = (took_by caller visit session).faults in counts_as visit.end visit.after.incoming.faults visit.after.outgoing.faults
+    (faults.reads ∙ ap (counted (is_read_fault visit.end)) session.fresh.no_read_fault)
+    (faults.writes ∙ ap (counted (is_write_fault visit.end)) session.fresh.no_write_fault)
+
+takes_as : (http : Bool) (old new : Stand) (end : End) (served : Took http old new end) (input : List ℕ)
+    → Consumes (Some input) new.incoming.left served.taken → TakesAs http end input served.taken
+takes_as http old new end_of.Done served input takes = served.done refl input takes
+takes_as http old new end_of.ReadFault served input takes = tt
+takes_as http old new end_of.WriteFault served input takes = tt
+takes_as http old new (end_of.ByteLimit limit) served input takes = served.limit limit refl
+takes_as http old new end_of.Memory served input takes = served.none refl
 
 keeps_input : (caller : Caller) (visit : Visit) (session : IsVisit caller visit) (input : List ℕ) → TellsInput visit.before.incoming input
-    → KeepsInput input (served_by visit)
+    → KeepsInput visit.http input (served_by visit)
 keeps_input caller visit session input tells =
-    let served = session.serves in
+    let served = took_by caller visit session in
     let takes = subst (λ left. Consumes left visit.after.incoming.left served.taken) tells.left served.takes.left in record {
       bytes = served.taken;
       kept = kept_whole served.taken visit.after.incoming.taken (subst (λ taken. Appends taken visit.after.incoming.taken served.taken) tells.taken served.takes.taken);
       first = taken_first input served.taken visit.after.incoming.left takes;
-      by_end = takes_as caller visit.before visit.after visit.end served input takes;
+      by_end = takes_as visit.http visit.before visit.after visit.end served input takes;
     }
-
--- a session has no other limit of bytes
-limit_told : (caller : Caller) (old new : Stand) (end : End) (served : Serves caller MOST_BYTES old new end) (limit : ℕ) → end ≡ end_of.ByteLimit limit → limit ≡ MOST_BYTES
-limit_told caller old new end_of.Done served limit is = cc
-limit_told caller old new end_of.ReadFault served limit is = cc
-limit_told caller old new end_of.WriteFault served limit is = cc
-limit_told caller old new (end_of.ByteLimit told) served limit is = let told_is : told ≡ MOST_BYTES = served.within.0 in cc
-limit_told caller old new end_of.Memory served limit is = cc
 
 pub fits_kept : (caller : Caller) (visit : Visit) → IsVisit caller visit → FitsKept (served_by visit)
 fits_kept caller visit session = record {
   counts = visit_counts caller visit session;
-  limit = limit_told caller visit.before visit.after visit.end session.serves;
+  limit = λ limit is. ((took_by caller visit session).limit limit is).0;
   nothing_read = λ memory. subst (λ (stand : Stand). IfSome stand.incoming.taken (λ bytes. bytes ≡ [])) (sym (session.untouched memory)) session.fresh.nothing_read;
   nothing_written = λ memory. subst (λ (stand : Stand). IfSome stand.outgoing.written (λ bytes. bytes ≡ [])) (sym (session.untouched memory)) session.fresh.nothing_written;
 }
 
-pub kept_ends : (caller : Caller) (visit : Visit) → IsVisit caller visit → HasCause (sides_before visit) (served_by visit)
+pub kept_ends : (caller : Caller) (visit : Visit) → IsVisit caller visit → HasCause visit.http (sides_before visit) (served_by visit)
 kept_ends caller visit session = record { fits = fits_kept caller visit session; input = keeps_input caller visit session }
 
 -- those that left the waiting ones, and those that still wait, are all that waited
@@ -117,24 +199,25 @@ none_left before after works no_fault more = by_stop works.stopped where
   by_stop (inr (inr none)) = none
 
 -- fewer bytes can't reach the limit
-below_limit : (caller : Caller) (old new : Stand) (end : End) (served : Serves caller MOST_BYTES old new end) (input : List ℕ) → old.incoming.left ≡ Some input
+below_limit : (http : Bool) (old new : Stand) (end : End) (served : Took http old new end) (input : List ℕ) → old.incoming.left ≡ Some input
     → length input < MOST_BYTES → length served.taken < MOST_BYTES
-below_limit caller old new end served input is few =
+below_limit http old new end served input is few =
     let first = taken_first input served.taken new.incoming.left (subst (λ left. Consumes left new.incoming.left served.taken) is served.takes.left) in
     omega (arith, few, ap length first.1, length-append served.taken first.0)
 
-ends_well : (caller : Caller) (before after : Stand) (end : End) (served : Serves caller MOST_BYTES before after end) → CountsAs end after.incoming.faults after.outgoing.faults
+ends_well : (http : Bool) (before after : Stand) (end : End) (served : Took http before after end) → CountsAs end after.incoming.faults after.outgoing.faults
     → length served.taken < MOST_BYTES → after.incoming.faults ≡ 0 → after.outgoing.faults ≡ 0 → (end ≡ end_of.Done) ⊎ (end ≡ end_of.Memory)
-ends_well caller before after end_of.Done served counts few reads writes = inl refl
-ends_well caller before after end_of.ReadFault served counts few reads writes = absurd (omega (arith, counts.0, reads))
-ends_well caller before after end_of.WriteFault served counts few reads writes = absurd (omega (arith, counts.1, writes))
-ends_well caller before after (end_of.ByteLimit limit) served counts few reads writes = absurd (omega (arith, served.within.1, few))
-ends_well caller before after end_of.Memory served counts few reads writes = inr refl
+ends_well http before after end_of.Done served counts few reads writes = inl refl
+ends_well http before after end_of.ReadFault served counts few reads writes = absurd (omega (arith, counts.0, reads))
+ends_well http before after end_of.WriteFault served counts few reads writes = absurd (omega (arith, counts.1, writes))
+ends_well http before after (end_of.ByteLimit limit) served counts few reads writes = absurd (omega (arith, (served.limit limit refl).1, few))
+ends_well http before after end_of.Memory served counts few reads writes = inr refl
 
 pub visit_ends_well : (caller : Caller) (visit : Visit) → IsVisit caller visit → HasFewBytes (sides_before visit) → VisitHasNoFault visit → SessionEndsWell visit
 visit_ends_well caller visit session small well =
-    ends_well caller visit.before visit.after visit.end session.serves (visit_counts caller visit session)
-    (below_limit caller visit.before visit.after visit.end session.serves small.input small.left small.few) well.reads well.writes
+    let served = took_by caller visit session in
+    ends_well visit.http visit.before visit.after visit.end served (visit_counts caller visit session)
+    (below_limit visit.http visit.before visit.after visit.end served small.input small.left small.few) well.reads well.writes
 
 all_end_well : (caller : Caller) (visits : List Visit) (rest : List Sides) → All (IsVisit caller) visits → All HasFewBytes (map sides_before visits ++ rest)
     → All VisitHasNoFault visits → All SessionEndsWell visits

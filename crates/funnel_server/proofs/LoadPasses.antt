@@ -1,5 +1,5 @@
 -- The passes of a load, from the caller to the workers and back.
-use Rattle.std.proofs.Common.{◌≡◌, ℕ, zero, suc, ◌+◌, ◌<◌, List, [], ◌∷◌, ◌++◌, length, map, Result, Ok, Err, sym, refl, ap, ap₂, ◌∙◌, subst, inl, inr, arith, append_assoc, length-append, slice_index_or, reverse}
+use Rattle.std.proofs.Common.{◌≡◌, ℕ, zero, suc, ◌+◌, ◌<◌, List, [], ◌∷◌, ◌++◌, length, map, Result, Ok, Err, sym, refl, ap, ◌∙◌, subst, inl, inr, arith, append_assoc, length-append, slice_index_or, reverse}
 use Rattle.std.proofs.lemmas.List.{drop_at, get_or-map, get_or_append_left, length-map, map-append, reverse-append, same_lists}
 use Rattle.std.proofs.lemmas.List.FromFn.{get_or-range_with_len, length-range_with_len}
 use Rattle.std.specs.List.{range_with_len}

@@ -7,14 +7,16 @@ use Rattle.funnel_io.specs.declared.end.End.{End}
 use Rattle.funnel_io.specs.declared.end.End.TheVariants as end_of
 use Rattle.funnel_io.specs.declared.gate.Next.{Next}
 use Rattle.funnel_io.specs.declared.gate.Next.TheVariants as next
+use Rattle.http_front.specs.Turns.{StopsRequests}
 use Rattle.session.specs.Turns.{StopsReading}
 use Rattle.session.specs.declared.serving.TheConstants.{MOST_BYTES}
 use Rattle.funnel_server.specs.Gates.{sides_of}
 use Rattle.funnel_server.specs.Workers.{Visit, WorkerState, WorkerWithGate, Works, sides_after, sides_before}
 
--- A turn: the gate handed out a connection; a session led it, line by line, from there to where it went back; it read nothing once it had
--- taken as many bytes as it may, with Done its last read found the end, and where there was no memory it touched nothing; the gate was given
--- the connection back, with the end of the session; and what the visit tells of the connection's streams is how it came and how it went
+-- A turn: the gate handed out a connection; a session led it from there to where it went back, line by line or request by request; it read
+-- nothing once it had taken as many bytes as it may, with Done its last read found the end, or a response closes, and where there was no
+-- memory a session touched nothing; the gate was given the connection back, with the end of the session; and what the visit tells of its
+-- streams is how it came and went
 pub record TakesTurn {G C : Type 0} (next_gives : G → Next C → G → Type 0) (done_gives : G → C → End → G → Type 0)
     (read_gives : C → Read → C → Type 0) (write_gives : C → Write → C → Type 0) (incoming : C → Incoming) (outgoing : C → Outgoing)
     (before : G) (visit : Visit) (after : G) : Type 0 where
@@ -22,7 +24,8 @@ pub record TakesTurn {G C : Type 0} (next_gives : G → Next C → G → Type 0)
   pub middle : G
   pub asked : next_gives before (next.Conn handed_out) middle
   pub handed_back : C
-  pub session : StopsReading read_gives write_gives MOST_BYTES (visit.end ≡ end_of.Done) handed_out handed_back
+  pub lines : visit.http ≡ false → StopsReading read_gives write_gives MOST_BYTES (visit.end ≡ end_of.Done) handed_out handed_back
+  pub requests : visit.http ≡ true → StopsRequests read_gives write_gives MOST_BYTES (visit.end ≡ end_of.Done) handed_out handed_back
   pub untouched : visit.end ≡ end_of.Memory → handed_back ≡ handed_out
   pub done : done_gives middle handed_back visit.end after
   pub came : sides_before visit ≡ sides_of incoming outgoing handed_out

@@ -1,5 +1,5 @@
 -- What the laws of workers say.
-use Rattle.std.specs.Prelude.{◌≡◌, ◌<◌, ◌⊎◌, ⊤, ℕ, true, false, List, [], ◌∷◌, ◌++◌, length, Some, IfSome}
+use Rattle.std.specs.Prelude.{◌≡◌, ◌<◌, ◌≤◌, ◌⊎◌, ⊤, ℕ, Bool, true, false, List, [], ◌∷◌, ◌++◌, length, Some, IfSome}
 use Rattle.std.specs.List.{All, AllZip, flat_map}
 use mathlib.Core.List.{IsPrefix}
 use Rattle.funnel_io.specs.Served.{Served}
@@ -13,31 +13,14 @@ use Rattle.funnel_model.specs.declared.reply.Reply.{Reply}
 use Rattle.funnel_model.specs.declared.reply.Reply.TheVariants as reply
 use Rattle.funnel_model.specs.History.{IsFrontOf, own}
 use Rattle.funnel_model.specs.Steps.{Linear}
-use Rattle.line_proto.specs.Forms.{Item, items}
+use Rattle.http_front.specs.Laws.{HaveLastRequest}
 use Rattle.line_proto.specs.Services.{Caller}
 use Rattle.load_gen.specs.Jobs.{calls_of_share}
-use Rattle.session.specs.Laws.{calls_of, replies_to_calls}
-use Rattle.session.specs.Sessions.{Session}
 use Rattle.session.specs.declared.serving.TheConstants.{MOST_BYTES}
 use Rattle.funnel_server.specs.Gates.{Sides}
 use Rattle.funnel_server.specs.Loads.{AreAsked}
+use Rattle.funnel_server.specs.Sessions.{AreItsCalls}
 use Rattle.funnel_server.specs.Workers.{IsVisit, Visit}
-
--- the items that a session answered, of those that the bytes which it took have
-abbrev pub answered : (caller : Caller) (before after : List Event) (taken written : List ℕ) (end : End) → Session caller before after taken written end → List Item
-answered caller before after taken written end_of.Done session = items taken true
-answered caller before after taken written end_of.ReadFault session = items taken false
-answered caller before after taken written (end_of.ByteLimit limit) session = items taken false
-answered caller before after taken written end_of.WriteFault session = session.first
-answered caller before after taken written end_of.Memory session = []
-
--- the replies that it gave to them
-abbrev pub replies_in : (caller : Caller) (before after : List Event) (taken written : List ℕ) (end : End) → Session caller before after taken written end → List Reply
-replies_in caller before after taken written end_of.Done session = session.replies
-replies_in caller before after taken written end_of.ReadFault session = session.replies
-replies_in caller before after taken written (end_of.ByteLimit limit) session = session.1.replies
-replies_in caller before after taken written end_of.WriteFault session = session.replies
-replies_in caller before after taken written end_of.Memory session = []
 
 -- of the calls that a pass made, those that come of a call which was answered so: the call itself; but none where it was refused
 -- as spent, or an add or a tuning found no memory; and the call or none where another one found no memory
@@ -56,15 +39,14 @@ AreMade (asked ∷ calls) (given ∷ replies) made =
 AreMade [] (given ∷ replies) made = ⊥
 AreMade (asked ∷ calls) [] made = ⊥
 
--- the calls of a connection's lines, each answered by one step from front to front, and those of them that the pass made
+-- the calls of a connection's lines or requests, each answered by one step from front to front, and those of them that the pass made
 pub record MakesCalls (caller : Caller) (visit : Visit) (made : List Call) : Type 0 where
   pub session : IsVisit caller visit
-  pub asked : List Item
-  pub asked_are : asked ≡ answered caller visit.before.front visit.after.front session.serves.taken session.serves.written visit.end session.serves.session
+  pub asked : List Call
   pub replies : List Reply
-  pub replies_are : replies ≡ replies_in caller visit.before.front visit.after.front session.serves.taken session.serves.written visit.end session.serves.session
-  pub steps : Linear caller.limits caller.pass visit.before.front visit.after.front (calls_of asked) (replies_to_calls asked replies)
-  pub are : AreMade (calls_of asked) (replies_to_calls asked replies) made
+  pub are_its : AreItsCalls visit.http caller visit.before visit.after visit.end session.serves asked replies
+  pub steps : Linear caller.limits caller.pass visit.before.front visit.after.front asked replies
+  pub are : AreMade asked replies made
 
 -- the front goes on from those before and after the session
 pub record HasSeen (front : List Event) (visit : Visit) : Type 0 where
@@ -86,12 +68,17 @@ CountsAs end_of.ReadFault reads writes = (reads ≡ 1) × (writes ≡ 0)
 CountsAs end_of.WriteFault reads writes = (reads ≡ 0) × (writes ≡ 1)
 CountsAs _ reads writes = (reads ≡ 0) × (writes ≡ 0)
 
+-- a session that is done took all of its input; so did one of requests, or the response to its last request closed the connection
+abbrev pub TakesAll : Bool → (input bytes : List ℕ) → Type 0
+TakesAll true input bytes = ((bytes ≡ input) × (length bytes < MOST_BYTES)) ⊎ (HaveLastRequest bytes × (length bytes ≤ MOST_BYTES))
+TakesAll false input bytes = (bytes ≡ input) × (length bytes < MOST_BYTES)
+
 -- an end with the bytes that came in, which were taken of these
-abbrev pub TakesAs : End → (input bytes : List ℕ) → Type 0
-TakesAs end_of.Done input bytes = (bytes ≡ input) × (length bytes < MOST_BYTES)
-TakesAs (end_of.ByteLimit limit) input bytes = (limit ≡ MOST_BYTES) × (length bytes ≡ MOST_BYTES)
-TakesAs end_of.Memory input bytes = bytes ≡ []
-TakesAs _ input bytes = ⊤
+abbrev pub TakesAs : Bool → End → (input bytes : List ℕ) → Type 0
+TakesAs http end_of.Done input bytes = TakesAll http input bytes
+TakesAs http (end_of.ByteLimit limit) input bytes = (limit ≡ MOST_BYTES) × (length bytes ≡ MOST_BYTES)
+TakesAs http end_of.Memory input bytes = bytes ≡ []
+TakesAs http _ input bytes = ⊤
 
 -- a connection tells its bytes: none was read, and these are there to be read
 pub record TellsInput (incoming : Incoming) (input : List ℕ) : Type 0 where
@@ -99,11 +86,11 @@ pub record TellsInput (incoming : Incoming) (input : List ℕ) : Type 0 where
   pub left : incoming.left ≡ Some input
 
 -- the bytes that came in, which are kept, are the first of the input
-pub record KeepsInput (input : List ℕ) (served : Served) : Type 0 where
+pub record KeepsInput (http : Bool) (input : List ℕ) (served : Served) : Type 0 where
   pub bytes : List ℕ
   pub kept : served.bytes_in ≡ Some bytes
   pub first : IsPrefix bytes input
-  pub by_end : TakesAs served.session_end input bytes
+  pub by_end : TakesAs http served.session_end input bytes
 
 -- the end that is kept of a connection fits the counts and the bytes that are kept with it
 pub record FitsKept (served : Served) : Type 0 where
@@ -113,9 +100,9 @@ pub record FitsKept (served : Served) : Type 0 where
   pub nothing_written : served.session_end ≡ end_of.Memory → IfSome served.bytes_out (λ bytes. bytes ≡ [])
 
 -- it has its cause in them, and where the connection tells its bytes in what there was to be read
-pub record HasCause (sides : Sides) (served : Served) : Type 0 where
+pub record HasCause (http : Bool) (sides : Sides) (served : Served) : Type 0 where
   pub fits : FitsKept served
-  pub input : (input : List ℕ) → TellsInput sides.incoming input → KeepsInput input served
+  pub input : (input : List ℕ) → TellsInput sides.incoming input → KeepsInput http input served
 
 -- a connection has fewer bytes to be read than a session may take
 pub record HasFewBytes (sides : Sides) : Type 0 where
@@ -128,7 +115,7 @@ pub record VisitHasNoFault (visit : Visit) : Type 0 where
   pub reads : visit.after.incoming.faults ≡ 0
   pub writes : visit.after.outgoing.faults ≡ 0
 
--- a session answered all lines of its input, or found no memory to begin
+-- a session answered all lines of its input, or all its requests up to one whose response closes the connection, or found no memory to begin
 abbrev pub SessionEndsWell : Visit → Type 0
 SessionEndsWell visit = (visit.end ≡ end_of.Done) ⊎ (visit.end ≡ end_of.Memory)
 

@@ -1,4 +1,5 @@
 pub mod Gates
+pub mod Sessions
 pub mod Workers
 pub mod GateTurns
 pub mod Turns

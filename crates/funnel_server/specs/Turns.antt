@@ -13,9 +13,11 @@ use Rattle.funnel_server.specs.Workers.{GivesNoMore, HasServedVisits, IsVisit, V
 pub record ServesNext (before after : WorkerState) : Type 0 where
   pub visit : Visit
   pub session : IsVisit before.caller visit
+  pub protocol : visit.http ≡ before.http
   pub begins : visit.before.front ≡ before.front
   pub ends : visit.after.front ≡ after.front
   pub same_pass : after.caller ≡ before.caller
+  pub same_protocol : after.http ≡ before.http
   pub count : after.left + 1 ≡ before.left
   pub waited : before.gate.waiting ≡ option_map (λ rest. sides_before visit ∷ rest) after.gate.waiting
   pub served : after.gate.served ≡ option_map (λ earlier. earlier ++ served_by visit ∷ []) before.gate.served

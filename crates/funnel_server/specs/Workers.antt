@@ -8,16 +8,17 @@ use Rattle.funnel_io.specs.declared.end.End.{End}
 use Rattle.funnel_io.specs.declared.end.End.TheVariants as end_of
 use Rattle.funnel_model.specs.declared.event.Event.{Event}
 use Rattle.line_proto.specs.Services.{Caller}
-use Rattle.session.specs.Ends.{Serves, Stand}
-use Rattle.session.specs.declared.serving.TheConstants.{MOST_BYTES}
+use Rattle.session.specs.Ends.{Stand}
 use Rattle.funnel_server.specs.Gates.{GateState, Sides}
+use Rattle.funnel_server.specs.Sessions.{IsServed}
 
--- a worker: what its gate tells, its pass and what the pass has seen, how many more connections it serves, and whether its gate
--- failed and whether a session of it found no memory
+-- a worker: what its gate tells, its pass and what the pass has seen, whether it answers requests over HTTP or lines, how many more
+-- connections it serves, and whether its gate failed and whether a session of it found no memory
 pub record WorkerState : Type 0 where
   pub gate : GateState
   pub caller : Caller
   pub front : List Event
+  pub http : Bool
   pub left : ℕ
   pub fault : Bool
   pub memory : Bool
@@ -32,8 +33,9 @@ pub record HasMetNoFault (worker : WorkerState) : Type 0 where
   pub no_fault : worker.fault ≡ false
   pub no_memory : worker.memory ≡ false
 
--- a connection that was served: where its session stood before and after, and how it ended
+-- a connection that was served: whether by its requests or its lines, where its session stood before and after, and how it ended
 pub record Visit : Type 0 where
+  pub http : Bool
   pub before : Stand
   pub after : Stand
   pub end : End
@@ -42,7 +44,7 @@ pub record Visit : Type 0 where
 -- session, nothing was touched
 pub record IsVisit (caller : Caller) (visit : Visit) : Type 0 where
   pub fresh : IsFresh visit.before.incoming visit.before.outgoing
-  pub serves : Serves caller MOST_BYTES visit.before visit.after visit.end
+  pub serves : IsServed visit.http caller visit.before visit.after visit.end
   pub untouched : visit.end ≡ end_of.Memory → visit.after ≡ visit.before
 
 -- the visits follow each other: each session begins with what the pass had seen at the end of the one before it
@@ -68,11 +70,13 @@ is_memory end_of.Memory = true
 is_memory _ = false
 
 -- a worker served these connections, one after another: they are those that left the waiting ones, in order, and those that
--- came back to its gate
+-- came back to its gate; each was served as the worker serves
 pub record HasServedVisits (before after : WorkerState) (visits : List Visit) : Type 0 where
   pub sessions : All (IsVisit before.caller) visits
   pub in_order : AreInOrder before.front visits after.front
+  pub protocol : All (λ visit. visit.http ≡ before.http) visits
   pub same_pass : after.caller ≡ before.caller
+  pub same_protocol : after.http ≡ before.http
   pub count : after.left + length visits ≡ before.left
   pub waited : before.gate.waiting ≡ option_map (λ rest. map sides_before visits ++ rest) after.gate.waiting
   pub served : after.gate.served ≡ option_map (λ earlier. earlier ++ map served_by visits) before.gate.served

@@ -23,7 +23,7 @@ pub fn a_workers_calls_are_those_of_its_sessions()
 
 /// Each end that a gate keeps has its cause in the counts and the bytes that the gate keeps with it.
 pub fn kept_ends_have_their_cause()
-    ensures { (caller : Caller) (visit : Visit) → IsVisit caller visit → HasCause (sides_before visit) (served_by visit) }
+    ensures { (caller : Caller) (visit : Visit) → IsVisit caller visit → HasCause visit.http (sides_before visit) (served_by visit) }
 {}
 
 /// A worker whose gate didn't fail served the first of the connections that waited: as many as it may, or all. So where it may

@@ -1,8 +1,8 @@
 //! Workers: passes of an engine that answer connections beside each other.
 //!
 //! A [`Worker`] has a gate, from which its connections come, and a client, by whose pass it answers them. It answers one
-//! connection after another: one session for each, which takes at most `MOST_BYTES` of `session`. It hands the connection
-//! back to its gate with the end of its session, and asks for the next one. It stops where it has served as many as it may,
+//! connection after another: one session for each, of lines or of requests over HTTP, which takes at most `MOST_BYTES` of
+//! `session`. It hands the connection back to its gate with the end of its session, and asks for the next one. It stops where it has served as many as it may,
 //! or its gate is closed or fails, and then ends its gate. Whoever hands it the gate has opened it.
 //!
 //! A fault of a connection ends that connection's session alone: its worker goes on with the next one. So does a worker

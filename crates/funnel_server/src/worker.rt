@@ -1,14 +1,16 @@
-ghost use Rattle.std.specs.Prelude.{◌≡◌, ◌<◌, false, MatchBool};
+ghost use Rattle.std.specs.Prelude.{◌≡◌, ◌<◌, false, true, MatchBool};
 ghost use Rattle.engine.specs.Clients.{caller_of};
-ghost use Rattle.session.specs.Ends.{Serves};
+ghost use Rattle.http_front.specs.Turns.{StopsRequests};
 ghost use Rattle.session.specs.Turns.{StopsReading};
 ghost use Rattle.session.specs.declared.serving.TheConstants.{MOST_BYTES};
 ghost use Rattle.funnel_server.specs.GateTurns.{WorksInTurns};
+ghost use Rattle.funnel_server.specs.Sessions.{IsServed};
 ghost use Rattle.funnel_server.specs.Turns.{AsksInVain, ServesInTurn, StopsInTurns};
 ghost use Rattle.funnel_server.specs.Workers.{HasMetNoFault, is_memory};
 
 use engine::{Client, PoolName};
 use funnel_io::{Connection, End, Gate, Next};
+use http_front::serve_http;
 use session::{MOST_BYTES, serve_session};
 use std::marker::Model;
 use std::sync::Wait;
@@ -18,6 +20,8 @@ use std::sync::Wait;
 pub struct Worker<'a, G: Gate, N: PoolName, R: Wait> {
     pub gate: G,
     pub client: Client<'a, N, R>,
+    /// Whether it answers requests over HTTP, and no lines.
+    pub http: bool,
     /// How many more connections it serves.
     pub left: u64,
     /// Whether the gate failed.
@@ -39,6 +43,7 @@ impl<'a, G: Gate, N: PoolName, R: Wait> Model for Worker<'a, G, N, R> {
         gate = gate_state G.is_closed G.gate_faults G.waiting G.Conn.incoming G.Conn.outgoing G.served w.gate;
         caller = caller_of N.pool.limits w.client;
         front = w.client.front;
+        http = w.http;
         left = w.left;
         fault = w.fault;
         memory = w.memory;
@@ -84,7 +89,7 @@ impl<'a, G: Gate, N: PoolName, R: Wait> Worker<'a, G, N, R> {
                 return false;
             }
         };
-        let end = answer(&mut self.client, &mut conn);
+        let end = answer(self.http, &mut self.client, &mut conn);
         self.gate.done(conn, end);
         self.left -= 1;
         self.memory |= found_no_memory(end);
@@ -92,18 +97,27 @@ impl<'a, G: Gate, N: PoolName, R: Wait> Worker<'a, G, N, R> {
     }
 }
 
-/// Answers the lines of a connection.
-fn answer<N: PoolName, R: Wait, C: Connection>(client: &mut Client<'_, N, R>, conn: &mut C) -> End
+/// Answers the requests of a connection, or its lines.
+fn answer<N: PoolName, R: Wait, C: Connection>(
+    http: bool,
+    client: &mut Client<'_, N, R>,
+    conn: &mut C,
+) -> End
     ensures caller { caller_of N.pool.limits client.new ≡ caller_of N.pool.limits client.old }
-    ensures serves { Serves (caller_of N.pool.limits client.old) MOST_BYTES
+    ensures serves { IsServed http (caller_of N.pool.limits client.old)
         record { front = client.old.front; incoming = C.incoming conn.old; outgoing = C.outgoing conn.old }
         record { front = client.new.front; incoming = C.incoming conn.new; outgoing = C.outgoing conn.new }
         result }
-    ensures in_turns { StopsReading C.read_gives C.write_gives MOST_BYTES (result ≡ End.Done) conn.old conn.new }
+    ensures line_by_line { http ≡ false → StopsReading C.read_gives C.write_gives MOST_BYTES (result ≡ End.Done) conn.old conn.new }
+    ensures by_request { http ≡ true → StopsRequests C.read_gives C.write_gives MOST_BYTES (result ≡ End.Done) conn.old conn.new }
     ensures untouched { result ≡ End.Memory → (conn.new ≡ conn.old) × (client.new ≡ client.old) }
 {
     let alloc = client.alloc;
-    serve_session(alloc, client, conn, MOST_BYTES)
+    if http {
+        serve_http(alloc, client, conn, MOST_BYTES)
+    } else {
+        serve_session(alloc, client, conn, MOST_BYTES)
+    }
 }
 
 /// Whether a session that ended so found no memory.

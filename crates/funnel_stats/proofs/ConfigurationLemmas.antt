@@ -1,5 +1,5 @@
 -- The configuration of bytes, by the object that they are.
-use Rattle.std.proofs.Common.{◌≡◌, ◌∙◌, ◌≤◌, ◌+◌, ℕ, List, length, ltb, true, false, Option, Some, None, Result, Ok, Err, MatchResult, sym, ap, arith}
+use Rattle.std.proofs.Common.{◌≡◌, ◌∙◌, ◌≤◌, ◌<◌, ◌⊎◌, inl, inr, refl, ℕ, List, length, ltb, true, false, Option, Some, None, Result, Ok, Err, MatchResult, sym, ap, arith}
 use Rattle.std.proofs.lemmas.Bool.{le-ltb, lt-ltb}
 use Rattle.funnel_model.specs.declared.config.Config.{Config}
 use Rattle.serde_json.specs.Data.{Members}
@@ -62,16 +62,16 @@ object_answer bytes object answer few is gives =
     rw (configuration-object bytes object few is) (answer_of answer (fault_of object) (config_of object) gives)
 
 -- too many bytes
-pub configuration-too_long : (bytes : List ℕ) → length bytes ≡ longest + 1 → configuration bytes ≡ Err (TooLong longest)
+pub configuration-too_long : (bytes : List ℕ) → longest < length bytes → configuration bytes ≡ Err (TooLong longest)
 unfolding configuration
-configuration-too_long bytes many = let longer : ltb longest (length bytes) ≡ true = lt-ltb longest (length bytes) (omega arith) in rw longer
+configuration-too_long bytes many = let longer : ltb longest (length bytes) ≡ true = lt-ltb longest (length bytes) many in rw longer
 
 -- a fault of taking the bytes
 pub taking_fault : (fault : ConfigFault) (bytes : List ℕ) (left : Option (List ℕ)) → IsTakingFault fault bytes → IsFaultOf fault bytes left
 taking_fault ReadFault bytes left is = tt
 taking_fault Memory bytes left is = tt
 taking_fault (TooLong limit) bytes left is =
-    (configuration-too_long bytes is.1 ∙ ap (λ fault. Err fault) (sym is.0), is.1)
+    (configuration-too_long bytes (omega (arith, is.1)) ∙ ap (λ fault. Err fault) (sym is.0), is.1)
 taking_fault NotJson bytes left is = let e : NotJson ≡ TooLong longest = is.0 in absurd (cc)
 taking_fault (UnknownKey key) bytes left is = let e : UnknownKey key ≡ TooLong longest = is.0 in absurd (cc)
 taking_fault (BadValue key kept) bytes left is = let e : BadValue key kept ≡ TooLong longest = is.0 in absurd (cc)
@@ -79,3 +79,22 @@ taking_fault (NotWord text) bytes left is = let e : NotWord text ≡ TooLong lon
 taking_fault (WordCount word kept) bytes left is = let e : WordCount word kept ≡ TooLong longest = is.0 in absurd (cc)
 taking_fault (TooManyColumns columns) bytes left is = let e : TooManyColumns columns ≡ TooLong longest = is.0 in absurd (cc)
 taking_fault (PoolTooLarge words) bytes left is = let e : PoolTooLarge words ≡ TooLong longest = is.0 in absurd (cc)
+
+-- the fault of bytes of any length
+fault_of_bytes : (fault : ConfigFault) (answer : Result Config ConfigFault) → IsFaultOfBytes fault answer → (fault ≡ Memory) ⊎ (answer ≡ Err fault)
+fault_of_bytes Memory answer is = inl refl
+fault_of_bytes ReadFault answer is = absurd is
+fault_of_bytes (TooLong limit) answer is = absurd is
+fault_of_bytes NotJson answer is = inr is
+fault_of_bytes (UnknownKey key) answer is = inr is
+fault_of_bytes (BadValue key kept) answer is = inr is
+fault_of_bytes (NotWord text) answer is = inr is
+fault_of_bytes (WordCount word kept) answer is = inr is
+fault_of_bytes (TooManyColumns columns) answer is = inr is
+fault_of_bytes (PoolTooLarge words) answer is = inr is
+
+pub answer_of_bytes : (bytes : List ℕ) (answer : Result Config ConfigFault)
+    → MatchResult answer (λ config. configuration bytes ≡ Ok config) (λ fault. IsFaultOfBytes fault (configuration bytes))
+    → MatchResult answer (λ config. configuration bytes ≡ Ok config) (λ fault. (fault ≡ Memory) ⊎ (configuration bytes ≡ Err fault))
+answer_of_bytes bytes (Ok config) is = is
+answer_of_bytes bytes (Err fault) is = fault_of_bytes fault (configuration bytes) is

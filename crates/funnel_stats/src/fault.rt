@@ -94,6 +94,14 @@ impl<T: Drop> From<AllocFailed<T>> for ConfigFault {
     }
 }
 
+impl From<funnel_model::Memory> for ConfigFault {
+    ghost from_gives = { λ _ fault. fault ≡ Memory };
+
+    fn from(_error: funnel_model::Memory) -> Self {
+        ConfigFault::Memory
+    }
+}
+
 impl From<WordFault> for ConfigFault {
     ghost from_gives = { λ _ fault. fault ≡ Memory };
 

@@ -1,4 +1,4 @@
-//! The configuration of an engine, read from a source: one JSON object, whose keys are whole numbers and the listed
+//! The configuration of an engine, of bytes (`parse_config`) or read from a source (`read_config`): one JSON object, whose keys are whole numbers and the listed
 //! words with their counts. What is read is hostile: a fault says why it is no configuration. The layers above use
 //! that a configuration that was read is valid, with exactly the values of the object and the defaults of the keys that
 //! it leaves out, and that a fault is the first in the order of faults that applies. The same is said of a text with new
@@ -24,5 +24,6 @@ pub use laws::{
     entries_are_in_byte_order, texts_are_tuned_by_what_they_give, the_empty_text_gives_defaults,
     tunings_change_statistics_alone,
 };
+pub use parsing::parse_config;
 pub use reading::read_config;
 pub use tuning::read_tuning;

@@ -1,6 +1,7 @@
-ghost use Rattle.std.specs.Prelude.{◌≡◌, ◌≤◌, [], ◌∷◌, Ok, IfOk, MatchResult, length};
+ghost use Rattle.std.specs.Prelude.{◌≡◌, ◌≤◌, ◌⊎◌, [], ◌∷◌, Ok, Err, IfOk, MatchResult, length};
 ghost use Rattle.funnel_model.specs.Configuration.{IsValid, IsInRange};
 ghost use Rattle.serde_json.specs.View.{members_view};
+ghost use Rattle.funnel_stats.specs.declared.fault.ConfigFault.TheVariants.{Memory};
 ghost use Rattle.funnel_stats.specs.Configurations.{configuration, config_of, fault_of, first_of, longest};
 ghost use Rattle.funnel_stats.specs.Faults.{too_many_columns, pool_too_large};
 ghost use Rattle.funnel_stats.specs.Reading.{IsFaultOfBytes};
@@ -9,13 +10,27 @@ ghost use Rattle.funnel_stats.specs.Steps.{Checks, GivesOrFaults};
 use crate::fault::ConfigFault;
 use crate::key::KEYS;
 use crate::object::{check_keys, read_object};
+use crate::reading::LONGEST;
 use crate::values::read_values;
 use funnel_model::{Config, MOST_COLUMNS, MOST_ROW_WORDS};
 use serde_json::{Map, Value};
 use std::alloc::Global;
 use treatment::sizes;
 
-/// What the bytes are as a configuration.
+/// What the bytes are as a configuration: a valid one, with the defaults of the keys that they leave out, or the first fault
+/// that applies. None of the faults is that of a read.
+pub fn parse_config(alloc: Global, bytes: &[u8]) -> Result<Config, ConfigFault>
+    ensures answer { MatchResult result (λ config. configuration bytes.now ≡ Ok config)
+        (λ fault. (fault ≡ Memory) ⊎ (configuration bytes.now ≡ Err fault)) }
+    ensures valid { IfOk result IsValid }
+{
+    if bytes.len() > LONGEST {
+        return Err(ConfigFault::TooLong(LONGEST as u64));
+    }
+    parse(alloc, bytes)
+}
+
+/// The same of bytes that are not too many.
 pub fn parse(alloc: Global, bytes: &[u8]) -> Result<Config, ConfigFault>
     requires { length bytes.now ≤ longest }
     ensures answer { MatchResult result (λ config. configuration bytes.now ≡ Ok config)

@@ -11,7 +11,7 @@ use funnel_model::Config;
 use std::alloc::Global;
 
 /// The most bytes of a configuration.
-const LONGEST: usize = 16_777_216;
+pub(crate) const LONGEST: usize = 16_777_216;
 
 /// How many bytes one read asks for.
 const PIECE: usize = 4_096;

@@ -1,5 +1,5 @@
 -- How a request is answered, by its route.
-use Rattle.std.proofs.Common.{◌≡◌, ℕ, ◌+◌, ◌≤◌, Bool, true, false, List, [], ◌∷◌, ◌++◌, Option, Some, None, option_and_then, length, drop, refl, sym, ap, ◌∙◌, subst, inl, inr, arith, length-append, codes}
+use Rattle.std.proofs.Common.{◌≡◌, ℕ, ◌≤◌, Bool, true, false, List, [], Option, Some, None, option_and_then, length, drop, refl, sym, ap, ◌∙◌, subst, inl, inr, arith, length-append}
 use Rattle.std.specs.Option.{option_map_or}
 use Rattle.std.specs.Str.{IsUtf8, is_utf8}
 use Rattle.std.proofs.lemmas.Str.{IsUtf8-from_is_utf8, is_utf8-from_IsUtf8}
@@ -8,13 +8,12 @@ use Rattle.funnel_model.specs.declared.call.Call.TheVariants as call
 use Rattle.funnel_model.specs.declared.event.Event.{Event}
 use Rattle.funnel_model.specs.declared.reply.Reply.{Reply}
 use Rattle.funnel_model.specs.declared.reply.Reply.TheVariants as reply
-use Rattle.httparse.specs.Grammar.{RequestHead, print_request}
 use Rattle.httparse.specs.Spans.{span_bytes}
 use Rattle.httparse.proofs.GrammarLemmas.{print_request-append}
 use Rattle.json.specs.Json.{Json, document}
 use Rattle.line_proto.specs.Services.{AnswersCall, Caller}
-use Rattle.http_front.specs.Documents.{Part, Id, Text, add_of, add_of_two, document_of}
-use Rattle.http_front.specs.Entries.{Asks, Entry, IsRefusedAtHead, IsRouted, ReadsEntry, Refused, asked_by, is_last}
+use Rattle.http_front.specs.Documents.{add_of, document_of}
+use Rattle.http_front.specs.Entries.{Asks, IsRefusedAtHead, IsRouted, ReadsEntry, Refused, asked_by, is_last}
 use Rattle.http_front.specs.Queries.{decoded, find_by, find_of, plain}
 use Rattle.http_front.specs.Routes.{Document, Documents, EndsFind, Find, HasNoRoute, IsRoute, Place, Route}
 use Rattle.http_front.specs.Sessions.{Exchanges, IsPost}

@@ -5,7 +5,7 @@ use Rattle.std.proofs.lemmas.Str.{IsUtf8-from_is_utf8, is_utf8-from_IsUtf8}
 use Rattle.funnel_model.specs.declared.call.Call.{Call}
 use Rattle.funnel_model.specs.declared.call.Call.TheVariants.{Add}
 use Rattle.json.specs.Token.{Token}
-use Rattle.json.specs.Json.{Json, null, boolean, number, string, array, object, Items, Members, no_members, member, document, if_last, max_depth, value}
+use Rattle.json.specs.Json.{Json, null, boolean, number, string, array, object, no_members, member, document, if_last, max_depth, value}
 use Rattle.json.specs.Lex.{tokens}
 use Rattle.json.specs.Tree.{depth, json_tokens}
 use Rattle.json.proofs.Unique.Spelling.{tokens-document}

@@ -1,19 +1,19 @@
 -- What stands at the front of bytes, by the grammar of heads.
-use Rattle.std.proofs.Common.{◌≡◌, ◌≢◌, ◌⊎◌, ℕ, ◌+◌, ◌-◌, ◌*◌, ◌<◌, ◌≤◌, Bool, true, List, [], ◌∷◌, ◌++◌, Some, None, Result, Err, length, take, drop, map, refl, sym, ap, ◌∙◌, subst, inl, inr, arith, append-nil, append_assoc, length-append, length-take, take_all, All}
-use Rattle.std.proofs.lemmas.List.{take-append-drop, nil_from_length, length-map}
+use Rattle.std.proofs.Common.{◌≡◌, ◌≢◌, ℕ, ◌+◌, ◌-◌, ◌*◌, ◌<◌, ◌≤◌, List, [], ◌∷◌, ◌++◌, Some, None, Result, Err, length, take, sym, ap, ◌∙◌, subst, inl, inr, arith, append-nil, length-append, take_all, All}
+use Rattle.std.proofs.lemmas.List.{nil_from_length}
 use Rattle.std.proofs.lemmas.List.Elements.{All-head, All-tail}
 use Rattle.std.proofs.lemmas.Bool.Decides.{leb_tells}
 use Rattle.std.proofs.Math.Seq.{take-append-add}
-use Rattle.httparse.specs.Grammar.{EndsInTarget, Field, HasNoRequest, IsField, IsRequestHead, LineEnd, MayBecomeRequest, NeverHasRequest, ReadsRequest, RequestHead, crlf, lf, print_end, print_field, print_request, print_section}
+use Rattle.httparse.specs.Grammar.{EndsInTarget, Field, HasNoRequest, IsField, LineEnd, MayBecomeRequest, NeverHasRequest, ReadsRequest, RequestHead, crlf, lf, print_end, print_field, print_request, print_section}
 use Rattle.httparse.specs.declared.Error.{Error}
 use Rattle.httparse.specs.declared.Error.TheVariants.{TooManyHeaders}
 use Rattle.httparse.specs.declared.Status.{Status}
 use Rattle.httparse.specs.declared.spans.RequestSpans.{RequestSpans}
-use Rattle.httparse.specs.Spans.{RequestExceeds, RequestOverflows, name_and_value}
-use Rattle.httparse.proofs.GrammarLemmas.{ReadsRequest-append, print_request-append, request_unique}
-use Rattle.http_front.specs.Entries.{Asks, Entry, HasBadBody, HasNoEntry, IsRefusedAtHead, ReadsEntry, Refused}
-use Rattle.http_front.specs.Heads.{HasHead, HasRequest, IsBadHead, IsNoPrefix, IsTooLong, HasManyFields, codings, fields_of, length_said, lengths}
-use Rattle.http_front.specs.Steps.{IsGoodHead, IsRefusedByFields, IsUndecided}
+use Rattle.httparse.specs.Spans.{RequestExceeds}
+use Rattle.httparse.proofs.GrammarLemmas.{print_request-append, request_unique}
+use Rattle.http_front.specs.Entries.{Asks, Entry, HasBadBody, HasNoEntry, ReadsEntry, Refused}
+use Rattle.http_front.specs.Heads.{HasHead, HasRequest, IsBadHead, fields_of, length_said, lengths}
+use Rattle.http_front.specs.Steps.{IsGoodHead, IsUndecided}
 use Rattle.http_front.specs.declared.cause.Cause.{Cause}
 use Rattle.http_front.specs.declared.cause.Cause.TheVariants as cause
 
@@ -51,6 +51,24 @@ front_head bytes head after n reads short =
     let whole : n ≡ length text + (n - length text) = omega arith in
     (reads.0, ap (take n) reads.1 ∙ ap (λ k. take k (text ++ after)) whole ∙ take-append-add text after (n - length text))
 
+-- a head that is read is no bad one
+pub never_bad : (bytes : List ℕ) (head : RequestHead) (after : List ℕ) → HasHead bytes head after → IsBadHead bytes → ⊥
+never_bad bytes head after has (inl no_prefix) = no_prefix.none head after has.reads
+never_bad bytes head after has (inr (inl long)) = long.none head _ (front_head bytes head after 16384 has.reads has.short)
+never_bad bytes head after has (inr (inr many)) =
+    let same = (request_unique bytes head many.head after many.after has.reads many.reads).0 in
+    omega (arith, has.few, many.many, ap (λ (h : RequestHead). length h.fields) same)
+
+-- and no body that is taken a bad one
+pub good_body : (fields : List (List ℕ × List ℕ)) (count : ℕ) → IsGoodHead fields count → (why : Cause) → HasBadBody fields why → ⊥
+good_body fields count good cause.Coding bad = bad good.plain
+good_body fields count good cause.Length bad = let none : Some count ≡ None = sym good.said ∙ bad.1 in cc
+good_body fields count good cause.Long bad = let same : Some count ≡ Some bad.1 = sym good.said ∙ bad.2 in let is : count ≡ bad.1 = cc in omega (arith, is, bad.3, good.short)
+good_body fields count good cause.Head bad = bad
+good_body fields count good cause.Route bad = bad
+good_body fields count good cause.Body bad = bad
+good_body fields count good cause.Query bad = bad
+
 -- where the body isn't whole, nothing is answered
 pub no_entry_without_body : (bytes : List ℕ) (head : RequestHead) (after : List ℕ) (count : ℕ) → HasHead bytes head after → IsGoodHead (fields_of head) count
     → length after < count → HasNoEntry bytes
@@ -65,31 +83,15 @@ no_entry_without_body bytes head after count has good short entry rest reads = g
   same_head : (head' : RequestHead) (after' : List ℕ) → HasHead bytes head' after' → head ≡ head'
   same_head head' after' is = (request_unique bytes head head' after after' has.reads is.reads).0
 
-  bad_head : IsBadHead bytes → ⊥
-  bad_head (inl no_prefix) = no_prefix.none head after has.reads
-  bad_head (inr (inl long)) = long.none head _ (front_head bytes head after 16384 has.reads has.short)
-  bad_head (inr (inr many)) =
-      let same = (request_unique bytes head many.head after many.after has.reads many.reads).0 in
-      omega (arith, has.few, many.many, ap (λ (h : RequestHead). length h.fields) same)
-
-  bad_body : (why : Cause) → HasBadBody (fields_of head) why → ⊥
-  bad_body cause.Coding bad = bad good.plain
-  bad_body cause.Length bad = let none : Some count ≡ None = sym good.said ∙ bad.1 in cc
-  bad_body cause.Long bad = let same : Some count ≡ Some bad.1 = sym good.said ∙ bad.2 in let is : count ≡ bad.1 = cc in omega (arith, is, bad.3, good.short)
-  bad_body cause.Head bad = bad
-  bad_body cause.Route bad = bad
-  bad_body cause.Body bad = bad
-  bad_body cause.Query bad = bad
-
   at_head : (why : Cause) (head' : RequestHead) (after' : List ℕ) → HasHead bytes head' after' → HasBadBody (fields_of head') why → ⊥
-  at_head why head' after' is bad = bad_body why (subst (λ (h : RequestHead). HasBadBody (fields_of h) why) (sym (same_head head' after' is)) bad)
+  at_head why head' after' is bad = good_body (fields_of head) count good why (subst (λ (h : RequestHead). HasBadBody (fields_of h) why) (sym (same_head head' after' is)) bad)
 
   go : (entry : Entry) → ReadsEntry bytes entry rest → ⊥
   go (Asks asked closing) reads = other _ _ _ reads.2.whole
   go (Refused cause.Route closing) reads = other _ _ _ reads.2
   go (Refused cause.Body closing) reads = other _ _ _ reads.1.whole
   go (Refused cause.Query closing) reads = other _ _ _ reads.2.whole
-  go (Refused cause.Head closing) reads = bad_head reads.1
+  go (Refused cause.Head closing) reads = never_bad bytes head after has reads.1
   go (Refused cause.Coding closing) reads = at_head cause.Coding _ _ reads.1.2 reads.1.3
   go (Refused cause.Length closing) reads = at_head cause.Length _ _ reads.1.2 reads.1.3
   go (Refused cause.Long closing) reads = at_head cause.Long _ _ reads.1.2 reads.1.3

@@ -1,20 +1,19 @@
 -- What bytes decide that begin with a whole head.
-use Rattle.std.proofs.Common.{◌≡◌, ◌⊎◌, ℕ, ◌+◌, ◌-◌, ◌<◌, ◌≤◌, ◌||◌, Bool, List, [], ◌++◌, Some, length, take, drop, map, refl, sym, ap, ◌∙◌, subst, inl, inr, arith, length-append, length-take, length-drop, take_all, All}
+use Rattle.std.proofs.Common.{◌≡◌, ℕ, ◌+◌, ◌-◌, ◌<◌, ◌≤◌, ◌||◌, Bool, List, [], ◌++◌, Some, length, take, drop, map, refl, sym, ap, ◌∙◌, subst, inr, arith, length-append, length-take, length-drop, take_all}
 use Rattle.std.specs.Prelude.{slice_range, ◌==◌}
-use Rattle.std.proofs.lemmas.List.{drop-drop, drop_at, take-append-drop, take-take, length-map}
+use Rattle.std.proofs.lemmas.List.{drop-drop, drop_at, take-append-drop, length-map}
 use Rattle.funnel_io.proofs.Ranges.{range_front}
 use Rattle.httparse.specs.Grammar.{ReadsRequest, RequestHead, print_request}
-use Rattle.httparse.specs.Spans.{IsHeaderWithin, IsRequestAt, IsRequestOf, IsRequestWithin, IsWithin, header_bytes, name_and_value, span_bytes}
+use Rattle.httparse.specs.Spans.{IsRequestOf, IsRequestWithin, IsWithin, header_bytes, name_and_value, span_bytes}
 use Rattle.httparse.specs.declared.spans.HeaderSpan.{HeaderSpan}
 use Rattle.httparse.specs.declared.spans.RequestSpans.{RequestSpans}
 use Rattle.httparse.specs.declared.spans.Span.{Span}
 use Rattle.httparse.proofs.GrammarLemmas.{ReadsRequest-append, print_request-append}
 use Rattle.http_front.specs.Entries.{IsRefusedAtHead}
-use Rattle.http_front.specs.Heads.{HasHead, HasRequest, closes, codings, connections, closes_by, fields_of, length_said, lengths}
+use Rattle.http_front.specs.Heads.{HasHead, closes, connections, closes_by, fields_of}
 use Rattle.http_front.specs.Steps.{HasHeadAt, IsGoodHead, IsHeadAt, IsRefusedByFields, IsUndecided, IsWhole, closes_with}
 use Rattle.http_front.specs.declared.cause.Cause.{Cause}
 use Rattle.http_front.specs.declared.cause.Cause.TheVariants as cause
-use Rattle.http_front.specs.declared.front.Parts.{Parts}
 use Rattle.http_front.proofs.HeadLaws.{no_entry_without_body}
 
 -- the spans of a head that was parsed, with those of its fields alone

@@ -12,3 +12,6 @@ pub mod JudgeLaws
 pub mod ResponseLaws
 pub mod AnswerLaws
 pub mod ReadLaws
+pub mod TurnLaws
+pub mod RunLaws
+pub mod OnceLaws

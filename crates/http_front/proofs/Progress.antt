@@ -1,29 +1,28 @@
 -- A connection's progress, request by request, and its ends.
-use Rattle.std.proofs.Common.{◌≡◌, ℕ, ◌+◌, ◌<◌, ◌≤◌, ◌⊎◌, ◌||◌, Bool, true, false, List, [], ◌∷◌, ◌++◌, length, take, drop, map, sym, refl, ap, ◌∙◌, subst, inl, inr, arith, append-nil, append_assoc, length-append}
+use Rattle.std.proofs.Common.{◌≡◌, ℕ, ◌+◌, ◌<◌, ◌||◌, Bool, true, false, List, [], ◌∷◌, ◌++◌, length, take, drop, sym, refl, ap, ◌∙◌, subst, inl, inr, arith, append-nil, append_assoc, length-append}
 use Rattle.std.specs.List.{list_any}
-use Rattle.std.proofs.lemmas.Bool.{true≢false, false≢true}
+use Rattle.std.proofs.lemmas.Bool.{true≢false}
 use Rattle.std.proofs.lemmas.List.{map-append}
 use Rattle.std.proofs.lemmas.List.Concat.{flat_map-append}
 use Rattle.std.proofs.KnownBytes.{Appends-nil, Appends-trans}
 use Rattle.funnel_io.proofs.Taking.{Takes-nil, Takes-trans}
 use Rattle.funnel_io.specs.Counts.{counted, raised}
-use Rattle.funnel_io.specs.Streams.{Incoming, Outgoing, Takes, Writes, WritesPart}
+use Rattle.funnel_io.specs.Streams.{Incoming, Outgoing, Writes, WritesPart}
 use Rattle.funnel_io.specs.declared.end.End.{End}
 use Rattle.funnel_io.specs.declared.end.End.TheVariants as end_of
 use Rattle.funnel_model.specs.declared.event.Event.{Event}
-use Rattle.funnel_model.specs.declared.reply.Reply.{Reply}
 use Rattle.funnel_model.specs.declared.reply.Reply.TheVariants as reply
 use Rattle.httparse.proofs.GrammarLemmas.{ReadsRequest-append}
-use Rattle.httparse.specs.Grammar.{RequestHead, ReadsRequest}
-use Rattle.line_proto.proofs.Rendering.{not_long, without_memory}
+use Rattle.httparse.specs.Grammar.{RequestHead}
+use Rattle.line_proto.proofs.Rendering.{without_memory}
 use Rattle.line_proto.specs.Services.{Caller}
 use Rattle.session.specs.Ends.{Stand, is_read_fault, is_write_fault}
 use Rattle.http_front.specs.Ends.{IsOver, ServesRequests}
-use Rattle.http_front.specs.Entries.{AreRequests, Asks, BeginsWith, Entry, HasNoEntry, IsRouted, ReadsEntry, Refused, is_last}
+use Rattle.http_front.specs.Entries.{Asks, BeginsWith, Entry, HasNoEntry, IsRouted, ReadsEntry, Refused, is_last}
 use Rattle.http_front.specs.Heads.{HasHead, HasRequest}
 use Rattle.http_front.specs.Responses.{is_long, text_of}
 use Rattle.http_front.specs.Routes.{Route}
-use Rattle.http_front.specs.Sessions.{Answers, AnswersAll, AnswersOpen, AnswersSome, Exchange, Exchanges, Session, entries_of, response_of, responses}
+use Rattle.http_front.specs.Sessions.{Answers, AnswersAll, AnswersOpen, Exchange, Exchanges, Session, entries_of, response_of, responses}
 use Rattle.http_front.specs.Steps.{AnswersFront, HasRead, HasServed, IsRendered, StopsReading}
 use Rattle.http_front.specs.declared.cause.Cause.{Cause}
 use Rattle.http_front.specs.declared.cause.Cause.TheVariants as cause

@@ -1,8 +1,8 @@
 -- The bytes that a value stands for, byte by byte.
-use Rattle.std.proofs.Common.{◌≡◌, ◌≢◌, ℕ, ◌+◌, ◌*◌, ◌<◌, ◌≤◌, ◌&&◌, Bool, true, false, List, [], ◌∷◌, ◌++◌, Option, Some, None, option_map, length, get_or, drop, refl, sym, ap, ◌∙◌, arith, eq-eqb, ne_eqb, append_assoc}
-use Rattle.std.specs.Prelude.{◌==◌, if◌then◌else◌}
+use Rattle.std.proofs.Common.{◌≡◌, ◌≢◌, ℕ, ◌+◌, ◌*◌, ◌<◌, ◌≤◌, ◌&&◌, true, false, List, [], ◌∷◌, ◌++◌, Option, Some, None, option_map, length, get_or, drop, refl, sym, ap, ◌∙◌, arith, eq-eqb, ne_eqb, append_assoc}
+use Rattle.std.specs.Prelude.{if◌then◌else◌}
 use Rattle.std.specs.Char.{digit_value, is_ascii_hexdigit}
-use Rattle.http_front.specs.Queries.{decoded, escape, meant, plain, put}
+use Rattle.http_front.specs.Queries.{decoded, meant, plain, put}
 
 -- a byte that is no percent sign
 pub decoded-plain : (bytes : List ℕ) → 0 < length bytes → get_or bytes 0 0 ≢ 37 → decoded plain bytes ≡ put (meant (get_or bytes 0 0)) (decoded plain (drop 1 bytes))

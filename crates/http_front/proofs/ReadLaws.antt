@@ -1,11 +1,11 @@
 -- Reads into a buffer, one after another.
-use Rattle.std.proofs.Common.{◌≡◌, ℕ, ◌+◌, ◌<◌, ◌≤◌, List, [], ◌++◌, length, refl, sym, ap, ◌∙◌, subst, arith, append-nil, append_assoc, length-append, Result, Ok, Err, IfErr}
+use Rattle.std.proofs.Common.{◌≡◌, ℕ, ◌<◌, ◌≤◌, List, [], ◌++◌, length, sym, ap, ◌∙◌, subst, arith, append-nil, append_assoc, length-append, Result, Ok, Err, IfErr}
 use Rattle.std.specs.Result.{IsErrAnd}
 use Rattle.funnel_io.proofs.Taking.{Takes-nil, Takes-trans}
-use Rattle.funnel_io.specs.Streams.{Incoming, Takes}
+use Rattle.funnel_io.specs.Streams.{Incoming}
 use Rattle.funnel_io.specs.declared.end.End.{End}
 use Rattle.http_front.specs.Entries.{HasNoEntry}
-use Rattle.http_front.specs.Steps.{HasRead, IsStopped, IsUndecided, StopsReading}
+use Rattle.http_front.specs.Steps.{HasRead, IsUndecided, StopsReading}
 
 -- nothing was read
 pub read_none : (now : Incoming) (held : List ℕ) (may : ℕ) → HasRead now now held held may may

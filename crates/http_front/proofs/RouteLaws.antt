@@ -1,8 +1,8 @@
 -- Targets without a route.
 use Rattle.std.proofs.Common.{◌≡◌, ℕ, List, ◌++◌, codes, get_or, ap, subst, arith}
-use Rattle.http_front.specs.Routes.{Document, Documents, EndsFind, Find, HasNoRoute, IsRoute, Place, Route}
+use Rattle.http_front.specs.Routes.{Document, Documents, EndsFind, Find, HasNoRoute, Place}
 
-other_letter : (n : ℕ) → n ≡ 102 → n ≡ 112 → ⊥
+pub other_letter : (n : ℕ) → n ≡ 102 → n ≡ 112 → ⊥
 other_letter n f p = omega arith
 
 -- a find that doesn't end as one has no route

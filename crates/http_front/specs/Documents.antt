@@ -1,9 +1,9 @@
 -- The document that a body is.
-use Rattle.std.specs.Prelude.{ℕ, ◌&&◌, List, Option, Some, None, option_map, option_and_then, if◌then◌else◌, codes, bytes_eq}
+use Rattle.std.specs.Prelude.{ℕ, List, Option, Some, None, option_map, option_and_then, if◌then◌else◌, codes, bytes_eq}
 use Rattle.std.specs.Str.{is_utf8}
 use Rattle.funnel_model.specs.declared.call.Call.{Call}
 use Rattle.funnel_model.specs.declared.call.Call.TheVariants as call
-use Rattle.json.specs.Json.{Json, number, string, object, Members, no_members, member, document}
+use Rattle.json.specs.Json.{Json, number, string, object, no_members, member, document}
 use Rattle.line_proto.specs.Forms.{number_of}
 
 -- one of the two members of a document: its number, or its text

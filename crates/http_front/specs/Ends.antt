@@ -1,8 +1,7 @@
 -- How a connection of requests ends.
 use Rattle.std.specs.Prelude.{◌≡◌, ◌<◌, ◌≤◌, ◌⊎◌, ⊤, ℕ, List, length}
 use Rattle.std.specs.Io.KnownBytes.{IsAtEnd}
-use Rattle.funnel_io.specs.Counts.{counted}
-use Rattle.funnel_io.specs.Streams.{Incoming, Outgoing, Takes, Writes}
+use Rattle.funnel_io.specs.Streams.{Takes, Writes}
 use Rattle.funnel_io.specs.declared.end.End.{End}
 use Rattle.funnel_io.specs.declared.end.End.TheVariants as end_of
 use Rattle.line_proto.specs.Services.{Caller}

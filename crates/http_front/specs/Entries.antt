@@ -1,5 +1,5 @@
 -- The requests of the bytes of a connection.
-use Rattle.std.specs.Prelude.{◌≡◌, ◌≢◌, ◌<◌, ◌⊎◌, ℕ, Bool, true, List, [], ◌∷◌, length, codes, Option, Some, None}
+use Rattle.std.specs.Prelude.{◌≡◌, ◌≢◌, ◌<◌, ◌⊎◌, ℕ, Bool, true, List, [], ◌∷◌, Option, Some, None}
 use Rattle.std.specs.List.{list_any}
 use Rattle.funnel_model.specs.declared.call.Call.{Call}
 use Rattle.funnel_model.specs.declared.call.Call.TheVariants as call
@@ -36,7 +36,8 @@ pub record IsRouted (bytes : List ℕ) (route : Route) (closing : Bool) (body re
   pub matches : IsRoute head.method head.target route
   pub last : closes head ≡ closing
 
--- a body is refused for this cause by the fields of its head: it is sent in a coding, its length isn't said, or it is too long
+-- a body is refused for this cause by the fields of its head: it is sent in a coding, its Content-Length is no number or is there more than
+-- once, or it is too long
 abbrev pub HasBadBody : List (List ℕ × List ℕ) → Cause → Type 0
 HasBadBody fields cause.Coding = codings fields ≢ []
 HasBadBody fields cause.Length = (codings fields ≡ []) × (length_said (lengths fields) ≡ None)

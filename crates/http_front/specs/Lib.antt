@@ -6,6 +6,9 @@ pub mod Entries
 pub mod Responses
 pub mod Sessions
 pub mod Ends
+pub mod Laws
 pub mod Tokens
 pub mod Steps
 pub mod Ready
+pub mod Turns
+pub mod TurnSteps

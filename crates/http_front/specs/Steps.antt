@@ -19,7 +19,7 @@ use Rattle.session.specs.Ends.{Stand, is_read_fault}
 use Rattle.http_front.specs.Entries.{Asks, BeginsWith, Entry, HasBadBody, HasNoEntry, IsRefusedAtHead, ReadsEntry, Refused, asked_by, is_last}
 use Rattle.http_front.specs.Heads.{HasRequest, closes, closes_by, codings, connections, fields_of, has_close, length_said, lengths}
 use Rattle.http_front.specs.Responses.{is_long, text_of}
-use Rattle.http_front.specs.Routes.{Document, Documents, Find, Place, Route}
+use Rattle.http_front.specs.Routes.{Find, Route}
 use Rattle.http_front.specs.Sessions.{Answers, Exchange, Exchanges, entries_of, responses}
 use Rattle.http_front.specs.declared.buffer.TheConstants.{CAPACITY}
 use Rattle.http_front.specs.declared.cause.Cause.{Cause}

@@ -4,6 +4,7 @@ ghost use Rattle.funnel_io.specs.Answers.{MatchGot, bytes_got, read_failed};
 ghost use Rattle.funnel_io.specs.Counts.{counted};
 ghost use Rattle.funnel_io.specs.Streams.{Takes};
 ghost use Rattle.http_front.specs.Steps.{HasRead};
+ghost use Rattle.http_front.specs.TurnSteps.{ReadsOnce};
 
 use crate::front::{MAX_BODY, MAX_HEAD};
 use funnel_io::{Got, Source};
@@ -79,6 +80,7 @@ impl Buffer {
         ensures borrowed { C.borrowed conn.new ≡ C.borrowed conn.old }
         ensures beside { C.beside_read conn.new ≡ C.beside_read conn.old }
         ensures read { HasRead (C.incoming conn.old) (C.incoming conn.new) self.old.bytes self.new.bytes left.old left.new }
+        ensures once { ReadsOnce C.read_gives result conn.old conn.new self.old.bytes self.new.bytes left.old left.new }
         ensures left { MatchGot result (λ _. left.new < left.old) (left.new ≡ left.old) (left.new ≡ left.old) }
         ensures end { MatchGot result (λ _. ⊤) (IsAtEnd (C.incoming conn.new).left) ⊤ }
         ensures faults { (C.incoming conn.new).faults ≡ counted (read_failed result) (C.incoming conn.old).faults }
@@ -105,6 +107,7 @@ impl Buffer {
         ensures borrowed { C.borrowed conn.new ≡ C.borrowed conn.old }
         ensures beside { C.beside_read conn.new ≡ C.beside_read conn.old }
         ensures read { HasRead (C.incoming conn.old) (C.incoming conn.new) self.old.bytes self.new.bytes left.old left.new }
+        ensures once { ReadsOnce C.read_gives result conn.old conn.new self.old.bytes self.new.bytes left.old left.new }
         ensures left { MatchGot result (λ _. left.new < left.old) (left.new ≡ left.old) (left.new ≡ left.old) }
         ensures end { MatchGot result (λ _. ⊤) (IsAtEnd (C.incoming conn.new).left) ⊤ }
         ensures faults { (C.incoming conn.new).faults ≡ counted (read_failed result) (C.incoming conn.old).faults }
@@ -140,6 +143,9 @@ fn read_behind<C: Source>(conn: &mut C, room: &mut [u8], end: usize, left: u64) 
     ensures kept { take end room.new ≡ take end room.old }
     ensures count { MatchGot result (λ n. (1 ≤ n) × (n ≤ left) × (end + n ≤ length room.new)) ⊤ ⊤ }
     ensures takes { Takes (bytes_got result (drop end room.new)) (C.incoming conn.old) (C.incoming conn.new) }
+    ensures gives { C.read_gives conn.old
+        (record { room = min left (length room.old - end); answer = result; bytes = bytes_got result (drop end room.new) })
+        conn.new }
     ensures end { MatchGot result (λ _. ⊤) (IsAtEnd (C.incoming conn.new).left) ⊤ }
     ensures faults { (C.incoming conn.new).faults ≡ counted (read_failed result) (C.incoming conn.old).faults }
 {

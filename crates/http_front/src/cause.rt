@@ -6,7 +6,7 @@ pub enum Cause {
     Head,
     /// The body is sent in a coding.
     Coding,
-    /// The length of the body isn't said, or more than once.
+    /// `Content-Length` is no number, or is there more than once. Without it the length of the body is 0.
     Length,
     /// The body is too long.
     Long,

@@ -1,5 +1,5 @@
 //! An HTTP front of the engine: the requests of one connection (RFC 9112), answered by a service. A request's head and
-//! body are read into one buffer and parsed where they lie. Each response is written whole, by one write, before anything
+//! body are read into one buffer and parsed where they lie. Each response is written whole, at one go, before anything
 //! more is read than the next request needs, so pipelined requests are answered in order. Heads are read by `httparse`,
 //! bodies by `json`.
 #![tactic(auto)]
@@ -12,6 +12,7 @@ mod document;
 mod fields;
 mod front;
 mod head_end;
+mod laws;
 mod numbers;
 mod outcome;
 mod query;
@@ -21,5 +22,6 @@ mod serving;
 
 pub use cause::Cause;
 pub use front::{MAX_BODY, MAX_FIELDS, MAX_HEAD};
+pub use laws::{a_connection_is_one_run_of_calls, bytes_have_one_list_of_requests};
 pub use outcome::Outcome;
 pub use serving::serve_http;

@@ -1,10 +1,13 @@
 ghost use Rattle.std.specs.Prelude.{◌≡◌, ◌<◌, ◌≤◌, ◌+◌, length, [], false, IfNone, IfOk, IfErr, OnOk, MatchOption, Some};
+ghost use Rattle.funnel_io.specs.Calls.{GaveBytes};
 ghost use Rattle.session.specs.Ends.{Stand};
 ghost use Rattle.session.specs.declared.serving.TheConstants.{MOST_BYTES};
 ghost use Rattle.http_front.specs.Ends.{ServesRequests};
 ghost use Rattle.http_front.specs.Entries.{HasNoEntry};
 ghost use Rattle.http_front.specs.Steps.{AnswersFront, HasRead, HasServed, IsFront, StopsReading};
 ghost use Rattle.http_front.specs.Ready.{IsReady};
+ghost use Rattle.http_front.specs.Turns.{StopsRequests};
+ghost use Rattle.http_front.specs.TurnSteps.{FindsEndAs, HasHadTurns, ReadsAsNeeded};
 
 use crate::answering::{Decoding, answer};
 use crate::buffer::{Buffer, CAPACITY};
@@ -35,6 +38,11 @@ pub fn serve_http<S: Service, C: Connection>(
         record { front = S.front service.old; incoming = C.incoming conn.old; outgoing = C.outgoing conn.old }
         record { front = S.front service.new; incoming = C.incoming conn.new; outgoing = C.outgoing conn.new }
         result }
+
+    // A request has its turn only where the response before it was written whole, at one go, and didn't close. Anything more
+    // is read only where each request that is whole had its turn, and every read gave bytes. Nothing is read once `limit`
+    // bytes were taken, and with `Done` the last read found the end, or a response closes.
+    ensures in_turns { StopsRequests C.read_gives C.write_gives limit (result ≡ End.Done) conn.old conn.new }
     ensures untouched { result ≡ End.Memory → (conn.new ≡ conn.old) × (service.new ≡ service.old) }
 {
     let Ok(mut server) = Server::new(alloc, limit) else {
@@ -104,6 +112,9 @@ impl Server {
             record { front = S.front service.new; incoming = C.incoming conn.new; outgoing = C.outgoing conn.new })
             (ServesRequests (S.caller service.old) limit old
             record { front = S.front service.new; incoming = C.incoming conn.new; outgoing = C.outgoing conn.new }) }
+        ensures in_turns { (first : C) → HasHadTurns C.read_gives C.write_gives limit self.old.left self.old.buffer.bytes first conn.old →
+            MatchOption result (HasHadTurns C.read_gives C.write_gives limit self.new.left self.new.buffer.bytes first conn.new)
+            (λ end. StopsRequests C.read_gives C.write_gives limit (end ≡ End.Done) first conn.new) }
         ensures started { result ≡ Some End.Memory → ⊥ }
         ensures fewer { IfNone result (length self.new.buffer.bytes + self.new.left < length self.old.buffer.bytes + self.old.left) }
     {
@@ -158,6 +169,10 @@ impl Server {
         ensures front { IfOk result (IsFront self.new.buffer.bytes) }
         ensures stops { IfErr result (λ end. StopsReading HasNoEntry limit end
             (C.incoming conn.old) (C.incoming conn.new) self.old.buffer.bytes self.new.buffer.bytes self.old.left self.new.left) }
+        ensures going_on { OnOk result (ReadsAsNeeded HasNoEntry GaveBytes C.read_gives conn.old conn.new
+            self.old.buffer.bytes self.new.buffer.bytes self.old.left self.new.left) }
+        ensures last { IfErr result (λ end. ReadsAsNeeded HasNoEntry (FindsEndAs end) C.read_gives conn.old conn.new
+            self.old.buffer.bytes self.new.buffer.bytes self.old.left self.new.left) }
     {
         loop {
             match look(self.buffer.bytes(), &mut self.spans) {
@@ -185,6 +200,10 @@ impl Server {
         ensures fewer { OnOk result (self.new.left < self.old.left) }
         ensures stops { IfErr result (λ end. StopsReading (λ bytes. length bytes < least) limit end
             (C.incoming conn.old) (C.incoming conn.new) self.old.buffer.bytes self.new.buffer.bytes self.old.left self.new.left) }
+        ensures going_on { OnOk result (ReadsAsNeeded (λ bytes. length bytes < least) GaveBytes C.read_gives conn.old conn.new
+            self.old.buffer.bytes self.new.buffer.bytes self.old.left self.new.left) }
+        ensures last { IfErr result (λ end. ReadsAsNeeded (λ bytes. length bytes < least) (FindsEndAs end) C.read_gives conn.old conn.new
+            self.old.buffer.bytes self.new.buffer.bytes self.old.left self.new.left) }
     {
         while self.buffer.len() < least {
             if self.left == 0 {

@@ -4,7 +4,7 @@ ghost use Rattle.funnel_model.specs.Configuration.{IsBetween, IsInRange};
 ghost use Rattle.funnel_model.specs.Sizes.{columns_of_slice};
 ghost use Rattle.funnel_model.specs.declared.config.TheConstants.{MOST_ROW_WORDS};
 ghost use Rattle.pool_tests.specs.Sizes.{sizes_of};
-ghost use Rattle.slice_rule.specs.Seats.{CanEnd, new_home_state, new_pass_state};
+ghost use Rattle.slice_rule.specs.Seats.{IsSeated, new_home_state, new_pass_state};
 
 use funnel_model::{Config, Listed};
 use slice_rule::{Ended, Home, PassSeat, Pool};
@@ -68,8 +68,8 @@ pub(crate) fn open_two(alloc: Global, slices: u32, slice_words: u32) -> Result<O
 /// Closes a pool of two passes, which come back to it.
 pub(crate) fn close_two(pool: Pool, mut home: Home, first: PassSeat, second: PassSeat) -> Ended
     requires home { home.pool ≡ pool }
-    requires first { CanEnd pool first }
-    requires second { CanEnd pool second }
+    requires first { IsSeated pool first }
+    requires second { IsSeated pool second }
     ensures { result.history ≡ home.history }
 {
     pool.end_pass(&mut home, first);

@@ -37,6 +37,7 @@ static COMMANDS: [(&[&str], Command); 9] = [
             connections: 4_294_967_296,
             idle: 0,
             one_port: false,
+            http: false,
         }),
     ),
     (
@@ -47,6 +48,7 @@ static COMMANDS: [(&[&str], Command); 9] = [
             connections: 1,
             idle: 0,
             one_port: false,
+            http: false,
         }),
     ),
     (
@@ -65,6 +67,7 @@ static COMMANDS: [(&[&str], Command); 9] = [
             connections: 4_294_967_296,
             idle: 0,
             one_port: false,
+            http: false,
         }),
     ),
     (
@@ -84,16 +87,18 @@ static COMMANDS: [(&[&str], Command); 9] = [
             connections: 9,
             idle: 86_400,
             one_port: false,
+            http: false,
         }),
     ),
     (
-        &["serve", "--one-port", "--port=9", "--workers=3"],
+        &["serve", "--one-port", "--port=9", "--workers=3", "--http"],
         Command::Serve(ServeCommand {
             port: 9,
             workers: 3,
             connections: 4_294_967_296,
             idle: 0,
             one_port: true,
+            http: true,
         }),
     ),
     (

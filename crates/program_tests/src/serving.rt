@@ -37,9 +37,17 @@ const LINES: &[u8] = b"add 7 The cat sat\nfind CAT\n";
 
 const REPLIES: &[u8] = b"added 1\nfound 1 7\n";
 
+const REQUESTS: &[u8] =
+    b"POST /documents HTTP/1.1\r\nHost: a\r\nContent-Length: 25\r\n\r\n{\"id\":7,\"text\":\"The cat\"}\
+GET /find?q=CAT HTTP/1.1\r\nHost: a\r\n\r\n";
+
+const RESPONSES: &[u8] =
+    b"HTTP/1.1 201 Created\r\nContent-Type: application/json\r\nContent-Length: 11\r\n\r\n{\"place\":1}\
+HTTP/1.1 200 OK\r\nContent-Type: application/json\r\nContent-Length: 11\r\n\r\n{\"ids\":[7]}";
+
 const WHOLE: Faults = (&[], &[]);
 
-static SERVES: [ServeRow; 4] = [
+static SERVES: [ServeRow; 5] = [
     // A gate that fails ends its worker alone, at its first call
     ServeRow {
         words: TWO,
@@ -106,6 +114,17 @@ static SERVES: [ServeRow; 4] = [
         }],
         status: 0,
     },
+    // Requests over HTTP are answered.
+    ServeRow {
+        words: &["serve", "--port=7000", "--workers=1", "--http"],
+        lines: REQUESTS,
+        gates: &[GateRow {
+            fails: &[],
+            conns: &[WHOLE],
+            sessions: &[(End::Done, RESPONSES)],
+        }],
+        status: 0,
+    },
 ];
 
 /// A connection that sends these lines.
@@ -113,7 +132,7 @@ fn conn_of(alloc: Global, lines: &[u8], faults: &Faults) -> Result<MemConn, Fail
     ensures { IfOk result IsUnused }
 {
     let source = source_of(alloc, &[lines], faults.0)?;
-    let sink = MemSink::new(alloc, 100, faults.1.to_vec(alloc)?)?;
+    let sink = MemSink::new(alloc, 200, faults.1.to_vec(alloc)?)?;
     Ok(MemConn::new(source, sink))
 }
 

@@ -1,5 +1,10 @@
 -- What a scan appends to candidates.
-use Rattle.std.specs.Prelude.{◌≡◌, ℕ, ◌++◌, List, map, drop, length}
+use Rattle.std.specs.Prelude.{◌≡◌, ℕ, ◌<◌, ◌++◌, List, map, drop, length, All, Contains}
+use Rattle.funnel_model.specs.declared.bit_list.Bit.{Bit}
+use Rattle.funnel_model.specs.declared.config.Config.{Config}
+use Rattle.funnel_model.specs.Sizes.{columns_of_slice, words_of_slice}
+use Rattle.row_layout.specs.DocumentBits.{bit_of_row}
+use Rattle.row_layout.specs.declared.row.Row.{Row}
 
 -- the columns of the candidates after those that were there before
 abbrev pub appended : List (ℕ × ℕ) → List (ℕ × ℕ) → List ℕ
@@ -12,3 +17,11 @@ candidates_of slice columns = map (λ column. (slice, column)) columns
 -- the second list begins with the first
 abbrev pub IsBeginning : List ℕ → List ℕ → Type 0
 IsBeginning front whole = (rest : List ℕ) × (whole ≡ front ++ rest)
+
+-- of this column of the slice, the bits in all of these rows are such bits
+abbrev pub HasBits : (Bit → Type 0) → Config → List Row → ℕ → ℕ → Type 0
+HasBits IsOne layout rows slice column = All (λ row. IsOne (bit_of_row (words_of_slice layout) slice column row)) rows
+
+-- each column of the slice that has such bits in all of these rows is among these
+abbrev pub HasEach : (Bit → Type 0) → Config → List Row → ℕ → List ℕ → Type 0
+HasEach IsOne layout rows slice columns = (column : ℕ) → column < columns_of_slice layout → HasBits IsOne layout rows slice column → Contains columns column

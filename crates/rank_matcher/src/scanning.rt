@@ -1,13 +1,12 @@
-ghost use Rattle.std.specs.Prelude.{◌≡◌, ℕ, ◌+◌, ◌<◌, ◌≤◌, ◌++◌, ◌↔◌, All, Contains, IfSome, OnOk};
+ghost use Rattle.std.specs.Prelude.{◌≡◌, ℕ, ◌+◌, ◌<◌, ◌≤◌, ◌++◌, ◌↔◌, All, IfSome, OnOk};
 ghost use Rattle.std.specs.List.Sorted.{IsStrictlySortedBy};
 ghost use Rattle.std.specs.Ordering.{nat_cmp};
 ghost use Rattle.funnel_model.specs.Legal.{IsInSlice};
 ghost use Rattle.funnel_model.specs.Sizes.{columns_of_slice, words_of_slice};
 ghost use Rattle.funnel_model.specs.declared.bit_list.Bit.{Bit};
-ghost use Rattle.rank_matcher.specs.Appended.{IsBeginning, appended, candidates_of};
+ghost use Rattle.rank_matcher.specs.Appended.{HasBits, HasEach, IsBeginning, appended, candidates_of};
 ghost use Rattle.rank_matcher.specs.Hits.{hits};
 ghost use Rattle.rank_matcher.specs.Reads.{shown_reads, reads_of_scan, words_of_plan};
-ghost use Rattle.row_layout.specs.DocumentBits.{bit_of_row};
 ghost use Rattle.row_layout.specs.Rows.{IsRowOf};
 
 use crate::walk::{Search, visit};
@@ -30,12 +29,14 @@ pub fn scan<R: Rows>(
     ensures appends { out.new ≡ out.old ++ candidates_of slice (appended out.old out.new) }
     ensures hits { OnOk result (IfSome (R.told rows.old) (λ words. appended out.old out.new ≡ hits layout.now words plan.now slice)) }
     ensures part_of_hits { IfSome (R.told rows.old) (λ words. IsBeginning (appended out.old out.new) (hits layout.now words plan.now slice)) }
-    ensures covered { OnOk result ((column : ℕ) → column < columns_of_slice layout.now → All (λ row. R.least rows.old (bit_of_row (words_of_slice layout.now) slice column row)) plan.now → Contains (appended out.old out.new) column) }
+    ensures covered { OnOk result (HasEach (R.least rows.old) layout.now plan.now slice (appended out.old out.new)) }
     ensures in_slice { All (λ column. column < columns_of_slice layout.now) (appended out.old out.new) }
     ensures rising { IsStrictlySortedBy nat_cmp (appended out.old out.new) }
-    ensures seen { All (λ column. All (λ row. R.seen rows.new (bit_of_row (words_of_slice layout.now) slice column row)) plan.now) (appended out.old out.new) }
-    ensures reads { OnOk result (IfSome (R.told rows.old) (λ words. shown_reads (R.reads rows.new) ≡ shown_reads (R.reads rows.old + reads_of_scan layout.now words plan.now slice))) }
-    ensures part_of_reads { IfSome (R.told rows.old) (λ words. shown_reads (R.reads rows.new) ≤ R.reads rows.old + reads_of_scan layout.now words plan.now slice) }
+    ensures seen { All (HasBits (R.seen rows.new) layout.now plan.now slice) (appended out.old out.new) }
+    ensures reads { OnOk result (IfSome (R.told rows.old)
+        (λ words. shown_reads (R.reads rows.new) ≡ shown_reads (R.reads rows.old + reads_of_scan layout.now words plan.now slice))) }
+    ensures part_of_reads { IfSome (R.told rows.old)
+        (λ words. shown_reads (R.reads rows.new) ≤ R.reads rows.old + reads_of_scan layout.now words plan.now slice) }
     ensures reads_at_most { shown_reads (R.reads rows.new) ≤ R.reads rows.old + words_of_plan plan.now }
     ensures seen_stays { (bit : Bit) → R.seen rows.old bit → R.seen rows.new bit }
     ensures reach_stays { (other : ℕ) → R.reach rows.old other ↔ R.reach rows.new other }

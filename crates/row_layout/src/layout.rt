@@ -11,14 +11,14 @@ ghost use Rattle.term_hash.specs.Hash.{fnv_1a};
 ghost use Rattle.row_layout.specs.Rows.{IsRowOf, IsSharedRow, hashed_row, hashed_rows, private_row, row_count_of_word, row_of_word, rows_of_word, rows_of_words};
 
 use crate::class_table::ClassTable;
-use crate::listed_rows::{bases_of, copy_of, rows_of_listed, width_of};
+use crate::listed_rows::{bases_of, copy_of, row_counts, rows_of_listed, width_of};
 use crate::row::Row;
 use crate::word_rows::WordRows;
 use crate::word_table::WordTable;
 use funnel_model::{Config, Memory, WordSet};
 use std::alloc::Global;
 use std::marker::Model;
-use term_hash::WordHash;
+use term_hash::{RowCount, WordHash};
 use treatment::{LAST_CLASS, sizes};
 
 /// Where the rows of every word lie under a configuration. Contracts see the configuration.
@@ -29,7 +29,7 @@ use treatment::{LAST_CLASS, sizes};
 pub struct Layout {
     config: Config,
     /// The shared rows of each rank.
-    rows: [u32; 7],
+    rows: [RowCount; 7],
     /// Where the rows of each rank begin in a slice.
     bases: [u32; 7],
     slice_words: u32,
@@ -66,7 +66,7 @@ impl Layout {
         let classes = ClassTable::new(&config);
         Ok(Layout {
             config,
-            rows: sizes.rows,
+            rows: row_counts(&sizes.rows),
             bases,
             slice_words: sizes.slice_words as u32,
             classes,
@@ -250,7 +250,7 @@ impl Layout {
         ensures laid { IsSharedRow self.now result }
     {
         let rank = self.classes.ranks[class as usize][j as usize];
-        let number = hash.row(j, self.rows[rank as usize]);
+        let number = hash.row(j, &self.rows[rank as usize]);
         let width = width_of(&self.config, rank);
         Row {
             start: self.bases[rank as usize] + number * width,

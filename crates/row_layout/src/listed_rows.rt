@@ -9,6 +9,8 @@ ghost use Rattle.row_layout.specs.Layouts.{word_rows};
 use crate::word_rows::WordRows;
 use funnel_model::{Config, Listed, Memory};
 use std::alloc::Global;
+use std::cmp::Ord;
+use term_hash::RowCount;
 use treatment::{Sizes, class};
 
 /// A copy of a configuration.
@@ -60,6 +62,21 @@ pub(crate) fn rows_of_listed(alloc: Global, config: &Config) -> Result<Vec<WordR
         }
     }
     Ok(rows)
+}
+
+/// The numbers of rows of each rank. A rank without rows counts as one row.
+pub(crate) fn row_counts(rows: &[u32; 7]) -> [RowCount; 7]
+    ensures { (rank : ℕ) → 1 ≤ slice_index rows.now rank → slice_index result rank ≡ slice_index rows.now rank }
+{
+    [
+        RowCount::new(rows[0].max(1)),
+        RowCount::new(rows[1].max(1)),
+        RowCount::new(rows[2].max(1)),
+        RowCount::new(rows[3].max(1)),
+        RowCount::new(rows[4].max(1)),
+        RowCount::new(rows[5].max(1)),
+        RowCount::new(rows[6].max(1)),
+    ]
 }
 
 /// Where the rows of each rank begin in a slice.

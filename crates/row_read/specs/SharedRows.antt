@@ -22,7 +22,7 @@ pub record IsInReach (shared : Shared) (word : ℕ) : Type 0 where
   pub readable : Contains shared.token.now.slices slice
   pub inside : IsInSlice shared.pool.now.limits.slice_words slice word
 
--- the bit is one of an add that the pass has seen, in a slice of the token, and it has seen no later clear of that slice
+-- the bit is one of an add or a move that the pass has seen, in a slice of the token, and it has seen no later clear of that slice
 abbrev pub IsCommittedUnder : Shared → Bit → Type 0
 IsCommittedUnder shared b = (slice : ℕ) × Contains shared.token.now.slices slice × IsCommitted shared.seat.now.front slice b
 

@@ -1,4 +1,4 @@
-ghost use Rattle.std.specs.Prelude.{◌≡◌, ℕ, ◌+◌, ◌-◌, ◌^◌, ◌↔◌, min, IsBitSet, List, IfSome, slice_index};
+ghost use Rattle.std.specs.Prelude.{◌≡◌, ℕ, ◌+◌, ◌-◌, ◌^◌, ◌↔◌, ◌⊎◌, min, IsBitSet, List, IfSome, slice_index};
 ghost use Rattle.std.specs.declared.option.Option.{Option};
 ghost use Rattle.funnel_model.specs.declared.bit_list.Bit.{Bit};
 
@@ -29,8 +29,7 @@ pub trait Rows {
         requires reach { reach self.old word }
         ensures told { IfSome (told self.old) (λ words. result ≡ slice_index words word) }
         ensures least { (bit : ℕ) → least self.old (record { word = word; bit = bit }) → IsBitSet result bit }
-        ensures seen { (bit : ℕ) → IsBitSet result bit → seen self.new (record { word = word; bit = bit }) }
-        ensures seen_stays { (bit : Bit) → seen self.old bit → seen self.new bit }
+        ensures seen { (bit : Bit) → seen self.new bit ↔ (seen self.old bit ⊎ ((bit.word ≡ word) × IsBitSet result bit.bit)) }
         ensures reach_stays { (other : ℕ) → reach self.old other ↔ reach self.new other }
         ensures least_stays { (bit : Bit) → least self.old bit ↔ least self.new bit }
         ensures told_stays { told self.new ≡ told self.old }

@@ -38,7 +38,8 @@ use Rattle.slice_rule.specs.Tells.{AppendsEvent, Seated}
 use Rattle.slice_rule.specs.Views.{with_event}
 use Rattle.slice_rule.specs.Worlds.{LacksAtMostOne, World, made_by}
 use Rattle.slice_rule.proofs.Numbering.{home_at}
-use Rattle.slice_rule.proofs.Prefixes.{made_by-other, made_by-own, prefix_more, prefix_self, prefix_trans, prefix_whole}
+use Rattle.funnel_model.proofs.StepLemmas.{prefix_trans}
+use Rattle.slice_rule.proofs.Prefixes.{made_by-other, made_by-own, prefix_more, prefix_self, prefix_whole}
 use Rattle.slice_rule.proofs.Seating.{each-set, given-set, refits, same_kind}
 
 -- the world after the event

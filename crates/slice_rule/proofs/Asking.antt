@@ -19,7 +19,8 @@ use Rattle.slice_rule.specs.Rule.{CountsPasses, Fits, FitsRole, HasKnownBits, Is
 use Rattle.slice_rule.specs.Tells.{AsksFor, Seated}
 use Rattle.slice_rule.specs.Views.{with_asked}
 use Rattle.slice_rule.specs.Worlds.{LacksAtMostOne, World, made_by}
-use Rattle.slice_rule.proofs.Prefixes.{front_is, made_by-prefix, none_since, prefix_length, prefix_more, prefix_self, prefix_trans}
+use Rattle.funnel_model.proofs.StepLemmas.{prefix_trans}
+use Rattle.slice_rule.proofs.Prefixes.{front_is, made_by-prefix, none_since, prefix_length, prefix_more, prefix_self}
 use Rattle.std.proofs.lemmas.List.{drop-set-lt}
 use Rattle.std.specs.List.{All}
 use Rattle.funnel_model.specs.RowWords.{AreFresh, Covers, IsSetIn}

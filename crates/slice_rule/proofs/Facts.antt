@@ -18,7 +18,7 @@ use Rattle.slice_rule.specs.Numbers.{takes_in}
 use Rattle.slice_rule.specs.Rule.{IsKnownSet, IsKnownZero, IsTrueFact}
 use Rattle.slice_rule.specs.Worlds.{World}
 use Rattle.slice_rule.proofs.Since.{event-more}
-use Rattle.slice_rule.proofs.Prefixes.{prefix_trans}
+use Rattle.funnel_model.proofs.StepLemmas.{prefix_trans}
 
 -- an event that is one of some is one of more
 any_more : (test : Event → Bool) (later more : List Event) → list_any test later ≡ true → list_any test (later ++ more) ≡ true

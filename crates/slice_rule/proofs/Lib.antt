@@ -15,6 +15,7 @@ pub mod Clearing
 pub mod Reading
 pub mod OwnSteps
 pub mod KeptStates
+pub mod SeatedPasses
 pub mod Opening
 mod Told
 pub mod Sharing

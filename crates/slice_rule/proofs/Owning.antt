@@ -1,12 +1,12 @@
 -- Set bits keep to their owners, and passes know what they have to of owned bits: with fewer set bits, with one more event, and where a pass
 -- did or asked something.
-use Rattle.std.proofs.Common.{◌≡◌, ℕ, ◌+◌, ◌≤◌, ⊎_elim, Bool, true, false, cond, ◌==◌, List, [], ◌∷◌, ◌++◌, length, refl, ap, sym, ◌∙◌, subst, arith, length-append}
+use Rattle.std.proofs.Common.{◌≡◌, ℕ, ⊎_elim, Bool, true, false, cond, ◌==◌, List, [], ◌∷◌, ◌++◌, length, refl, ap, sym, ◌∙◌, subst, arith, length-append}
 use Rattle.std.proofs.lemmas.Bool.{both_ways, cases_eq, eq-eqb, false≢true, or_from, or_left}
 use Rattle.std.proofs.lemmas.List.Elements.{Contains-append_right}
-use Rattle.std.specs.List.{Contains, list_any}
+use Rattle.std.specs.List.{Contains}
 use Rattle.std.specs.Int.{IsBitSet}
 use Rattle.std.specs.Option.{is_some}
-use Rattle.std.specs.Prelude.{slice_index, Some, ◌&&◌}
+use Rattle.std.specs.Prelude.{Some, ◌&&◌}
 use Rattle.funnel_model.specs.declared.bit_list.Bit.{Bit}
 use Rattle.funnel_model.specs.declared.config.Config.{Config}
 use Rattle.funnel_model.specs.declared.event.Event.{Event}
@@ -22,7 +22,7 @@ use Rattle.funnel_model.proofs.Columns.{last_is_pending, over_is_claimed}
 use Rattle.funnel_model.proofs.LastEvents.{clears_is}
 use Rattle.funnel_model.proofs.Spans.{claims, is_claimed-push, last_by-other, last_by-own}
 use Rattle.funnel_model.proofs.TuningLemmas.{treat-later}
-use Rattle.row_layout.specs.Owners.{KeepToOwners, Owns, OwnsIn, StandsOn}
+use Rattle.row_layout.specs.Owners.{KeepToOwners, Owns, OwnsIn}
 use Rattle.row_layout.proofs.Standing.{put_there, puts_there, stands_before}
 use Rattle.slice_rule.specs.declared.view.Role.{Role}
 use Rattle.slice_rule.specs.declared.view.Role.TheVariants as role

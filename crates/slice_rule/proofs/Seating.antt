@@ -10,7 +10,7 @@ use Rattle.atomic_table.proofs.Lists.{at_longer, at_set, set_else, set_here}
 use Rattle.funnel_model.specs.declared.config.Config.{Config}
 use Rattle.funnel_model.specs.Legal.{Limits}
 use Rattle.slice_rule.specs.declared.view.View.{View}
-use Rattle.slice_rule.specs.Rule.{Fits, FitsRole, HasSizes, HaveSeats, IsHomeRole, IsKept, IsPassRole, IsSeatOf, IsTrueFact, KnowsByRole}
+use Rattle.slice_rule.specs.Rule.{Fits, FitsRole, HasSizes, HaveSeats, IsHomeRole, IsKept, IsPassRole, IsSeatOfKind, IsTrueFact, KnowsByRole}
 use Rattle.slice_rule.specs.declared.view.Role.{Role}
 use Rattle.slice_rule.specs.declared.view.Role.TheVariants as role
 use Rattle.slice_rule.specs.declared.view.Fact.{Fact}
@@ -18,7 +18,8 @@ use Rattle.slice_rule.specs.declared.view.Fact.TheVariants as fact
 use Rattle.slice_rule.specs.Pools.{row_words}
 use Rattle.slice_rule.specs.Views.{facts_of, note_of, spent, taken_in}
 use Rattle.slice_rule.specs.Worlds.{World}
-use Rattle.slice_rule.proofs.Prefixes.{prefix_self, prefix_trans}
+use Rattle.funnel_model.proofs.StepLemmas.{prefix_trans}
+use Rattle.slice_rule.proofs.Prefixes.{prefix_self}
 use Rattle.std.specs.List.{All}
 
 -- a place where something stands is one of the list
@@ -54,7 +55,7 @@ home_kind before after numbered seats is still = record {
 
 -- a seat of a kind is there still where a seat gets a view of that kind, if it had one
 kind-set : (HasKind : Role → Type 0) (views : List View) (id at_id : ℕ) (v w : View) → get_elem? views id ≡ some v → (HasKind v.role → HasKind w.role)
-    → IsSeatOf HasKind views at_id → IsSeatOf HasKind (set views id w) at_id
+    → IsSeatOfKind HasKind views at_id → IsSeatOfKind HasKind (set views id w) at_id
 kind-set HasKind views id at_id v w at keeps has =
     ⊎_elim
     (λ (here : at_id ≡ id).
@@ -68,7 +69,7 @@ kind-set HasKind views id at_id v w at keeps has =
     (cases_eq at_id id)
 
 -- and where there is a new seat
-pub kind-snoc : (HasKind : Role → Type 0) (views : List View) (id : ℕ) (w : View) → IsSeatOf HasKind views id → IsSeatOf HasKind (views ++ w ∷ []) id
+pub kind-snoc : (HasKind : Role → Type 0) (views : List View) (id : ℕ) (w : View) → IsSeatOfKind HasKind views id → IsSeatOfKind HasKind (views ++ w ∷ []) id
 kind-snoc HasKind views id w has = record { view = has.view; at = at_longer views (w ∷ []) id has.view has.at; kind = has.kind }
 
 -- the home and each pass have their seats still where a seat gets a view of the same kind

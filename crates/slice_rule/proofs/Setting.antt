@@ -41,7 +41,8 @@ use Rattle.slice_rule.specs.Views.{last_of, pass_of_role, with_own}
 use Rattle.slice_rule.specs.Worlds.{made_by}
 use Rattle.slice_rule.proofs.Facts.{KeepsFacts, still_set, still_zero}
 use Rattle.slice_rule.proofs.Asking.{front_at, all_made, pass_at}
-use Rattle.slice_rule.proofs.Bits.{or_has, or_keeps, or_sets}
+use Rattle.funnel_model.proofs.SetBits.{or_keeps, or_sets}
+use Rattle.slice_rule.proofs.Bits.{or_has}
 use Rattle.slice_rule.proofs.Owning.{knows-own}
 use Rattle.slice_rule.proofs.RowChanges.{in_pool, writes_row}
 use Rattle.slice_rule.proofs.Since.{comes_later, is_last, none_cleared, number-front, one_event}
@@ -92,7 +93,7 @@ module _ (limits : Limits) (history : List Event) (rows : List ℕ) (legal : IsL
     stays_set b is = ⊎_elim
         (λ (here : b.word ≡ word). subst (λ (w : ℕ). IsBitSet (get_or more w 0) b.bit) (sym here)
         (subst (λ (n : ℕ). IsBitSet n b.bit) (sym (get_or-set_same rows word (bit_or (get_or rows word 0) (2 ^ bit)) 0 small))
-        (or_keeps (get_or rows word 0) bit b.bit (subst (λ (w : ℕ). IsBitSet (get_or rows w 0) b.bit) here is))))
+        (or_keeps (get_or rows word 0) (2 ^ bit) b.bit (subst (λ (w : ℕ). IsBitSet (get_or rows w 0) b.bit) here is))))
         (λ (other : b.word ≡ word → ⊥). subst (λ (n : ℕ). IsBitSet n b.bit) (sym (get_or-set_other rows word b.word (bit_or (get_or rows word 0) (2 ^ bit)) 0 other)) is)
         (cases_eq b.word word)
 

@@ -15,7 +15,8 @@ use Rattle.slice_rule.specs.Rule.{FitsRole, HasSizes, IsKept}
 use Rattle.slice_rule.specs.Tells.{HasLegalFront, Learns, Seated, Settles}
 use Rattle.slice_rule.specs.Views.{longer, settled}
 use Rattle.slice_rule.specs.Worlds.{LacksAtMostOne, made_by}
-use Rattle.slice_rule.proofs.Prefixes.{longer_is, made_by-prefix, prefix_length, prefix_trans, prefix_whole}
+use Rattle.funnel_model.proofs.StepLemmas.{prefix_trans}
+use Rattle.slice_rule.proofs.Prefixes.{longer_is, made_by-prefix, prefix_length, prefix_whole}
 use Rattle.slice_rule.proofs.Seating.{viewed}
 
 -- between two beginnings of what a pass asked that lacks at most one

@@ -1,4 +1,4 @@
--- After each legal history the rule holds of some pool: one whose passes have all seen the whole history, asked nothing that it lacks,
+-- After each legal history the rule holds of some pool, where there are row words that fit the history: one whose passes have all seen the whole history, asked nothing that it lacks,
 -- and know nothing of bits and words.
 use Rattle.std.specs.Prelude.{◌≡◌, ℕ, ◌*◌, ◌^◌, ◌<◌, List, [], ◌∷◌, ◌++◌, length, map, Some}
 use Rattle.std.specs.List.{range_with_len}
@@ -32,8 +32,8 @@ pool_after limits config history rows = record {
   views = home_after limits config history ∷ map (pass_after limits config history) (range_with_len 0 limits.passes);
 }
 
--- a history that is legal can be that of a pool, with any row words that cover it, keep to their owners and are fresh, and in which no
--- bit is set that a pending column owns
+-- a history that is legal, and row words that fit it: they cover it, keep to their owners and are fresh, and no bit is set in them that a
+-- pending column owns
 pub record CanBeKept (limits : Limits) (config : Config) (history : List Event) (rows : List ℕ) : Type 0 where
   pub legal : IsLegal limits history
   pub few : length history < 2 ^ 63

@@ -6,3 +6,4 @@ pub mod Rule
 pub mod Tells
 pub mod Seats
 pub mod Kept
+pub mod SeatedPasses

@@ -122,7 +122,7 @@ pub record Fits (limits : Limits) (config : Config) (world : World) (words : Lis
   pub bits : KnowsByRole limits config world.history (row_words limits words) v.asked v.own v.role
 
 -- the seat with this id has a role of this kind
-pub record IsSeatOf (HasKind : Role → Type 0) (views : List View) (id : ℕ) : Type 0 where
+pub record IsSeatOfKind (HasKind : Role → Type 0) (views : List View) (id : ℕ) : Type 0 where
   pub view : View
   pub at : get_elem? views id ≡ some view
   pub kind : HasKind view.role
@@ -138,8 +138,8 @@ IsPassRole pass r = r ≡ role.Pass pass
 
 -- the home has its seat, and so has each pass that was given one
 pub record HaveSeats (world : World) (views : List View) : Type 0 where
-  pub home : IsSeatOf IsHomeRole views world.home
-  pub passes : (pass : ℕ) → pass < world.seated → IsSeatOf (IsPassRole pass) views (world.seat pass)
+  pub home : IsSeatOfKind IsHomeRole views world.home
+  pub passes : (pass : ℕ) → pass < world.seated → IsSeatOfKind (IsPassRole pass) views (world.seat pass)
 
 -- the rule of a pool of these sizes that was made with this configuration: beside the counts and what the seats know, the row words have
 -- each bit that the history has committed, their set bits keep to their owners, and the words of a slice without a claimed column are zero

@@ -8,6 +8,7 @@ use Rattle.funnel_model.specs.declared.claim.Claim.{Claim}
 use Rattle.funnel_model.specs.declared.claim.ClearJob.{ClearJob}
 use Rattle.funnel_model.specs.declared.claim.Token.{Token}
 use Rattle.funnel_model.specs.History.{last_by, place}
+use Rattle.funnel_model.specs.RowWords.{IsCommitted}
 use Rattle.funnel_model.specs.Slices.{IsInUse}
 use Rattle.funnel_model.specs.Tokens.{HasToken, MayRead}
 use Rattle.funnel_model.specs.declared.event.Event.TheVariants as event
@@ -139,6 +140,15 @@ pub record HoldsToken (pass : PassState) (token : Token) : Type 0 where
   pub at_place : token.place ≡ place begun.earlier
   pub slices : (slice : ℕ) → Contains token.slices slice ↔ ((slice < pass.pool.limits.slices) × IsInUse pass.pool.limits.columns slice begun.earlier)
 
+-- the word's value has each bit that the pass has seen committed in a slice of its token
+abbrev pub HasCommitted : PassState → Token → ℕ → ℕ → Type 0
+HasCommitted pass token word value =
+    (slice bit : ℕ) → Contains token.slices slice → IsCommitted pass.front slice (record { word = word; bit = bit }) → IsBitSet value bit
+
+-- the pass made each word of the slice zero, under its last event
+abbrev pub HasZeroed : Limits → ℕ → PassState → Type 0
+HasZeroed limits slice pass = (word : ℕ) → IsInSlice limits.slice_words slice word → Contains pass.own (fact.WordZero (last_number pass.number pass.front) word)
+
 -- The pass read this bit as set, under its find with this number. Where a column of a slice that it may read owns the bit, each add or move
 -- that stands on that column, as the pass has seen, has it among its bits.
 pub record WasReadUnder (pass : PassState) (number : ℕ) (bit : Bit) : Type 0 where
@@ -170,8 +180,8 @@ IsBacked limits told history _ = Unit {0}
 abbrev pub after_append : HomeState → Event → HomeState
 after_append home e = record home { history = home.history ++ e ∷ [] }
 
--- a pass of this pool that has nothing outstanding
-pub record CanEnd (pool : PoolId) (pass : PassState) : Type 0 where
+-- the pass is of this pool, and asked nothing that it hasn't seen
+pub record IsSeated (pool : PoolId) (pass : PassState) : Type 0 where
   pub same : pass.pool ≡ pool
   pub none_outstanding : HasNoneOutstanding pass
 

@@ -1,6 +1,6 @@
 ghost use Rattle.std.specs.Prelude.{◌≡◌, length};
 ghost use Rattle.funnel_model.specs.Legal.{IsLegal};
-ghost use Rattle.slice_rule.specs.Seats.{CanEnd, HasEnded};
+ghost use Rattle.slice_rule.specs.Seats.{HasEnded, IsSeated};
 
 use crate::pool::Pool;
 use crate::seats::{Home, Note, PassSeat};
@@ -30,7 +30,7 @@ impl Pool {
     /// in the history are those that it asked.
     pub fn end_pass(&self, home: &mut Home, mut seat: PassSeat)
         requires home { home.old.pool ≡ self.now }
-        requires ready { CanEnd self.now seat }
+        requires seated { IsSeated self.now seat }
         ensures pool { home.new.pool ≡ home.old.pool }
         ensures history { home.new.history ≡ home.old.history }
         ensures pass { HasEnded home.old.history seat }

@@ -4,12 +4,11 @@ ghost use Rattle.std.specs.Prelude.{◌≡◌, ℕ, ◌<◌, Contains, IsBitSet}
 ghost use Rattle.funnel_model.specs.declared.event.Event.{Event};
 ghost use Rattle.funnel_model.specs.Events.{bits_on};
 ghost use Rattle.funnel_model.specs.Legal.{IsInSlice};
-ghost use Rattle.funnel_model.specs.RowWords.{IsCommitted};
 ghost use Rattle.funnel_model.specs.Tokens.{MayRead};
 ghost use Rattle.row_layout.specs.Owners.{Owns, StandsOn};
 ghost use Rattle.slice_rule.specs.declared.view.Fact.TheVariants as fact;
 ghost use Rattle.slice_rule.specs.Numbers.{last_number};
-ghost use Rattle.slice_rule.specs.Seats.{HasNoneOutstanding, HoldsClaim, HoldsJob, HoldsToken, KeepsToColumn, after_own};
+ghost use Rattle.slice_rule.specs.Seats.{HasCommitted, HasNoneOutstanding, HoldsClaim, HoldsJob, HoldsToken, KeepsToColumn, after_own};
 
 use crate::plays::{Clears, Reads, Sets};
 use crate::pool::Pool;
@@ -43,7 +42,7 @@ impl Pool {
         requires none_outstanding { HasNoneOutstanding seat.old }
         requires inside { (slice : ℕ) × Contains token.now.slices slice × IsInSlice self.now.limits.slice_words slice word }
         ensures seat { seat.new ≡ after_own seat.old (fact.WordRead token.now.opened_at word result) }
-        ensures least { (slice bit : ℕ) → Contains token.now.slices slice → IsCommitted seat.old.front slice (record { word = word; bit = bit }) → IsBitSet result bit }
+        ensures least { HasCommitted seat.old token.now word result }
         ensures owned { (slice column bit : ℕ) (event : Event) → MayRead seat.old.pool.limits.columns seat.old.front seat.old.number slice →
             IsBitSet result bit → Owns seat.old.pool.limits seat.old.pool.config seat.old.front slice column (record { word = word; bit = bit }) →
             StandsOn seat.old.front slice column event → Contains (bits_on slice column event) (record { word = word; bit = bit }) }

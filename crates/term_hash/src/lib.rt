@@ -3,6 +3,8 @@
 
 mod hash;
 mod row;
+mod row_count;
 
 pub use hash::fnv;
 pub use row::{WordHash, row_of};
+pub use row_count::RowCount;

@@ -2,6 +2,7 @@ ghost use Rattle.std.specs.Prelude.{◌≡◌, ◌<◌, ◌≤◌, ℕ, List};
 ghost use Rattle.term_hash.specs.Hash.{fnv_1a, mixed, row_number};
 
 use crate::hash::{fnv_1a_of, mix, take_in};
+use crate::row_count::RowCount;
 use std::marker::Model;
 
 /// The hash of a word's bytes, from which each of its rows is told. A word with many rows is hashed once.
@@ -33,15 +34,13 @@ impl WordHash {
         mix(self.hash)
     }
 
-    /// Row `j` of the word, among `rows` rows: the hash of its bytes followed by `j`, with the high half mixed in,
+    /// Row `j` of the word, among so many rows: the hash of its bytes followed by `j`, with the high half mixed in,
     /// modulo the number of rows.
-    pub fn row(&self, j: u8, rows: u32) -> u32
-        requires { 1 ≤ rows }
-        ensures exact { (word : List ℕ) → self.now ≡ fnv_1a word → result ≡ row_number word j rows }
-        ensures within { result < rows }
+    pub fn row(&self, j: u8, rows: &RowCount) -> u32
+        ensures exact { (word : List ℕ) → self.now ≡ fnv_1a word → result ≡ row_number word j rows.now }
+        ensures within { result < rows.now }
     {
-        let hash = mix(take_in(self.hash, j));
-        (hash % u64::from(rows)) as u32
+        rows.remainder(mix(take_in(self.hash, j)))
     }
 }
 
@@ -51,5 +50,5 @@ pub fn row_of(word: &[u8], j: u8, rows: u32) -> u32
     ensures exact { result ≡ row_number word.now j rows }
     ensures within { result < rows }
 {
-    WordHash::new(word).row(j, rows)
+    WordHash::new(word).row(j, &RowCount::new(rows))
 }

@@ -1,5 +1,5 @@
 -- The fold of a word that is ASCII, and one more folded word.
-use Rattle.std.proofs.Common.{◌≡◌, ◌≤◌, drop, add-one, ℕ, zero, suc, ◌+◌, ◌<◌, List, [], ◌∷◌, ◌++◌, Bor, map, length, get_or, refl, sym, ap, ap₂, ◌∙◌, subst, arith}
+use Rattle.std.proofs.Common.{◌≡◌, ◌≤◌, drop, add-one, ℕ, suc, ◌+◌, ◌<◌, List, [], ◌∷◌, ◌++◌, Bor, map, length, get_or, refl, ap, ap₂, ◌∙◌, subst}
 use Rattle.std.proofs.lemmas.List.{map-append}
 use Rattle.std.proofs.Math.Seq.{drop-cons}
 use Rattle.std.specs.List.{slice_range}
@@ -7,9 +7,8 @@ use Rattle.std.proofs.lemmas.Str.{chars-IsAscii, encodes-IsAscii}
 use Rattle.std.proofs.lemmas.Str.Ascii.{IsAscii-map, lowercase_ascii}
 use Rattle.std.specs.Char.{to_ascii_lowercase}
 use Rattle.std.specs.Prelude.{encode_utf8_all}
-use Rattle.std.specs.Str.{IsAscii, chars}
+use Rattle.std.specs.Str.{IsAscii}
 use Rattle.caseless.specs.Caseless.{default_case_fold}
-use Rattle.ucd_case.specs.CaseFolding.{full_fold}
 use Rattle.ucd_case.proofs.CaseFoldingLemmas.{full_fold-ascii}
 use Rattle.funnel_model.specs.Words.{folded}
 use Rattle.funnel_model.specs.WordSets.{pieces, EndAt}

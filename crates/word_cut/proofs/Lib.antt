@@ -1,3 +1,4 @@
+pub mod AsciiWords
 pub mod Taking
 pub mod KeyLemmas
 pub mod FoldLemmas

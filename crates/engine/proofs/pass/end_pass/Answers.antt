@@ -1,8 +1,8 @@
 use Rattle.engine.proofs.Ends.{can_end, ends_in}
 use Rattle.engine.proofs.pass.end_pass.Goals as goal
 
-pub end_pass-requires-clause-ready : goal.end_pass-requires-clause-ready
-end_pass-requires-clause-ready g c = can_end c.args.pool.now g.N.PoolName.pool c.pass.inside.seat c.requires.named c.pass.invariant
+pub end_pass-requires-clause-seated : goal.end_pass-requires-clause-seated
+end_pass-requires-clause-seated g c = can_end c.args.pool.now g.N.PoolName.pool c.pass.inside.seat c.requires.named c.pass.invariant
 
 pub returns-clause-pass : goal.returns-clause-pass
 returns-clause-pass g c =

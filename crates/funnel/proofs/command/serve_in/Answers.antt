@@ -29,8 +29,8 @@ unwrap-requires-4 c =
     let idle = option_read (λ bs r. ParsesUnsigned 32 10 bs r × ExplainsUnsignedError 10 bs r × HasUnsignedDigitsIfOk bs r) 32 0 MOST_IDLE (codes "idle") (found_of c.args.found.now) c.get_one-4.result (omega arith) c.requires.idle c.get_one-4.ensures.value (λ u x g. g.0) in
     ap is_some idle
 
-serve_read : (c : goal.After-get_flag) →
-    ◌≡◌ {A = ServeCommand} (record { port = c.unwrap.result; workers = c.unwrap-2.result; connections = c.unwrap-3.result; idle = c.unwrap-4.result; one_port = c.get_flag.result })
+serve_read : (c : goal.After-get_flag-2) →
+    ◌≡◌ {A = ServeCommand} (record { port = c.unwrap.result; workers = c.unwrap-2.result; connections = c.unwrap-3.result; idle = c.unwrap-4.result; one_port = c.get_flag.result; http = c.get_flag-2.result })
     (serve_of (rows_of (found_of c.args.found.now)))
 serve_read c =
     let found = found_of c.args.found.now in
@@ -39,8 +39,9 @@ serve_read c =
     let connections = option_read (λ bs r. ParsesUnsigned 64 10 bs r × ExplainsUnsignedError 10 bs r × HasUnsignedDigitsIfOk bs r) 64 1 MOST_CONNECTIONS (codes "connections") found c.get_one-3.result (omega arith) c.requires.connections c.get_one-3.ensures.value (λ u x g. g.0) in
     let idle = option_read (λ bs r. ParsesUnsigned 32 10 bs r × ExplainsUnsignedError 10 bs r × HasUnsignedDigitsIfOk bs r) 32 0 MOST_IDLE (codes "idle") found c.get_one-4.result (omega arith) c.requires.idle c.get_one-4.ensures.value (λ u x g. g.0) in
     let one_port = flag_read (codes "one-port") found c.get_flag.result c.requires.one_port c.get_flag.ensures.value c.get_flag.ensures.other in
-    serve_is (rows_of found) _ _ _ _ _ (some_is (sym c.unwrap.ensures ∙ port)) (some_is (sym c.unwrap-2.ensures ∙ workers)) (some_is (sym c.unwrap-3.ensures ∙ connections))
-    (some_is (sym c.unwrap-4.ensures ∙ idle)) one_port
+    let http = flag_read (codes "http") found c.get_flag-2.result c.requires.http c.get_flag-2.ensures.value c.get_flag-2.ensures.other in
+    serve_is (rows_of found) _ _ _ _ _ _ (some_is (sym c.unwrap.ensures ∙ port)) (some_is (sym c.unwrap-2.ensures ∙ workers)) (some_is (sym c.unwrap-3.ensures ∙ connections))
+    (some_is (sym c.unwrap-4.ensures ∙ idle)) one_port http
 
 pub returns-clause-serve : goal.returns-clause-serve
 returns-clause-serve c = serve_read c

@@ -14,7 +14,8 @@ loop-alloc-preserved g c =
       gate = gate_state g.G.Gate.is_closed g.G.Gate.gate_faults g.G.Gate.waiting g.G.Conn.Source.incoming g.G.Conn.Sink.outgoing g.G.Gate.served c.remove-gate.result;
       caller = caller_of g.N.PoolName.pool.limits c.remove.result;
       front = c.remove.result.front;
-      left = c.args.connections;
+      http = c.args.serve.http;
+      left = c.args.serve.connections;
       fault = false;
       memory = false;
     } in
@@ -22,7 +23,7 @@ loop-alloc-preserved g c =
     let pushed : c.push.new.self.items ≡ c.loop-alloc.workers.items ++ worker ∷ [] = search rules in
     let more : states_of c.push.new.self.items ≡ states_of c.loop-alloc.workers.items ++ state ∷ [] =
     ap states_of pushed ∙ map-append (λ (w : WorkerWithGate _). w.state) c.loop-alloc.workers.items (worker ∷ []) in (
-      equip-more (gate_state g.G.Gate.is_closed g.G.Gate.gate_faults g.G.Gate.waiting g.G.Conn.Source.incoming g.G.Conn.Sink.outgoing g.G.Gate.served) g.N.PoolName.pool c.args.connections
+      equip-more (gate_state g.G.Gate.is_closed g.G.Gate.gate_faults g.G.Gate.waiting g.G.Conn.Source.incoming g.G.Conn.Sink.outgoing g.G.Gate.served) g.N.PoolName.pool c.args.serve
           c.args.gates.now.items c.loop-alloc.gates.items c.remove-gate.new.self.items c.remove-gate.result c.loop-alloc.passes.items c.remove.new.self.items c.remove.result
           (states_of c.loop-alloc.workers.items) (states_of c.push.new.self.items) state c.loop-alloc.invariant.0 c.requires.enough some
           c.remove-gate.ensures.value c.remove-gate.ensures.items c.remove.ensures.value c.remove.ensures.items refl more,

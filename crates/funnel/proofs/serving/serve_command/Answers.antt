@@ -18,9 +18,9 @@ returns-then-is_some-clause-ends g c =
     let back : take c.args.gates.len (opened ++ drop (length opened) came) ≡ opened =
     ap (λ n. take n (opened ++ drop (length opened) came)) as_many ∙ take-append_seam opened (drop (length opened) came) in
     let served = subst (λ (gates : List g.row.G.Denot). EndsOpenServeInTurns gate.next_gives gate.done_gives gate.end_gives source.read_gives sink.write_gives source.incoming sink.outgoing
-    state c.args.config.now c.args.connections gates ended.gates.items ended.why ended.closed) back c.serve_open-ended.ensures.ends in
+    state c.args.config.now c.args.serve gates ended.gates.items ended.why ended.closed) back c.serve_open-ended.ensures.ends in
     subst (λ (gates : List g.row.G.Denot). EndsServeInTurns gate.open_gives gate.next_gives gate.done_gives gate.end_gives source.read_gives sink.write_gives source.incoming sink.outgoing
-    state c.args.config.now c.args.connections gates ended.gates.items ended.why ended.closed) c.deref_mut.ensures.value
+    state c.args.config.now c.args.serve gates ended.gates.items ended.why ended.closed) c.deref_mut.ensures.value
     (served_where_left gate.open_gives gate.next_gives gate.done_gives gate.end_gives source.read_gives sink.write_gives source.incoming sink.outgoing
-    state c.args.config.now c.args.connections c.deref_mut.result.now opened
+    state c.args.config.now c.args.serve c.deref_mut.result.now opened
     ended.gates.items ended.why ended.closed (sym c.is_some.ensures ∙ c.if-is_some.true) c.in-Open.ensures.told c.in-Open.ensures.opened served)

@@ -16,7 +16,7 @@ returns-clause-ends g c =
     let enough = subst (λ (k : Config). length c.args.gates.items ≤ k.passes) (sym (opened_config pool c.args.blank c.args.config.now (sym c.requires.named) c.requires.made_with)) c.requires.enough in
     has_served g.G.Gate.next_gives g.G.Gate.done_gives g.G.Gate.end_gives g.G.Conn.Source.read_gives g.G.Conn.Sink.write_gives g.G.Conn.Source.incoming g.G.Conn.Sink.outgoing
     (gate_state g.G.Gate.is_closed g.G.Gate.gate_faults g.G.Gate.waiting g.G.Conn.Source.incoming g.G.Conn.Sink.outgoing g.G.Gate.served)
-    pool c.args.config.now c.args.connections c.args.gates.items c.answer_all-why.result.1.items c.answer_all-why.result.0 c.answer_all-why.result.2.items
+    pool c.args.config.now c.args.serve c.args.gates.items c.answer_all-why.result.1.items c.answer_all-why.result.0 c.answer_all-why.result.2.items
     c.close.result limits_are config_is counted
     (omega (arith, enough, length-map c.args.gates.items (gate_state g.G.Gate.is_closed g.G.Gate.gate_faults g.G.Gate.waiting g.G.Conn.Source.incoming g.G.Conn.Sink.outgoing g.G.Gate.served)))
     c.answer_all-why.ensures c.close.ensures.legal c.close.ensures.caused c.close.ensures.sound c.close.ensures.passes
@@ -31,5 +31,5 @@ pub returns-clause-count : goal.returns-clause-count
 returns-clause-count g c =
     let state = gate_state g.G.Gate.is_closed g.G.Gate.gate_faults g.G.Gate.waiting g.G.Conn.Source.incoming g.G.Conn.Sink.outgoing g.G.Gate.served in
     sym (length-map c.answer_all-why.result.1.items state)
-    ∙ worked_count g.N.PoolName.pool c.args.connections _ _ c.answer_all-why.result.0 c.answer_all-why.result.2.items c.answer_all-why.ensures.worked
+    ∙ worked_count g.N.PoolName.pool c.args.serve _ _ c.answer_all-why.result.0 c.answer_all-why.result.2.items c.answer_all-why.ensures.worked
     ∙ length-map c.args.gates.items state

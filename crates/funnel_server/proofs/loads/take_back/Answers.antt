@@ -1,6 +1,4 @@
-use Rattle.std.proofs.Common.{rules, ◌≡◌, [], ◌∷◌, ◌++◌, List, length, reverse, sym, ap, ◌∙◌, subst, arith, length-append}
-use Rattle.std.proofs.lemmas.List.Elements.{All-push}
-use Rattle.std.specs.List.{All}
+use Rattle.std.proofs.Common.{rules, ◌≡◌, [], ◌∷◌, ◌++◌, List, length, reverse, sym, ap, ◌∙◌, arith, length-append}
 use Rattle.engine.specs.Passes.{PassView}
 use Rattle.funnel_server.specs.Parts.{LoaderState, passes_of}
 use Rattle.funnel_server.proofs.LoadPasses.{one_moved}

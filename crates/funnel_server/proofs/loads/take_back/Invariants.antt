@@ -1,5 +1,4 @@
 use Rattle.std.proofs.Common.{◌≡◌, ◌≤◌, ◌+◌, ◌++◌, length, reverse, vec_capacity}
-use Rattle.std.specs.List.{All}
 use Rattle.funnel_server.specs.Parts.{passes_of}
 use Rattle.funnel_server.proofs.loads.take_back.Given as goal
 

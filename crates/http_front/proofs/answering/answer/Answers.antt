@@ -1,4 +1,4 @@
-use Rattle.std.proofs.Common.{◌≡◌, ◌≤◌, ℕ, List, subst, inl, refl, arith}
+use Rattle.std.proofs.Common.{inl, refl, arith}
 use Rattle.httparse.specs.Spans.{span_bytes}
 use Rattle.http_front.specs.Routes.{Document, Documents, Find, Place}
 use Rattle.http_front.specs.declared.outcome.Outcome.TheVariants.{Replied}

@@ -1,5 +1,5 @@
-use Rattle.std.proofs.Common.{◌≡◌, ℕ, ◌+◌, ◌≤◌, sym, ◌∙◌, arith}
-use Rattle.http_front.proofs.OptionLaws.{TellsClose, at_comma, elsewhere}
+use Rattle.std.proofs.Common.{sym, ◌∙◌, arith}
+use Rattle.http_front.proofs.OptionLaws.{at_comma, elsewhere}
 use Rattle.http_front.proofs.closing.has_close.Goals.{then-value-at-eq44+else-is_close, else-value-at-eq44}
 use Rattle.http_front.proofs.closing.has_close.Goals as goal
 

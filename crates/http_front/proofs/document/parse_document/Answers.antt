@@ -1,4 +1,4 @@
-use Rattle.std.proofs.Common.{◌≡◌, ◌∙◌, ℕ, List, MatchOption, ap, subst}
+use Rattle.std.proofs.Common.{◌∙◌, List, MatchOption, ap, subst}
 use Rattle.funnel_model.specs.declared.call.Call.TheVariants.{Add}
 use Rattle.json.specs.Lex.{tokens}
 use Rattle.json.specs.Token.{Token}

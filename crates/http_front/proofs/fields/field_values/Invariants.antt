@@ -1,4 +1,4 @@
-use Rattle.std.proofs.Common.{length, map, take}
+use Rattle.std.proofs.Common.{map, take}
 use Rattle.httparse.specs.Spans.{header_bytes}
 use Rattle.http_front.specs.Heads.{values_named}
 use Rattle.http_front.specs.Steps.{AreValues}

@@ -1,4 +1,4 @@
-use Rattle.std.proofs.Common.{◌≤◌, ℕ, length, append-nil, ap, subst, arith, length-take}
+use Rattle.std.proofs.Common.{ℕ, length, ap, subst, arith, length-take}
 use Rattle.httparse.specs.Grammar.{HasNoRequest, NeverHasRequest, EndsInTarget}
 use Rattle.http_front.proofs.HeadLaws.{bad_front, never_head, no_head, no_prefix}
 use Rattle.http_front.proofs.JudgeLaws.{head_at}

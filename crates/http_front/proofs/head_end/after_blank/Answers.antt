@@ -1,4 +1,4 @@
-use Rattle.std.proofs.Common.{◌≡◌, ◌+◌, ◌++◌, ℕ, ◌∷◌, [], sym, ap, ◌∙◌, arith, drop}
+use Rattle.std.proofs.Common.{◌≡◌, ◌+◌, ◌++◌, ◌∷◌, [], ap, ◌∙◌, arith, drop}
 use Rattle.std.proofs.lemmas.List.{drop_more}
 use Rattle.httparse.specs.Grammar.{crlf, lf}
 use Rattle.httparse.proofs.ReadLemmas.{blank_more}

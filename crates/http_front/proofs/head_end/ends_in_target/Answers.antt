@@ -1,4 +1,4 @@
-use Rattle.std.proofs.Common.{◌≡◌, ◌≢◌, ◌∙◌, ◌+◌, sym, subst, All, take_all}
+use Rattle.std.proofs.Common.{◌≢◌, ◌∙◌, ◌+◌, sym, subst, All, take_all}
 use Rattle.std.proofs.lemmas.Bool.{true≢false}
 use Rattle.std.proofs.lemmas.List.{take_rest}
 use Rattle.http_front.proofs.TargetLaws.{by_target, is_here, nowhere}

@@ -1,4 +1,4 @@
-use Rattle.std.proofs.Common.{◌≡◌, ◌≢◌, ◌≤◌, ◌-◌, All, length, take}
+use Rattle.std.proofs.Common.{◌≢◌, ◌≤◌, ◌-◌, All, length, take}
 use Rattle.http_front.proofs.head_end.ends_in_target.Given as goal
 
 abbrev pub invariant-loop-at : goal.invariant-loop-at

@@ -1,5 +1,7 @@
-use Rattle.std.proofs.Common.{[], sym, refl}
+use Rattle.std.proofs.Common.{◌≡◌, [], sym, refl}
 use Rattle.http_front.proofs.Progress.{served_as, served_none}
+use Rattle.http_front.proofs.TurnLaws.{had_as, had_none, stops_at_once}
+use Rattle.funnel_io.specs.declared.end.End.TheVariants as end_of
 use Rattle.http_front.proofs.serving.serve_http.Goals as goal
 
 pub loop-end-init : goal.loop-end-init
@@ -7,6 +9,8 @@ loop-end-init g c = record {
   ready = c.in-Ok.ensures.0;
   caller = refl;
   borrowed = refl;
+  turns = had_as g.C.Source.read_gives g.C.Sink.write_gives c.args.limit c.args.limit c.in-Ok.server.left [] c.in-Ok.server.buffer.bytes c.args.conn.now c.args.conn.now
+      (sym c.in-Ok.ensures.2) (sym c.in-Ok.ensures.1) (had_none g.C.Source.read_gives g.C.Sink.write_gives c.args.limit c.args.conn.now);
   served = served_as (g.S.Service.caller c.args.service.now) c.args.limit c.args.limit c.in-Ok.server.left [] c.in-Ok.server.buffer.bytes
       (record { front = g.S.Service.front c.args.service.now; incoming = g.C.Source.incoming c.args.conn.now; outgoing = g.C.Sink.outgoing c.args.conn.now })
       (g.S.Service.front c.args.service.now) (g.C.Source.incoming c.args.conn.now) (g.C.Source.incoming c.args.conn.now) (g.C.Sink.outgoing c.args.conn.now)
@@ -14,3 +18,9 @@ loop-end-init g c = record {
       (served_none (g.S.Service.caller c.args.service.now) c.args.limit
       (record { front = g.S.Service.front c.args.service.now; incoming = g.C.Source.incoming c.args.conn.now; outgoing = g.C.Sink.outgoing c.args.conn.now }));
 }
+
+pub returns-in_default-clause-in_turns : goal.returns-in_default-clause-in_turns
+returns-in_default-clause-in_turns g c = stops_at_once g.C.Source.read_gives g.C.Sink.write_gives c.args.limit (end_of.Memory ≡ end_of.Done) c.args.conn.now (λ is. cc)
+
+pub returns-in-Some-clause-in_turns : goal.returns-in-Some-clause-in_turns
+returns-in-Some-clause-in_turns g c = c.in-Some.ensures.in_turns c.args.conn.now c.loop-end.invariant.turns

@@ -44,8 +44,11 @@ returns-clause-laid c =
     subst (All (IsRowOf config)) (sym kept)
     (kept_all (IsRowOf config) c.in_ok-both.both.0.items sorted c.sort_unstable_by.ensures.permutation c.in_ok-both.ensures.laid)
 
-pub from_sorted-requires : goal.from_sorted-requires
-from_sorted-requires c =
+pub of-requires : goal.of-requires
+of-requires c =
     let config = c.args.layout.now in
-    subst (λ (words : List (Bor (List ℕ))). IsRising (map (λ word. word.now) words)) (sym c.deref.ensures.value)
-    (subst IsRising (sym c.in_ok-both.ensures.rest) (IsStrictlySortedBy-filter (slice_cmp nat_cmp) (λ word. not (is_exact config word)) c.args.words.now c.rows_and_rest.ensures.rising))
+    record {
+      rising =
+          subst (λ (words : List (Bor (List ℕ))). IsRising (map (λ word. word.now) words)) (sym c.deref.ensures.value)
+          (subst IsRising (sym c.in_ok-both.ensures.rest) (IsStrictlySortedBy-filter (slice_cmp nat_cmp) (λ word. not (is_exact config word)) c.args.words.now c.rows_and_rest.ensures.rising));
+    }

@@ -1,8 +1,9 @@
-use Rattle.std.proofs.Common.{◌≡◌, ℕ, ◌+◌, ◌∙◌, List, get_or, subst, arith}
+use Rattle.std.proofs.Common.{◌≡◌, ℕ, ◌+◌, ◌∙◌, inl, inr, refl, List, get_or, subst, arith}
 use Rattle.std.specs.Prelude.{bit_and, slice_index}
 use Rattle.std.specs.declared.option.Option.TheVariants.{Some}
 use Rattle.std.proofs.lemmas.List.{take_all}
 use Rattle.row_layout.specs.declared.row.Row.{Row}
+use Rattle.rank_matcher.specs.Walk.{bit_in}
 use Rattle.rank_matcher.proofs.Bits.{both_have, set-from_test, test-from_set}
 use Rattle.rank_matcher.proofs.Intersections.{HasLeast, IsLeft, WasSeen, if_told, when_told, left-next, left-zero, least-next, least-zero, reads-all, reads-next, reads-zero, seen-next}
 use Rattle.rank_matcher.proofs.walk.intersect.Given.{Over}
@@ -58,13 +59,13 @@ loop-row-preserved g c =
           before.least (λ bit is. test-from_set c.read-left.result bit (read.least bit is));
       running = λ bit has. before.running bit ((both_have c.loop-row.left c.read-left.result bit has).0);
       seen =
-          seen-next (g.R.Rows.seen c.loop-row.rows) (g.R.Rows.seen c.read-left.new.self) read.seen_stays place planned i no_row c.loop-row.left c.read-left.result c.loop-row-test.true
-          before.seen (λ bit has. read.seen bit (set-from_test c.read-left.result bit has));
+          seen-next (g.R.Rows.seen c.loop-row.rows) (g.R.Rows.seen c.read-left.new.self) (λ bit has. (read.seen bit).1 (inl has)) place planned i no_row c.loop-row.left c.read-left.result c.loop-row-test.true
+          before.seen (λ bit has. (read.seen (bit_in place bit (get_or planned i no_row))).1 (inr (refl, set-from_test c.read-left.result bit has)));
       reads = omega (arith, read.reads, before.reads);
       reads_are = λ words told.
           reads-next words place c.args.running c.loop-row.left planned i no_row c.read-left.result c.loop-row-test.true (read_is g c.before words told) (omega (arith, c.if-left-eq0.false))
           (before.reads_are words told);
-      seen_stays = λ bit has. read.seen_stays bit (before.seen_stays bit has);
+      seen_stays = λ bit has. (read.seen bit).1 (inl (before.seen_stays bit has));
       reach_stays = λ other. (λ r. (read.reach_stays other).0 ((before.reach_stays other).0 r), λ r. (before.reach_stays other).1 ((read.reach_stays other).1 r));
       least_stays = λ bit. (λ r. (read.least_stays bit).0 ((before.least_stays bit).0 r), λ r. (before.least_stays bit).1 ((read.least_stays bit).1 r));
       told_stays = read.told_stays ∙ before.told_stays;

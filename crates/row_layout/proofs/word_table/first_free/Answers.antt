@@ -1,5 +1,5 @@
 -- A free slot is ahead, so the walk ends before it leaves the slots.
-use Rattle.std.proofs.Common.{◌≡◌, ◌+◌, ◌<◌, ◌≤◌, ℕ, List, arith}
+use Rattle.std.proofs.Common.{◌≡◌, ◌≤◌, ℕ, List, arith}
 use Rattle.row_layout.specs.WordTables.{slot_at}
 use Rattle.row_layout.specs.declared.word_table.Slot.{Slot}
 use Rattle.row_layout.proofs.WordTables.{taken_more, room_behind}

@@ -11,7 +11,6 @@ use Rattle.std.specs.Str.Iter.{chars_steps}
 use Rattle.caseless.specs.CaseFold.{CaseFoldSteps}
 use Rattle.caseless.specs.Caseless.{default_case_fold}
 use Rattle.caseless.proofs.CaselessLemmas.{Spells-CaseFold}
-use Rattle.funnel_model.specs.Words.{folded}
 use Rattle.word_cut.proofs.FoldLemmas.{folded-ascii}
 use Rattle.word_cut.proofs.folding.push_folded.Goals as goal
 

@@ -1,5 +1,5 @@
 -- The bytes are the digits of the number, and those that are missing are 0.
-use Rattle.std.proofs.Common.{rules, ◌≡◌, ℕ, ◌+◌, ◌-◌, ◌*◌, ◌^◌, ◌%◌, ◌<◌, ◌≤◌, List, length, get_or, take, sym, ap, subst, ◌∙◌, refl, arith}
+use Rattle.std.proofs.Common.{◌≡◌, ℕ, ◌+◌, ◌*◌, ◌^◌, ◌<◌, ◌≤◌, List, length, sym, ap, ◌∙◌, refl, arith}
 use Rattle.std.proofs.Math.Nat.{pow-le-pow_right}
 use Rattle.word_cut.specs.Keys.{first_bytes}
 use Rattle.word_cut.proofs.KeyLemmas.{AreBytes, first-below, first-eight, first-more, first-shifted, first-take}

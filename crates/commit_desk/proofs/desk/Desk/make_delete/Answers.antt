@@ -88,7 +88,7 @@ end_column-requires-clause-later c = let within = c.self.invariant.kept.staged.m
 allowed_now : (c : goal.After-delete-arg-1) → IsAllowed c.self.inside.home.pool.limits c.self.inside.home.history (event.Del c.number-pass.result c.args.id)
 allowed_now c =
     let i = c.self.inside in
-    let pool : c.args.seat.now.pool ≡ i.home.pool = c.requires.caught_up.seat_of.pool ∙ sym (ap (λ (d : DeskState). d.pool) c.self.view_is) in
+    let pool : c.args.seat.now.pool ≡ i.home.pool = c.requires.caught_up.seated.same ∙ sym (ap (λ (d : DeskState). d.pool) c.self.view_is) in
     let may : MayDeleteNow i.events_limit i.home.history c.args.id =
     subst (λ (d : DeskState). MayDeleteNow d.events_limit d.history c.args.id) (sym c.self.view_is) c.requires.may in
     allowed_by i.home.pool.limits i.home.history (event.Del c.number-pass.result c.args.id)

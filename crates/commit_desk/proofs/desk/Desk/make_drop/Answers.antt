@@ -83,7 +83,7 @@ allowed_now : (c : goal.After-drop_column-arg-1) → IsAllowed c.self.inside.hom
     (event.Drop c.number-pass.result c.args.doc.id c.args.doc.text c.args.claim.slice c.args.claim.column)
 allowed_now c =
     let i = c.self.inside in
-    let pool : c.args.seat.now.pool ≡ i.home.pool = c.requires.caught_up.seat_of.pool ∙ sym (ap (λ (d : DeskState). d.pool) c.self.view_is) in
+    let pool : c.args.seat.now.pool ≡ i.home.pool = c.requires.caught_up.seated.same ∙ sym (ap (λ (d : DeskState). d.pool) c.self.view_is) in
     allowed_by i.home.pool.limits i.home.history (event.Drop c.number-pass.result c.args.doc.id c.args.doc.text c.args.claim.slice c.args.claim.column)
     (subst (λ (p : PoolId). c.number-pass.result < p.limits.passes) pool c.number-pass.ensures.in_range) c.self.invariant.none_awaited
     (record {

@@ -21,7 +21,7 @@ allowed_at : (desk now : DeskState) (seat : PassState) (pass number : ℕ) → d
     IsCaughtUp now seat → HasToken desk.history pass number → IsAllowed desk.pool.limits desk.history (event.End pass)
 allowed_at desk now seat pass number view in' legal none caught begun =
     end_allowed desk.pool.limits desk.history pass number legal none
-    (subst (λ (p : PoolId). pass < p.limits.passes) (caught.seat_of.pool ∙ sym (ap (λ (d : DeskState). d.pool) view)) in') begun
+    (subst (λ (p : PoolId). pass < p.limits.passes) (caught.seated.same ∙ sym (ap (λ (d : DeskState). d.pool) view)) in') begun
 
 pub make_event-self-inside-requires-clause-allowed : goal.make_event-self-inside-requires-clause-allowed
 make_event-self-inside-requires-clause-allowed c =

@@ -29,7 +29,7 @@ open-requires-clause-none c =
 allowed_now : (c : goal.After-in_use) → IsAllowed c.self.inside.home.pool.limits c.self.inside.home.history (event.Find c.number-pass.result c.args.query.now)
 allowed_now c =
     let i = c.self.inside in
-    let pool : c.args.seat.now.pool ≡ i.home.pool = c.requires.caught_up.seat_of.pool ∙ sym (ap (λ (d : DeskState). d.pool) c.self.view_is) in
+    let pool : c.args.seat.now.pool ≡ i.home.pool = c.requires.caught_up.seated.same ∙ sym (ap (λ (d : DeskState). d.pool) c.self.view_is) in
     find_allowed i.home.pool.limits i.home.history c.number-pass.result c.args.query.now c.self.invariant.none_awaited
     (subst (λ (p : PoolId). c.number-pass.result < p.limits.passes) pool c.number-pass.ensures.in_range)
     (idle_in c.number-pass.result c.args.seat.now.number (desk_of i) c.args.self.now c.number-pass.ensures.number c.self.view_is c.requires.idle)
@@ -78,7 +78,7 @@ returns-clause-token c =
     let token : Token = record { place = c.place-place.result; opened_at = c.make_event-opened_at.result; slices = c.in_use.result } in
     let number : c.number-pass.result ≡ seat.number = c.number-pass.ensures.number ∙ sym made.seat.number in
     let before : c.args.seat.now.front ≡ i.home.history = c.requires.caught_up.front ∙ sym (ap (λ (d : DeskState). d.history) c.self.view_is) in
-    let pool : i.home.pool ≡ seat.pool = ap (λ (d : DeskState). d.pool) c.self.view_is ∙ sym c.requires.caught_up.seat_of.pool ∙ sym made.seat.pool in
+    let pool : i.home.pool ≡ seat.pool = ap (λ (d : DeskState). d.pool) c.self.view_is ∙ sym c.requires.caught_up.seated.same ∙ sym made.seat.pool in
     token_held seat i.home.history c.args.query.now token
     (made.seat.front ∙ ap (λ h. h ++ event.Find c.number-pass.result c.args.query.now ∷ []) before ∙ ap (λ n. i.home.history ++ event.Find n c.args.query.now ∷ []) number)
     (opened_now c) (place_now c)

@@ -1,13 +1,13 @@
 use Rattle.std.proofs.Common.{◌≡◌, filter_map, sym, ap, ◌∙◌, subst}
 use Rattle.std.specs.List.{slice_range}
-use Rattle.document_store.specs.Finding.{found_at}
+use Rattle.document_store.specs.Finding.{found_at, looked_at}
 use Rattle.funnel_model.specs.History.{IsFrontOf}
 use Rattle.funnel_model.specs.Legal.{Limits}
 use Rattle.slice_rule.specs.Pools.{PoolId}
 use Rattle.commit_desk.specs.Desks.{DeskState}
 use Rattle.commit_desk.specs.Resolving.{IsRestOf}
 use Rattle.commit_desk.specs.Scans.{WereScanned}
-use Rattle.commit_desk.proofs.FindEnds.{candidates_give_all, part_gives, scanned_in_table, were_scanned}
+use Rattle.commit_desk.proofs.FindEnds.{candidates_give_all, candidates_look, part_gives, scanned_in_table, were_scanned}
 use Rattle.commit_desk.proofs.FindTurns.{token_kept}
 use Rattle.commit_desk.proofs.Given.{Contains-range}
 use Rattle.commit_desk.proofs.Inside.{desk_of}
@@ -22,7 +22,7 @@ resolve_part-requires-clause-in_range c =
     let seat = c.args.seat.now in
     let token = c.args.token.now in
     scanned_in_table i.home.pool.limits i.home.history i.records seat token c.args.candidates.now c.self.invariant.kept.recorded
-    (same_limits (desk_of i) c.args.self.now seat.pool c.self.view_is c.requires.seat.pool) c.requires.token (c.requires.scanned c.requires.token.begun).2.of_token
+    (same_limits (desk_of i) c.args.self.now seat.pool c.self.view_is c.requires.seat.same) c.requires.token (c.requires.scanned c.requires.token.begun).2.of_token
 
 pub returns-clause-found : goal.returns-clause-found
 returns-clause-found c begun =
@@ -33,7 +33,7 @@ returns-clause-found c begun =
     let rest = c.args.rest.now in
     let candidates = c.args.candidates.now in
     let desk = c.self.invariant in
-    let made : seat.pool.config ≡ i.home.pool.config = ap (λ (p : PoolId). p.config) (c.requires.seat.pool ∙ sym (ap (λ (d : DeskState). d.pool) c.self.view_is)) in
+    let made : seat.pool.config ≡ i.home.pool.config = ap (λ (p : PoolId). p.config) (c.requires.seat.same ∙ sym (ap (λ (d : DeskState). d.pool) c.self.view_is)) in
     let is_rest : IsRestOf i.home.pool.config begun.query rest =
     subst (λ (d : DeskState). IsRestOf d.pool.config begun.query rest) (sym c.self.view_is) (c.requires.rest begun) in
     let part = slice_range candidates c.args.from c.resolve_part.result in
@@ -44,7 +44,7 @@ returns-clause-found c begun =
     subst (λ (d : DeskState). WereScanned d.pool.config seat token candidates) (sym c.self.view_is) c.requires.scanned in (
       filter_map (found_at i.records rest token.opened_at) part,
       part_gives i.home.pool.config i.home.pool.limits i.home.history i.records kept.legal kept.sound kept.untuned kept.recorded seat
-          (same_limits (desk_of i) c.args.self.now seat.pool c.self.view_is c.requires.seat.pool) goes token c.requires.token candidates scanned begun
+          (same_limits (desk_of i) c.args.self.now seat.pool c.self.view_is c.requires.seat.same) goes token c.requires.token candidates scanned begun
           desk.in_range (ap (λ (l : Limits). l.columns) desk.sizes) made rest is_rest part
           (λ candidate has. Contains-range candidates c.args.from c.resolve_part.result candidate has),
       c.resolve_part.ensures.found,
@@ -63,7 +63,26 @@ returns-clause-all c begun =
     let scanned : WereScanned i.home.pool.config seat token candidates =
     subst (λ (d : DeskState). WereScanned d.pool.config seat token candidates) (sym c.self.view_is) c.requires.scanned in
     candidates_give_all i.home.pool.config i.home.pool.limits i.home.history i.records kept.legal kept.sound kept.untuned kept.recorded seat
-    (same_limits (desk_of i) c.args.self.now seat.pool c.self.view_is c.requires.seat.pool) goes token c.requires.token candidates scanned begun
+    (same_limits (desk_of i) c.args.self.now seat.pool c.self.view_is c.requires.seat.same) goes token c.requires.token candidates scanned begun
+
+pub returns-clause-turn : goal.returns-clause-turn
+returns-clause-turn c begun =
+    let i = c.self.inside in
+    let kept = c.self.invariant.kept in
+    let seat = c.args.seat.now in
+    let token = c.args.token.now in
+    let rest = c.args.rest.now in
+    let candidates = c.args.candidates.now in
+    let up = c.catch_up.ensures in
+    let goes : IsFrontOf seat.number seat.front i.home.history =
+    subst (λ h. IsFrontOf seat.number seat.front h) (up.front ∙ up.home.history) (subst (λ n. IsFrontOf n seat.front c.catch_up.new.seat.front) up.seat.number up.none_since) in
+    let scanned : WereScanned i.home.pool.config seat token candidates =
+    subst (λ (d : DeskState). WereScanned d.pool.config seat token candidates) (sym c.self.view_is) c.requires.scanned in (
+      looked_at i.records rest token.opened_at,
+      candidates_look i.home.pool.config i.home.pool.limits i.home.history i.records kept.legal kept.sound kept.untuned kept.recorded seat
+          (same_limits (desk_of i) c.args.self.now seat.pool c.self.view_is c.requires.seat.same) goes token c.requires.token candidates scanned begun rest,
+      c.resolve_part.ensures.turn,
+    )
 
 pub returns-clause-token : goal.returns-clause-token
 returns-clause-token c =

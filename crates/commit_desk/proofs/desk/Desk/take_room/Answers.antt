@@ -28,7 +28,7 @@ returns-in-Some-clause-answer c =
     let claim = c.claim.ensures in (
       c.requires.may,
       subst (λ n. MayTake c.args.self.now.pool.limits c.args.self.now.history pass n c.claim.result.column) (sym claim.slice)
-          (subst (λ n. MayTake c.args.self.now.pool.limits c.args.self.now.history pass c.in-Some.slice n) (sym claim.column) (may_now c.before.before.before.before)),
+          (subst (λ n. MayTake c.args.self.now.pool.limits c.args.self.now.history pass c.in-Some.slice n) (sym claim.column) (may_now c.before.before.before)),
     )
 
 none_left : (c : In_default) → HoldsOfNone (HasLeft c.self.inside.home.pool.limits.columns) c.self.inside.stages
@@ -42,7 +42,7 @@ no_room c =
     (none_has_room i.home.pool.limits i.home.history i.records kept.legal kept.recorded i.stages kept.staged.each kept.staged.count (none_left c))
 
 pub returns-in-Some-begin_clear-clause-answer : goal.returns-in-Some-begin_clear-clause-answer
-returns-in-Some-begin_clear-clause-answer c = (c.requires.may, no_room c.before.before.before.before.before, c.in-Some-begin_clear.ensures.may, c.in-Some-begin_clear.ensures.slots)
+returns-in-Some-begin_clear-clause-answer c = (c.requires.may, no_room c.before.before.before.before, c.in-Some-begin_clear.ensures.may, c.in-Some-begin_clear.ensures.slots)
 
 full_now : (c : In_default-begin_clear) → IsFull c.args.self.now.pool.limits c.args.self.now.history
 full_now c =
@@ -54,15 +54,15 @@ full_now c =
 
 pub blocks-blocks-requires-clause-full : goal.blocks-blocks-requires-clause-full
 blocks-blocks-requires-clause-full c =
-    subst (λ (d : DeskState). IsFull d.pool.limits d.history) (sym c.in_default-begin_clear.ensures.made.0) (full_now c)
+    subst (λ (d : DeskState). IsFull d.pool.limits d.history) (sym c.in_default-begin_clear.ensures.made.0) (full_now c.before.before.before)
 
 pub refuse_add-requires-clause-refused : goal.refuse_add-requires-clause-refused
 refuse_add-requires-clause-refused c =
-    inr (subst (λ (d : DeskState). IsFull d.pool.limits d.history) (sym c.in_default-begin_clear.ensures.made.0) (full_now c.before.before.before))
+    inr (subst (λ (d : DeskState). IsFull d.pool.limits d.history) (sym c.in_default-begin_clear.ensures.made.0) (full_now c.before.before.before.before.before.before))
 
 pub returns-clause-answer : goal.returns-clause-answer
 returns-clause-answer c = (
   c.requires.may,
-  full_now c.before.before.before.before,
+  full_now c.before.before.before.before.before.before.before,
   subst (λ (d : DeskState). AreBlocks d.pool.limits d.history c.blocks-blocks.result) c.in_default-begin_clear.ensures.made.0 c.blocks-blocks.ensures,
 )

@@ -11,7 +11,7 @@ commit-answer-requires g c =
     subst (λ (p : PoolId). HasWritten p written.claim written.doc.words written.bits.bits written.seat) (sym is.desk_of_name) c.written.invariant in
     record {
       pool = is.of_name ∙ sym is.desk_of_name;
-      seat = record { pool = all.seated.same; none_outstanding = all.seated.none_outstanding };
+      seat = all.seated;
       claim = all.holds;
       bits = all.document;
       inside = all.inside;

@@ -25,6 +25,6 @@ invariant_of-next g c =
       finding = record { seated = record { same = did.events.same ∙ is.finding.seated.same; none_outstanding = did.none_outstanding }; holds = did.token };
       rest_of = rest_later g.N.PoolName.pool.config c.self.inside.desk c.resolve_part-from.new.self at.seat next at.token at.rest did.events is.finding.holds.begun is.rest_of;
       scanned = subst (λ (p : PoolId). WereScanned p.config next at.token at.columns) (did.events.pool ∙ c.self.invariant.desk_of_name) did.scanned;
-      within = did.within;
+      within = (did.turn is.finding.holds.begun).2.within;
       room = did.enough;
     }

@@ -1,4 +1,4 @@
-use Rattle.std.proofs.Common.{◌≡◌, List, sym, ap, ◌∙◌, subst}
+use Rattle.std.proofs.Common.{List, sym, ◌∙◌, subst}
 use Rattle.std.specs.List.{All}
 use Rattle.funnel_model.specs.declared.event.Event.{Event}
 use Rattle.funnel_model.specs.History.{MovesAreCaused}
@@ -6,7 +6,6 @@ use Rattle.row_layout.specs.Sound.{IsSound}
 use Rattle.slice_rule.specs.Pools.{PoolId}
 use Rattle.engine.specs.Engines.{EndsIn}
 use Rattle.engine.proofs.Ends.{has_calls}
-use Rattle.engine.proofs.engine.Engine.close.Given.{Over}
 use Rattle.engine.proofs.engine.Engine.close.Goals as goal
 
 pub returns-clause-sound : goal.returns-clause-sound

@@ -5,10 +5,12 @@ use Rattle.engine.specs.Passes.{view_of}
 use Rattle.engine.proofs.Finds.{begun_still, finding_still}
 use Rattle.engine.proofs.FoundUpTo.{found_is_answer, found_none}
 use Rattle.engine.proofs.OpenFinds.{begun_last}
-use Rattle.engine.specs.Finds.{IsBegunAt}
+use Rattle.engine.specs.Finds.{IsBegunAt, IsFoundUpTo}
 use Rattle.funnel_model.specs.declared.event.Event.{Event}
 use Rattle.funnel_model.specs.declared.event.Event.TheVariants as event
 use Rattle.funnel_model.specs.History.{answer}
+use Rattle.funnel_model.specs.Words.{meets}
+use Rattle.plan_rows.specs.Rests.{words_of_rest}
 use Rattle.slice_recycler.proofs.Steps.{turn_grows}
 use Rattle.slice_rule.specs.Seats.{PassState}
 use Rattle.engine.proofs.engine.Engine.finish.Goals as goal
@@ -19,18 +21,21 @@ resolve-requires g c =
     let next = c.scan.new.pass in
     let is = c.requires.begun in
     let seat = c.scan.ensures.seat in
+    let begun = c.args.begun in
     record {
-      so_far = found_none g.N.PoolName.pool next c.args.begun.token c.args.begun.words c.args.begun.rest c.in-Ok.candidates c.in-Ok.found (finding_still g.N.PoolName.pool c.args.begun.token pass next seat is.finding)
+      so_far =
+          subst (λ rest. IsFoundUpTo g.N.PoolName.pool next begun.token rest c.in-Ok.candidates c.in-Ok.found 0) (sym c.words-rest.ensures)
+          (found_none g.N.PoolName.pool next c.args.begun.token c.args.begun.words (words_of_rest begun.words begun.rest) c.in-Ok.candidates c.in-Ok.found (finding_still g.N.PoolName.pool c.args.begun.token pass next seat is.finding)
           (begun_still pass next seat is.begun) (λ earlier query at. is.of_query earlier query (subst (λ (s : PassState). IsBegunAt (view_of s) earlier query) seat at))
           (λ earlier query at. is.rest_of earlier query (subst (λ (s : PassState). IsBegunAt (view_of s) earlier query) seat at)) c.in-Ok.ensures.scanned c.in-Ok.ensures.none
-          c.in-Ok.ensures.room;
+          c.in-Ok.ensures.room);
     }
 
 pub into_ids-requires-clause-room : goal.into_ids-requires-clause-room
 into_ids-requires-clause-room g c =
     let finding = finding_still g.N.PoolName.pool c.args.begun.token c.args.pass.now c.scan.new.pass c.scan.ensures.seat c.requires.begun.finding in
     let begun = finding.holds.begun in
-    let few = given_few begun.earlier begun.query c.in-Ok.candidates c.resolve.new.out.found (c.resolve.ensures.found begun).0 in
+    let few = given_few begun.earlier (λ text. meets text begun.query) c.in-Ok.candidates c.resolve.new.out.found (c.resolve.ensures.found begun).0 in
     let same = length_permutation c.resolve.new.out.found c.sort.new.self.found c.sort.ensures.same in
     omega (arith, few, same, c.in-Ok.ensures.enough)
 

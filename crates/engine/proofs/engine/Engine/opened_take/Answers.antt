@@ -1,4 +1,3 @@
-use Rattle.std.proofs.Common.{sym, ◌∙◌}
 use Rattle.engine.proofs.DeskTurns.{claims_first}
 use Rattle.engine.proofs.engine.Engine.opened_take.Goals as goal
 

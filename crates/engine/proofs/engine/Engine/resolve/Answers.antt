@@ -16,7 +16,7 @@ loop-open-preserved g c =
     let did = c.in-Some.ensures in
     record {
       so_far = did.next;
-      same = did.same ∙ inv.same;
+      same = did.onward.same ∙ inv.same;
       seen = front_goes_on pass.number pass.front before.front next.front inv.seen
           (subst (λ n. IsFrontOf n before.front next.front) inv.number (silent_turn {answers = λ history. Unit {0}} before.number before.front next.front did.turn));
       number = did.number ∙ inv.number;

@@ -1,7 +1,7 @@
 use Rattle.std.proofs.Common.{◌≡◌, ◌<◌, [], ◌∷◌, length, refl, sym, ◌∙◌, subst, arith}
 use Rattle.commit_desk.proofs.CallEnds.{rests_one}
 use Rattle.commit_desk.proofs.Turns.{makes_more}
-use Rattle.commit_desk.specs.Resolving.{IsRestOf}
+use Rattle.commit_desk.specs.Resolving.{IsRestOf, LooksUpTo}
 use Rattle.commit_desk.specs.Scans.{WereScanned}
 use Rattle.engine.proofs.FoundUpTo.{all_found, found_on}
 use Rattle.funnel_model.specs.declared.event.Event.TheVariants as event
@@ -28,24 +28,33 @@ returns-then-next-len-clause-next g c =
     let candidates = c.args.candidates.now in
     let did = c.resolve_part-next.ensures in
     let so_far = c.requires.so_far in
+    let ends = (did.turn so_far.finding.holds.begun).2 in
     let of : c.resolve_part-next.new.self.pool ≡ pool = did.events.pool ∙ c.deref_mut.result.now.of_pool in
-    found_on pool pass token rest candidates c.args.out.now c.resolve_part-next.new.out c.args.from c.resolve_part-next.result so_far did.onward did.found next c.deref_mut.result.now.desk
+    found_on pool pass token rest candidates c.args.out.now c.resolve_part-next.new.out c.args.from c.resolve_part-next.result so_far ends.onward did.found next c.deref_mut.result.now.desk
     c.resolve_part-next.new.self did.events
     (record { seated = record { same = did.events.same ∙ so_far.finding.seated.same; none_outstanding = did.none_outstanding }; holds = did.token })
-    (subst (λ (p : PoolId). WereScanned p.config next token candidates) of did.scanned) did.within did.enough
+    (subst (λ (p : PoolId). WereScanned p.config next token candidates) of did.scanned) ends.within did.enough
 
-pub returns-then-next-len-clause-further : goal.returns-then-next-len-clause-further
-returns-then-next-len-clause-further g c =
+pub returns-then-next-len-clause-onward : goal.returns-then-next-len-clause-onward
+returns-then-next-len-clause-onward g c =
     let low = c.if-next-len.true in
     let count = c.len.ensures in
-    let did = c.resolve_part-next.ensures in
+    let ends = (c.resolve_part-next.ensures.turn c.requires.so_far.finding.holds.begun).2 in
     let last : c.resolve_part-next.result < length c.args.candidates.now = omega (arith, low, count) in
-    (did.further (omega (arith, did.onward, last)), last)
+    record { same = refl; further = ends.further (omega (arith, ends.onward, last)); more = last }
+
+pub returns-clause-bounds : goal.returns-clause-bounds
+returns-clause-bounds g c begun =
+    let candidates = c.args.candidates.now in
+    let turn = c.resolve_part-next.ensures.turn begun in
+    let whole : c.resolve_part-next.result ≡ length candidates = omega (arith, turn.2.within, c.if-next-len.false, c.len.ensures) in
+    subst (LooksUpTo begun.earlier c.args.rest.now candidates c.args.from) whole turn
 
 pub returns-clause-found : goal.returns-clause-found
 returns-clause-found g c last =
     let did = c.resolve_part-next.ensures in
-    all_found g.N.PoolName.pool c.args.pass.now c.args.token c.args.rest.now c.args.candidates.now c.args.out.now c.resolve_part-next.new.out c.args.from c.resolve_part-next.result c.requires.so_far did.onward did.found
+    let ends = (did.turn c.requires.so_far.finding.holds.begun).2 in
+    all_found g.N.PoolName.pool c.args.pass.now c.args.token c.args.rest.now c.args.candidates.now c.args.out.now c.resolve_part-next.new.out c.args.from c.resolve_part-next.result c.requires.so_far ends.onward did.found
     (omega (arith, c.if-next-len.false, c.len.ensures)) did.all
 
 pub returns-clause-rests : goal.returns-clause-rests

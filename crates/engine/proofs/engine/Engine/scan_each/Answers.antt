@@ -10,17 +10,18 @@ pub loop-slice-init : goal.loop-slice-init
 loop-slice-init g c =
     let config = g.N.PoolName.pool.config in
     let rows = c.args.rows.now in
-    let words = c.args.begun.now.words in
+    let words = c.args.words.now in
     let of_config = subst IsOfConfig c.self.invariant.of_name c.self.invariant.of_config in
     let laid = ap (λ (p : PoolId). p.limits.slice_words) c.requires.scan.can_read.same ∙ ap (λ (l : Limits). l.slice_words) of_config.limits in
     record {
       kept = refl;
+      seen = λ bit was. was;
       scanned = subst (AreScannedBelow config rows.seat.now rows.token.now words 0) (sym c.requires.empty) (scanned_none config rows.seat.now rows.token.now words laid);
     }
 
 pub scan_slice-requires-clause-scan : goal.scan_slice-requires-clause-scan
 scan_slice-requires-clause-scan g c =
-    scan_kept g.N.PoolName.pool c.args.rows.now c.loop-slice.rows c.args.begun.now.words c.args.begun.now.plan c.loop-slice.invariant.kept c.requires.scan
+    scan_kept g.N.PoolName.pool c.args.rows.now c.loop-slice.rows c.args.words.now c.args.plan.now c.loop-slice.invariant.kept c.requires.scan
 
 pub scan_slice-requires-clause-below : goal.scan_slice-requires-clause-below
 scan_slice-requires-clause-below g c = c.loop-slice.invariant.scanned
@@ -31,6 +32,7 @@ returns-in_err-scan_slice-clause-kept g c = c.scan_slice.ensures.kept ∙ c.loop
 pub loop-slice-preserved : goal.loop-slice-preserved
 loop-slice-preserved g c = record {
   kept = c.scan_slice.ensures.kept ∙ c.loop-slice.invariant.kept;
+  seen = λ bit was. c.scan_slice.ensures.seen_stays bit (c.loop-slice.invariant.seen bit was);
   scanned = c.in_ok-scan_slice.ensures.scanned;
 }
 
@@ -38,8 +40,8 @@ pub returns-clause-scanned : goal.returns-clause-scanned
 returns-clause-scanned g c =
     let pool = g.N.PoolName.pool in
     let rows = c.loop-slice.rows in
-    let words = c.args.begun.now.words in
-    let plan = c.args.begun.now.plan in
+    let words = c.args.words.now in
+    let plan = c.args.plan.now in
     let scan = scan_kept pool c.args.rows.now rows words plan c.loop-slice.invariant.kept c.requires.scan in
     let of_config = subst IsOfConfig c.self.invariant.of_name c.self.invariant.of_config in
     let count : c.self.inside.slices ≡ pool.config.slices = c.self.invariant.count ∙ ap (λ (p : PoolId). p.config.slices) c.self.invariant.of_name in

@@ -1,11 +1,13 @@
 use Rattle.std.proofs.Common.{◌≡◌}
 use Rattle.engine.specs.Scans.{AreScannedBelow}
-use Rattle.row_read.specs.SharedRows.{kept_of}
+use Rattle.funnel_model.specs.declared.bit_list.Bit.{Bit}
+use Rattle.row_read.specs.SharedRows.{WasReadSet, kept_of}
 use Rattle.engine.proofs.engine.Engine.scan_each.Given as goal
 
 -- the slices before this one are scanned
 abbrev pub invariant-loop-slice : goal.invariant-loop-slice
 invariant-loop-slice g l = record {
   kept : kept_of l.rows ≡ kept_of l.fn.rows;
-  scanned : AreScannedBelow g.N.PoolName.pool.config l.rows.seat.now l.rows.token.now l.begun.words l.slice l.out;
+  seen : (bit : Bit) → WasReadSet l.fn.rows bit → WasReadSet l.rows bit;
+  scanned : AreScannedBelow g.N.PoolName.pool.config l.rows.seat.now l.rows.token.now l.words l.slice l.out;
 }

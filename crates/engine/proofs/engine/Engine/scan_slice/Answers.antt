@@ -25,7 +25,7 @@ has-requires g c =
 pub scan-requires-clause-laid : goal.scan-requires-clause-laid
 scan-requires-clause-laid g c =
     let laid_out : c.self.inside.layout ≡ g.N.PoolName.pool.config = c.self.invariant.laid_out ∙ ap (λ (p : PoolId). p.config) c.self.invariant.of_name in
-    subst (λ (config : Config). All (IsRowOf config) c.args.begun.now.plan) (sym laid_out) c.requires.scan.laid
+    subst (λ (config : Config). All (IsRowOf config) c.args.plan.now) (sym laid_out) c.requires.scan.laid
 
 pub returns-then-has-clause-scanned : goal.returns-then-has-clause-scanned
 returns-then-has-clause-scanned g c =
@@ -33,8 +33,8 @@ returns-then-has-clause-scanned g c =
     let layout = c.self.inside.layout in
     let before = c.args.rows.now in
     let after = c.scan.new.rows in
-    let words = c.args.begun.now.words in
-    let plan = c.args.begun.now.plan in
+    let words = c.args.words.now in
+    let plan = c.args.plan.now in
     let slice = c.args.slice in
     let old = c.args.out.now in
     let new = c.scan.new.out in
@@ -54,4 +54,4 @@ returns-then-has-clause-scanned g c =
 pub returns-else-has-clause-scanned : goal.returns-else-has-clause-scanned
 returns-else-has-clause-scanned g c =
     let rows = c.args.rows.now in
-    scanned_without g.N.PoolName.pool.config rows.seat.now rows.token.now c.args.begun.now.words c.args.slice c.args.out.now (λ has. true≢false (sym (c.if-has.ensures.1 has))) c.requires.below
+    scanned_without g.N.PoolName.pool.config rows.seat.now rows.token.now c.args.words.now c.args.slice c.args.out.now (λ has. true≢false (sym (c.if-has.ensures.1 has))) c.requires.below

@@ -1,4 +1,3 @@
-use Rattle.std.proofs.Common.{sym, ◌∙◌}
 use Rattle.commit_desk.proofs.CallEnds.{is_to_do}
 use Rattle.engine.proofs.engine.Engine.take.Goals as goal
 
@@ -7,6 +6,6 @@ returns-clause-next g c =
     let desk = c.deref_mut.result.now.desk in
     let doc = c.args.doc.now in
     let rests = c.requires.rests in
-    let took = c.take.ensures in
-    is_to_do g.N.PoolName.pool desk c.take.new.self c.args.pass.now c.take.new.seat rests.seated.same took.none_outstanding rests.idle
-    c.deref_mut.result.now.of_pool desk.events_limit doc.id doc.text c.take.result took.answer took.nothing_yet took.events
+    let took = c.take-taken.ensures in
+    is_to_do g.N.PoolName.pool desk c.take-taken.new.self c.args.pass.now c.take-taken.new.seat rests.seated.same took.none_outstanding rests.idle
+    c.deref_mut.result.now.of_pool desk.events_limit doc.id doc.text c.take-taken.result took.answer took.nothing_yet took.events

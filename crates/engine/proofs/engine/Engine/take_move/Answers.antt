@@ -1,4 +1,3 @@
-use Rattle.std.proofs.Common.{sym, ◌∙◌}
 use Rattle.engine.proofs.MovePasses.{writes_or_rests}
 use Rattle.engine.proofs.engine.Engine.take_move.Goals as goal
 

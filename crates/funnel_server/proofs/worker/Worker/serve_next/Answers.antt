@@ -42,6 +42,7 @@ returns-in-Fault g c =
 pub returns : goal.returns
 returns g c =
     let visit : Visit = record {
+      http = c.self.inside.http;
       before = record { front = c.self.inside.client.front; incoming = g.G.Conn.Source.incoming c.in-Conn.conn; outgoing = g.G.Conn.Sink.outgoing c.in-Conn.conn };
       after = record { front = c.answer-end.new.client.front; incoming = g.G.Conn.Source.incoming c.answer-end.new.conn; outgoing = g.G.Conn.Sink.outgoing c.answer-end.new.conn };
       end = c.answer-end.result;
@@ -58,6 +59,8 @@ returns g c =
         };
         begins = refl;
         ends = refl;
+        protocol = refl;
+        same_protocol = refl;
         same_pass = c.answer-end.ensures.caller;
         count = omega (arith, subst (λ w. 0 < w.state.left) (sym c.self.view_is) c.requires.some);
         waited = first_waited _ c.in-Conn.conn (g.G.Gate.waiting c.self.inside.gate) (g.G.Gate.waiting c.next.new.self) (g.G.Gate.waiting c.done.new.self) c.in-Conn.ensures.waiting c.done.ensures.waiting;
@@ -71,7 +74,8 @@ returns g c =
         middle = c.next.new.self;
         asked = c.in-Conn.ensures.gives;
         handed_back = c.answer-end.new.conn;
-        session = c.answer-end.ensures.in_turns;
+        lines = c.answer-end.ensures.line_by_line;
+        requests = c.answer-end.ensures.by_request;
         untouched = λ memory. (c.answer-end.ensures.untouched memory).0;
         done = c.done.ensures.gives;
         came = refl;

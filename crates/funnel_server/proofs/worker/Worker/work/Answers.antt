@@ -19,6 +19,7 @@ returns g c =
       gate = told;
       caller = caller_of g.N.PoolName.pool.limits c.self.inside.client;
       front = c.self.inside.client.front;
+      http = c.self.inside.http;
       left = c.self.inside.left;
       fault = c.self.inside.fault;
       memory = c.self.inside.memory;

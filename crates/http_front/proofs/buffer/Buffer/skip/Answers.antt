@@ -1,4 +1,4 @@
-use Rattle.std.proofs.Common.{◌∙◌, sym, ap, arith, length, drop}
+use Rattle.std.proofs.Common.{◌∙◌, ap, arith, length, drop}
 use Rattle.funnel_io.proofs.Ranges.{length-range}
 use Rattle.http_front.specs.Steps.{Held}
 use Rattle.http_front.proofs.Buffers.{range_after}

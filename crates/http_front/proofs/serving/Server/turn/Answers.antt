@@ -1,11 +1,11 @@
-use Rattle.std.proofs.Common.{◌≡◌, ◌∙◌, ℕ, List, sym, ap, subst, drop}
+use Rattle.std.proofs.Common.{◌≡◌, ◌∙◌, sym, ap, subst, drop}
 use Rattle.funnel_io.specs.Streams.{Incoming, Outgoing}
 use Rattle.funnel_io.specs.declared.end.End.TheVariants as end_of
 use Rattle.line_proto.specs.Services.{Caller}
 use Rattle.http_front.specs.Ends.{ServesRequests}
-use Rattle.http_front.specs.Steps.{Held}
 use Rattle.http_front.specs.declared.serving.Server.{Server}
 use Rattle.http_front.proofs.Progress.{served_as, served_more, served_read, serves_last, serves_part, serves_stopped}
+use Rattle.http_front.proofs.TurnLaws.{had_as, had_more, stops_closing, stops_failed, stops_reading}
 use Rattle.http_front.proofs.serving.Server.turn.Goals as goal
 
 pub returns-in-Err-clause-serves : goal.returns-in-Err-clause-serves
@@ -82,3 +82,36 @@ returns-clause-serves g c old p =
     (record { front = g.S.Service.front c.args.service.now; incoming = g.C.Source.incoming c.next_front.new.conn; outgoing = g.C.Sink.outgoing c.args.conn.now }) served
     c.answer-answer.result.len c.answer-answer.result.closing c.answer-answer.result.told (g.S.Service.front c.answer-answer.new.service) c.answer-answer.ensures.answers
     c.render.new.text.items c.render.ensures.text (g.C.Sink.outgoing c.write_all.new.sink) c.if-answer.false (rw (c.as_slice.ensures.value, out) at c.in-Ok-write_all.ensures.ok) (rw out at c.in-Ok-write_all.ensures.faults))
+
+pub returns-in-Err-clause-in_turns : goal.returns-in-Err-clause-in_turns
+returns-in-Err-clause-in_turns g c first p =
+    stops_reading g.C.Source.read_gives g.C.Sink.write_gives c.args.limit c.args.self.now.left c.next_front.new.self.left c.args.self.now.buffer.bytes c.next_front.new.self.buffer.bytes
+    first c.args.conn.now c.next_front.new.conn p c.in-Err.end c.in-Err.ensures.last
+
+pub returns-in_default-clause-in_turns : goal.returns-in_default-clause-in_turns
+returns-in_default-clause-in_turns g c first p =
+    stops_failed g.C.Source.read_gives g.C.Sink.write_gives c.args.limit c.args.self.now.left c.next_front.new.self.left c.args.self.now.buffer.bytes c.next_front.new.self.buffer.bytes
+    first c.args.conn.now c.next_front.new.conn p c.in-Ok.ensures.going_on
+    (g.S.Service.caller c.args.service.now) (g.S.Service.front c.args.service.now) (g.S.Service.front c.answer-answer.new.service)
+    c.answer-answer.result.len c.answer-answer.result.closing c.answer-answer.result.told c.answer-answer.ensures.answers c.render.new.text.items c.render.ensures.text c.write_all.new.sink
+    (rw c.as_slice.ensures.value at c.in_default.ensures.writes)
+
+pub returns-then-answer-clause-in_turns : goal.returns-then-answer-clause-in_turns
+returns-then-answer-clause-in_turns g c first p =
+    stops_closing g.C.Source.read_gives g.C.Sink.write_gives c.args.limit c.args.self.now.left c.next_front.new.self.left c.args.self.now.buffer.bytes c.next_front.new.self.buffer.bytes
+    first c.args.conn.now c.next_front.new.conn p c.in-Ok.ensures.going_on
+    (g.S.Service.caller c.args.service.now) (g.S.Service.front c.args.service.now) (g.S.Service.front c.answer-answer.new.service)
+    c.answer-answer.result.len c.answer-answer.result.closing c.answer-answer.result.told c.answer-answer.ensures.answers c.render.new.text.items c.render.ensures.text c.write_all.new.sink
+    (end_of.Done ≡ end_of.Done) c.if-answer.true (rw c.as_slice.ensures.value at c.in-Ok-write_all.ensures.writes)
+
+pub returns-clause-in_turns : goal.returns-clause-in_turns
+returns-clause-in_turns g c first p =
+    had_as g.C.Source.read_gives g.C.Sink.write_gives c.args.limit c.next_front.new.self.left c.answer-answer.new.self.left
+    (drop c.answer-answer.result.len c.next_front.new.self.buffer.bytes) c.skip.new.self.bytes first c.write_all.new.sink
+    (sym (ap (λ (s : Server). s.left) c.answer-answer.ensures.kept))
+    (sym (c.skip.ensures ∙ ap (λ (s : Server). drop c.answer-answer.result.len s.buffer.bytes) c.answer-answer.ensures.kept))
+    (had_more g.C.Source.read_gives g.C.Sink.write_gives c.args.limit c.args.self.now.left c.next_front.new.self.left c.args.self.now.buffer.bytes c.next_front.new.self.buffer.bytes
+    first c.args.conn.now c.next_front.new.conn p c.in-Ok.ensures.going_on
+    (g.S.Service.caller c.args.service.now) (g.S.Service.front c.args.service.now) (g.S.Service.front c.answer-answer.new.service)
+    c.answer-answer.result.len c.answer-answer.result.closing c.answer-answer.result.told c.answer-answer.ensures.answers c.render.new.text.items c.render.ensures.text c.write_all.new.sink
+    c.if-answer.false (rw c.as_slice.ensures.value at c.in-Ok-write_all.ensures.writes))

@@ -1,7 +1,6 @@
 -- One word more.
-use Rattle.std.proofs.Common.{rules, ◌≡◌, ◌+◌, ◌-◌, ◌<◌, ℕ, List, length, map, replicate, set, get_or, ap, sym, subst, ◌∙◌, arith}
+use Rattle.std.proofs.Common.{◌≡◌, ◌+◌, ◌-◌, ℕ, List, length, replicate, set, ap, sym, subst, ◌∙◌, arith}
 use Rattle.std.proofs.lemmas.List.{length-map}
-use Rattle.std.specs.String.{string_bytes}
 use Rattle.funnel_model.specs.Listed.{listed_pair}
 use Rattle.term_hash.specs.Hash.{fnv_1a, mixed}
 use Rattle.treatment.proofs.Lookups.{item_at, long_enough}

@@ -1,8 +1,9 @@
-use Rattle.std.proofs.Common.{◌≡◌, sym, subst}
+use Rattle.std.proofs.Common.{◌≡◌, ⊎_elim, IsBitSet, sym, subst}
 use Rattle.slice_rule.specs.declared.view.Fact.TheVariants as fact
 use Rattle.slice_rule.specs.Seats.{PassState, WasReadUnder}
 use Rattle.row_read.specs.SharedRows.{CanRead}
-use Rattle.row_read.proofs.Readings.{read_before, read_now}
+use Rattle.funnel_model.proofs.AnswerLemmas.{Contains-cons, contains_first}
+use Rattle.row_read.proofs.Readings.{seen_by_read}
 use Rattle.row_read.proofs.shared.SharedRows.read.Goals as goal
 
 pub returns-clause-reach_stays : goal.returns-clause-reach_stays
@@ -24,24 +25,25 @@ pub returns-clause-least : goal.returns-clause-least
 returns-clause-least c = λ bit under. c.read_word.ensures.least under.0 bit under.1 under.2
 
 pub returns-clause-seen : goal.returns-clause-seen
-returns-clause-seen c = λ bit has.
+returns-clause-seen c = λ bit.
     let before = c.args.self.now.seat.now in
-    let f = fact.WordRead c.args.self.now.token.now.opened_at c.args.word c.read_word.result in
-    subst (λ (s : PassState). WasReadUnder s c.args.self.now.token.now.opened_at (record { word = c.args.word; bit = bit })) (sym c.read_word.ensures.seat) (record {
-      value = c.read_word.result;
-      read = read_now f before.own;
-      set = has;
-      owned = λ slice column event may. c.read_word.ensures.owned slice column bit event may has;
-    })
-
-pub returns-clause-seen_stays : goal.returns-clause-seen_stays
-returns-clause-seen_stays c = λ b seen.
-    let before = c.args.self.now.seat.now in
-    let f = fact.WordRead c.args.self.now.token.now.opened_at c.args.word c.read_word.result in
-    let g = fact.WordRead c.args.self.now.token.now.opened_at b.word seen.value in
-    subst (λ (s : PassState). WasReadUnder s c.args.self.now.token.now.opened_at b) (sym c.read_word.ensures.seat) (record {
-      value = seen.value;
-      read = read_before f g before.own seen.read;
-      set = seen.set;
-      owned = seen.owned;
-    })
+    let number = c.args.self.now.token.now.opened_at in
+    let f = fact.WordRead number c.args.word c.read_word.result in
+    let seat = c.read_word.ensures.seat in (
+      λ seen. seen_by_read before number c.args.word c.read_word.result bit (subst (λ (s : PassState). WasReadUnder s number bit) seat seen),
+      ⊎_elim
+          (λ (seen : WasReadUnder before number bit). subst (λ (s : PassState). WasReadUnder s number bit) (sym seat) (record {
+            value = seen.value;
+            read = Contains-cons f before.own (fact.WordRead number bit.word seen.value) seen.read;
+            set = seen.set;
+            owned = seen.owned;
+          }))
+          (λ (now : (bit.word ≡ c.args.word) × IsBitSet c.read_word.result bit.bit).
+          subst (λ w. WasReadUnder c.read_word.new.seat number (record { word = w; bit = bit.bit })) (sym now.0)
+          (subst (λ (s : PassState). WasReadUnder s number (record { word = c.args.word; bit = bit.bit })) (sym seat) (record {
+            value = c.read_word.result;
+            read = contains_first f before.own;
+            set = now.1;
+            owned = λ slice column event may. c.read_word.ensures.owned slice column bit.bit event may now.1;
+          }))),
+    )

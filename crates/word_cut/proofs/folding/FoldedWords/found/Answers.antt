@@ -1,7 +1,7 @@
 -- The next word lies between the end before, or the start, and its own end.
-use Rattle.std.proofs.Common.{◌≡◌, ◌≤◌, ◌+◌, ◌∷◌, [], ◌↔◌, ℕ, List, length, drop, get_or, ap, ap₂, sym, ◌∙◌, subst, arith, rules}
+use Rattle.std.proofs.Common.{◌≤◌, ℕ, List, length, get_or, ap₂, sym, ◌∙◌, subst, rules}
 use Rattle.std.proofs.lemmas.List.{drop_all}
-use Rattle.std.specs.List.{Contains, slice_range}
+use Rattle.std.specs.List.{slice_range}
 use Rattle.funnel_model.specs.WordSets.{pieces, EndAt}
 use Rattle.funnel_model.proofs.WordSetLemmas.{start_within}
 use Rattle.word_cut.proofs.FoldLemmas.{pieces-next, EndAt-next}

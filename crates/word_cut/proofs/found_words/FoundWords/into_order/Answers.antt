@@ -1,5 +1,5 @@
 -- The words are put in order by their bytes, and made distinct by these.
-use Rattle.std.proofs.Common.{rules, ◌≡◌, ◌↔◌, ℕ, List, map, take, length, ap, sym, subst, ◌∙◌}
+use Rattle.std.proofs.Common.{rules, ◌≡◌, ◌↔◌, ℕ, List, map, ap, sym, subst, ◌∙◌}
 use Rattle.std.proofs.lemmas.Cmp.{nat_list_cmp_total}
 use Rattle.std.proofs.lemmas.Fn.{always_returns_same, dedup_same}
 use Rattle.std.proofs.lemmas.List.{take_all}

@@ -1,0 +1,95 @@
+-- Columns that are merged, each once.
+use Rattle.std.proofs.Common.{◌≡◌, ◌↔◌, ◌⊎◌, ⊎_elim, ℕ, ◌+◌, ◌*◌, ◌<◌, Bool, true, false, List, [], ◌∷◌, ◌++◌, length, get_or, set, replicate, inl, inr, refl, sym, ap, ◌∙◌, subst, arith, Contains, true≢false}
+use Rattle.std.proofs.lemmas.Bool.{both_ways, cases_eq}
+use Rattle.std.proofs.lemmas.List.{get_or-replicate, get_or-set_other, get_or-set_same, length-replicate, length-set}
+use Rattle.std.proofs.lemmas.List.Elements.{Contains-append_left, Contains-append_right, Contains-push_cases}
+use Rattle.document_store.proofs.SlotLemmas.{apart}
+use Rattle.engine.specs.Judged.{HasBoth}
+use Rattle.engine.specs.Marks.{AreMarked}
+use Rattle.engine.proofs.CandidateParts.{pairs-append}
+
+no_member : {X : Type 0} (x : X) → Contains [] x → ⊥
+no_member x (k, within, is) = omega (arith, within)
+
+-- none is marked
+pub marked_none : (columns count : ℕ) → AreMarked columns (replicate count false) []
+marked_none columns count = record {
+  once = λ i j d lt within. absurd (omega (arith, within));
+  marked = λ slice column low within. (
+    λ is. absurd (true≢false (sym is ∙ get_or-replicate count (slice * columns + column) false false (omega (arith, within, length-replicate count false)))),
+    λ has. absurd (no_member (slice, column) has),
+  );
+}
+
+-- One more column, which isn't marked.
+module _ (columns : ℕ) (marks : List Bool) (list : List (ℕ × ℕ)) (slice column : ℕ) (are : AreMarked columns marks list) (low : column < columns)
+    (within : slice * columns + column < length marks) (new : get_or marks (slice * columns + column) false ≡ false) where
+  abbrev more : List (ℕ × ℕ)
+  more = list ++ (slice, column) ∷ []
+
+  abbrev marked_now : List Bool
+  marked_now = set marks (slice * columns + column) true
+
+  here : (s c : ℕ) → slice ≡ s → column ≡ c → (get_or marked_now (s * columns + c) false ≡ true) ↔ Contains more (s, c)
+  here s c same_slice same_column =
+      subst (λ n. (get_or marked_now (n * columns + c) false ≡ true) ↔ Contains more (n, c)) same_slice
+      (subst (λ n. (get_or marked_now (slice * columns + n) false ≡ true) ↔ Contains more (slice, n)) same_column
+      (λ is. Contains-append_right list ((slice, column) ∷ []) (slice, column) (0, omega arith, refl), λ has. get_or-set_same marks (slice * columns + column) true false within))
+
+  elsewhere : (s c : ℕ) → c < columns → s * columns + c < length marks → (slice ≡ s → column ≡ c → ⊥) → (get_or marked_now (s * columns + c) false ≡ true) ↔ Contains more (s, c)
+  elsewhere s c below inside differ =
+      let keeps = get_or-set_other marks (slice * columns + column) (s * columns + c) true false (λ same. apart columns slice column s c low below differ (sym same)) in
+      let was = are.marked s c below inside in (
+        λ is. Contains-append_left list ((slice, column) ∷ []) (s, c) (was.0 (sym keeps ∙ is)),
+        λ has.
+            ⊎_elim (λ (there : Contains list (s, c)). keeps ∙ was.1 there) (λ (same : (slice, column) ≡ (s, c)). absurd (differ (ap (λ (p : ℕ × ℕ). p.0) same) (ap (λ (p : ℕ × ℕ). p.1) same)))
+            (Contains-push_cases list (slice, column) (s, c) has),
+      )
+
+  one_only : (y : ℕ × ℕ) → Contains ((slice, column) ∷ []) y → (slice, column) ≡ y
+  one_only y has = ⊎_elim (λ (there : Contains [] y). absurd (no_member y there)) (λ (same : (slice, column) ≡ y). same) (Contains-push_cases [] (slice, column) y has)
+
+  pub marked_more : AreMarked columns marked_now more
+  marked_more = record {
+    once =
+        pairs-append (λ (c other : ℕ × ℕ). c ≡ other → ⊥) list ((slice, column) ∷ []) are.once (λ i j d lt inside. absurd (omega (arith, lt, inside)))
+        (λ x y of_list of_one same.
+        both_ways (get_or marks (slice * columns + column) false) new ((are.marked slice column low within).1 (subst (Contains list) (same ∙ sym (one_only y of_one)) of_list)));
+    marked = λ s c below inside.
+        let there : s * columns + c < length marks = omega (arith, inside, length-set marks (slice * columns + column) true) in
+        ⊎_elim
+        (λ (same_slice : slice ≡ s).
+        ⊎_elim (λ (same_column : column ≡ c). here s c same_slice same_column) (λ (differ : column ≡ c → ⊥). elsewhere s c below there (λ _ is. differ is)) (cases_eq column c))
+        (λ (differ : slice ≡ s → ⊥). elsewhere s c below there (λ is _. differ is)) (cases_eq slice s);
+  }
+
+-- the columns of a list and one more
+pub push_is : (list : List (ℕ × ℕ)) (one c : ℕ × ℕ) → Contains (list ++ one ∷ []) c ↔ (Contains list c ⊎ (one ≡ c))
+push_is list one c = (
+  Contains-push_cases list one c,
+  λ either.
+      ⊎_elim (λ (has : Contains list c). Contains-append_left list (one ∷ []) c has)
+      (λ (is : one ≡ c). subst (Contains (list ++ one ∷ [])) is (Contains-append_right list (one ∷ []) one (0, omega arith, refl))) either,
+)
+
+-- a column that is there already is one of both
+pub there_is : (list : List (ℕ × ℕ)) (one c : ℕ × ℕ) → Contains list one → Contains list c ↔ (Contains list c ⊎ (one ≡ c))
+there_is list one c has = (inl, λ either. ⊎_elim (λ (in' : Contains list c). in') (λ (is : one ≡ c). subst (Contains list) is has) either)
+
+-- the columns of a list and none
+pub both_none : (list : List (ℕ × ℕ)) → HasBoth list [] list
+both_none list c = (inl, λ either. ⊎_elim (λ (has : Contains list c). has) (λ (none : Contains [] c). absurd (no_member c none)) either)
+
+-- one more of the second list is added
+pub both_more : (first part now next : List (ℕ × ℕ)) (one : ℕ × ℕ) → HasBoth first part now → ((c : ℕ × ℕ) → Contains next c ↔ (Contains now c ⊎ (one ≡ c))) → HasBoth first (part ++ one ∷ []) next
+both_more first part now next one both added c =
+    let pushed = push_is part one c in (
+      λ has.
+          ⊎_elim
+          (λ (before : Contains now c). ⊎_elim (λ (h : Contains first c). inl h) (λ (h : Contains part c). inr (pushed.1 (inl h))) ((both c).0 before))
+          (λ (is : one ≡ c). inr (pushed.1 (inr is))) ((added c).0 has),
+      λ either.
+          (added c).1
+          (⊎_elim (λ (h : Contains first c). inl ((both c).1 (inl h)))
+          (λ (h : Contains (part ++ one ∷ []) c). ⊎_elim (λ (p : Contains part c). inl ((both c).1 (inr p))) (λ (is : one ≡ c). inr is) (pushed.0 h)) either),
+    )

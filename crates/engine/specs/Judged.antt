@@ -1,0 +1,55 @@
+-- Finds whose documents a judge keeps: what a scan of another branch adds to its candidates, and its turns at the desk.
+use Rattle.std.specs.Prelude.{◌≡◌, ℕ, ◌+◌, ◌≤◌, ◌↔◌, ◌⊎◌, Bool, List, [], length, take, Contains, Result, Ok, Err}
+use Rattle.commit_desk.specs.Judging.{AreGivenWhere, GiveAllWhere, WereScannedForAny, answer_where}
+use Rattle.commit_desk.specs.Passes.{IsFinding}
+use Rattle.commit_desk.specs.Scans.{AreScanned}
+use Rattle.document_store.specs.Finding.{FoundState}
+use Rattle.engine.specs.declared.finding.FindFault.{FindFault}
+use Rattle.engine.specs.declared.finding.FindFault.TheVariants as find
+use Rattle.engine.specs.Finds.{EndedTurns, RefusedTurns}
+use Rattle.funnel_model.specs.declared.claim.Token.{Token}
+use Rattle.funnel_model.specs.declared.config.Config.{Config}
+use Rattle.funnel_model.specs.declared.event.Event.{Event}
+use Rattle.funnel_model.specs.Legal.{Limits}
+use Rattle.funnel_model.specs.Tokens.{HasToken}
+use Rattle.slice_rule.specs.Pools.{PoolId}
+use Rattle.slice_rule.specs.Seats.{PassState}
+
+-- columns, each once, of slices that have so many: the number of a column counts those of the slices before its own too
+pub record MergedState : Type 0 where
+  pub columns : ℕ
+  pub size : ℕ
+  pub list : List (ℕ × ℕ)
+
+-- the columns of one list, and those of another
+abbrev pub HasBoth : List (ℕ × ℕ) → List (ℕ × ℕ) → List (ℕ × ℕ) → Type 0
+HasBoth first second both = (column : ℕ × ℕ) → Contains both column ↔ (Contains first column ⊎ Contains second column)
+
+-- the columns that a scan for these words found were added
+abbrev pub AddsScan : Config → PassState → Token → List (List ℕ) → List (ℕ × ℕ) → List (ℕ × ℕ) → Type 0
+AddsScan config seat token words before after = (scanned : List (ℕ × ℕ)) × AreScanned config seat token words scanned × HasBoth before scanned after
+
+-- A find between its turns, whose documents are to pass a test. Its candidates were scanned for branches, of which each text that passes
+-- has one; there is room for all that are left, and what those before this one give is found.
+pub record IsJudgedUpTo (pool : PoolId) (pass : PassState) (token : Token) (test : List ℕ → Bool) (candidates : List (ℕ × ℕ)) (found : FoundState) (from : ℕ) : Type 0 where
+  pub finding : IsFinding pool token pass
+  pub scanned : WereScannedForAny pool.config pass token test candidates
+  pub within : from ≤ length candidates
+  pub room : length candidates ≤ found.room + from
+  pub given : (begun : HasToken pass.front pass.number token.opened_at) → AreGivenWhere begun.earlier test (take from candidates) found.found
+
+-- what all candidates give is found, and they give all that pass the test
+abbrev pub IsAllJudged : PassState → Token → (List ℕ → Bool) → List (ℕ × ℕ) → List (ℕ × ℕ) → Type 0
+IsAllJudged pass token test candidates found =
+    (begun : HasToken pass.front pass.number token.opened_at) → AreGivenWhere begun.earlier test candidates found × GiveAllWhere begun.earlier test candidates
+
+-- a find of the empty query began and ended, and is answered by those documents that were live when it began and pass the test
+pub record KeptTurns (limits : Limits) (pass : ℕ) (test : List ℕ → Bool) (before after : List Event) (ids : List ℕ) : Type 0 where
+  pub turns : EndedTurns limits pass [] before after
+  pub kept : ids ≡ answer_where turns.begun.earlier test
+
+-- It is answered so, or did not begin, or found no memory after it had begun.
+abbrev pub JudgedTurns : Limits → ℕ → (List ℕ → Bool) → List Event → List Event → Result (List ℕ) FindFault → Type 0
+JudgedTurns limits pass test before after (Ok ids) = KeptTurns limits pass test before after ids
+JudgedTurns limits pass test before after (Err find.Memory) = RefusedTurns limits pass before after find.Memory ⊎ EndedTurns limits pass [] before after
+JudgedTurns limits pass test before after (Err (find.Spent events)) = RefusedTurns limits pass before after (find.Spent events)

@@ -1,0 +1,273 @@
+-- The calls on a connection of requests, request by request.
+use Rattle.std.proofs.Common.{◌≡◌, ◌+◌, ◌<◌, ◌⊎◌, ℕ, Bool, true, false, List, [], ◌∷◌, ◌++◌, length, drop, refl, sym, ap, ◌∙◌, subst, inl, inr, arith, append-nil, append_assoc, length-append}
+use Rattle.std.specs.List.{list_any}
+use Rattle.funnel_io.specs.Answers.{MatchGot}
+use Rattle.funnel_io.specs.Calls.{Read, Write, Leads, AreOfRest, GaveBytes, WritesAs, bytes_read, bytes_written, found_end, is_end}
+use Rattle.funnel_io.specs.declared.end.End.{End}
+use Rattle.funnel_io.specs.declared.end.End.TheVariants as end_of
+use Rattle.funnel_io.specs.declared.source.Got.{Got}
+use Rattle.funnel_io.specs.declared.source.Got.TheVariants as got
+use Rattle.funnel_io.proofs.CallLaws.{bytes_read-append, gave_bytes-append}
+use Rattle.funnel_model.specs.declared.event.Event.{Event}
+use Rattle.line_proto.specs.Services.{Caller}
+use Rattle.session.specs.Turns.{AreBelow}
+use Rattle.http_front.specs.Entries.{BeginsWith, HasNoEntry, is_last}
+use Rattle.http_front.specs.Sessions.{Exchange, response_of}
+use Rattle.http_front.specs.Steps.{AnswersFront, IsRendered, IsUndecided}
+use Rattle.http_front.specs.Turns.{RequestTurn, AreLastForRequest, AreReadForRequest, AreRequestTurns, FollowsRequests, GoesByRequest, GoesRequestByRequest, IsWhollyWritten, StopsRequests, entries_had, reads_of_requests}
+use Rattle.http_front.specs.TurnSteps.{AreNeeded, FindsEndAs, HasHadTurns, ReadsAsNeeded, ReadsOnce}
+use Rattle.http_front.specs.declared.outcome.Outcome.{Outcome}
+use Rattle.http_front.proofs.Progress.{BeginsWith-append, BeginsWith-push, IsTold, last-push, rendered}
+
+-- calls that lead on from where others led
+Leads-append : {S C : Type 0} (gives : S → C → S → Type 0) (first between now : S) (later earlier : List C) → Leads gives first earlier between → Leads gives between later now
+    → Leads gives first (later ++ earlier) now
+Leads-append {S} {C} gives first between now [] earlier lead on = subst (λ (s : S). Leads gives first earlier s) on lead
+Leads-append {S} {C} gives first between now (call ∷ later) earlier lead on = (on.0, Leads-append gives first between on.0 later earlier lead on.1, on.2)
+
+-- the last read found the end, after those before it too
+pub found-append : (reads earlier : List Read) → found_end reads ≡ true → found_end (reads ++ earlier) ≡ true
+found-append [] earlier found = cc
+found-append (read ∷ reads) earlier found = found
+
+-- what an answer tells of the read that had it
+pub gave_some : (n : ℕ) (read : Read) (earlier : List Read) → read.answer ≡ got.Bytes n → GaveBytes (read ∷ earlier)
+gave_some n read earlier is = subst (λ (answer : Got). MatchGot answer (λ _. Unit {0}) ⊥ ⊥) (sym is) tt
+
+pub found_it : (read : Read) (earlier : List Read) → read.answer ≡ got.End → FindsEndAs end_of.Done (read ∷ earlier)
+found_it read earlier is = λ done. ap is_end is
+
+pub found_none : (read : Read) (earlier : List Read) → read.answer ≡ got.Failed → FindsEndAs end_of.ReadFault (read ∷ earlier)
+found_none read earlier is = λ done. cc
+
+module _ {S : Type 0} (read_gives : S → Read → S → Type 0) where
+  -- no read was made
+  pub reads_none : (Undecided : List ℕ → Type 0) (now : S) (held : List ℕ) (may : ℕ) → ReadsAsNeeded Undecided GaveBytes read_gives now now held held may may
+  reads_none Undecided now held may = record { reads = []; lead = refl; needed = tt; last = tt; grown = sym (append-nil held); count = omega arith }
+
+  -- the limit is no end of the source
+  pub reads_to_limit : (Undecided : List ℕ → Type 0) (before now : S) (held held' : List ℕ) (may may' limit : ℕ)
+      → ReadsAsNeeded Undecided GaveBytes read_gives before now held held' may may'
+      → ReadsAsNeeded Undecided (FindsEndAs (end_of.ByteLimit limit)) read_gives before now held held' may may'
+  reads_to_limit Undecided before now held held' may may' limit p = record {
+    reads = p.reads;
+    lead = p.lead;
+    needed = p.needed;
+    last = λ done. cc;
+    grown = p.grown;
+    count = p.count;
+  }
+
+  -- one more read had to be made
+  pub reads_next : (Undecided : List ℕ → Type 0) (Last : List Read → Type 0) (first between now : S) (held held' held'' : List ℕ) (may may' may'' : ℕ) (answer : Got)
+      → ReadsAsNeeded Undecided GaveBytes read_gives first between held held' may may' → Undecided held' → 0 < may'
+      → ReadsOnce read_gives answer between now held' held'' may' may'' → ((read : Read) (earlier : List Read) → read.answer ≡ answer → Last (read ∷ earlier))
+      → ReadsAsNeeded Undecided Last read_gives first now held held'' may may''
+  reads_next Undecided Last first between now held held' held'' may may' may'' answer p undecided some once last = record {
+    reads = once.read ∷ p.reads;
+    lead = (between, p.lead, once.step);
+    needed = (p.needed, record { going_on = p.last; undecided = subst Undecided p.grown undecided; below = omega (arith, some, p.count) });
+    last = last once.read p.reads once.answered;
+    grown = once.grown ∙ (ap (λ bs. bs ++ once.read.bytes) p.grown ∙ append_assoc held (bytes_read p.reads) once.read.bytes);
+    count = omega (arith, p.count, once.count, length-append (bytes_read p.reads) once.read.bytes);
+  }
+
+  -- and more had to be, before so many bytes were there that something may be decided
+  module _ (Last : List Read → Type 0) (more : (reads earlier : List Read) → GaveBytes earlier → Last reads → Last (reads ++ earlier))
+      (first between now : S) (held held' held'' : List ℕ) (may may' may'' least : ℕ) (undecided : IsUndecided held' least)
+      (p : ReadsAsNeeded HasNoEntry GaveBytes read_gives first between held held' may may')
+      (q : ReadsAsNeeded (λ bytes. length bytes < least) Last read_gives between now held' held'' may' may'') where
+    behind : (reads : List Read) → held ++ bytes_read (reads ++ p.reads) ≡ held' ++ bytes_read reads
+    behind reads = ap (λ bs. held ++ bs) (bytes_read-append reads p.reads)
+        ∙ (sym (append_assoc held (bytes_read p.reads) (bytes_read reads)) ∙ ap (λ bs. bs ++ bytes_read reads) (sym p.grown))
+
+    needed_on : (reads : List Read) → AreNeeded (λ bytes. length bytes < least) held' may' reads → AreNeeded HasNoEntry held may (reads ++ p.reads)
+    needed_on [] needed = p.needed
+    needed_on (read ∷ earlier) needed = (
+      needed_on earlier needed.0,
+      record {
+        going_on = gave_bytes-append earlier p.reads needed.1.going_on p.last;
+        undecided = subst HasNoEntry (sym (behind earlier)) (undecided.none (bytes_read earlier) needed.1.undecided);
+        below = omega (
+          arith,
+          needed.1.below,
+          p.count,
+          ap length (bytes_read-append earlier p.reads),
+          length-append (bytes_read p.reads) (bytes_read earlier),
+        );
+      },
+    )
+
+    pub reads_on : ReadsAsNeeded HasNoEntry Last read_gives first now held held'' may may''
+    reads_on = record {
+      reads = q.reads ++ p.reads;
+      lead = Leads-append read_gives first between now q.reads p.reads p.lead q.lead;
+      needed = needed_on q.reads q.needed;
+      last = more q.reads p.reads p.last q.last;
+      grown = q.grown ∙ sym (behind q.reads);
+      count = omega (
+        arith,
+        p.count,
+        q.count,
+        ap length (bytes_read-append q.reads p.reads),
+        length-append (bytes_read p.reads) (bytes_read q.reads),
+      );
+    }
+
+-- where the last response was written whole, the reads of no request may come
+last_for_request : (turns : List RequestTurn) (reads : List Read) → AreReadForRequest turns reads → IsWhollyWritten turns → AreLastForRequest turns reads
+last_for_request turns [] in_turn written = tt
+last_for_request turns (read ∷ earlier) in_turn written = (in_turn, written)
+
+module _ {S : Type 0} (read_gives : S → Read → S → Type 0) (write_gives : S → Write → S → Type 0) where
+  -- nothing was done yet
+  pub had_none : (limit : ℕ) (now : S) → HasHadTurns read_gives write_gives limit limit [] now now
+  had_none limit now = record {
+    turns = [];
+    turn_by_turn = refl;
+    are = tt;
+    written = tt;
+    begin = refl;
+    none_closes = refl;
+    count = omega arith;
+    below = tt;
+    gave = tt;
+  }
+
+  -- the same of a number and bytes that are equal
+  pub had_as : (limit may may' : ℕ) (held held' : List ℕ) (before now : S) → may ≡ may' → held ≡ held'
+      → HasHadTurns read_gives write_gives limit may held before now → HasHadTurns read_gives write_gives limit may' held' before now
+  had_as limit may may' held held' before now may_is held_is had =
+      subst (λ (n : ℕ). HasHadTurns read_gives write_gives limit n held' before now) may_is
+      (subst (λ (bs : List ℕ). HasHadTurns read_gives write_gives limit may bs before now) held_is had)
+
+  -- and nothing was
+  goes_nowhere : (now : S) → GoesRequestByRequest read_gives write_gives now now
+  goes_nowhere now = record { turns = []; middle = now; turn_by_turn = refl; are = tt; last = []; last_lead = refl; last_are = tt }
+
+  pub stops_at_once : (limit : ℕ) (done : Type 0) (now : S) → (done → ⊥) → StopsRequests read_gives write_gives limit done now now
+  unfolding goes_nowhere
+  stops_at_once limit done now never = record { goes = goes_nowhere now; below = tt; at_end = λ is. absurd (never is) }
+
+  module _ (limit may may' : ℕ) (held held' : List ℕ) (before now middle : S) (p : HasHadTurns read_gives write_gives limit may held before now) where
+    begin_on : (reads : List Read) → BeginsWith (bytes_read (reads ++ reads_of_requests p.turns)) (entries_had p.turns) (held ++ bytes_read reads)
+    begin_on reads = subst (λ (bs : List ℕ). BeginsWith bs (entries_had p.turns) (held ++ bytes_read reads)) (sym (bytes_read-append reads (reads_of_requests p.turns)))
+        (BeginsWith-append (bytes_read (reads_of_requests p.turns)) (entries_had p.turns) held (bytes_read reads) p.none_closes p.begin)
+
+    -- reads that have to be made come where every whole request had its turn, and every read gave bytes
+    in_turn : (reads : List Read) → AreNeeded HasNoEntry held may reads → AreReadForRequest p.turns reads
+    in_turn [] needed = tt
+    in_turn (read ∷ earlier) needed = (
+      in_turn earlier needed.0,
+      record {
+        going_on = gave_bytes-append earlier (reads_of_requests p.turns) needed.1.going_on p.gave;
+        answered = record { rest = held ++ bytes_read earlier; begin = begin_on earlier; all = inr needed.1.undecided };
+        none_closes = p.none_closes;
+      },
+    )
+
+    -- and below the limit
+    below_on : (reads : List Read) → AreNeeded HasNoEntry held may reads → AreBelow limit (reads ++ reads_of_requests p.turns)
+    below_on [] needed = p.below
+    below_on (read ∷ earlier) needed = (
+      below_on earlier needed.0,
+      omega (
+        arith,
+        needed.1.below,
+        p.count,
+        ap length (bytes_read-append earlier (reads_of_requests p.turns)),
+        length-append (bytes_read (reads_of_requests p.turns)) (bytes_read earlier),
+      ),
+    )
+
+    -- no further request came
+    pub stops_reading : (end : End) → ReadsAsNeeded HasNoEntry (FindsEndAs end) read_gives now middle held held' may may'
+        → StopsRequests read_gives write_gives limit (end ≡ end_of.Done) before middle
+    stops_reading end r = record {
+      goes = record {
+        turns = p.turns;
+        middle = now;
+        turn_by_turn = p.turn_by_turn;
+        are = p.are;
+        last = r.reads;
+        last_lead = r.lead;
+        last_are = last_for_request p.turns r.reads (in_turn r.reads r.needed) p.written;
+      };
+      below = below_on r.reads r.needed;
+      at_end = λ done. inl (found-append r.reads (reads_of_requests p.turns) (r.last done));
+    }
+
+    -- a request came, and this is the text of its response
+    module _ (r : ReadsAsNeeded HasNoEntry GaveBytes read_gives now middle held held' may may') (caller : Caller) (front front' : List Event) (len : ℕ) (closing : Bool)
+        (told : Outcome) (a : AnswersFront held' len closing caller front told front') (text : List ℕ) (rendering : IsRendered closing told text) (after : S) where
+      is_told : IsTold caller front a.entry text front'
+      is_told = rendered caller front front' a.entry told text a.answers (subst (λ (c : Bool). IsRendered c told text) (sym a.last) rendering)
+
+      turn_of : List Write → RequestTurn
+      turn_of writes = record { reads = r.reads; exchange = record { entry = a.entry; told = is_told.told }; writes = writes }
+
+      begin_now : BeginsWith (bytes_read (r.reads ++ reads_of_requests p.turns)) (entries_had p.turns ++ a.entry ∷ []) (drop len held')
+      begin_now = BeginsWith-push (bytes_read (r.reads ++ reads_of_requests p.turns)) (entries_had p.turns) held' a.entry (drop len held') p.none_closes
+          (subst (BeginsWith (bytes_read (r.reads ++ reads_of_requests p.turns)) (entries_had p.turns)) (sym r.grown) (begin_on r.reads)) a.reads
+
+      follows : (writes : List Write) → AreOfRest text writes → FollowsRequests p.turns (turn_of writes)
+      unfolding turn_of
+      follows writes of_rest = record {
+        written = p.written;
+        reads = in_turn r.reads r.needed;
+        rest = drop len held';
+        next = begin_now;
+        one_text = subst (λ (bs : List ℕ). AreOfRest bs writes) is_told.is of_rest;
+      }
+
+      -- its response was written, and it doesn't close
+      pub had_more : closing ≡ false → WritesAs write_gives text middle after false → HasHadTurns read_gives write_gives limit may' (drop len held') before after
+      unfolding turn_of
+      had_more goes_on w = record {
+        turns = turn_of w.writes ∷ p.turns;
+        turn_by_turn = (now, p.turn_by_turn, record { middle = middle; reads = r.lead; writes = w.lead });
+        are = (p.are, follows w.writes w.of_rest);
+        written = w.sent ∙ is_told.is;
+        begin = begin_now;
+        none_closes = last-push (entries_had p.turns) a.entry closing p.none_closes a.last ∙ goes_on;
+        count = omega (
+          arith,
+          p.count,
+          r.count,
+          ap length (bytes_read-append r.reads (reads_of_requests p.turns)),
+          length-append (bytes_read (reads_of_requests p.turns)) (bytes_read r.reads),
+        );
+        below = below_on r.reads r.needed;
+        gave = gave_bytes-append r.reads (reads_of_requests p.turns) r.last p.gave;
+      }
+
+      -- its writes are the last calls
+      goes_to_write : (failed : Bool) → WritesAs write_gives text middle after failed → GoesRequestByRequest read_gives write_gives before after
+      unfolding turn_of
+      goes_to_write failed w = record {
+        turns = turn_of w.writes ∷ p.turns;
+        middle = after;
+        turn_by_turn = (now, p.turn_by_turn, record { middle = middle; reads = r.lead; writes = w.lead });
+        are = (p.are, follows w.writes w.of_rest);
+        last = [];
+        last_lead = refl;
+        last_are = tt;
+      }
+
+      -- it was written, and it closes
+      pub stops_closing : (done : Type 0) → closing ≡ true → WritesAs write_gives text middle after false → StopsRequests read_gives write_gives limit done before after
+      unfolding turn_of goes_to_write
+      stops_closing done closes w = record {
+        goes = goes_to_write false w;
+        below = below_on r.reads r.needed;
+        at_end = λ is. inr (last-push (entries_had p.turns) a.entry closing p.none_closes a.last ∙ closes);
+      }
+
+      -- a write of it failed
+      pub stops_failed : WritesAs write_gives text middle after true → StopsRequests read_gives write_gives limit (end_of.WriteFault ≡ end_of.Done) before after
+      unfolding turn_of goes_to_write
+      stops_failed w = record {
+        goes = goes_to_write true w;
+        below = below_on r.reads r.needed;
+        at_end = λ done. cc;
+      }

@@ -1,0 +1,54 @@
+-- The calls on a connection of requests so far, for the clauses of functions that are not public.
+use Rattle.std.specs.Prelude.{◌≡◌, ◌+◌, ◌<◌, ⊤, ℕ, true, false, List, [], ◌∷◌, ◌++◌, length}
+use Rattle.std.specs.List.{list_any}
+use Rattle.funnel_io.specs.Calls.{Read, Write, Leads, GaveBytes, bytes_read, found_end}
+use Rattle.funnel_io.specs.declared.end.End.{End}
+use Rattle.funnel_io.specs.declared.end.End.TheVariants as end_of
+use Rattle.funnel_io.specs.declared.source.Got.{Got}
+use Rattle.session.specs.Turns.{AreBelow}
+use Rattle.http_front.specs.Entries.{BeginsWith, is_last}
+use Rattle.http_front.specs.Turns.{RequestTurn, AreRequestTurns, GoesByRequest, IsWhollyWritten, entries_had, reads_of_requests}
+
+-- one read was made, and its bytes stand behind those that were held
+pub record ReadsOnce {S : Type 0} (read_gives : S → Read → S → Type 0) (answer : Got) (before after : S) (old new : List ℕ) (may may' : ℕ) : Type 0 where
+  pub read : Read
+  pub answered : read.answer ≡ answer
+  pub step : read_gives before read after
+  pub grown : new ≡ old ++ read.bytes
+  pub count : may' + length read.bytes ≡ may
+
+-- a read comes where the bytes held and those read so far decide nothing, the read before it gave bytes, and fewer were read than may be
+pub record IsNeeded (Undecided : List ℕ → Type 0) (held : List ℕ) (may : ℕ) (earlier : List Read) : Type 0 where
+  pub going_on : GaveBytes earlier
+  pub undecided : Undecided (held ++ bytes_read earlier)
+  pub below : length (bytes_read earlier) < may
+
+-- each of the reads, of which the last comes first, has to be made
+abbrev pub AreNeeded : (List ℕ → Type 0) → List ℕ → ℕ → List Read → Type 0
+AreNeeded Undecided held may [] = ⊤
+AreNeeded Undecided held may (read ∷ earlier) = AreNeeded Undecided held may earlier × IsNeeded Undecided held may earlier
+
+-- these reads were made, each of which had to be, and this is so of the last of them
+pub record ReadsAsNeeded {S : Type 0} (Undecided : List ℕ → Type 0) (Last : List Read → Type 0) (read_gives : S → Read → S → Type 0) (before after : S) (old new : List ℕ) (may may' : ℕ) : Type 0 where
+  pub reads : List Read
+  pub lead : Leads read_gives before reads after
+  pub needed : AreNeeded Undecided old may reads
+  pub last : Last reads
+  pub grown : new ≡ old ++ bytes_read reads
+  pub count : may' + length (bytes_read reads) ≡ may
+
+-- with Done the last of the reads found the end
+abbrev pub FindsEndAs : End → List Read → Type 0
+FindsEndAs end reads = end ≡ end_of.Done → found_end reads ≡ true
+
+-- every request before the bytes that are held had its turn, every response was written whole, none closes, and no call failed
+pub record HasHadTurns {S : Type 0} (read_gives : S → Read → S → Type 0) (write_gives : S → Write → S → Type 0) (limit may : ℕ) (held : List ℕ) (before now : S) : Type 0 where
+  pub turns : List RequestTurn
+  pub turn_by_turn : Leads (GoesByRequest read_gives write_gives) before turns now
+  pub are : AreRequestTurns turns
+  pub written : IsWhollyWritten turns
+  pub begin : BeginsWith (bytes_read (reads_of_requests turns)) (entries_had turns) held
+  pub none_closes : list_any is_last (entries_had turns) ≡ false
+  pub count : may + length (bytes_read (reads_of_requests turns)) ≡ limit
+  pub below : AreBelow limit (reads_of_requests turns)
+  pub gave : GaveBytes (reads_of_requests turns)
