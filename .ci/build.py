@@ -89,25 +89,34 @@ def say(text):
     print(f"funnel: {text}", file=sys.stderr, flush=True)
 
 
+def size(crate):
+    """How many bytes a check of the crate reads of it, by which it is guessed how long it takes."""
+    files = (f"{path}/{name}" for it in ("src", "specs", "proofs") for path, _, names in os.walk(f"{ROOT}/crates/{crate}/{it}") for name in names)
+    return sum(map(os.path.getsize, files))
+
+
+def ways(crates, below):
+    """Of each crate, how much has to be proved from it on, one crate after another, up to the program."""
+    way = {}
+    for crate in reversed(crates):  # each comes before those that it stands on
+        way[crate] = size(crate) + max((way[it] for it in crates if crate in below[it]), default=0)
+    return way
+
+
 def build_all(below, left, most):
     """Builds these crates, each once those that it stands on are there. Returns whether all were built."""
-    count, running, built = len(left), {}, set()
+    count, running, built, way = len(left), {}, set(), ways(left, below)
     with ThreadPoolExecutor(most) as pool:
         while left or running:
-            # those that most others wait for come first
-            ready = [it for it in left if built.issuperset(below[it])]
-            ready.sort(key=lambda it: -sum(it in needed(other, below) for other in left))
-            for at, crate in enumerate(ready):
-                idle = most - sum(jobs for _, jobs in running.values())
-                if idle == 0:
-                    break
-                # a crate gets the processors that no other one can use now, the first of them more
-                jobs = max(1, -(-idle // (len(ready) - at)))
+            # those with the longest way before them come first, and what is on the longest of all gets all processors
+            ready = sorted((it for it in left if built.issuperset(below[it])), key=lambda it: -way[it])
+            for crate in ready[: most - len(running)]:
+                first = all(way[crate] >= way[it] for it in [*left, *running.values()])
                 left.remove(crate)
                 say(f"proving {crate} ({count - len(left)} of {count})")
-                running[pool.submit(build, crate, below, jobs)] = crate, jobs
+                running[pool.submit(build, crate, below, most if first else 1)] = crate
             for ended in wait(running, return_when=FIRST_COMPLETED).done:
-                crate, _ = running.pop(ended)
+                crate = running.pop(ended)
                 status, log = ended.result()
                 if status:
                     say(f"the build of {crate} failed:\n" + "\n".join(log.splitlines()[-20:]))

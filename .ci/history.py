@@ -11,6 +11,7 @@ FORMS = [
         "(add) ([0-9]{1,20})(?: (.*))?",
         "(del) ([0-9]{1,20})",
         "(find)(?: (.*))?",
+        "(query) (.*)",
         "(place)",
         "(journal) ([0-9]{1,20})",
         "(recycle)",
@@ -44,6 +45,64 @@ def commit_told(request, reply):
     word, sign = COMMITS.get(request[0], ("", ""))
     match = word and re.fullmatch(f"{word} ([0-9]+)", reply)
     return (int(match[1]), f"{sign}{request[1]}") if match else None
+
+
+class Reading:
+    """A boolean query, read from left to right: what it keeps of a set of words, or the refusal of its text."""
+
+    MOST_OPEN = 64
+
+    def __init__(self, text):
+        text = text.encode()
+        self.tokens = [(m.start(), m[0].decode()) for m in re.finditer(rb"[|()-]|[^ |()-][^ |()]*", text)]
+        self.end, self.at, self.refusal = len(text), 0, None
+        try:
+            self.keeps = self.expression(0)
+            if self.at < len(self.tokens):
+                self.refuse()
+        except SyntaxError as refusal:
+            self.refusal = str(refusal)
+
+    def next(self):
+        return self.tokens[self.at][1] if self.at < len(self.tokens) else None
+
+    def refuse(self):
+        raise SyntaxError(f"refused query {self.tokens[self.at][0] if self.at < len(self.tokens) else self.end}")
+
+    def open(self, level):
+        if level == self.MOST_OPEN:
+            raise SyntaxError(f"refused deep {self.tokens[self.at][0]}")
+        self.at += 1
+        return level + 1
+
+    def expression(self, level):
+        terms = [self.term(level)]
+        while self.next() == "|":
+            self.at += 1
+            terms.append(self.term(level))
+        return lambda words: any(term(words) for term in terms)
+
+    def term(self, level):
+        factors = [self.factor(level)]
+        while self.next() not in (None, "|", ")"):
+            factors.append(self.factor(level))
+        return lambda words: all(factor(words) for factor in factors)
+
+    def factor(self, level):
+        token = self.next()
+        if token in (None, "|", ")"):
+            self.refuse()
+        if token == "-":
+            factor = self.factor(self.open(level))
+            return lambda words: not factor(words)
+        if token == "(":
+            inner = self.expression(self.open(level))
+            if self.next() != ")":
+                self.refuse()
+            self.at += 1
+            return inner
+        self.at += 1
+        return lambda words: words_of(token) <= words
 
 
 def words_of(text):
@@ -80,6 +139,12 @@ class History:
             case ("find", query):
                 words = words_of(query)
                 found = [number for number, (_, has) in live.items() if words <= has]
+                return " ".join(map(str, ["found", len(found), *found]))
+            case ("query", text):
+                reading = Reading(text)
+                if reading.refusal:
+                    return reading.refusal
+                found = [number for number, (_, has) in live.items() if reading.keeps(has)]
                 return " ".join(map(str, ["found", len(found), *found]))
             case ("place",):
                 return f"place {count}"

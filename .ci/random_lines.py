@@ -5,7 +5,7 @@ from history import LONGEST_LINE
 LINES = 300
 WORDS = ["ant", "Bee", "cat", "DOG", "elk"]
 SHARED = range(1, 31)
-NO_REQUESTS = [b"", b"add", b"Add 1 ant", b"add  1 ant", b"del 7 ", b"finder", b"place 1", b"journal", b"find \xff"]
+NO_REQUESTS = [b"", b"add", b"Add 1 ant", b"add  1 ant", b"del 7 ", b"finder", b"query", b"place 1", b"journal", b"find \xff"]
 
 
 def own(number):
@@ -36,15 +36,24 @@ class Script:
         separator = self.chance.choice([" ", ", ", "  "])
         return separator.join(self.chance.choices(WORDS, k=self.chance.randint(0, most)))
 
+    def query(self):
+        """A boolean query of a few tokens, now and then out of place, or one that opens many levels."""
+        if self.chance.random() < 0.05:
+            return self.chance.choice("(-") * self.chance.choice([63, 64, 65]) + "ant" + self.chance.choice(["", ")" * 64])
+        tokens = self.chance.choices([*WORDS, "|", "-", "(", ")"], [3, 3, 3, 3, 3, 3, 3, 1, 1], k=self.chance.randint(0, 6))
+        return self.chance.choice([" ", " ", "  "]).join(tokens)
+
     def line(self):
-        kinds = ["add", "del", "find", "place", "journal", "recycle", "none", "long"]
-        kind = self.chance.choices(kinds, [30, 26, 30, 3, 2, 2, 6, 0.2 if self.may_be_long else 0])[0]
+        kinds = ["add", "del", "find", "query", "place", "journal", "recycle", "none", "long"]
+        kind = self.chance.choices(kinds, [30, 26, 20, 10, 3, 2, 2, 6, 0.2 if self.may_be_long else 0])[0]
         if kind == "add" and (document := next(self.adds, None)):
             return f"add {document} {self.text(5)}".encode()
         if kind == "del" and (document := next(self.deletes, None)):
             return f"del {document}".encode()
         if kind == "find":
             return f"find {self.text(3)}".encode()
+        if kind == "query":
+            return f"query {self.query()}".encode()
         if kind == "journal":
             return f"journal {self.chance.randrange(2000)}".encode()
         if kind == "none":

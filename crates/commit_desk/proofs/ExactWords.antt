@@ -1,5 +1,5 @@
 -- What a scan told of exact words: a document that was live in the column of a candidate as the find began has those of the query.
-use Rattle.std.proofs.Common.{◌≡◌, ℕ, ◌+◌, ◌<◌, true, false, List, [], ◌∷◌, ◌++◌, length, refl, sym, ap, ◌∙◌, subst, arith, Contains}
+use Rattle.std.proofs.Common.{◌≡◌, ℕ, ◌+◌, ◌<◌, ◌≤◌, true, false, List, [], ◌∷◌, ◌++◌, length, refl, sym, ap, ◌∙◌, subst, arith, Contains}
 use Rattle.std.specs.List.{list_any}
 use Rattle.std.specs.Option.{is_some}
 use Rattle.funnel_model.specs.Configuration.{IsInRange}
@@ -16,19 +16,49 @@ use Rattle.funnel_model.specs.Slices.{IsInUse, IsLiveOn}
 use Rattle.funnel_model.specs.Tokens.{MayRead}
 use Rattle.funnel_model.specs.Tunings.{treat}
 use Rattle.funnel_model.specs.Words.{AreWordsOf, words}
-use Rattle.funnel_model.proofs.TuningLemmas.{treat_untuned}
+use Rattle.funnel_model.proofs.TuningLemmas.{treat-push, treat_untuned}
 use Rattle.row_layout.proofs.Lists.{Contains-flat_map}
 use Rattle.row_layout.proofs.Owners.{exact-has_row, exact-owned, owned-tells-documents}
 use Rattle.row_layout.proofs.SetBits.{live_uncleared, put_stands}
 use Rattle.row_layout.proofs.Standing.{stands-later}
 use Rattle.row_layout.specs.declared.row.Row.{Row}
 use Rattle.row_layout.specs.DocumentBits.{bit_of_row}
-use Rattle.row_layout.specs.Owners.{Owns, OwnsIn, is_exact}
+use Rattle.row_layout.specs.Owners.{Owns, OwnsIn, StandsOn, is_exact}
 use Rattle.row_layout.specs.Rows.{row_of_word, rows_of_word}
 use Rattle.row_layout.specs.Sound.{IsSound}
-use Rattle.slice_rule.specs.Seats.{PassState, WasReadUnder}
+use Rattle.slice_rule.specs.Seats.{PassState}
 use Rattle.commit_desk.specs.Scans.{AreScanned}
-use Rattle.commit_desk.proofs.Untuned.{untuned-push}
+use Rattle.commit_desk.specs.Laws.{ReadBitsTellWords, ReadsWordAt}
+
+-- the treatment of a slice stays as it is when a find begins
+treat_find : (opening : Config) (slice pass : ℕ) (query : List ℕ) (earlier : List Event) → treat opening slice (earlier ++ event.Find pass query ∷ []) ≡ treat opening slice earlier
+treat_find opening slice pass query earlier = treat-push opening slice earlier (event.Find pass query)
+
+pub read_tells_words : ReadBitsTellWords
+read_tells_words limits opening earlier pass opened_at slice column word document since legal sound reads lives =
+    let config = treat opening slice earlier in
+    let bit = bit_of_row (words_of_slice opening) slice column reads.row in
+    let put = lives.put in
+    let stays = live_uncleared limits earlier slice column document since legal lives in
+    let find = event.Find pass.number reads.query in
+    let stands : StandsOn pass.front slice column put.event =
+    subst (λ (h : List Event). StandsOn h slice column put.event) (sym reads.begun)
+    (stands-later earlier (find ∷ []) slice column put.event refl (put_stands earlier slice column document since lives.later put stays)) in
+    let treated : treat opening slice pass.front ≡ config =
+    ap (treat opening slice) reads.begun ∙ treat_find opening slice pass.number reads.query earlier in
+    let owns : Owns limits opening pass.front slice column bit = record {
+      in_engine = reads.in_engine;
+      treated = subst (λ (k : Config). OwnsIn limits.slice_words k slice column bit) (sym treated)
+          (subst (λ n. OwnsIn n config slice column bit) (sym reads.room)
+          (exact-owned (words_of_slice opening) config slice column word reads.row reads.fits reads.in_slice reads.exact reads.its_row));
+    } in
+    let among = reads.read.owned slice column put.event
+    (subst (λ (l : Limits). MayRead l.columns pass.front pass.number slice) (sym reads.limits_are) reads.readable)
+    (subst (λ (l : Limits). Owns l pass.pool.config pass.front slice column bit) (sym reads.limits_are)
+    (subst (λ (k : Config). Owns limits k pass.front slice column bit) (sym reads.opening_is) owns))
+    stands in
+    owned-tells-documents limits opening earlier slice column document since lives.later word reads.row legal sound put stays
+    reads.in_range reads.in_slice reads.exact reads.its_row among
 
 -- A find that began after these events, and the candidates of its scan.
 module _ (config : Config) (limits : Limits) (in_range : IsInRange config) (columns_are : limits.columns ≡ columns_of_slice config)
@@ -54,41 +84,29 @@ module _ (config : Config) (limits : Limits) (in_range : IsInRange config) (colu
       in_use = subst (λ (l : Limits). IsInUse l.columns slice earlier) (sym same) (used slice (scanned.of_token (slice, column) has).slice);
     }
 
-    module _ (word : List ℕ) (exact : is_exact config word ≡ true) where
-      abbrev row : Row
-      row = row_of_word config word 0
-
-      abbrev bit : Bit
-      bit = bit_of_row (words_of_slice config) slice column row
-
-      -- the column owns the bit of the word's row
-      owns : Owns base.pool.limits base.pool.config front slice column bit
-      owns =
-          let treated : treat base.pool.config slice front ≡ config =
-          treat_untuned base.pool.config slice front (untuned-push earlier (event.Find base.number query) untuned refl) ∙ made in
-          record {
-            in_engine = (scanned.of_token (slice, column) has).column;
-            treated = subst (λ (k : Config). OwnsIn base.pool.limits.slice_words k slice column bit) (sym treated)
-                (subst (λ n. OwnsIn n config slice column bit) (sym scanned.laid)
-                (exact-owned (words_of_slice config) config slice column word row (omega arith) below exact (exact-has_row config word exact)));
-          }
-
-      -- which was read as set
-      was_read : Contains (words query) word → WasReadUnder seat held.opened_at bit
-      was_read in_query =
-          scanned.read (slice, column) has bit (row, Contains-flat_map (rows_of_word config) set word row ((of_query word).1 in_query) (exact-has_row config word exact), refl)
-
-      -- so a document that was live there has the word
-      pub has_exact : Contains (words query) word → (d : Document) (since : ℕ) → IsLiveOn earlier slice column d since → Contains (words d.text) word
-      has_exact in_query d since lives =
-          let put = lives.put in
-          let stays = live_uncleared limits earlier slice column d since legal lives in
-          let stands = stands-later earlier (event.Find base.number query ∷ []) slice column put.event refl (put_stands earlier slice column d since lives.later put stays) in
-          let among = (was_read in_query).owned slice column put.event may owns stands in
-          let treated : treat config slice earlier ≡ config = treat_untuned config slice earlier untuned in
-          owned-tells-documents limits config earlier slice column d since lives.later word row legal sound put stays
-          (subst IsInRange (sym treated) in_range)
-          (subst (λ (k : Config). column < columns_of_slice k) (sym treated) below)
-          (subst (λ (k : Config). is_exact k word ≡ true) (sym treated) exact)
-          (subst (λ (k : Config). Contains (rows_of_word k word) row) (sym treated) (exact-has_row config word exact))
-          among
+    -- so a document that was live there has each exact word of the query
+    pub has_exact : (word : List ℕ) → is_exact config word ≡ true → Contains (words query) word → (d : Document) (since : ℕ) → IsLiveOn earlier slice column d since →
+        Contains (words d.text) word
+    has_exact word exact in_query d since lives =
+        let treated : treat config slice earlier ≡ config = treat_untuned config slice earlier untuned in
+        let row = row_of_word config word 0 in
+        let its_row = exact-has_row config word exact in
+        read_tells_words limits config earlier seat held.opened_at slice column word d since legal sound
+        (record {
+          limits_are = same;
+          opening_is = made;
+          query = query;
+          begun = refl;
+          readable = subst (λ (l : Limits). MayRead l.columns front base.number slice) same may;
+          in_engine = subst (λ (l : Limits). column < l.columns) same (scanned.of_token (slice, column) has).column;
+          in_slice = subst (λ (k : Config). column < columns_of_slice k) (sym treated) below;
+          in_range = subst IsInRange (sym treated) in_range;
+          fits = subst (λ (k : Config). words_of_slice k ≤ words_of_slice config) (sym treated) (omega arith);
+          room = subst (λ (l : Limits). l.slice_words ≡ words_of_slice config) same scanned.laid;
+          exact = subst (λ (k : Config). is_exact k word ≡ true) (sym treated) exact;
+          row = row;
+          its_row = subst (λ (k : Config). Contains (rows_of_word k word) row) (sym treated) its_row;
+          read = scanned.read (slice, column) has (bit_of_row (words_of_slice config) slice column row)
+              (row, Contains-flat_map (rows_of_word config) set word row ((of_query word).1 in_query) its_row, refl);
+        })
+        lives

@@ -1,5 +1,5 @@
 -- What holds of what a desk keeps, whatever the history.
-use Rattle.std.specs.Prelude.{◌≡◌, ℕ, ◌*◌, ◌≤◌, ◌↔◌, false, List, [], ◌++◌, length, replicate, Contains, Err, Option, None}
+use Rattle.std.specs.Prelude.{◌≡◌, ℕ, ◌*◌, ◌<◌, ◌≤◌, ◌↔◌, true, false, List, [], ◌∷◌, ◌++◌, length, replicate, Contains, Err, Option, None}
 use mathlib.Core.List.{IsPrefix}
 use Rattle.document_store.specs.Entries.{column_of}
 use Rattle.document_store.specs.Slots.{free_slot}
@@ -10,9 +10,20 @@ use Rattle.funnel_model.specs.declared.claim.Claim.{Claim}
 use Rattle.funnel_model.specs.Expressions.{Tree, answer_by, keeps}
 use Rattle.funnel_model.specs.History.{Document, answer, base, commits_after, live, place}
 use Rattle.funnel_model.specs.Legal.{IsLegal, Limits}
-use Rattle.funnel_model.specs.Words.{meets}
+use Rattle.funnel_model.specs.Configuration.{IsInRange}
+use Rattle.funnel_model.specs.declared.event.Event.TheVariants as event
+use Rattle.funnel_model.specs.Sizes.{columns_of_slice, words_of_slice}
+use Rattle.funnel_model.specs.Slices.{IsLiveOn}
+use Rattle.funnel_model.specs.Tokens.{MayRead}
+use Rattle.funnel_model.specs.Tunings.{treat}
+use Rattle.funnel_model.specs.Words.{meets, words}
+use Rattle.row_layout.specs.declared.row.Row.{Row}
+use Rattle.row_layout.specs.DocumentBits.{bit_of_row}
+use Rattle.row_layout.specs.Owners.{is_exact}
+use Rattle.row_layout.specs.Rows.{rows_of_word}
+use Rattle.row_layout.specs.Sound.{IsSound}
 use Rattle.slice_rule.specs.declared.view.Fact.{Fact}
-use Rattle.slice_rule.specs.Seats.{PassState}
+use Rattle.slice_rule.specs.Seats.{PassState, WasReadUnder}
 use Rattle.slice_stages.specs.Stages.{empty_stage}
 use Rattle.commit_desk.specs.Desks.{DeskState, Makes}
 use Rattle.commit_desk.specs.Answers.{events_of_clear, events_of_commit, events_of_delete, events_of_take}
@@ -97,3 +108,28 @@ CallsDoNothingElse = (events : List Event) (before after : DeskState) (seat next
 pub record AnswersAreByTests : Type 0 where
   pub query : (history : List Event) (query : List ℕ) → answer history query ≡ answer_where history (λ text. meets text query)
   pub expression : (history : List Event) (expr : Tree) → answer_by history expr ≡ answer_where history (keeps expr)
+
+-- A pass began a find after these events, and read as set, under a find's number, the bit of a word's row at a column of a slice that it may
+-- read; the word is exact under the slice's treatment.
+pub record ReadsWordAt (limits : Limits) (opening : Config) (earlier : List Event) (pass : PassState) (opened_at slice column : ℕ) (word : List ℕ) : Type 0 where
+  pub limits_are : pass.pool.limits ≡ limits
+  pub opening_is : pass.pool.config ≡ opening
+  pub query : List ℕ
+  pub begun : pass.front ≡ earlier ++ event.Find pass.number query ∷ []
+  pub readable : MayRead limits.columns pass.front pass.number slice
+  pub in_engine : column < limits.columns
+  pub in_slice : column < columns_of_slice (treat opening slice earlier)
+  pub in_range : IsInRange (treat opening slice earlier)
+  pub fits : words_of_slice (treat opening slice earlier) ≤ words_of_slice opening
+  pub room : limits.slice_words ≡ words_of_slice opening
+  pub exact : is_exact (treat opening slice earlier) word ≡ true
+  pub row : Row
+  pub its_row : Contains (rows_of_word (treat opening slice earlier) word) row
+  pub read : WasReadUnder pass opened_at (bit_of_row (words_of_slice opening) slice column row)
+
+-- The document that was live in such a column as the find began has the word: the bit of a private row is no false positive.
+abbrev pub ReadBitsTellWords : Type 0
+ReadBitsTellWords =
+    (limits : Limits) (opening : Config) (earlier : List Event) (pass : PassState) (opened_at slice column : ℕ) (word : List ℕ) (document : Document) (since : ℕ) →
+    IsLegal limits earlier → IsSound opening earlier → ReadsWordAt limits opening earlier pass opened_at slice column word →
+    IsLiveOn earlier slice column document since → Contains (words document.text) word

@@ -1,5 +1,5 @@
 -- Which document is moved next so that its slice retires, and what the turns of a move answer.
-use Rattle.std.specs.Prelude.{◌≡◌, ◌≢◌, ℕ, ◌+◌, ◌*◌, ◌/◌, ◌<◌, ◌≤◌, ◌⊎◌, Bool, true, false, List, [], ◌∷◌, length, slice_index_or, slice_set, nat_lt, Option, Some, None, Result, Ok, Err}
+use Rattle.std.specs.Prelude.{◌≡◌, ◌≢◌, ℕ, ◌+◌, ◌*◌, ◌/◌, ◌<◌, ◌≤◌, ◌⊎◌, Bool, true, false, List, [], ◌∷◌, length, slice_index_or, slice_set, nat_lt, MatchOption, Option, Some, None, Result, Ok, Err}
 use Rattle.std.specs.List.{list_any}
 use mathlib.Core.List.{IsPrefix}
 use Rattle.funnel_model.specs.declared.bit_list.Bit.{Bit}
@@ -55,6 +55,10 @@ pub record IsLowestFree (limits : Limits) (looks : LooksState) (history : List E
   pub free : IsFreeToMove limits looks history slice column document since
   pub lowest : (lower : ℕ) (other : Document) (at : ℕ) → lower < column → IsFreeToMove limits looks history slice lower other at → ⊥
 
+-- the column has some such document
+abbrev pub HasOneToMove : Limits → LooksState → List Event → ℕ → ℕ → Type 0
+HasOneToMove limits looks history slice column = (document : Document) × (since : ℕ) × IsFreeToMove limits looks history slice column document since
+
 -- some column of the slice is live
 abbrev pub HasLive : ℕ → List Event → ℕ → Type 0
 HasLive columns history slice = (column : ℕ) × (document : Document) × (since : ℕ) × (column < columns) × IsInState history slice column (Live document since)
@@ -64,6 +68,10 @@ pub record IsLowestLive (columns : ℕ) (history : List Event) (slice column : �
   pub in_range : column < columns
   pub live : (document : Document) × (since : ℕ) × IsInState history slice column (Live document since)
   pub lowest : (lower : ℕ) (other : Document) (at : ℕ) → lower < column → IsInState history slice lower (Live other at) → ⊥
+
+-- it is that column, or there is none
+abbrev pub IsLowestLiveOrNone : ℕ → List Event → ℕ → Option ℕ → Type 0
+IsLowestLiveOrNone columns history slice found = MatchOption found (HasLive columns history slice → ⊥) (IsLowestLive columns history slice)
 
 -- open looks name each live column of the slice, of which this is the lowest
 pub record IsNamedAgain (limits : Limits) (looks : LooksState) (history : List Event) (slice column : ℕ) : Type 0 where

@@ -4,7 +4,7 @@ use Rattle.funnel_model.specs.declared.bit_list.Bit.{Bit}
 use Rattle.funnel_model.specs.declared.claim.Claim.{Claim}
 use Rattle.funnel_model.specs.declared.claim.ClearJob.{ClearJob}
 use Rattle.funnel_model.specs.declared.claim.Token.{Token}
-use Rattle.funnel_model.specs.Legal.{IsIdle, IsInSlice}
+use Rattle.funnel_model.specs.Legal.{IsIdle, IsInSlice, Limits}
 use Rattle.funnel_model.specs.Tunings.{treat}
 use Rattle.row_layout.specs.DocumentBits.{AreDocumentBits}
 use Rattle.slice_rule.specs.declared.view.Fact.TheVariants as fact
@@ -48,7 +48,12 @@ pub record IsToClear (pool : PoolId) (job : ClearJob) (seat : PassState) : Type 
   pub holds : HoldsJob seat job
   pub in_range : job.slice < pool.limits.slices
 
--- the pass made each word of the slice zero
+-- the last event of the pass is the Clear of a slice, and it has made each word of the slice zero since
+pub record HoldsCleared (limits : Limits) (job : ClearJob) (seat : PassState) : Type 0 where
+  pub holds : HoldsJob seat job
+  pub zeros : HasZeroed limits job.slice seat
+
+-- the pass is to clear a slice of the pool, and has made each of its words zero
 pub record HasCleared (pool : PoolId) (job : ClearJob) (seat : PassState) : Type 0 where
   pub to_clear : IsToClear pool job seat
   pub zeros : HasZeroed pool.limits job.slice seat

@@ -8,9 +8,10 @@ ghost use Rattle.funnel_model.specs.Slices.{claimed};
 ghost use Rattle.row_layout.specs.DocumentBits.{AreDocumentBits};
 ghost use Rattle.slice_rule.specs.declared.view.Fact.TheVariants as fact;
 ghost use Rattle.slice_rule.specs.Numbers.{last_number};
-ghost use Rattle.slice_rule.specs.Seats.{HasNoneOutstanding, HasZeroed, HoldsClaim, HoldsJob, IsSeated};
+ghost use Rattle.slice_rule.specs.Seats.{HasNoneOutstanding, HoldsClaim, IsSeated};
 ghost use Rattle.commit_desk.specs.Answers.{AnswersCommit, AnswersTake, MayEnter, RefusesAdd, TakesCalls, events_of_commit, events_of_opened_take, events_of_take};
 ghost use Rattle.commit_desk.specs.Desks.{IsCaughtUp, IsUnwritten, Makes, NothingYet};
+ghost use Rattle.commit_desk.specs.Passes.{HasWritten, HoldsCleared};
 
 use crate::answers::{AddFault, CommitFault, Taken};
 use crate::desk::Desk;
@@ -64,11 +65,9 @@ impl Desk {
     ) -> Claim
         requires pool { pool.now ≡ self.old.pool }
         requires seat { IsSeated self.old.pool seat.old }
-        requires job { HoldsJob seat.old job }
-        requires zero { HasZeroed self.old.pool.limits job.slice seat.old }
+        requires cleared { HoldsCleared self.old.pool.limits job seat.old }
         requires slots { slots ≡ self.old.pool.limits.columns }
-        ensures slice { result.slice ≡ job.slice }
-        ensures column { result.column ≡ 0 }
+        ensures claim { result ≡ record { slice = job.slice; column = 0 } }
         ensures events { Makes (events_of_opened_take seat.old.number job.slice) self.old self.new seat.old seat.new }
         ensures none_outstanding { HasNoneOutstanding seat.new }
         ensures nothing_yet { IsUnwritten seat.new }
@@ -103,11 +102,7 @@ impl Desk {
         bits: &Bits,
     ) -> Result<u64, CommitFault>
         requires pool { pool.now ≡ self.old.pool }
-        requires seat { IsSeated self.old.pool seat.old }
-        requires claim { HoldsClaim seat.old claim }
-        requires bits { AreDocumentBits self.old.pool.config doc.words claim.slice claim.column bits.now.bits }
-        requires inside { All (λ b. IsInSlice self.old.pool.limits.slice_words claim.slice b.word) bits.now.bits }
-        requires set { (b : Bit) → Contains bits.now.bits b ↔ Contains seat.old.own (fact.BitSet (last_number seat.old.number seat.old.front) b) }
+        requires written { HasWritten self.old.pool claim doc.words bits.now.bits seat.old }
         ensures answer { AnswersCommit self.old.history doc.id result }
         ensures events { Makes (events_of_commit seat.old.number doc.id doc.text claim bits.now.bits result) self.old self.new seat.old seat.new }
         ensures none_outstanding { HasNoneOutstanding seat.new }
@@ -183,8 +178,7 @@ impl Desk {
         requires caught_up { IsCaughtUp self.old seat.old }
         requires takes_calls { TakesCalls self.old.events_limit self.old.history }
         requires may { MayTake self.old.pool.limits self.old.history seat.old.number slice (length (claimed slice self.old.history)) }
-        ensures slice { result.slice ≡ slice }
-        ensures column { result.column ≡ length (claimed slice self.old.history) }
+        ensures claim { result ≡ record { slice = slice; column = length (claimed slice self.old.history) } }
         ensures made { Makes (event.Take seat.old.number slice result.column ∷ []) self.old self.new seat.old seat.new }
         ensures none_outstanding { HasNoneOutstanding seat.new }
         ensures nothing_yet { IsUnwritten seat.new }

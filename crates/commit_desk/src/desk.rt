@@ -32,10 +32,14 @@ pub struct Desk {
 }
 
 impl Model for Desk {
+    ghost use Rattle.std.specs.Coded.{codes};
+    ghost use Rattle.funnel_model.specs.contracts.expr.Expr as e;
     ghost use Rattle.commit_desk.specs.Desks.{DeskState};
     ghost use Rattle.commit_desk.specs.Kept.{IsDesk};
 
     ghost Value = { DeskState };
+
+    ghost coded = { Prim.hlevel (codes, e.the_row.coded) };
 
     ghost view = { λ d. record { pool = d.home.pool; events_limit = d.events_limit; history = d.home.history } };
 

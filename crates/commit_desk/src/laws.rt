@@ -1,5 +1,5 @@
 //! What holds of what a desk keeps, whatever the history. Each is the contract of a function that does nothing.
-ghost use Rattle.commit_desk.specs.Laws.{AnswersAreByTests, CallsDoNothingElse, DesksHaveTheirCommits, MovesAreOne, MovesKeepTexts, NewDesksAreKept, RefusedCallsKeepDocuments};
+ghost use Rattle.commit_desk.specs.Laws.{AnswersAreByTests, CallsDoNothingElse, DesksHaveTheirCommits, MovesAreOne, MovesKeepTexts, NewDesksAreKept, ReadBitsTellWords, RefusedCallsKeepDocuments};
 
 /// A desk that keeps nothing yet stands for the history without events, so what is kept of a history can be met.
 pub fn new_desks_are_kept()
@@ -38,4 +38,10 @@ pub fn calls_do_nothing_else()
 /// expression keeps them.
 pub fn answers_are_by_tests()
     ensures { AnswersAreByTests }
+{}
+
+/// Where a column of a slice owns the bit of an exact word and a find read it as set, the document that was live there as the find
+/// began has the word. So a find looks for no exact word in a document.
+pub fn read_bits_tell_words()
+    ensures { ReadBitsTellWords }
 {}

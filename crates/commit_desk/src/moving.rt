@@ -14,7 +14,8 @@ ghost use Rattle.slice_rule.specs.declared.view.Fact.TheVariants as fact;
 ghost use Rattle.slice_rule.specs.Numbers.{last_number};
 ghost use Rattle.slice_rule.specs.Seats.{HasNoneOutstanding, HoldsClaim, IsSeated};
 ghost use Rattle.commit_desk.specs.Desks.{IsCaughtUp, IsUnwritten, Makes};
-ghost use Rattle.commit_desk.specs.Moving.{AnswersLook, AnswersTakeMove, HoldsLook, HasLive, IsLowestFree, IsLowestLive, IsPartlyHeld, document_of, is_fewer, IsFreeToMove, IsNextToMove, IsThereStill, IsToBeEmptied, event_of_move, events_of_take_move, looks_after, looks_after_take, with_mark};
+ghost use Rattle.commit_desk.specs.Passes.{HasWritten};
+ghost use Rattle.commit_desk.specs.Moving.{AnswersLook, AnswersTakeMove, HoldsLook, HasLive, HasOneToMove, IsLowestFree, IsLowestLiveOrNone, IsPartlyHeld, document_of, is_fewer, IsFreeToMove, IsNextToMove, IsThereStill, IsToBeEmptied, event_of_move, events_of_take_move, looks_after, looks_after_take, with_mark};
 
 use crate::desk::Desk;
 use crate::entries::Moves;
@@ -98,12 +99,8 @@ impl Desk {
         bits: &Bits,
     ) -> bool
         requires pool { pool.now ≡ self.old.pool }
-        requires seat { IsSeated self.old.pool seat.old }
-        requires claim { HoldsClaim seat.old claim }
         requires look { HoldsLook seat.old look }
-        requires bits { AreDocumentBits self.old.pool.config look.doc.words claim.slice claim.column bits.now.bits }
-        requires inside { All (λ b. IsInSlice self.old.pool.limits.slice_words claim.slice b.word) bits.now.bits }
-        requires set { (b : Bit) → Contains bits.now.bits b ↔ Contains seat.old.own (fact.BitSet (last_number seat.old.number seat.old.front) b) }
+        requires written { HasWritten self.old.pool claim look.doc.words bits.now.bits seat.old }
         ensures answer { IsTrue result ↔ IsThereStill self.old.history look }
         ensures events { Makes (event_of_move seat.old.number look claim bits.now.bits result ∷ []) self.old self.new seat.old seat.new }
         ensures looks { looks.new ≡ with_mark looks.old look.slice look.column false }
@@ -212,7 +209,7 @@ impl Desk {
     // The lowest column of the slice with a live document.
     fn lowest_live(&self, slice: u32) -> Option<u32>
         requires { slice < self.now.pool.limits.slices }
-        ensures { MatchOption result (HasLive self.now.pool.limits.columns self.now.history slice → ⊥) (IsLowestLive self.now.pool.limits.columns self.now.history slice) }
+        ensures { IsLowestLiveOrNone self.now.pool.limits.columns self.now.history slice result }
     {
         let _ = &self.home;
         for column in self.records.first_over(slice)..self.columns {
@@ -259,7 +256,7 @@ impl Desk {
     fn is_free_to_move(&self, looks: &Looks, slice: u32, column: u32) -> bool
         requires slice { slice < self.now.pool.limits.slices }
         requires column { column < self.now.pool.limits.columns }
-        ensures { IsTrue result ↔ ((document : Document) × (since : ℕ) × IsFreeToMove self.now.pool.limits looks.now self.now.history slice column document since) }
+        ensures { IsTrue result ↔ HasOneToMove self.now.pool.limits looks.now self.now.history slice column }
     {
         let _ = &self.home;
         match self.records.state(slice, column) {

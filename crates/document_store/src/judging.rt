@@ -13,7 +13,8 @@ use funnel_model::Candidates;
 /// A turn of a find has so many documents judged at most: what a judge does with one isn't counted.
 pub const MOST_JUDGED: usize = 32;
 
-/// Decides by their texts which documents a find keeps.
+/// Decides by their texts which documents a find keeps. It is asked under the lock of the engine, for which others wait meanwhile, and
+/// must not call the engine.
 pub trait Judge {
     // Whether it keeps the documents with a text.
     ghost test: { Self → List ℕ → Bool };

@@ -13,5 +13,7 @@ pub mod OpenFinds
 pub mod Scans
 pub mod Sizes
 pub mod JudgedFinds
-pub mod JudgedScans
+pub mod BranchScans
 pub mod MergedColumns
+pub mod WordExprs
+pub mod QueryCalls

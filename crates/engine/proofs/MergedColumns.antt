@@ -1,66 +1,62 @@
 -- Columns that are merged, each once.
-use Rattle.std.proofs.Common.{◌≡◌, ◌↔◌, ◌⊎◌, ⊎_elim, ℕ, ◌+◌, ◌*◌, ◌<◌, Bool, true, false, List, [], ◌∷◌, ◌++◌, length, get_or, set, replicate, inl, inr, refl, sym, ap, ◌∙◌, subst, arith, Contains, true≢false}
+use Rattle.std.proofs.Common.{◌≡◌, ◌↔◌, ◌⊎◌, ⊎_elim, ℕ, ◌<◌, Bool, true, false, List, [], ◌∷◌, ◌++◌, length, get_or, set, replicate, inl, inr, refl, sym, ap, ◌∙◌, subst, arith, AllPairs, Contains, true≢false}
 use Rattle.std.proofs.lemmas.Bool.{both_ways, cases_eq}
 use Rattle.std.proofs.lemmas.List.{get_or-replicate, get_or-set_other, get_or-set_same, length-replicate, length-set}
 use Rattle.std.proofs.lemmas.List.Elements.{Contains-append_left, Contains-append_right, Contains-push_cases}
-use Rattle.document_store.proofs.SlotLemmas.{apart}
-use Rattle.engine.specs.Judged.{HasBoth}
+use Rattle.engine.specs.Branches.{HasBoth}
 use Rattle.engine.specs.Marks.{AreMarked}
 use Rattle.engine.proofs.CandidateParts.{pairs-append}
 
 no_member : {X : Type 0} (x : X) → Contains [] x → ⊥
 no_member x (k, within, is) = omega (arith, within)
 
--- none is marked
-pub marked_none : (columns count : ℕ) → AreMarked columns (replicate count false) []
-marked_none columns count = record {
-  once = λ i j d lt within. absurd (omega (arith, within));
-  marked = λ slice column low within. (
-    λ is. absurd (true≢false (sym is ∙ get_or-replicate count (slice * columns + column) false false (omega (arith, within, length-replicate count false)))),
-    λ has. absurd (no_member (slice, column) has),
+-- none is marked of a slice that the list has no columns of
+pub marked_none : (slice count : ℕ) (list : List (ℕ × ℕ)) → AllPairs (λ (c other : ℕ × ℕ). c ≡ other → ⊥) list → ((column : ℕ) → Contains list (slice, column) → ⊥) → AreMarked slice (replicate count false) list
+marked_none slice count list once none = record {
+  once = once;
+  marked = λ column within. (
+    λ is. absurd (true≢false (sym is ∙ get_or-replicate count column false false (omega (arith, within, length-replicate count false)))),
+    λ has. absurd (none column has),
   );
 }
 
--- One more column, which isn't marked.
-module _ (columns : ℕ) (marks : List Bool) (list : List (ℕ × ℕ)) (slice column : ℕ) (are : AreMarked columns marks list) (low : column < columns)
-    (within : slice * columns + column < length marks) (new : get_or marks (slice * columns + column) false ≡ false) where
+pub marked_first : (slice count : ℕ) → AreMarked slice (replicate count false) []
+marked_first slice count = marked_none slice count [] (λ i j d lt within. absurd (omega (arith, within))) (λ column has. no_member (slice, column) has)
+
+-- One more column of the slice, which isn't marked.
+module _ (slice : ℕ) (marks : List Bool) (list : List (ℕ × ℕ)) (column : ℕ) (are : AreMarked slice marks list) (within : column < length marks) (new : get_or marks column false ≡ false) where
   abbrev more : List (ℕ × ℕ)
   more = list ++ (slice, column) ∷ []
 
   abbrev marked_now : List Bool
-  marked_now = set marks (slice * columns + column) true
+  marked_now = set marks column true
 
-  here : (s c : ℕ) → slice ≡ s → column ≡ c → (get_or marked_now (s * columns + c) false ≡ true) ↔ Contains more (s, c)
-  here s c same_slice same_column =
-      subst (λ n. (get_or marked_now (n * columns + c) false ≡ true) ↔ Contains more (n, c)) same_slice
-      (subst (λ n. (get_or marked_now (slice * columns + n) false ≡ true) ↔ Contains more (slice, n)) same_column
-      (λ is. Contains-append_right list ((slice, column) ∷ []) (slice, column) (0, omega arith, refl), λ has. get_or-set_same marks (slice * columns + column) true false within))
+  here : (c : ℕ) → column ≡ c → (get_or marked_now c false ≡ true) ↔ Contains more (slice, c)
+  here c same =
+      subst (λ n. (get_or marked_now n false ≡ true) ↔ Contains more (slice, n)) same
+      (λ is. Contains-append_right list ((slice, column) ∷ []) (slice, column) (0, omega arith, refl), λ has. get_or-set_same marks column true false within)
 
-  elsewhere : (s c : ℕ) → c < columns → s * columns + c < length marks → (slice ≡ s → column ≡ c → ⊥) → (get_or marked_now (s * columns + c) false ≡ true) ↔ Contains more (s, c)
-  elsewhere s c below inside differ =
-      let keeps = get_or-set_other marks (slice * columns + column) (s * columns + c) true false (λ same. apart columns slice column s c low below differ (sym same)) in
-      let was = are.marked s c below inside in (
-        λ is. Contains-append_left list ((slice, column) ∷ []) (s, c) (was.0 (sym keeps ∙ is)),
+  elsewhere : (c : ℕ) → c < length marks → (column ≡ c → ⊥) → (get_or marked_now c false ≡ true) ↔ Contains more (slice, c)
+  elsewhere c inside differ =
+      let keeps = get_or-set_other marks column c true false (λ same. differ (sym same)) in
+      let was = are.marked c inside in (
+        λ is. Contains-append_left list ((slice, column) ∷ []) (slice, c) (was.0 (sym keeps ∙ is)),
         λ has.
-            ⊎_elim (λ (there : Contains list (s, c)). keeps ∙ was.1 there) (λ (same : (slice, column) ≡ (s, c)). absurd (differ (ap (λ (p : ℕ × ℕ). p.0) same) (ap (λ (p : ℕ × ℕ). p.1) same)))
-            (Contains-push_cases list (slice, column) (s, c) has),
+            ⊎_elim (λ (there : Contains list (slice, c)). keeps ∙ was.1 there) (λ (same : (slice, column) ≡ (slice, c)). absurd (differ (ap (λ (p : ℕ × ℕ). p.1) same)))
+            (Contains-push_cases list (slice, column) (slice, c) has),
       )
 
   one_only : (y : ℕ × ℕ) → Contains ((slice, column) ∷ []) y → (slice, column) ≡ y
   one_only y has = ⊎_elim (λ (there : Contains [] y). absurd (no_member y there)) (λ (same : (slice, column) ≡ y). same) (Contains-push_cases [] (slice, column) y has)
 
-  pub marked_more : AreMarked columns marked_now more
+  pub marked_more : AreMarked slice marked_now more
   marked_more = record {
     once =
         pairs-append (λ (c other : ℕ × ℕ). c ≡ other → ⊥) list ((slice, column) ∷ []) are.once (λ i j d lt inside. absurd (omega (arith, lt, inside)))
-        (λ x y of_list of_one same.
-        both_ways (get_or marks (slice * columns + column) false) new ((are.marked slice column low within).1 (subst (Contains list) (same ∙ sym (one_only y of_one)) of_list)));
-    marked = λ s c below inside.
-        let there : s * columns + c < length marks = omega (arith, inside, length-set marks (slice * columns + column) true) in
-        ⊎_elim
-        (λ (same_slice : slice ≡ s).
-        ⊎_elim (λ (same_column : column ≡ c). here s c same_slice same_column) (λ (differ : column ≡ c → ⊥). elsewhere s c below there (λ _ is. differ is)) (cases_eq column c))
-        (λ (differ : slice ≡ s → ⊥). elsewhere s c below there (λ is _. differ is)) (cases_eq slice s);
+        (λ x y of_list of_one same. both_ways (get_or marks column false) new ((are.marked column within).1 (subst (Contains list) (same ∙ sym (one_only y of_one)) of_list)));
+    marked = λ c inside.
+        let there : c < length marks = omega (arith, inside, length-set marks column true) in
+        ⊎_elim (λ (same : column ≡ c). here c same) (λ (differ : column ≡ c → ⊥). elsewhere c there differ) (cases_eq column c);
   }
 
 -- the columns of a list and one more

@@ -21,7 +21,7 @@ use Rattle.engine.proofs.Moves.{no_shorter, none_moved_late}
 
 module _ (limits : Limits) (pass id : ℕ) (text : List ℕ) where
   -- no call is taken by a desk that has as many events
-  taken_late : {answers : List Event → Type 0} (before after events : List Event) (turn : IsTurn pass before after answers events) → limits.events ≤ length before → length turn.earlier < limits.events → ⊥
+  pub taken_late : {answers : List Event → Type 0} (before after events : List Event) (turn : IsTurn pass before after answers events) → limits.events ≤ length before → length turn.earlier < limits.events → ⊥
   taken_late before after events turn many few = let seen = no_shorter pass before turn.earlier turn.seen in omega (arith, few, many, seen)
 
   claimed_late : (before after : List Event) (claim : Claim) → limits.events ≤ length before → ClaimTurns limits pass id text before after claim → ⊥

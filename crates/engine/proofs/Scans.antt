@@ -30,10 +30,10 @@ use Rattle.slice_rule.specs.Seats.{HoldsToken, PassState, WasReadUnder}
 
 -- The slices of a token that are below one of them.
 module _ (slices slice : ℕ) (token : Token) where
-  is_below : Contains (token_below slices token).slices slice → Contains token.slices slice × (slice < slices)
+  pub is_below : Contains (token_below slices token).slices slice → Contains token.slices slice × (slice < slices)
   is_below has = let kept = Contains-filtered (λ s. nat_lt s slices) token.slices slice has in (kept.0, ltb-true slice slices kept.1)
 
-  below : Contains token.slices slice → slice < slices → Contains (token_below slices token).slices slice
+  pub below : Contains token.slices slice → slice < slices → Contains (token_below slices token).slices slice
   below has low = Contains-filter (λ s. nat_lt s slices) token.slices slice has (lt-ltb slice slices low)
 
 -- no slice is below slice 0
@@ -64,7 +64,7 @@ scanned_all config seat token words slices candidates in_range scanned = record 
 }
 
 -- what is of a slice below one is of a slice below the next
-of_token_later : (columns slices : ℕ) (token : Token) (candidate : ℕ × ℕ) → IsOfToken columns (token_below slices token) candidate → IsOfToken columns (token_below (slices + 1) token) candidate
+pub of_token_later : (columns slices : ℕ) (token : Token) (candidate : ℕ × ℕ) → IsOfToken columns (token_below slices token) candidate → IsOfToken columns (token_below (slices + 1) token) candidate
 of_token_later columns slices token candidate of =
     let has = is_below slices candidate.0 token of.slice in
     let low = has.1 in

@@ -1,33 +1,21 @@
--- Finds whose documents a judge keeps: what a scan of another branch adds to its candidates, and its turns at the desk.
-use Rattle.std.specs.Prelude.{◌≡◌, ℕ, ◌+◌, ◌≤◌, ◌↔◌, ◌⊎◌, Bool, List, [], length, take, Contains, Result, Ok, Err}
+-- Finds whose documents a judge keeps: their turns at the desk.
+use Rattle.std.specs.Prelude.{◌≡◌, ℕ, ◌+◌, ◌≤◌, ◌⊎◌, Bool, List, [], length, take, Contains, Result, Ok, Err}
 use Rattle.commit_desk.specs.Judging.{AreGivenWhere, GiveAllWhere, WereScannedForAny, answer_where}
 use Rattle.commit_desk.specs.Passes.{IsFinding}
-use Rattle.commit_desk.specs.Scans.{AreScanned}
 use Rattle.document_store.specs.Finding.{FoundState}
 use Rattle.engine.specs.declared.finding.FindFault.{FindFault}
 use Rattle.engine.specs.declared.finding.FindFault.TheVariants as find
 use Rattle.engine.specs.Finds.{EndedTurns, RefusedTurns}
+use Rattle.engine.specs.Passes.{MakesCall, PassView}
+use Rattle.engine.specs.Replies.{reply_of_find_fault}
+use Rattle.funnel_model.specs.declared.call.Call.TheVariants as call
+use Rattle.funnel_model.specs.declared.reply.Reply.TheVariants as reply
 use Rattle.funnel_model.specs.declared.claim.Token.{Token}
-use Rattle.funnel_model.specs.declared.config.Config.{Config}
 use Rattle.funnel_model.specs.declared.event.Event.{Event}
 use Rattle.funnel_model.specs.Legal.{Limits}
 use Rattle.funnel_model.specs.Tokens.{HasToken}
 use Rattle.slice_rule.specs.Pools.{PoolId}
 use Rattle.slice_rule.specs.Seats.{PassState}
-
--- columns, each once, of slices that have so many: the number of a column counts those of the slices before its own too
-pub record MergedState : Type 0 where
-  pub columns : ℕ
-  pub size : ℕ
-  pub list : List (ℕ × ℕ)
-
--- the columns of one list, and those of another
-abbrev pub HasBoth : List (ℕ × ℕ) → List (ℕ × ℕ) → List (ℕ × ℕ) → Type 0
-HasBoth first second both = (column : ℕ × ℕ) → Contains both column ↔ (Contains first column ⊎ Contains second column)
-
--- the columns that a scan for these words found were added
-abbrev pub AddsScan : Config → PassState → Token → List (List ℕ) → List (ℕ × ℕ) → List (ℕ × ℕ) → Type 0
-AddsScan config seat token words before after = (scanned : List (ℕ × ℕ)) × AreScanned config seat token words scanned × HasBoth before scanned after
 
 -- A find between its turns, whose documents are to pass a test. Its candidates were scanned for branches, of which each text that passes
 -- has one; there is room for all that are left, and what those before this one give is found.
@@ -53,3 +41,8 @@ abbrev pub JudgedTurns : Limits → ℕ → (List ℕ → Bool) → List Event �
 JudgedTurns limits pass test before after (Ok ids) = KeptTurns limits pass test before after ids
 JudgedTurns limits pass test before after (Err find.Memory) = RefusedTurns limits pass before after find.Memory ⊎ EndedTurns limits pass [] before after
 JudgedTurns limits pass test before after (Err (find.Spent events)) = RefusedTurns limits pass before after (find.Spent events)
+
+-- the pass made the call of a find of the empty query, which gives all documents that are live; or that find is refused so
+abbrev pub MakesFindOfAll : Limits → Result (List ℕ) FindFault → PassView → PassView → Type 0
+MakesFindOfAll limits (Ok ids) before after = (all : List ℕ) × MakesCall limits (call.Find []) (reply.Found all) before after
+MakesFindOfAll limits (Err fault) before after = MakesCall limits (call.Find []) (reply_of_find_fault fault) before after

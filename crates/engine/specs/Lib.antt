@@ -1,4 +1,5 @@
 pub mod Adds
+pub mod Branches
 pub mod Clients
 pub mod Engines
 pub mod Finds
@@ -10,3 +11,4 @@ pub mod Replies
 pub mod Scans
 pub mod Laws
 pub mod Turns
+pub mod WordExprs

@@ -1,9 +1,11 @@
--- The replies that a client is given for the answers of an engine: those to an add, a delete, a find, a request for the number of
--- commits, and a journal.
+-- The replies that a client is given for the answers of an engine: those to an add, a delete, a find, a text that is no query, a request
+-- for the number of commits, and a journal.
 use Rattle.std.specs.Prelude.{ℕ, List, Result, Ok, Err}
 use Rattle.funnel_model.specs.declared.commit.Commit.{Commit}
 use Rattle.funnel_model.specs.declared.reply.Reply.{Reply}
 use Rattle.funnel_model.specs.declared.reply.Reply.TheVariants as reply
+use Rattle.bool_query.specs.declared.fault.QueryFault.{QueryFault}
+use Rattle.bool_query.specs.declared.fault.QueryFault.TheVariants as query
 use Rattle.commit_desk.specs.declared.answers.AddFault.{AddFault}
 use Rattle.commit_desk.specs.declared.answers.AddFault.TheVariants as add
 use Rattle.commit_desk.specs.declared.answers.DeleteFault.{DeleteFault}
@@ -33,6 +35,11 @@ reply_of_find_fault find.Memory = reply.Memory
 abbrev pub reply_of_find : Result (List ℕ) FindFault → Reply
 reply_of_find (Ok ids) = reply.Found ids
 reply_of_find (Err fault) = reply_of_find_fault fault
+
+abbrev pub reply_of_query_fault : QueryFault → Reply
+reply_of_query_fault (query.Syntax at) = reply.Query at
+reply_of_query_fault (query.Deep at) = reply.Deep at
+reply_of_query_fault query.Memory = reply.Memory
 
 abbrev pub reply_of_place : Result ℕ Spent → Reply
 reply_of_place (Ok place) = reply.Place place

@@ -2,13 +2,15 @@
 ghost use Rattle.std.specs.Prelude.{◌≡◌};
 ghost use Rattle.funnel_model.specs.declared.call.Call.TheVariants as call;
 ghost use Rattle.engine.specs.Clients.{caller_of};
-ghost use Rattle.engine.specs.Replies.{reply_of_add, reply_of_delete, reply_of_find, reply_of_journal, reply_of_place};
-ghost use Rattle.line_proto.specs.Services.{AnswersCall};
+ghost use Rattle.engine.specs.Replies.{reply_of_add, reply_of_delete, reply_of_find, reply_of_journal, reply_of_place, reply_of_query_fault};
+ghost use Rattle.line_proto.specs.Services.{AnswersCall, AnswersQuery};
 ghost use Rattle.slice_recycler.specs.Recycles.{reply_of_recycle};
 
 use crate::engine::Engine;
 use crate::finding::FindFault;
 use crate::pass::Pass;
+use crate::word_expr::read_query;
+use bool_query::QueryFault;
 use commit_desk::{AddFault, DeleteFault, JournalFault, Spent};
 use funnel_model::{Commits, Ids, Reply};
 use line_proto::{Request, Service};
@@ -29,9 +31,13 @@ pub struct Client<'a, N: PoolName, R: Wait> {
 }
 
 impl<'a, N: PoolName, R: Wait> Model for Client<'a, N, R> {
+    ghost use Rattle.std.specs.Coded.{codes};
+    ghost use Rattle.funnel_model.specs.contracts.expr.Expr as e;
     ghost use Rattle.engine.specs.Passes.{PassView};
 
     ghost Value = { PassView };
+
+    ghost coded = { Prim.hlevel (codes, e.the_row.coded) };
 
     ghost view = { λ c. c.pass };
 }
@@ -48,6 +54,7 @@ impl<'a, N: PoolName, R: Wait> Service for Client<'a, N, R> {
             Request::Add { id, text } => self.add(*id, text),
             Request::Delete { id } => self.delete(*id),
             Request::Find { query } => self.find(query),
+            Request::Query { text } => self.query(text),
             Request::Place => self.place(),
             Request::Journal { from } => self.journal(*from),
             Request::Recycle => self.recycle(),
@@ -78,6 +85,20 @@ impl<'a, N: PoolName, R: Wait> Client<'a, N, R> {
         ensures answers { AnswersCall (caller_of N.pool.limits self.old) self.old.front self.new.front (call.Find query.now) result }
     {
         reply_to_find(self.engine.find(self.rt, self.alloc, &mut self.pass, query))
+    }
+
+    // A text that is no query is refused, and no call is made.
+    fn query(&mut self, text: &str) -> Reply
+        ensures caller { caller_of N.pool.limits self.new ≡ caller_of N.pool.limits self.old }
+        ensures answers { AnswersQuery (caller_of N.pool.limits self.old) self.old.front self.new.front text.now result }
+    {
+        match read_query(self.alloc, text) {
+            Ok((branches, judge)) => reply_to_find(
+                self.engine
+                    .find_any(self.rt, self.alloc, &mut self.pass, &branches, &judge),
+            ),
+            Err(fault) => reply_to_query_fault(fault),
+        }
     }
 
     fn place(&mut self) -> Reply
@@ -134,6 +155,16 @@ fn reply_to_find(answer: Result<Ids, FindFault>) -> Reply
         Ok(ids) => Reply::Found(ids),
         Err(FindFault::Spent(_)) => Reply::Spent,
         Err(FindFault::Memory) => Reply::Memory,
+    }
+}
+
+fn reply_to_query_fault(fault: QueryFault) -> Reply
+    ensures { result ≡ reply_of_query_fault fault }
+{
+    match fault {
+        QueryFault::Syntax(at) => Reply::Query(at),
+        QueryFault::Deep(at) => Reply::Deep(at),
+        QueryFault::Memory => Reply::Memory,
     }
 }
 

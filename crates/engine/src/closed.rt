@@ -15,11 +15,15 @@ pub struct Closed {
 }
 
 impl Model for Closed {
+    ghost use Rattle.std.specs.Coded.{codes};
+    ghost use Rattle.funnel_model.specs.contracts.expr.Expr as e;
     ghost use Rattle.std.specs.Prelude.{◌≡◌, length};
     ghost use Rattle.funnel_model.specs.History.{commits_after};
     ghost use Rattle.engine.specs.Engines.{ClosedState, IsClosed};
 
     ghost Value = { ClosedState };
+
+    ghost coded = { Prim.hlevel (codes, e.the_row.coded) };
 
     ghost view = { λ c. record { base = c.base; commits = c.commits; events = c.events; history = c.ended.history } };
 

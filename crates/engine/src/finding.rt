@@ -34,8 +34,8 @@ use word_cut::words;
 pub enum FindFault {
     /// The history has this many events, and no call is taken any more.
     Spent(u64),
-    /// There was no memory: for the words and their rows, before the find began, or, with the rows of a judge's branches, for the
-    /// candidates and the answer, and then the find was ended.
+    /// There was no memory: for the words and their rows, before the find began, or for the candidates and the answer, and then the
+    /// find was ended.
     Memory,
 }
 

@@ -105,6 +105,7 @@
 
 mod adding;
 mod blank;
+mod branch_scans;
 mod client;
 mod closed;
 mod engine;
@@ -116,6 +117,7 @@ mod moving;
 mod open_find;
 mod pass;
 mod turns;
+mod word_expr;
 mod work;
 
 pub use blank::Blank;
@@ -128,7 +130,7 @@ pub use engine::Engine;
 pub use finding::FindFault;
 pub use funnel_model::{
     Block, Blocked, Branches, Candidates, Claim, ClearJob, Commit, Commits, Config, Ids, Listed,
-    Memory,
+    Memory, WordSet,
 };
 pub use funnel_stats::{ConfigFault, parse_config};
 pub use open_find::OpenFind;

@@ -13,11 +13,15 @@ pub struct OpenFind<N: PoolName> {
 }
 
 impl<N: PoolName> Model for OpenFind<N> {
+    ghost use Rattle.std.specs.Coded.{codes};
+    ghost use Rattle.funnel_model.specs.contracts.expr.Expr as e;
     ghost use Rattle.engine.specs.Finds.{IsScanFor};
     ghost use Rattle.engine.specs.Passes.{PassView, view_of};
     ghost use Rattle.plan_rows.specs.Rests.{words_of_rest};
 
     ghost Value = { PassView };
+
+    ghost coded = { Prim.hlevel (codes, e.the_row.coded) };
 
     ghost view = { λ f. view_of f.seat };
 

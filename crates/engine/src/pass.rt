@@ -18,10 +18,14 @@ pub struct Pass<N: PoolName> {
 }
 
 impl<N: PoolName> Model for Pass<N> {
+    ghost use Rattle.std.specs.Coded.{codes};
+    ghost use Rattle.funnel_model.specs.contracts.expr.Expr as e;
     ghost use Rattle.commit_desk.specs.Passes.{IsResting};
     ghost use Rattle.engine.specs.Passes.{PassView, view_of};
 
     ghost Value = { PassView };
+
+    ghost coded = { Prim.hlevel (codes, e.the_row.coded) };
 
     ghost view = { λ p. view_of p.seat };
 
@@ -51,10 +55,14 @@ pub struct Note<N: PoolName> {
 }
 
 impl<N: PoolName> Model for Note<N> {
+    ghost use Rattle.std.specs.Coded.{codes};
+    ghost use Rattle.funnel_model.specs.contracts.expr.Expr as e;
     ghost use Rattle.std.specs.Prelude.{◌≡◌, List};
     ghost use Rattle.funnel_model.specs.declared.event.Event.{Event};
 
     ghost Value = { List Event };
+
+    ghost coded = { Prim.hlevel (codes, e.the_row.coded) };
 
     ghost view = { λ n. n.note.front };
 

@@ -1,11 +1,9 @@
-ghost use Rattle.std.specs.Prelude.{◌≡◌, ℕ, ◌+◌, ◌<◌, ◌≤◌, ◌++◌, ◌↔◌, ◌⊎◌, All, Contains, OnOk};
-ghost use Rattle.std.specs.List.Sorted.{IsStrictlySortedBy};
-ghost use Rattle.std.specs.Ordering.{nat_cmp};
+ghost use Rattle.std.specs.Prelude.{◌≡◌, ℕ, ◌+◌, ◌<◌, ◌≤◌, ◌↔◌, ◌⊎◌, All, Contains};
 ghost use Rattle.column_writer.specs.Written.{IsBitOf};
 ghost use Rattle.funnel_model.specs.declared.bit_list.Bit.{Bit};
 ghost use Rattle.funnel_model.specs.Legal.{IsInSlice};
-ghost use Rattle.funnel_model.specs.Sizes.{columns_of_slice, words_of_slice};
-ghost use Rattle.rank_matcher.specs.Appended.{HasBits, HasEach, appended, candidates_of};
+ghost use Rattle.funnel_model.specs.Sizes.{words_of_slice};
+ghost use Rattle.rank_matcher.specs.Appended.{AppendsColumns, FindsBits, appended};
 ghost use Rattle.rank_matcher.specs.Reads.{shown_reads, words_of_plan};
 ghost use Rattle.row_layout.specs.Rows.{IsRowOf};
 ghost use Rattle.row_read.specs.SharedRows.{IsCommittedUnder, IsInReach, WasReadSet, kept_of};
@@ -48,11 +46,8 @@ pub trait Work: Clearer {
         requires slice { slice < layout.now.slices }
         requires laid { All (IsRowOf layout.now) plan.now }
         requires reach { (word : ℕ) → IsInSlice (words_of_slice layout.now) slice word → IsInReach rows.old word }
-        ensures appends { out.new ≡ out.old ++ candidates_of slice (appended out.old out.new) }
-        ensures covered { OnOk result (HasEach (IsCommittedUnder rows.old) layout.now plan.now slice (appended out.old out.new)) }
-        ensures in_slice { All (λ column. column < columns_of_slice layout.now) (appended out.old out.new) }
-        ensures rising { IsStrictlySortedBy nat_cmp (appended out.old out.new) }
-        ensures seen { All (HasBits (WasReadSet rows.new) layout.now plan.now slice) (appended out.old out.new) }
+        ensures appends { AppendsColumns layout.now slice out.old out.new }
+        ensures bits { FindsBits (IsCommittedUnder rows.old) (WasReadSet rows.new) layout.now plan.now slice result (appended out.old out.new) }
         ensures seen_stays { (bit : Bit) → WasReadSet rows.old bit → WasReadSet rows.new bit }
         ensures reads_at_most { shown_reads rows.new.count ≤ rows.old.count + words_of_plan plan.now }
         ensures kept { kept_of rows.new ≡ kept_of rows.old };

@@ -10,8 +10,8 @@ use std::sync::atomic::{AtomicU64, Ordering};
 use std::test::*;
 use std::thread;
 
-/// The documents that stay have the numbers from 1 up to this one. A find of them has three turns.
-const STAYING: u64 = 8193;
+/// The documents that stay have the numbers from 1 up to this one. A find of them looks for 256 words a turn, and so has 59 turns.
+const STAYING: u64 = 15_000;
 
 /// The last pass adds the documents that stay and finds them again and again, while the others add and delete a document each.
 #[derive(Drop)]
@@ -71,7 +71,7 @@ fn are_of_writers(written: &[u64]) -> bool {
 
 /// Adds a document and deletes it, again and again, until all finds are answered.
 fn write_until<N: PoolName, R: Wait>(caller: &mut Caller<'_, N, R>, stage: &AtomicU64) -> bool {
-    let id = 10_000 + u64::from(caller.number());
+    let id = 20_000 + u64::from(caller.number());
     let mut as_wanted = true;
     for _round in caller.rt.forever() {
         match stage.load(Ordering::SeqCst) {
@@ -86,7 +86,7 @@ fn write_until<N: PoolName, R: Wait>(caller: &mut Caller<'_, N, R>, stage: &Atom
 #[test]
 fn finds_in_turns_are_right_beside_writers(rt: HostRuntime) -> Result<(), Fail> {
     let alloc = rt.alloc();
-    let config = config(alloc, 3, 16, 16, 65_536);
+    let config = config(alloc, 3, 24, 16, 65_536);
     let turns = Turns {
         right: AtomicU64::new(0),
         stage: AtomicU64::new(0),

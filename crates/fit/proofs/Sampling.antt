@@ -13,16 +13,16 @@ use Rattle.funnel_io.specs.Streams.{Incoming, Takes}
 use Rattle.funnel_io.specs.declared.line_reader.TheConstants.{MAX_LINE_LEN}
 use Rattle.funnel_model.specs.declared.call.Call.TheVariants as call
 use Rattle.line_proto.proofs.Readings.{read-by-forms}
-use Rattle.line_proto.specs.Forms.{TooLong, form_of, item_from, item_of, items_of}
+use Rattle.line_proto.specs.Forms.{TooLong, Calls, form_of, item_from, item_of, items_of}
 use Rattle.fit.specs.Adds.{text_added}
 use Rattle.fit.specs.Samples.{EndsSample, HasSampled, IsSampled, StopsAt, texts_of}
 use Rattle.fit.specs.declared.ends.FitEnd.{FitEnd}
 use Rattle.fit.specs.Steps.{HasCounted}
 
 -- the text of an add line is no longer than the line
-pub text-short : (line text : List ℕ) (id : ℕ) → form_of line ≡ Some (call.Add id text) → length text ≤ length line
+pub text-short : (line text : List ℕ) (id : ℕ) → form_of line ≡ Some (Calls (call.Add id text)) → length text ≤ length line
 text-short line text id is =
-    let form = (read-by-forms line (call.Add id text)).0 is in
+    let form = (read-by-forms line (Calls (call.Add id text))).0 is in
     let digits = form.form.0 in
     let end = form.form.1 in
     let bytes : length form.bytes ≤ length line = elim form.dropped [

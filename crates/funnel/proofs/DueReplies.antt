@@ -1,7 +1,7 @@
 -- Which replies a run can have: it is too short to spend its history.
-use Rattle.std.proofs.Common.{◌≡◌, ◌+◌, ◌<◌, ◌≤◌, ℕ, Bool, true, false, cond, List, [], ◌∷◌, ◌++◌, length, Some, None, Option, refl, sym, ap, ◌∙◌, subst, arith, length-append}
+use Rattle.std.proofs.Common.{◌≡◌, ◌+◌, ◌<◌, ◌≤◌, ℕ, Bool, true, false, cond, List, [], ◌∷◌, ◌++◌, length, refl, sym, ap, ◌∙◌, subst, inl, inr, arith, length-append}
 use Rattle.std.proofs.lemmas.List.{length-map}
-use Rattle.std.specs.List.{cons_option, fold}
+use Rattle.std.specs.List.{fold}
 use Rattle.std.specs.Prelude.{◌==◌}
 use Rattle.engine.specs.Engines.{ClosedState}
 use Rattle.funnel_io.specs.Lines.{Cut, cut_byte, last_line, lines, rest_of, whole_lines}
@@ -17,15 +17,14 @@ use Rattle.funnel_model.specs.Legal.{Limits}
 use Rattle.funnel_model.specs.Steps.{FindsNoMemory, Step}
 use Rattle.funnel_model.proofs.StepCauses.{memory_cause, spent_cause}
 use Rattle.funnel_model.proofs.StepLemmas.{linear-grows}
-use Rattle.line_proto.specs.Forms.{Item, Asks, Malformed, TooLong, item_of, items}
-use Rattle.line_proto.specs.Services.{Caller}
+use Rattle.line_proto.specs.Forms.{Item, Asks, Malformed, TooLong, Calls, Queries, item_of, items}
+use Rattle.line_proto.specs.Services.{Caller, IsUnread}
 use Rattle.load_laws.proofs.EventCounts.{few_events_of_calls}
 use Rattle.load_laws.specs.LonePass.{IsAlone}
-use Rattle.session.proofs.SessionLaws.{linear}
+use Rattle.session.proofs.SessionLaws.{calls_few, runs_calls}
 use Rattle.session.specs.Ends.{IsWithin}
-use Rattle.session.specs.Laws.{asked_by, calls_of, replies_to_calls}
 use Rattle.session.specs.Sessions.{Answers, AnswersItem, Session}
-use Rattle.funnel.specs.Laws.{AnswersInput, AreDue, IsDue, RepliesAreDue, TakesMemory}
+use Rattle.funnel.specs.Laws.{AnswersInput, AreDue, CallTakesMemory, IsDue, RepliesAreDue}
 use Rattle.funnel.specs.Runs.{Ran, first_caller, limits_by}
 use Rattle.session.specs.declared.serving.TheConstants.{MOST_BYTES}
 use Rattle.funnel.specs.declared.ended.Why.{Why}
@@ -66,25 +65,17 @@ items_few bytes ended = omega (
   cut_few bytes (record { whole = []; rest = [] }),
 )
 
-call_few : (found : Option Call) (calls : List Call) → length (cons_option found calls) ≤ length calls + 1
-call_few None calls = omega arith
-call_few (Some asked) calls = omega arith
-
--- and items ask for at most as many calls
-calls_few : (asked : List Item) → length (calls_of asked) ≤ length asked
-calls_few [] = omega arith
-calls_few (item ∷ items) = let more = call_few (asked_by item) (calls_of items) in omega (arith, more, calls_few items)
-
-takes_memory : (pass : ℕ) (before after : List Event) (asked : Call) → FindsNoMemory pass before after asked → TakesMemory asked
+takes_memory : (pass : ℕ) (before after : List Event) (asked : Call) → FindsNoMemory pass before after asked → CallTakesMemory asked
 takes_memory pass before after (call.Add id text) found = tt
 takes_memory pass before after (call.Find query) found = tt
+takes_memory pass before after (call.Query expr) found = tt
 takes_memory pass before after (call.Journal from) found = tt
 takes_memory pass before after (call.Tune config) found = tt
 takes_memory pass before after _ none = absurd none
 
 -- a call that leads to fewer events than there may be
 due_call : (limits : Limits) (pass : ℕ) (before after : List Event) (asked : Call) (given : Reply) → Step limits pass before after asked given →
-    length after < limits.events → IsDue (Asks asked) given
+    length after < limits.events → IsDue (Asks (Calls asked)) given
 due_call limits pass before after asked given step few = record {
   unspent = λ is. absurd (omega (arith, few, (spent_cause limits pass before after asked (subst (Step limits pass before after asked) is step)).0));
   memory = λ is. takes_memory pass before after asked (memory_cause limits pass before after asked (subst (Step limits pass before after asked) is step));
@@ -92,7 +83,12 @@ due_call limits pass before after asked given step few = record {
 
 due_item : (caller : Caller) (before after : List Event) (item : Item) (given : Reply) → AnswersItem caller before item given after →
     length after < caller.limits.events → IsDue item given
-due_item caller before after (Asks asked) given answers few = due_call caller.limits caller.pass before after asked given answers.step few
+due_item caller before after (Asks (Calls asked)) given answers few = due_call caller.limits caller.pass before after asked given answers.step few
+due_item caller before after (Asks (Queries text)) given (inl read) few =
+    let due = due_call caller.limits caller.pass before after (call.Query read.expr) given read.answers.step few in
+    record { unspent = due.unspent; memory = λ is. tt }
+due_item caller before after (Asks (Queries text)) given (inr unread) few =
+    record { unspent = λ is. subst (IsUnread text) is unread.1; memory = λ is. tt }
 due_item caller before after Malformed given answers few =
     record { unspent = λ is. let other = sym answers.0 ∙ is in cc; memory = λ is. let other = sym answers.0 ∙ is in cc }
 due_item caller before after TooLong given answers few =
@@ -102,7 +98,8 @@ due_all : (caller : Caller) (before after : List Event) (asked : List Item) (rep
     length after < caller.limits.events → AreDue asked replies
 due_all caller before after [] [] run few = tt
 due_all caller before after (item ∷ items) (given ∷ replies) run few =
-    let grows = linear-grows caller.limits caller.pass run.0 after (calls_of items) (replies_to_calls items replies) (linear caller run.0 after items replies run.2) in
+    let later = runs_calls caller run.0 after items replies run.2 in
+    let grows = linear-grows caller.limits caller.pass run.0 after later.calls later.told later.steps in
     (due_item caller before run.0 item given run.1 (omega (arith, few, length-append run.0 grows.0, ap length grows.1)), due_all caller run.0 after items replies run.2 few)
 due_all caller before after [] (given ∷ replies) run few = absurd run
 due_all caller before after (item ∷ items) [] run few = absurd run
@@ -113,8 +110,9 @@ module _ (config : Config) (history : List Event) (alone : IsAlone 0 history) wh
       AreDue asked replies
   due_of_few asked replies few answers =
       let caller = first_caller (limits_by config) in
-      let events = few_events_of_calls caller.limits 0 history (calls_of asked) (replies_to_calls asked replies) (linear caller [] history asked replies answers) alone in
-      due_all caller [] history asked replies answers (omega (arith, events, calls_few asked, few))
+      let runs = runs_calls caller [] history asked replies answers in
+      let events = few_events_of_calls caller.limits 0 history runs.calls runs.told runs.steps alone in
+      due_all caller [] history asked replies answers (omega (arith, events, calls_few asked replies runs.calls runs.told runs.are, few))
 
   due_of_items : (taken : List ℕ) (ended : Bool) (replies : List Reply) → length taken ≤ MOST_BYTES →
       Answers (first_caller (limits_by config)) [] (items taken ended) replies history → AreDue (items taken ended) replies

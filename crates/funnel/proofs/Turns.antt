@@ -3,8 +3,8 @@ use Rattle.std.proofs.Common.{◌≡◌, ℕ, List, [], ◌∷◌, refl, sym, ap
 use Rattle.funnel_io.specs.Calls.{Leads, Read, Write}
 use Rattle.funnel_io.specs.declared.end.End.{End}
 use Rattle.funnel_io.specs.declared.end.End.TheVariants as end_of
-use Rattle.session.proofs.TurnLaws.{stops_at_once}
-use Rattle.session.specs.Turns.{GoesBy, GoesInTurns, StopsReading, Turn}
+use Rattle.session.proofs.Turns.{stops_at_once}
+use Rattle.session.specs.Turns.{GoesBy, GoesInTurns, Protocol, StopsReading, Turn, line_by_line}
 use Rattle.session.specs.declared.serving.TheConstants.{MOST_BYTES}
 use Rattle.funnel_stats.specs.declared.fault.ConfigFault.{ConfigFault}
 use Rattle.funnel_stats.specs.declared.fault.ConfigFault.TheVariants as config
@@ -21,11 +21,11 @@ leads_as gives gives_as seen step before after [] is = ap seen is
 leads_as gives gives_as seen step before after (call ∷ earlier) lead =
     (seen lead.0, leads_as gives gives_as seen step before lead.0 earlier lead.1, step lead.0 call after lead.2)
 
-module _ {S T : Type 0} (read_gives : S → Read → S → Type 0) (write_gives : S → Write → S → Type 0)
+module _ {S T A : Type 0} (protocol : Protocol A) (read_gives : S → Read → S → Type 0) (write_gives : S → Write → S → Type 0)
     (read_as : T → Read → T → Type 0) (write_as : T → Write → T → Type 0) (seen : S → T)
     (reads : (x : S) (read : Read) (y : S) → read_gives x read y → read_as (seen x) read (seen y))
     (writes : (x : S) (write : Write) (y : S) → write_gives x write y → write_as (seen x) write (seen y)) where
-  turn_as : (before : S) (turn : Turn) (after : S) → GoesBy read_gives write_gives before turn after → GoesBy read_as write_as (seen before) turn (seen after)
+  turn_as : (before : S) (turn : Turn A) (after : S) → GoesBy read_gives write_gives before turn after → GoesBy read_as write_as (seen before) turn (seen after)
   turn_as before turn after goes = record {
     middle = seen goes.middle;
     reads = leads_as read_gives read_as seen reads before goes.middle turn.reads goes.reads;
@@ -33,7 +33,7 @@ module _ {S T : Type 0} (read_gives : S → Read → S → Type 0) (write_gives 
   }
 
   -- so they go in turns there too
-  turns_as : (before after : S) → GoesInTurns read_gives write_gives before after → GoesInTurns read_as write_as (seen before) (seen after)
+  turns_as : (before after : S) → GoesInTurns protocol read_gives write_gives before after → GoesInTurns protocol read_as write_as (seen before) (seen after)
   turns_as before after goes = record {
     turns = goes.turns;
     middle = seen goes.middle;
@@ -45,18 +45,18 @@ module _ {S T : Type 0} (read_gives : S → Read → S → Type 0) (write_gives 
   }
 
   -- and stop reading there
-  pub stops_as : (limit : ℕ) (done : Type 0) (before after : S) → StopsReading read_gives write_gives limit done before after →
-      StopsReading read_as write_as limit done (seen before) (seen after)
+  pub stops_as : (limit : ℕ) (done : Type 0) (before after : S) → StopsReading protocol read_gives write_gives limit done before after →
+      StopsReading protocol read_as write_as limit done (seen before) (seen after)
   unfolding turns_as
   stops_as limit done before after stops = record { goes = turns_as before after stops.goes; below = stops.below; at_end = stops.at_end }
 
 -- by the states at which the two streams are known to end
-pub stops_to : {S K : Type 0} (read_gives : S × K → Read → S × K → Type 0) (write_gives : S × K → Write → S × K → Type 0) (limit : ℕ) (done : Type 0)
+pub stops_to : {S K A : Type 0} (protocol : Protocol A) (read_gives : S × K → Read → S × K → Type 0) (write_gives : S × K → Write → S × K → Type 0) (limit : ℕ) (done : Type 0)
     (before : S × K) (input later_input : S) (output later_output : K) → input ≡ later_input → output ≡ later_output →
-    StopsReading read_gives write_gives limit done before (input, output) → StopsReading read_gives write_gives limit done before (later_input, later_output)
-stops_to {S} {K} read_gives write_gives limit done before input later_input output later_output input_is output_is stops =
-    subst (λ (k : K). StopsReading read_gives write_gives limit done before (later_input, k)) output_is
-    (subst (λ (s : S). StopsReading read_gives write_gives limit done before (s, output)) input_is stops)
+    StopsReading protocol read_gives write_gives limit done before (input, output) → StopsReading protocol read_gives write_gives limit done before (later_input, later_output)
+stops_to {S} {K} protocol read_gives write_gives limit done before input later_input output later_output input_is output_is stops =
+    subst (λ (k : K). StopsReading protocol read_gives write_gives limit done before (later_input, k)) output_is
+    (subst (λ (s : S). StopsReading protocol read_gives write_gives limit done before (s, output)) input_is stops)
 
 -- where a run is done, so is its session
 done_by : (end : End) (why : Why) → why ≡ why_of_end end → why ≡ why_of.Done → end ≡ end_of.Done
@@ -74,7 +74,7 @@ runs_by read_gives write_gives before after end why ends runs = record { goes = 
 pub runs_nowhere : {S K : Type 0} (read_gives : S → Read → S → Type 0) (write_gives : K → Write → K → Type 0) (now : S × K) (why other : Why) →
     why ≡ other → (other ≡ why_of.Done → ⊥) → RunsInTurns read_gives write_gives (why ≡ why_of.Done) now now
 runs_nowhere read_gives write_gives now why other is never =
-    stops_at_once (reads_input read_gives) (writes_output write_gives) MOST_BYTES (why ≡ why_of.Done) now (λ done. never (sym is ∙ done))
+    stops_at_once line_by_line (reads_input read_gives) (writes_output write_gives) MOST_BYTES (why ≡ why_of.Done) now (λ done. never (sym is ∙ done))
 
 -- a configuration that is refused is another end
 pub refused_not_done : (fault : ConfigFault) → why_of_config fault ≡ why_of.Done → ⊥

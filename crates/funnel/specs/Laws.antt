@@ -26,11 +26,10 @@ use Rattle.funnel_server.specs.Gates.{GateState, Sides}
 use Rattle.funnel_server.specs.Laws.{FitsKept, HasCause, HasFewBytes, HasSeen, MakesCalls}
 use Rattle.funnel_server.specs.Workers.{Visit, WorkerState}
 use Rattle.funnel_stats.specs.Configurations.{configuration}
-use Rattle.line_proto.specs.Forms.{Item, items}
+use Rattle.line_proto.specs.Forms.{Item, Asks, Calls, Queries, items}
 use Rattle.line_proto.specs.Services.{Caller}
 use Rattle.line_proto.specs.Texts.{texts}
 use Rattle.load_gen.specs.Summary.{summary}
-use Rattle.session.specs.Laws.{asked_by}
 use Rattle.session.specs.Sessions.{Answers, Session}
 use Rattle.funnel.specs.Commands.{command_of}
 use Rattle.funnel.specs.LoadRuns.{IsWholeLoad}
@@ -75,17 +74,24 @@ pub record TellsFew (input : Incoming) (bytes : List ℕ) : Type 0 where
   pub few : length bytes < MOST_BYTES
 
 -- a call that takes memory, so that it may find none
-abbrev pub TakesMemory : Call → Type 0
-TakesMemory (call.Add id text) = ⊤
-TakesMemory (call.Find query) = ⊤
-TakesMemory (call.Journal from) = ⊤
-TakesMemory (call.Tune config) = ⊤
+abbrev pub CallTakesMemory : Call → Type 0
+CallTakesMemory (call.Add id text) = ⊤
+CallTakesMemory (call.Find query) = ⊤
+CallTakesMemory (call.Query expr) = ⊤
+CallTakesMemory (call.Journal from) = ⊤
+CallTakesMemory (call.Tune config) = ⊤
+CallTakesMemory _ = ⊥
+
+-- an item that takes memory: one that asks for such a call, and each that asks what a text finds, whether it is a query or not
+abbrev pub TakesMemory : Item → Type 0
+TakesMemory (Asks (Calls asked)) = CallTakesMemory asked
+TakesMemory (Asks (Queries text)) = ⊤
 TakesMemory _ = ⊥
 
--- the reply to an item is never that the history is spent, and is a want of memory only where it asks for a call that takes some
+-- the reply to an item is never that the history is spent, and is a want of memory only where the item takes some
 pub record IsDue (item : Item) (given : Reply) : Type 0 where
   pub unspent : given ≢ reply.Spent
-  pub memory : given ≡ reply.Memory → IsSomeAnd (asked_by item) TakesMemory
+  pub memory : given ≡ reply.Memory → TakesMemory item
 
 -- so it is with each item and its reply
 abbrev pub AreDue : List Item → List Reply → Type 0

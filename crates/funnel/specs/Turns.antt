@@ -12,7 +12,7 @@ use Rattle.funnel_server.specs.Gates.{GateState}
 use Rattle.funnel_model.specs.declared.config.Config.{Config}
 use Rattle.funnel_server.specs.GateTurns.{CallsInTurns}
 use Rattle.funnel_server.specs.Workers.{WorkerState}
-use Rattle.session.specs.Turns.{StopsReading}
+use Rattle.session.specs.Turns.{StopsReading, line_by_line}
 use Rattle.session.specs.declared.serving.TheConstants.{MOST_BYTES}
 use Rattle.funnel.specs.declared.command.ServeCommand.{ServeCommand}
 use Rattle.funnel.specs.declared.ended.Why.{Why}
@@ -33,7 +33,7 @@ writes_output gives before write after = gives before.1 write after.1 × (after.
 -- the calls of a run go as those of a session, which is done where the run is
 abbrev pub RunsInTurns : {S K : Type 0} → (S → Read → S → Type 0) → (K → Write → K → Type 0) → Type 0 → S × K → S × K → Type 0
 RunsInTurns read_gives write_gives done before after =
-    StopsReading (reads_input read_gives) (writes_output write_gives) MOST_BYTES done before after
+    StopsReading line_by_line (reads_input read_gives) (writes_output write_gives) MOST_BYTES done before after
 
 -- the calls on each gate of a serve and on its connections are those of its worker's sessions, turn by turn; the gates are given as they
 -- went to the workers and as they came back

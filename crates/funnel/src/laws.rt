@@ -46,8 +46,8 @@ pub fn programs_without_a_fault_end_well()
 {}
 
 /// No reply of a run is that the history is spent, since a run can't take so many bytes. Only the lines that ask for an add, a
-/// find or a journal can be refused for want of memory; every other reply is the one of its event in the history, or that of a
-/// line which is no call.
+/// find, a query or a journal can be refused for want of memory; every other reply is the one of its event in the history, what a
+/// query's expression keeps of the documents live at its find, or that of a line which is no call.
 pub fn runs_take_every_call()
     ensures any { (config : Config) (incoming later_incoming : Incoming) (outgoing later_outgoing : Outgoing) (why : Why) (closed : ClosedState)
         (ran : Ran config incoming later_incoming outgoing later_outgoing why closed) →

@@ -4,6 +4,7 @@ pub mod CallLaws
 pub mod CutLaws
 pub mod PlaceLaws
 pub mod Ranges
+pub mod BufferReads
 pub mod Holding
 pub mod LineLaws
 pub mod ReadingLaws

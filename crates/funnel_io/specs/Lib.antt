@@ -12,3 +12,4 @@ pub mod Lines
 pub mod LineReading
 pub mod LineSteps
 pub mod LineBuffers
+pub mod BufferReads

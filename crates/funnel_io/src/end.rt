@@ -1,7 +1,8 @@
 /// How a session on a connection ended.
 #[derive(Clone, Copy, Debug, PartialEq, Eq)]
 pub enum End {
-    /// The input was read to its end and every reply was written.
+    /// The input was read to its end and every reply was written; over HTTP also: a response that closes the connection was
+    /// written, after which bytes may be left.
     Done,
     /// A read failed.
     ReadFault,

@@ -1,13 +1,13 @@
-ghost use Rattle.std.specs.Prelude.{◌≡◌, ◌<◌, ◌≤◌, ◌+◌, ◌-◌, min, [], ◌∷◌, ◌++◌, IfOk, IsTrue, ◌↔◌, MatchBool, length, take, drop, ⊤};
+ghost use Rattle.std.specs.Prelude.{◌≡◌, ◌<◌, ◌≤◌, ◌+◌, [], ◌∷◌, ◌++◌, IfOk, MatchBool, length, ⊤};
 ghost use Rattle.std.specs.Io.KnownBytes.{IsAtEnd};
-ghost use Rattle.funnel_io.specs.Answers.{MatchGot, bytes_got, read_failed};
+ghost use Rattle.funnel_io.specs.Answers.{MatchGot, read_failed};
 ghost use Rattle.funnel_io.specs.Counts.{counted};
 ghost use Rattle.funnel_io.specs.Lines.{HasNoNewline};
 ghost use Rattle.funnel_io.specs.LineBuffers.{ReadsOnce};
-ghost use Rattle.funnel_io.specs.Streams.{Takes};
 
 use crate::line_reader::MAX_LINE_LEN;
 use crate::memory::Memory;
+use crate::reading::read_behind;
 use crate::source::{Got, Source};
 use memchr::memchr;
 use std::alloc::Global;
@@ -148,33 +148,6 @@ impl LineBuffer {
         ensures end { MatchGot result (λ _. ⊤) (IsAtEnd (C.incoming conn.new).left) ⊤ }
         ensures faults { (C.incoming conn.new).faults ≡ counted (read_failed result) (C.incoming conn.old).faults }
     {
-        match read_behind(conn, &mut self.buffer, self.end, *left) {
-            Got::Bytes(n) => {
-                self.end += n;
-                *left -= n as u64;
-                Got::Bytes(n)
-            }
-            Got::End => Got::End,
-            Got::Failed => Got::Failed,
-        }
+        read_behind(conn, &mut self.buffer, &mut self.end, left)
     }
-}
-
-// Reads into the buffer from `end` on.
-fn read_behind<C: Source>(conn: &mut C, buffer: &mut [u8], end: usize, left: u64) -> Got
-    requires room { end + LEAST_ROOM ≤ length buffer.old }
-    requires some { 0 < left }
-    ensures borrowed { C.borrowed conn.new ≡ C.borrowed conn.old }
-    ensures beside { C.beside_read conn.new ≡ C.beside_read conn.old }
-    ensures kept { take end buffer.new ≡ take end buffer.old }
-    ensures count { MatchGot result (λ n. (1 ≤ n) × (n ≤ left) × (end + n ≤ length buffer.new)) ⊤ ⊤ }
-    ensures takes { Takes (bytes_got result (drop end buffer.new)) (C.incoming conn.old) (C.incoming conn.new) }
-    ensures gives { C.read_gives conn.old
-        (record { room = min left (length buffer.old - end); answer = result; bytes = bytes_got result (drop end buffer.new) })
-        conn.new }
-    ensures end { MatchGot result (λ _. ⊤) (IsAtEnd (C.incoming conn.new).left) ⊤ }
-    ensures faults { (C.incoming conn.new).faults ≡ counted (read_failed result) (C.incoming conn.old).faults }
-{
-    let most = left.min((buffer.len() - end) as u64) as usize;
-    conn.read(&mut buffer[end..end + most])
 }

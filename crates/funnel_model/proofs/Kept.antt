@@ -1,5 +1,5 @@
 -- What an expression asks of the texts that it keeps.
-use Rattle.std.proofs.Common.{◌≡◌, ℕ, Bool, true, false, List, sym, inl, inr}
+use Rattle.std.proofs.Common.{◌≡◌, ℕ, true, List, sym, inl, inr}
 use Rattle.std.proofs.lemmas.Bool.{true≢false, and_parts, or_cases}
 use Rattle.funnel_model.proofs.WordLemmas.{each-from_list_all}
 use Rattle.funnel_model.specs.Expressions.{Tree, Trees, atom, every, some, contrary, no_trees, tree, keeps, all_keep, one_keeps, must, all_must, one_must}

@@ -59,6 +59,7 @@ others_move_none limits pass before after asked given no_add step = let few = st
   none_for (call.Add id text) other = absurd (other id text refl)
   none_for (call.Delete id) other = refl
   none_for (call.Find query) other = refl
+  none_for (call.Query expr) other = refl
   none_for call.Place other = refl
   none_for (call.Journal from) other = refl
   none_for call.Recycle other = refl

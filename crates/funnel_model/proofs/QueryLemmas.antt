@@ -1,10 +1,10 @@
 -- A text is the query of one expression, or it is refused for one cause at one place.
-use Rattle.std.proofs.Common.{◌≡◌, ℕ, suc, ◌+◌, ◌<◌, ◌≤◌, ◌⊎◌, inl, inr, List, [], ◌∷◌, ◌++◌, map, length, refl, sym, ap, ap₂, ◌∙◌, subst, append_assoc, arith}
+use Rattle.std.proofs.Common.{◌≡◌, ℕ, suc, ◌+◌, ◌≤◌, ◌⊎◌, inl, inr, List, [], ◌∷◌, ◌++◌, length, refl, sym, ap, ap₂, ◌∙◌, subst, append_assoc, arith}
 use Rattle.std.proofs.lemmas.List.{append-nil, map-append}
 use Rattle.funnel_model.specs.Expressions.{Tree, Trees, some, trees_of}
 use Rattle.funnel_model.specs.declared.expr.TheConstants.{MOST_OPEN}
-use Rattle.funnel_model.specs.Queries.{Token, Placed, put, Spelled, tokens, kinds, tokens_of, IsExpression, IsFront, AreShallow, IsQuery, IsMisplaced, IsCut, IsTooDeep, IsMalformed}
-use Rattle.funnel_model.specs.Readings.{Level, Reading, start, terms_with_last, Reads, level_at}
+use Rattle.funnel_model.specs.Queries.{Token, Placed, put, Spelled, tokens, kinds, tokens_of, IsExpression, IsFront, AreShallow, IsQuery, IsMisplaced, IsTooDeep, IsMalformed}
+use Rattle.funnel_model.specs.Readings.{Reading, start, terms_with_last, Reads, level_at}
 use Rattle.funnel_model.proofs.ReadingSound.{IsRead, list_of, trees-list}
 use Rattle.funnel_model.proofs.ReadingEnds.{expression-read}
 use Rattle.funnel_model.proofs.ReadingOnce.{next-one, same-reads, not_deep}

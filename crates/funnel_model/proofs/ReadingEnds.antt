@@ -1,11 +1,11 @@
 -- Readings that are sound can be completed to an expression, and the tokens of an expression can be read.
-use Rattle.std.proofs.Common.{◌≡◌, ℕ, zero, suc, ◌+◌, ◌<◌, ◌≤◌, List, [], ◌∷◌, ◌++◌, map, length, refl, sym, ap, ap₂, ◌∙◌, subst, append_assoc, add-one, arith}
+use Rattle.std.proofs.Common.{◌≡◌, ℕ, zero, suc, ◌<◌, List, [], ◌∷◌, ◌++◌, length, refl, sym, ap, ◌∙◌, subst, append_assoc, arith}
 use Rattle.std.proofs.lemmas.List.{append-nil, length-append, map-append}
-use Rattle.funnel_model.specs.Expressions.{Tree, Trees, atom, every, some, contrary, no_trees, tree, trees_of}
-use Rattle.funnel_model.specs.Queries.{Token, bar, left, right, minus, word, Spelled, spelled, in_order, parted, behind_bars, IsFactor, IsTerm, HaveFactors, AreFactors, HaveTerms, AreTerms, IsExpression, IsFront, tokens_of}
-use Rattle.funnel_model.specs.Readings.{Level, Reading, fresh, start, signed, with_factor, terms_with_last, IsComplete, Closes, Takes, opened_around, opened, level_at, Reads}
-use Rattle.funnel_model.proofs.ReadingLemmas.{spell, level_spelling, outer_spelling, spelling_of, takes-spelled, level-parted}
-use Rattle.funnel_model.proofs.ReadingSound.{list_of, trees-list, IsRead, reads-parted}
+use Rattle.funnel_model.specs.Expressions.{Tree, Trees, atom, every, some, contrary, trees_of}
+use Rattle.funnel_model.specs.Queries.{Token, bar, left, right, minus, word, Spelled, IsFactor, IsTerm, HaveFactors, AreFactors, HaveTerms, AreTerms, IsExpression, IsFront, tokens_of}
+use Rattle.funnel_model.specs.Readings.{Level, Reading, start, signed, with_factor, terms_with_last, IsComplete, Closes, Takes, opened, level_at, Reads}
+use Rattle.funnel_model.proofs.ReadingLemmas.{spell, level_spelling, spelling_of, takes-spelled, level-parted}
+use Rattle.funnel_model.proofs.ReadingSound.{list_of, IsRead, reads-parted}
 
 -- the terms and factors of a level are terms and factors
 pub record IsSoundLevel (level : Level) : Type 0 where

@@ -1,9 +1,9 @@
 -- What a reading of tokens stands for, and that there is one reading of the same tokens.
-use Rattle.std.proofs.Common.{◌≡◌, ℕ, zero, suc, ◌+◌, ◌<◌, ◌≤◌, List, [], ◌∷◌, ◌++◌, map, length, refl, sym, ap, ap₂, ◌∙◌, subst, append_assoc, add-one, arith}
-use Rattle.std.proofs.lemmas.List.{append-nil, length-append}
-use Rattle.funnel_model.specs.Expressions.{Tree, Trees, atom, every, some, contrary, no_trees, tree, trees_of}
-use Rattle.funnel_model.specs.Queries.{Token, bar, left, right, minus, word, Spelled, spelled, in_order, parted, behind_bars, IsFactor, IsTerm, HaveFactors, AreFactors, HaveTerms, AreTerms, tokens_of}
-use Rattle.funnel_model.specs.Readings.{Level, Reading, fresh, start, signed, with_factor, terms_with_last, IsComplete, Closes, Takes, opened_around, opened, level_at, Reads}
+use Rattle.std.proofs.Common.{◌≡◌, ℕ, zero, suc, ◌+◌, List, [], ◌∷◌, ◌++◌, refl, sym, ap, ap₂, ◌∙◌, append_assoc, add-one, arith}
+use Rattle.std.proofs.lemmas.List.{append-nil}
+use Rattle.funnel_model.specs.Expressions.{Tree, atom, every, some, contrary, trees_of}
+use Rattle.funnel_model.specs.Queries.{Token, bar, left, right, minus, word, Spelled, spelled, in_order, parted, behind_bars}
+use Rattle.funnel_model.specs.Readings.{Level, Reading, signed, with_factor, terms_with_last, IsComplete, Closes, Takes, opened_around, opened, level_at}
 
 -- a token at a level
 abbrev pub spell : Token → ℕ → Spelled

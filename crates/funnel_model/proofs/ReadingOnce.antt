@@ -1,10 +1,9 @@
 -- There is one reading of the same tokens, and what can't be read begins no expression.
-use Rattle.std.proofs.Common.{◌≡◌, ℕ, zero, suc, ◌+◌, ◌<◌, ◌≤◌, List, [], ◌∷◌, ◌++◌, map, length, refl, sym, ap, ap₂, ◌∙◌, subst, append_assoc, add-one, arith}
-use Rattle.std.proofs.lemmas.List.{append-nil, length-append, map-append}
-use Rattle.funnel_model.specs.Expressions.{Tree, Trees, trees_of}
+use Rattle.std.proofs.Common.{◌≡◌, ℕ, ◌+◌, ◌≤◌, List, [], ◌∷◌, ◌++◌, refl, sym, ap, ap₂, ◌∙◌, subst, append_assoc, arith}
+use Rattle.funnel_model.specs.Expressions.{Trees, trees_of}
 use Rattle.funnel_model.specs.declared.expr.TheConstants.{MOST_OPEN}
 use Rattle.funnel_model.specs.Queries.{Token, bar, left, right, minus, word, Spelled, IsExpression, IsFront, AreShallow, tokens_of}
-use Rattle.funnel_model.specs.Readings.{Level, Reading, start, terms_with_last, IsComplete, Closes, Takes, opened, level_at, Reads}
+use Rattle.funnel_model.specs.Readings.{Level, Reading, start, terms_with_last, IsComplete, Closes, Takes, level_at, Reads}
 use Rattle.funnel_model.proofs.ReadingSound.{list_of, trees-list, IsRead}
 use Rattle.funnel_model.proofs.ReadingEnds.{expression-read}
 

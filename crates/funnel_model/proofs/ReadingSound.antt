@@ -1,10 +1,10 @@
 -- The readings of the tokens of expressions: each factor is read whole, and what was read can be completed.
-use Rattle.std.proofs.Common.{◌≡◌, ℕ, zero, suc, ◌+◌, ◌<◌, ◌≤◌, List, [], ◌∷◌, ◌++◌, map, length, refl, sym, ap, ap₂, ◌∙◌, subst, append_assoc, add-one, arith}
+use Rattle.std.proofs.Common.{◌≡◌, ℕ, ◌+◌, ◌<◌, List, [], ◌∷◌, ◌++◌, length, refl, sym, ap, ap₂, ◌∙◌, subst, append_assoc, add-one, arith}
 use Rattle.std.proofs.lemmas.List.{append-nil, length-append}
 use Rattle.funnel_model.specs.Expressions.{Tree, Trees, atom, every, some, contrary, no_trees, tree, trees_of}
-use Rattle.funnel_model.specs.Queries.{Token, bar, left, right, minus, word, Spelled, spelled, in_order, parted, behind_bars, IsFactor, IsTerm, HaveFactors, AreFactors, HaveTerms, AreTerms, IsExpression, tokens_of}
-use Rattle.funnel_model.specs.Readings.{Level, Reading, fresh, start, signed, with_factor, terms_with_last, IsComplete, Closes, Takes, opened_around, opened, level_at, Reads}
-use Rattle.funnel_model.proofs.ReadingLemmas.{spell, level_spelling, outer_spelling, spelling_of, takes-spelled, level-parted}
+use Rattle.funnel_model.specs.Queries.{right, Spelled, spelled, in_order, parted, behind_bars, IsFactor, IsTerm, HaveFactors, AreFactors, HaveTerms, AreTerms}
+use Rattle.funnel_model.specs.Readings.{Level, Reading, fresh, signed, with_factor, terms_with_last, IsComplete, Takes, opened_around, opened, Reads}
+use Rattle.funnel_model.proofs.ReadingLemmas.{spell}
 
 -- one reading after another
 pub reads-append : (a : Reading) (xs : List Spelled) (b : Reading) (ys : List Spelled) (c : Reading) → Reads a xs b → Reads b ys c → Reads a (xs ++ ys) c

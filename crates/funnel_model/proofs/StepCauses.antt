@@ -3,17 +3,19 @@ use Rattle.std.proofs.Common.{◌≡◌, ℕ, ◌<◌, ◌≤◌, ⊎_elim, Bool
 use Rattle.std.proofs.lemmas.Bool.{both_ways, cases_order}
 use Rattle.std.specs.List.{cons_option}
 use Rattle.std.specs.Option.{option_map_or}
-use Rattle.std.specs.Prelude.{nat_lt}
+use Rattle.std.specs.Prelude.{◌==◌, ◌⊎◌, nat_lt}
 use Rattle.funnel_model.specs.declared.call.Call.{Call}
 use Rattle.funnel_model.specs.declared.call.Call.TheVariants as call
 use Rattle.funnel_model.specs.declared.commit.Commit.{Commit}
 use Rattle.funnel_model.specs.declared.event.Event.{Event}
 use Rattle.funnel_model.specs.declared.event.Event.TheVariants as event
+use Rattle.funnel_model.specs.declared.expr.Expr.{Expr}
 use Rattle.funnel_model.specs.declared.reply.Reply.{Reply}
 use Rattle.funnel_model.specs.declared.reply.Reply.TheVariants as reply
+use Rattle.funnel_model.specs.Events.{call_of, pass_of}
 use Rattle.funnel_model.specs.History.{base, call_by, commits_after, live_place, own}
 use Rattle.funnel_model.specs.Legal.{Limits}
-use Rattle.funnel_model.specs.Steps.{AddsNone, AnswersLast, FindsNoMemory, IsReply, IsReplyToRecycle, IsReplyToRefused, Step}
+use Rattle.funnel_model.specs.Steps.{AddsNone, AnswersLast, FindsNoMemory, IsJudged, IsMade, IsReply, IsReplyToRead, IsReplyToRecycle, IsReplyToRefused, IsSpent, LacksMemory, Step}
 use Rattle.funnel_model.proofs.ReplyLemmas.{dropped_at, one_reply}
 use Rattle.funnel_model.proofs.Retirement.{same_split, split_front}
 use Rattle.funnel_model.proofs.Spans.{not_empty}
@@ -26,15 +28,19 @@ is_outside reply.Memory = true
 is_outside reply.Line = true
 is_outside (reply.Tuning fault) = true
 is_outside (reply.Wide needed room) = true
+is_outside (reply.Query at) = true
+is_outside (reply.Deep at) = true
 is_outside reply.Long = true
 is_outside _ = false
 
--- whether it is the reply to a line that is no call: one without a form, one that is too long, and a tuning that has a fault or
--- needs too much room
+-- whether it is the reply to a line that is no call: one without a form, one that is too long, a tuning that has a fault or needs too
+-- much room, and a text that is no boolean query
 abbrev pub is_line : Reply → Bool
 is_line reply.Line = true
 is_line (reply.Tuning fault) = true
 is_line (reply.Wide needed room) = true
+is_line (reply.Query at) = true
+is_line (reply.Deep at) = true
 is_line reply.Long = true
 is_line _ = false
 
@@ -43,6 +49,8 @@ line_is_outside reply.Line is = refl
 line_is_outside reply.Long is = refl
 line_is_outside (reply.Tuning fault) is = refl
 line_is_outside (reply.Wide needed room) is = refl
+line_is_outside (reply.Query at) is = refl
+line_is_outside (reply.Deep at) is = refl
 line_is_outside _ is = cc
 
 -- no refused recycle is answered so
@@ -90,7 +98,7 @@ pub spent_cause : (limits : Limits) (pass : ℕ) (before after : List Event) (as
 spent_cause limits pass before after asked step =
     ⊎_elim
     (λ made. absurd (not_made limits pass after asked reply.Spent made.answered refl))
-    (λ rest. ⊎_elim (λ lacks. let other = lacks.reply in cc) (λ spent. (spent.many, spent.call)) rest)
+    (λ rest. ⊎_elim (λ lacks. let other = lacks.reply in cc) (λ last. ⊎_elim (λ spent. (spent.many, spent.call)) (λ judged. let other = judged.reply in cc) last) rest)
     step.outcome
 
 -- want of memory comes only to a call that may want it
@@ -99,7 +107,7 @@ pub memory_cause : (limits : Limits) (pass : ℕ) (before after : List Event) (a
 memory_cause limits pass before after asked step =
     ⊎_elim
     (λ made. absurd (not_made limits pass after asked reply.Memory made.answered refl))
-    (λ rest. ⊎_elim (λ lacks. lacks.call) (λ spent. let other = spent.reply in cc) rest)
+    (λ rest. ⊎_elim (λ lacks. lacks.call) (λ last. ⊎_elim (λ spent. let other = spent.reply in cc) (λ judged. let other = judged.reply in cc) last) rest)
     step.outcome
 
 -- and no step is answered as a line that is no call
@@ -110,9 +118,52 @@ never_unread limits pass before after asked given unread step =
     (λ made. not_made limits pass after asked given made.answered (line_is_outside given unread))
     (λ rest. ⊎_elim
     (λ lacks. both_ways (is_line given) (ap is_line lacks.reply) unread)
+    (λ last. ⊎_elim
     (λ spent. both_ways (is_line given) (ap is_line spent.reply) unread)
+    (λ judged. both_ways (is_line given) (ap is_line judged.reply) unread)
+    last)
     rest)
     step.outcome
+
+-- no event that answers a call gives a reply to a query
+no_event_of_query : (limits : Limits) (history : List Event) (e : Event) (expr : Expr) (given : Reply) → call_of e ≡ Some (call.Query expr) →
+    IsReply limits history e given → ⊥
+no_event_of_query limits history (event.Add pass id text slice column bits) expr given called is = cc
+no_event_of_query limits history (event.Drop pass id text slice column) expr given called is = cc
+no_event_of_query limits history (event.Del pass id) expr given called is = cc
+no_event_of_query limits history (event.Find pass query) expr given called is = cc
+no_event_of_query limits history (event.Opened pass slice alone) expr given called is =
+    let other : Some call.Recycle ≡ Some (call.Query expr) = sym (ap (λ b. cond b (Some call.Recycle) None) is.0) ∙ called in cc
+no_event_of_query limits history (event.Tune pass config) expr given called is = cc
+no_event_of_query limits history (event.No pass asked) expr given called is =
+    let same : asked ≡ call.Query expr = cc in subst (λ (c : Call). IsReplyToRefused limits history c given) same is
+no_event_of_query limits history (event.Read pass asked) expr given called is =
+    let same : asked ≡ call.Query expr = cc in subst (λ (c : Call). IsReplyToRead limits history c given) same is
+no_event_of_query limits history _ expr given called is = absurd is
+
+-- so a query is never the call of an event
+pub query_not_made : (limits : Limits) (pass : ℕ) (before after : List Event) (expr : Expr) (given : Reply) → IsMade limits pass before after (call.Query expr) given → ⊥
+query_not_made limits pass before after expr given made =
+    let is = made.answered in
+    no_event_of_query limits is.earlier is.event expr given (by_test (pass_of is.event == pass) is.call) is.reply where
+      by_test : (b : Bool) → cond b (call_of made.answered.event) None ≡ Some (call.Query expr) → call_of made.answered.event ≡ Some (call.Query expr)
+      by_test true called = called
+      by_test false called = cc
+
+-- whether a call is a query
+abbrev pub is_query : Call → Bool
+is_query (call.Query expr) = true
+is_query _ = false
+
+-- the query of no expression is another call, and only a query is judged
+pub only_queries_are_judged : (pass : ℕ) (before after : List Event) (asked : Call) (given : Reply) → is_query asked ≡ false → IsJudged pass before after asked given → ⊥
+only_queries_are_judged pass before after asked given other judged = both_ways (is_query asked) other (ap is_query judged.query)
+
+-- a query is answered by its expression, and for no other cause than want of memory or that the history is spent it isn't
+pub query_outcome : (limits : Limits) (pass : ℕ) (before after : List Event) (expr : Expr) (given : Reply) → Step limits pass before after (call.Query expr) given →
+    LacksMemory pass before after (call.Query expr) given ⊎ IsSpent limits pass before after given ⊎ IsJudged pass before after (call.Query expr) given
+query_outcome limits pass before after expr given step =
+    ⊎_elim (λ made. absurd (query_not_made limits pass before after expr given made)) (λ rest. rest) step.outcome
 
 -- the last call of a pass isn't followed by an event that answers one
 later_is_last : (pass : ℕ) (earlier other later rest : List Event) (e x : Event) (asked : Call) → earlier ++ e ∷ later ≡ other ++ x ∷ rest → own pass later ≡ [] →

@@ -11,6 +11,7 @@ use Rattle.funnel_model.specs.declared.call.Call.TheVariants as call
 use Rattle.funnel_model.specs.declared.config.Config.{Config}
 use Rattle.funnel_model.specs.declared.event.Event.{Event}
 use Rattle.funnel_model.specs.declared.event.Event.TheVariants as event
+use Rattle.funnel_model.specs.declared.expr.Expr.{Expr}
 use Rattle.funnel_model.specs.declared.reply.Reply.{Reply}
 use Rattle.funnel_model.specs.declared.reply.Reply.TheVariants as reply
 use Rattle.std.specs.Option.{IfSome}
@@ -19,6 +20,7 @@ use Rattle.funnel_model.proofs.Moved.{moved_by-append, moved_by-still}
 use Rattle.funnel_model.proofs.LiveLemmas.{place-append}
 use Rattle.funnel_model.proofs.Spans.{last_by-own}
 use Rattle.funnel_model.specs.Events.{call_of, leaves_open, moves, pass_of}
+use Rattle.funnel_model.specs.Expressions.{answer_by, tree_of}
 use Rattle.funnel_model.specs.History.{answer, call_by, moved_by, own, place}
 use Rattle.funnel_model.specs.Legal.{Limits, IsIdle, IsLegal}
 use Rattle.funnel_model.specs.Steps.{AddsNone, FindsNoMemory, IsReply, IsReplyToRefused, Linear, Step, most_moves}
@@ -56,6 +58,36 @@ step_made_from limits pass before middle e later asked given idle grows none few
         ∙ ap (λ cs. own pass before ++ asked ∷ cs) last;
     answered = record { earlier = middle; event = e; later = later; whole = refl; call = call; last = last; reply = replied };
   });
+}
+
+-- a query led to a front without an answer; then come the find of the empty query, and some events that answer nothing
+pub step_judged_from : (limits : Limits) (pass : ℕ) (before middle later : List Event) (expr : Expr) (given : Reply) →
+    IsIdle pass before → IsPrefix before middle → AddsNone pass before middle → moved_by pass middle ≤ moved_by pass before →
+    call_by pass (event.Find pass []) ≡ Some (call.Find []) → own pass later ≡ [] → moved_by pass later ≡ 0 → given ≡ reply.Found (answer_by middle (tree_of expr)) →
+    IsLegal limits (middle ++ event.Find pass [] ∷ later) → IsIdle pass (middle ++ event.Find pass [] ∷ later) →
+    Step limits pass before (middle ++ event.Find pass [] ∷ later) (call.Query expr) given
+step_judged_from limits pass before middle later expr given idle grows none few found last still told legal idle_after = record {
+  grows = prefix_trans before middle (middle ++ event.Find pass [] ∷ later) grows (event.Find pass [] ∷ later, refl);
+  legal = legal;
+  idle_before = idle;
+  idle_after = idle_after;
+  few_moves =
+      let one = moved_by-still pass (event.Find pass [] ∷ []) refl in
+      let events = moved_by-append pass (event.Find pass [] ∷ []) later in
+      omega (arith, few, moved_by-append pass middle (event.Find pass [] ∷ later), events, one, still);
+  outcome = inr (inr (inr (record {
+    expr = expr;
+    query = refl;
+    call = own-append pass middle (event.Find pass [] ∷ later)
+        ∙ ap (λ cs. cs ++ own pass (event.Find pass [] ∷ later)) none
+        ∙ ap (λ o. own pass before ++ cons_option o (own pass later)) found
+        ∙ ap (λ cs. own pass before ++ call.Find [] ∷ cs) last;
+    earlier = middle;
+    later = later;
+    whole = refl;
+    none_later = last;
+    reply = told;
+  })));
 }
 
 -- events that answer nothing add no call of the pass
@@ -184,7 +216,7 @@ step_spent limits pass history asked many legal idle = record {
   idle_before = idle;
   idle_after = idle;
   few_moves = omega arith;
-  outcome = inr (inr (record { reply = refl; call = refl; many = many }));
+  outcome = inr (inr (inl (record { reply = refl; call = refl; many = many })));
 }
 
 -- a find that began and ended
@@ -197,4 +229,17 @@ step_found limits pass before query idle legal =
     subst (λ (h : List Event). Step limits pass before h (call.Find query) (reply.Found (answer before query))) same
     (step_made_from limits pass before before found (event.End pass ∷ []) (call.Find query) (reply.Found (answer before query)) idle (prefix_refl before) refl (omega arith)
     (call_by-own pass found refl) refl (own-one pass (event.End pass) refl) (moved_by-still pass (event.End pass ∷ []) refl) refl (subst (IsLegal limits) (sym same) legal)
+    (subst (IsIdle pass) (sym same) (idle_after pass (before ++ found ∷ []) (event.End pass) refl refl)))
+
+-- a query whose find began and ended
+pub step_judged : (limits : Limits) (pass : ℕ) (before : List Event) (expr : Expr) → IsIdle pass before →
+    IsLegal limits ((before ++ event.Find pass [] ∷ []) ++ event.End pass ∷ []) →
+    Step limits pass before ((before ++ event.Find pass [] ∷ []) ++ event.End pass ∷ []) (call.Query expr) (reply.Found (answer_by before (tree_of expr)))
+step_judged limits pass before expr idle legal =
+    let found = event.Find pass [] in
+    let given = reply.Found (answer_by before (tree_of expr)) in
+    let same : before ++ found ∷ (event.End pass ∷ []) ≡ (before ++ found ∷ []) ++ event.End pass ∷ [] = sym (append_assoc before (found ∷ []) (event.End pass ∷ [])) in
+    subst (λ (h : List Event). Step limits pass before h (call.Query expr) given) same
+    (step_judged_from limits pass before before (event.End pass ∷ []) expr given idle (prefix_refl before) refl (omega arith)
+    (call_by-own pass found refl) (own-one pass (event.End pass) refl) (moved_by-still pass (event.End pass ∷ []) refl) refl (subst (IsLegal limits) (sym same) legal)
     (subst (IsIdle pass) (sym same) (idle_after pass (before ++ found ∷ []) (event.End pass) refl refl)))

@@ -1,6 +1,6 @@
 -- What was read of a query, token by token: the levels that are open, each with its complete terms and factors.
 use Rattle.std.specs.Prelude.{ℕ, zero, suc, ◌+◌, ◌≡◌, ◌<◌, List, [], ◌∷◌, ◌++◌, length}
-use Rattle.funnel_model.specs.Expressions.{Tree, Trees, atom, every, some, contrary, trees_of}
+use Rattle.funnel_model.specs.Expressions.{Tree, atom, every, some, contrary, trees_of}
 use Rattle.funnel_model.specs.Queries.{Token, bar, left, right, minus, word, Spelled}
 
 -- the whole query or an open parenthesis: its terms that are complete, the factors of the next one, and the minus signs behind them

@@ -9,7 +9,9 @@ use Rattle.funnel_model.specs.declared.event.Event.{Event}
 use Rattle.funnel_model.specs.declared.event.Event.TheVariants as event
 use Rattle.funnel_model.specs.declared.reply.Reply.{Reply}
 use Rattle.funnel_model.specs.declared.reply.Reply.TheVariants as reply
+use Rattle.funnel_model.specs.declared.expr.Expr.{Expr}
 use Rattle.funnel_model.specs.Blocks.{IsLowestGuard}
+use Rattle.funnel_model.specs.Expressions.{answer_by, tree_of}
 use Rattle.funnel_model.specs.History.{base, place, commits_after, answer, live_place, moved_by, own, call_by}
 use Rattle.funnel_model.specs.Legal.{Limits, IsIdle, IsLegal}
 use Rattle.funnel_model.specs.Slices.{IsRetired}
@@ -88,11 +90,13 @@ AddsCall pass before after asked = own pass after ≡ own pass before ++ asked �
 abbrev pub AddsNone : ℕ → List Event → List Event → Type 0
 AddsNone pass before after = own pass after ≡ own pass before
 
--- for want of memory an add or a tuning makes no call, and a find or a journal makes one or none; no other call wants memory
+-- for want of memory an add or a tuning makes no call, and a find or a journal makes one or none; so does a query, whose one is the
+-- find of the empty query; no other call wants memory
 abbrev pub FindsNoMemory : ℕ → List Event → List Event → Call → Type 0
 FindsNoMemory pass before after (call.Add id text) = AddsNone pass before after
 FindsNoMemory pass before after (call.Tune config) = AddsNone pass before after
 FindsNoMemory pass before after (call.Find query) = AddsNone pass before after ⊎ AddsCall pass before after (call.Find query)
+FindsNoMemory pass before after (call.Query expr) = AddsNone pass before after ⊎ AddsCall pass before after (call.Find [])
 FindsNoMemory pass before after (call.Journal from) = AddsNone pass before after ⊎ AddsCall pass before after (call.Journal from)
 FindsNoMemory pass before after _ = ⊥
 
@@ -112,6 +116,18 @@ pub record IsSpent (limits : Limits) (pass : ℕ) (before after : List Event) (g
   pub call : AddsNone pass before after
   pub many : limits.events ≤ length after
 
+-- the call is the query of an expression: the pass made the find of the empty query, its last call, and the reply tells the documents
+-- live before it that the expression keeps
+pub record IsJudged (pass : ℕ) (before after : List Event) (asked : Call) (given : Reply) : Type 0 where
+  pub expr : Expr
+  pub query : asked ≡ call.Query expr
+  pub call : AddsCall pass before after (call.Find [])
+  pub earlier : List Event
+  pub later : List Event
+  pub whole : after ≡ earlier ++ event.Find pass [] ∷ later
+  pub none_later : own pass later ≡ []
+  pub reply : given ≡ reply.Found (answer_by earlier (tree_of expr))
+
 -- how many columns a call takes at most to move documents there: an add some, and another call none
 abbrev pub most_moves : Call → ℕ
 most_moves (call.Add id text) = MOST_MOVES
@@ -127,6 +143,7 @@ pub record Step (limits : Limits) (pass : ℕ) (before after : List Event) (aske
   pub outcome : IsMade limits pass before after asked given
       ⊎ LacksMemory pass before after asked given
       ⊎ IsSpent limits pass before after given
+      ⊎ IsJudged pass before after asked given
 
 -- calls lead from front to front, one step for each, and are answered by these replies in order
 abbrev pub Linear : Limits → ℕ → List Event → List Event → List Call → List Reply → Type 0

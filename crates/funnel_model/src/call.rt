@@ -1,4 +1,5 @@
 use crate::config::Config;
+use crate::expr::Expr;
 use crate::text::Text;
 
 /// The most columns that an add takes to move documents there, beside the one for its own.
@@ -13,6 +14,8 @@ pub enum Call {
     Delete { id: u64 },
     /// Find the documents that have every word of the query.
     Find { query: Text },
+    /// Find the documents that the boolean expression keeps. In a history it stands as the find of the empty query.
+    Query { expr: Expr },
     /// Tell how many commits there were.
     Place,
     /// Tell the commits but the first so many.

@@ -14,7 +14,7 @@ pub enum Reply {
     Deleted(u64),
     /// No document with this number is live.
     Absent,
-    /// The numbers of the documents that have every word of the query, in the order of their adds.
+    /// The numbers of the documents that have every word of the query, or that the boolean query keeps, in the order of their adds.
     Found(Ids),
     /// The number of commits so far.
     Place(u64),
@@ -35,6 +35,10 @@ pub enum Reply {
     Tuning(u8),
     /// By these statistics a slice would need more row words than it has room for.
     Wide { needed: u64, room: u64 },
+    /// The text is no boolean query: the token at this byte can't stand where it does, or the text ends here too early.
+    Query(u64),
+    /// The token at this byte opens more parentheses and minus signs than may be open at once.
+    Deep(u64),
     /// The history has so many events that no call is taken any more.
     Spent,
     /// No memory was found for the call.

@@ -5,7 +5,7 @@ use Rattle.std.proofs.lemmas.List.Elements.{All-cons, All-head, All-nil, All-tai
 use mathlib.Core.List.{IsPrefix}
 use Rattle.funnel_io.specs.declared.end.End.{End}
 use Rattle.funnel_io.specs.declared.end.End.TheVariants as end_of
-use Rattle.funnel_model.proofs.StepCauses.{memory_cause, spent_cause}
+use Rattle.funnel_model.proofs.StepCauses.{memory_cause, query_not_made, spent_cause}
 use Rattle.funnel_model.proofs.StepLemmas.{linear-grows, prefix_refl, prefix_trans}
 use Rattle.funnel_model.specs.declared.call.Call.{Call}
 use Rattle.funnel_model.specs.declared.call.Call.TheVariants as call
@@ -14,15 +14,14 @@ use Rattle.funnel_model.specs.declared.reply.Reply.{Reply}
 use Rattle.funnel_model.specs.declared.reply.Reply.TheVariants as reply
 use Rattle.funnel_model.specs.History.{own}
 use Rattle.funnel_model.specs.Legal.{Limits}
-use Rattle.funnel_model.specs.Steps.{AddsCall, AddsNone, FindsNoMemory, Linear, Step}
+use Rattle.funnel_model.specs.Steps.{AddsCall, AddsNone, FindsNoMemory, IsMade, Linear, Step}
 use Rattle.line_proto.specs.Services.{Caller}
-use Rattle.session.proofs.SessionLaws.{linear}
-use Rattle.session.specs.Laws.{calls_of, replies_to_calls}
+use Rattle.session.proofs.SessionLaws.{runs_calls as lines_run_calls}
 use Rattle.session.specs.Ends.{Stand}
 use Rattle.session.specs.Sessions.{Answers, Session}
 use Rattle.http_front.proofs.RunLaws.{runs_calls}
 use Rattle.http_front.specs.Sessions.{Answers as AnswersRequests, Session as RequestSession}
-use Rattle.funnel_server.specs.Laws.{AreMade, GoesOnByCalls, HasSeen, IsMadeAs, MakesCalls}
+use Rattle.funnel_server.specs.Laws.{AreMade, GoesOnByCalls, HasSeen, IsMadeAs, MakesCalls, made_for}
 use Rattle.funnel_server.specs.Sessions.{AreItsCalls, IsServed, answered, exchanges_in, replies_in}
 use Rattle.funnel_server.specs.Workers.{AreInOrder, IsVisit, Visit}
 
@@ -39,11 +38,26 @@ record OneMade (pass : ℕ) (before after : List Event) (asked : Call) (given : 
   is : IsMadeAs given asked made
   adds : Adds pass before after made
 
--- a call that is answered by its event was made
+-- a call that an event answers was made
+made_itself : (limits : Limits) (pass : ℕ) (before after : List Event) (asked : Call) (given : Reply) → IsMade limits pass before after asked given
+    → AddsCall pass before after (made_for asked)
+made_itself limits pass before after (call.Query expr) given made = absurd (query_not_made limits pass before after expr given made)
+made_itself limits pass before after asked given made = made.call
+
+-- and so was a query that is answered by its expression
 made_call : (limits : Limits) (pass : ℕ) (before after : List Event) (asked : Call) (given : Reply) → given ≢ reply.Spent → given ≢ reply.Memory
-    → Step limits pass before after asked given → AddsCall pass before after asked
+    → Step limits pass before after asked given → AddsCall pass before after (made_for asked)
 made_call limits pass before after asked given not_spent not_memory step =
-    ⊎_elim (λ made. made.call) (λ rest. ⊎_elim (λ lacks. absurd (not_memory lacks.reply)) (λ spent. absurd (not_spent spent.reply)) rest) step.outcome
+    ⊎_elim
+    (λ made. made_itself limits pass before after asked given made)
+    (λ rest. ⊎_elim
+    (λ lacks. absurd (not_memory lacks.reply))
+    (λ last. ⊎_elim
+    (λ spent. absurd (not_spent spent.reply))
+    (λ judged. subst (λ (c : Call). AddsCall pass before after (made_for c)) (sym judged.query) judged.call)
+    last)
+    rest)
+    step.outcome
 
 -- a call without memory was made or not
 without_memory : (pass : ℕ) (before after : List Event) (asked : Call) → FindsNoMemory pass before after asked → OneMade pass before after asked reply.Memory
@@ -51,6 +65,8 @@ without_memory pass before after (call.Add id text) none = record { made = []; i
 without_memory pass before after (call.Tune config) none = record { made = []; is = refl; adds = adds_nothing pass before after none }
 without_memory pass before after (call.Find query) (inl none) = record { made = []; is = inl refl; adds = adds_nothing pass before after none }
 without_memory pass before after (call.Find query) (inr adds) = record { made = call.Find query ∷ []; is = inr refl; adds = adds }
+without_memory pass before after (call.Query expr) (inl none) = record { made = []; is = inl refl; adds = adds_nothing pass before after none }
+without_memory pass before after (call.Query expr) (inr adds) = record { made = call.Find [] ∷ []; is = inr refl; adds = adds }
 without_memory pass before after (call.Journal from) (inl none) = record { made = []; is = inl refl; adds = adds_nothing pass before after none }
 without_memory pass before after (call.Journal from) (inr adds) = record { made = call.Journal from ∷ []; is = inr refl; adds = adds }
 without_memory pass before after asked found = absurd found
@@ -60,7 +76,7 @@ one_made limits pass before after asked reply.Spent step =
     record { made = []; is = refl; adds = adds_nothing pass before after (spent_cause limits pass before after asked step).1 }
 one_made limits pass before after asked reply.Memory step = without_memory pass before after asked (memory_cause limits pass before after asked step)
 one_made limits pass before after asked given step =
-    record { made = asked ∷ []; is = refl; adds = made_call limits pass before after asked given (λ is. cc) (λ is. cc) step }
+    record { made = made_for asked ∷ []; is = refl; adds = made_call limits pass before after asked given (λ is. cc) (λ is. cc) step }
 
 -- what calls make, one after another
 all_made : (limits : Limits) (pass : ℕ) (before after : List Event) (calls : List Call) (replies : List Reply) → Linear limits pass before after calls replies
@@ -108,12 +124,9 @@ its_calls true caller old new end served =
     record { asked = runs.asked; replies = runs.replies; are_its = runs.are; steps = runs.steps }
 its_calls false caller old new end served =
     let items = answered caller old.front new.front served.taken served.written end served.session in
-    let replies = replies_in caller old.front new.front served.taken served.written end served.session in record {
-      asked = calls_of items;
-      replies = replies_to_calls items replies;
-      are_its = (refl, refl);
-      steps = linear caller old.front new.front items replies (session_answers caller old.front new.front served.taken served.written end served.session);
-    }
+    let replies = replies_in caller old.front new.front served.taken served.written end served.session in
+    let runs = lines_run_calls caller old.front new.front items replies (session_answers caller old.front new.front served.taken served.written end served.session) in
+    record { asked = runs.calls; replies = runs.told; are_its = runs.are; steps = runs.steps }
 
 -- what a session makes
 record OneSession (caller : Caller) (visit : Visit) : Type 0 where

@@ -10,7 +10,7 @@ use Rattle.funnel_model.specs.declared.reply.Reply.{Reply}
 use Rattle.funnel_model.specs.Events.{leaves_open}
 use Rattle.funnel_model.specs.History.{IsFrontOf, own}
 use Rattle.funnel_model.specs.Legal.{Limits}
-use Rattle.funnel_model.specs.Steps.{FindsNoMemory, IsMade, IsSpent, LacksMemory, Linear, Step}
+use Rattle.funnel_model.specs.Steps.{FindsNoMemory, IsJudged, IsMade, IsSpent, LacksMemory, Linear, Step}
 use Rattle.load_laws.proofs.FrontLemmas.{calls_in_front, moved_in_front}
 
 -- a want of memory after a history is one after each with the same calls
@@ -20,6 +20,8 @@ memory_from pass front before after (call.Add id text) same none = none ∙ same
 memory_from pass front before after (call.Tune config) same none = none ∙ same
 memory_from pass front before after (call.Find query) same (inl none) = inl (none ∙ same)
 memory_from pass front before after (call.Find query) same (inr made) = inr (made ∙ ap (λ cs. cs ++ call.Find query ∷ []) same)
+memory_from pass front before after (call.Query expr) same (inl none) = inl (none ∙ same)
+memory_from pass front before after (call.Query expr) same (inr made) = inr (made ∙ ap (λ cs. cs ++ call.Find [] ∷ []) same)
 memory_from pass front before after (call.Journal from) same (inl none) = inl (none ∙ same)
 memory_from pass front before after (call.Journal from) same (inr made) = inr (made ∙ ap (λ cs. cs ++ call.Journal from ∷ []) same)
 memory_from pass front before after _ same none = absurd none
@@ -39,11 +41,21 @@ step_from_front limits pass front before after asked given seen step = record {
     same : own pass before ≡ own pass front
     same = calls_in_front pass front before seen
 
-    outcome : IsMade limits pass before after asked given ⊎ LacksMemory pass before after asked given ⊎ IsSpent limits pass before after given →
-        IsMade limits pass front after asked given ⊎ LacksMemory pass front after asked given ⊎ IsSpent limits pass front after given
+    outcome : IsMade limits pass before after asked given ⊎ LacksMemory pass before after asked given ⊎ IsSpent limits pass before after given ⊎ IsJudged pass before after asked given →
+        IsMade limits pass front after asked given ⊎ LacksMemory pass front after asked given ⊎ IsSpent limits pass front after given ⊎ IsJudged pass front after asked given
     outcome (inl made) = inl (record { call = made.call ∙ ap (λ cs. cs ++ asked ∷ []) same; answered = made.answered })
     outcome (inr (inl lacks)) = inr (inl (record { reply = lacks.reply; call = memory_from pass front before after asked same lacks.call }))
-    outcome (inr (inr spent)) = inr (inr (record { reply = spent.reply; call = spent.call ∙ same; many = spent.many }))
+    outcome (inr (inr (inl spent))) = inr (inr (inl (record { reply = spent.reply; call = spent.call ∙ same; many = spent.many })))
+    outcome (inr (inr (inr judged))) = inr (inr (inr (record {
+      expr = judged.expr;
+      query = judged.query;
+      call = judged.call ∙ ap (λ cs. cs ++ call.Find [] ∷ []) same;
+      earlier = judged.earlier;
+      later = judged.later;
+      whole = judged.whole;
+      none_later = judged.none_later;
+      reply = judged.reply;
+    })))
 
 -- calls that lead on from where others ended
 pub linear-append : (limits : Limits) (pass : ℕ) (before middle after : List Event) (calls more : List Call) (replies given : List Reply) →

@@ -7,8 +7,8 @@ use Rattle.funnel_io.specs.declared.end.End.{End}
 use Rattle.funnel_io.specs.declared.end.End.TheVariants as end_of
 use Rattle.funnel_io.specs.declared.gate.Next.{Next}
 use Rattle.funnel_io.specs.declared.gate.Next.TheVariants as next
-use Rattle.http_front.specs.Turns.{StopsRequests}
-use Rattle.session.specs.Turns.{StopsReading}
+use Rattle.http_front.specs.Turns.{request_by_request}
+use Rattle.session.specs.Turns.{StopsReading, line_by_line}
 use Rattle.session.specs.declared.serving.TheConstants.{MOST_BYTES}
 use Rattle.funnel_server.specs.Gates.{sides_of}
 use Rattle.funnel_server.specs.Workers.{Visit, WorkerState, WorkerWithGate, Works, sides_after, sides_before}
@@ -24,8 +24,8 @@ pub record TakesTurn {G C : Type 0} (next_gives : G → Next C → G → Type 0)
   pub middle : G
   pub asked : next_gives before (next.Conn handed_out) middle
   pub handed_back : C
-  pub lines : visit.http ≡ false → StopsReading read_gives write_gives MOST_BYTES (visit.end ≡ end_of.Done) handed_out handed_back
-  pub requests : visit.http ≡ true → StopsRequests read_gives write_gives MOST_BYTES (visit.end ≡ end_of.Done) handed_out handed_back
+  pub lines : visit.http ≡ false → StopsReading line_by_line read_gives write_gives MOST_BYTES (visit.end ≡ end_of.Done) handed_out handed_back
+  pub requests : visit.http ≡ true → StopsReading request_by_request read_gives write_gives MOST_BYTES (visit.end ≡ end_of.Done) handed_out handed_back
   pub untouched : visit.end ≡ end_of.Memory → handed_back ≡ handed_out
   pub done : done_gives middle handed_back visit.end after
   pub came : sides_before visit ≡ sides_of incoming outgoing handed_out

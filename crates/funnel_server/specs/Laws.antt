@@ -22,14 +22,20 @@ use Rattle.funnel_server.specs.Loads.{AreAsked}
 use Rattle.funnel_server.specs.Sessions.{AreItsCalls}
 use Rattle.funnel_server.specs.Workers.{IsVisit, Visit}
 
+-- the call that a pass makes for what it is asked: for a query the find of the empty query, and for another call that one
+abbrev pub made_for : Call → Call
+made_for (call.Query expr) = call.Find []
+made_for asked = asked
+
 -- of the calls that a pass made, those that come of a call which was answered so: the call itself; but none where it was refused
--- as spent, or an add or a tuning found no memory; and the call or none where another one found no memory
+-- as spent, or an add or a tuning found no memory; and the call or none where another one found no memory. A query's call is the find
+-- of the empty query
 abbrev pub IsMadeAs : Reply → Call → List Call → Type 0
 IsMadeAs reply.Spent asked made = made ≡ []
 IsMadeAs reply.Memory (call.Add id text) made = made ≡ []
 IsMadeAs reply.Memory (call.Tune config) made = made ≡ []
-IsMadeAs reply.Memory asked made = (made ≡ []) ⊎ (made ≡ asked ∷ [])
-IsMadeAs given asked made = made ≡ asked ∷ []
+IsMadeAs reply.Memory asked made = (made ≡ []) ⊎ (made ≡ made_for asked ∷ [])
+IsMadeAs given asked made = made ≡ made_for asked ∷ []
 
 -- the calls, each as far as its reply says that it was made
 abbrev pub AreMade : List Call → List Reply → List Call → Type 0

@@ -1,5 +1,5 @@
 -- How a connection is served: by a session of lines, or by one of requests over HTTP.
-use Rattle.std.specs.Prelude.{◌≡◌, ℕ, Bool, true, false, List, [], ◌∷◌, ◌++◌}
+use Rattle.std.specs.Prelude.{ℕ, Bool, true, false, List, [], ◌∷◌, ◌++◌}
 use Rattle.funnel_io.specs.declared.end.End.{End}
 use Rattle.funnel_io.specs.declared.end.End.TheVariants as end_of
 use Rattle.funnel_model.specs.declared.call.Call.{Call}
@@ -11,7 +11,7 @@ use Rattle.http_front.specs.Sessions.{Exchange, Session as RequestSession}
 use Rattle.line_proto.specs.Forms.{Item, items}
 use Rattle.line_proto.specs.Services.{Caller}
 use Rattle.session.specs.Ends.{Serves, Stand}
-use Rattle.session.specs.Laws.{calls_of, replies_to_calls}
+use Rattle.session.specs.Laws.{AreCalls}
 use Rattle.session.specs.Sessions.{Session}
 use Rattle.session.specs.declared.serving.TheConstants.{MOST_BYTES}
 
@@ -49,6 +49,5 @@ abbrev pub AreItsCalls : (http : Bool) (caller : Caller) (old new : Stand) (end 
 AreItsCalls true caller old new end served calls replies =
     AreAsked (exchanges_in caller old.front new.front served.taken served.written end served.session) calls replies
 AreItsCalls false caller old new end served calls replies =
-    (calls ≡ calls_of (answered caller old.front new.front served.taken served.written end served.session))
-    × (replies ≡ replies_to_calls (answered caller old.front new.front served.taken served.written end served.session)
-    (replies_in caller old.front new.front served.taken served.written end served.session))
+    AreCalls (answered caller old.front new.front served.taken served.written end served.session)
+    (replies_in caller old.front new.front served.taken served.written end served.session) calls replies

@@ -21,8 +21,12 @@ pub(crate) struct Loader<'a, N: PoolName, R: Wait> {
 
 impl<'a, N: PoolName, R: Wait> Model for Loader<'a, N, R> {
     ghost use Rattle.funnel_server.specs.Parts.{LoaderState};
+    ghost use Rattle.std.specs.Coded.{codes};
+    ghost use Rattle.funnel_model.specs.contracts.expr.Expr as expr;
 
     ghost Value = { LoaderState };
+
+    ghost coded = { Prim.hlevel (codes, expr.the_row.coded) };
 
     ghost view = { λ l. record {
       pass = l.client;

@@ -1,7 +1,9 @@
 ghost use Rattle.std.specs.Prelude.{◌≡◌, ◌<◌, ◌%◌, ◌^◌, ◌∷◌, [], string_bytes, map, filter, sum, IfOk, OnOk, OnErr};
+ghost use Rattle.funnel_model.specs.declared.call.Call.{Call};
 ghost use Rattle.funnel_model.specs.declared.call.Call.TheVariants as call;
 ghost use Rattle.funnel_model.specs.declared.reply.Reply.TheVariants as reply;
-ghost use Rattle.line_proto.specs.Requests.{call_requested};
+ghost use Rattle.line_proto.specs.Forms.{Calls};
+ghost use Rattle.line_proto.specs.Requests.{requested};
 ghost use Rattle.line_proto.specs.Services.{AnswersCall};
 ghost use Rattle.load_gen.specs.Documents.{name_of_document};
 ghost use Rattle.load_gen.specs.Jobs.{add_and_check, adds_of, deletes_of, is_deleted, queries_of};
@@ -128,11 +130,13 @@ pub(crate) fn find_share<S: Service>(
     Ok(())
 }
 
-/// Makes a call. Where it is answered by want of memory, that is the error.
+/// Makes the call of a request, which is no query. Where it is answered by want of memory, that is the error.
 fn ask<S: Service>(service: &mut S, request: &Request<'_>) -> Result<Reply, Memory>
     ensures caller { S.caller service.new ≡ S.caller service.old }
-    ensures answered { IfOk result (λ given. AreAsked (S.caller service.old) (S.front service.old) (S.front service.new) (call_requested request.now ∷ []) (given ∷ [])) }
-    ensures refused { OnErr result (AnswersCall (S.caller service.old) (S.front service.old) (S.front service.new) (call_requested request.now) reply.Memory) }
+    ensures answered { IfOk result (λ given. (asked : Call) → requested request.now ≡ Calls asked →
+        AreAsked (S.caller service.old) (S.front service.old) (S.front service.new) (asked ∷ []) (given ∷ [])) }
+    ensures refused { OnErr result ((asked : Call) → requested request.now ≡ Calls asked →
+        AnswersCall (S.caller service.old) (S.front service.old) (S.front service.new) asked reply.Memory) }
 {
     match service.call(request) {
         Reply::Memory => Err(Memory),

@@ -1,7 +1,7 @@
 ghost use Rattle.std.specs.Prelude.{◌≡◌, ◌<◌, false, true, MatchBool};
 ghost use Rattle.engine.specs.Clients.{caller_of};
-ghost use Rattle.http_front.specs.Turns.{StopsRequests};
-ghost use Rattle.session.specs.Turns.{StopsReading};
+ghost use Rattle.http_front.specs.Turns.{request_by_request};
+ghost use Rattle.session.specs.Turns.{StopsReading, line_by_line};
 ghost use Rattle.session.specs.declared.serving.TheConstants.{MOST_BYTES};
 ghost use Rattle.funnel_server.specs.GateTurns.{WorksInTurns};
 ghost use Rattle.funnel_server.specs.Sessions.{IsServed};
@@ -34,8 +34,12 @@ impl<'a, G: Gate, N: PoolName, R: Wait> Model for Worker<'a, G, N, R> {
     ghost use Rattle.engine.specs.Clients.{caller_of};
     ghost use Rattle.funnel_server.specs.Gates.{gate_state};
     ghost use Rattle.funnel_server.specs.Workers.{WorkerWithGate};
+    ghost use Rattle.std.specs.Coded.{codes};
+    ghost use Rattle.funnel_model.specs.contracts.expr.Expr as expr;
 
     ghost Value = { WorkerWithGate G };
+
+    ghost coded = { Prim.hlevel (codes, expr.the_row.coded) };
 
     ghost view = { λ w. record {
       gate = w.gate;
@@ -108,8 +112,8 @@ fn answer<N: PoolName, R: Wait, C: Connection>(
         record { front = client.old.front; incoming = C.incoming conn.old; outgoing = C.outgoing conn.old }
         record { front = client.new.front; incoming = C.incoming conn.new; outgoing = C.outgoing conn.new }
         result }
-    ensures line_by_line { http ≡ false → StopsReading C.read_gives C.write_gives MOST_BYTES (result ≡ End.Done) conn.old conn.new }
-    ensures by_request { http ≡ true → StopsRequests C.read_gives C.write_gives MOST_BYTES (result ≡ End.Done) conn.old conn.new }
+    ensures by_line { http ≡ false → StopsReading line_by_line C.read_gives C.write_gives MOST_BYTES (result ≡ End.Done) conn.old conn.new }
+    ensures by_request { http ≡ true → StopsReading request_by_request C.read_gives C.write_gives MOST_BYTES (result ≡ End.Done) conn.old conn.new }
     ensures untouched { result ≡ End.Memory → (conn.new ≡ conn.old) × (client.new ≡ client.old) }
 {
     let alloc = client.alloc;

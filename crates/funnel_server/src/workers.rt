@@ -31,7 +31,8 @@ where
             threads,
             &|_, worker: &mut Worker<G, N, R>|
                 requires { HasMetNoFault worker.old.state }
-                ensures { WorksInTurns G.next_gives G.done_gives G.end_gives G.Conn.read_gives G.Conn.write_gives G.Conn.incoming G.Conn.outgoing worker.old worker.new }
+                ensures { WorksInTurns G.next_gives G.done_gives G.end_gives G.Conn.read_gives G.Conn.write_gives G.Conn.incoming G.Conn.outgoing
+                    worker.old worker.new }
             { worker.work() },
         );
     }

@@ -23,7 +23,7 @@ use Rattle.http_front.specs.Heads.{HasHead, HasRequest}
 use Rattle.http_front.specs.Responses.{is_long, text_of}
 use Rattle.http_front.specs.Routes.{Route}
 use Rattle.http_front.specs.Sessions.{Answers, AnswersAll, AnswersOpen, Exchange, Exchanges, Session, entries_of, response_of, responses}
-use Rattle.http_front.specs.Steps.{AnswersFront, HasRead, HasServed, IsRendered, StopsReading}
+use Rattle.http_front.specs.Steps.{AnswersFront, HasRead, HasServed, IsRendered, StopsUndecided}
 use Rattle.http_front.specs.declared.cause.Cause.{Cause}
 use Rattle.http_front.specs.declared.cause.Cause.TheVariants as cause
 use Rattle.http_front.specs.declared.outcome.Outcome.{Outcome}
@@ -274,7 +274,7 @@ module _ (caller : Caller) (limit may : ℕ) (held : List ℕ) (old now : Stand)
 
   -- no more is read, and nothing that is answered begins the bytes that are held
   module _ (may' : ℕ) (held' : List ℕ) (incoming' : Incoming) where
-    module _ (end : End) (s : StopsReading HasNoEntry limit end now.incoming incoming' held held' may may') where
+    module _ (end : End) (s : StopsUndecided HasNoEntry limit end now.incoming incoming' held held' may may') where
       taken_now : List ℕ
       taken_now = p.taken ++ s.read.bytes
 
@@ -314,7 +314,7 @@ module _ (caller : Caller) (limit may : ℕ) (held : List ℕ) (old now : Stand)
         over = over;
       }
 
-    pub serves_stopped : (end : End) → StopsReading HasNoEntry limit end now.incoming incoming' held held' may may'
+    pub serves_stopped : (end : End) → StopsUndecided HasNoEntry limit end now.incoming incoming' held held' may may'
         → ServesRequests caller limit old (record { front = now.front; incoming = incoming'; outgoing = now.outgoing }) end
     serves_stopped end_of.Done s = over_now end_of.Done s refl (all_now end_of.Done s) (inr (s.stopped.0, omega (arith, count_now end_of.Done s, s.stopped.1)))
     serves_stopped end_of.ReadFault s = over_now end_of.ReadFault s refl (open_now end_of.ReadFault s) (omega (arith, count_now end_of.ReadFault s, s.stopped))

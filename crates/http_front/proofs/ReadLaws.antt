@@ -5,7 +5,7 @@ use Rattle.funnel_io.proofs.Taking.{Takes-nil, Takes-trans}
 use Rattle.funnel_io.specs.Streams.{Incoming}
 use Rattle.funnel_io.specs.declared.end.End.{End}
 use Rattle.http_front.specs.Entries.{HasNoEntry}
-use Rattle.http_front.specs.Steps.{HasRead, IsUndecided, StopsReading}
+use Rattle.http_front.specs.Steps.{HasRead, IsUndecided, StopsUndecided}
 
 -- nothing was read
 pub read_none : (now : Incoming) (held : List ℕ) (may : ℕ) → HasRead now now held held may may
@@ -31,8 +31,8 @@ read_some before now held held' may may' least one few many = omega (arith, one.
 
 -- reads that stop before so many bytes are held stop before anything is decided
 pub stops_undecided : (first between now : Incoming) (held held' held'' : List ℕ) (may may' may'' least limit : ℕ) (end : End) → HasRead first between held held' may may'
-    → between.faults ≡ first.faults → IsUndecided held' least → StopsReading (λ bytes. length bytes < least) limit end between now held' held'' may' may''
-    → StopsReading HasNoEntry limit end first now held held'' may may''
+    → between.faults ≡ first.faults → IsUndecided held' least → StopsUndecided (λ bytes. length bytes < least) limit end between now held' held'' may' may''
+    → StopsUndecided HasNoEntry limit end first now held held'' may may''
 stops_undecided first between now held held' held'' may may' may'' least limit end one same undecided stops = record {
   read = read_more first between now held held' held'' may may' may'' one stops.read;
   undecided = subst HasNoEntry (sym stops.read.grown) (undecided.none stops.read.bytes (subst (λ (bs : List ℕ). length bs < least) stops.read.grown stops.undecided));

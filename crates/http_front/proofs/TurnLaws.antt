@@ -1,8 +1,8 @@
 -- The calls on a connection of requests, request by request.
-use Rattle.std.proofs.Common.{◌≡◌, ◌+◌, ◌<◌, ◌⊎◌, ℕ, Bool, true, false, List, [], ◌∷◌, ◌++◌, length, drop, refl, sym, ap, ◌∙◌, subst, inl, inr, arith, append-nil, append_assoc, length-append}
+use Rattle.std.proofs.Common.{◌≡◌, ◌<◌, ℕ, Bool, true, false, List, [], ◌∷◌, ◌++◌, length, drop, refl, sym, ap, ◌∙◌, subst, inl, inr, arith, append-nil, append_assoc, length-append}
 use Rattle.std.specs.List.{list_any}
 use Rattle.funnel_io.specs.Answers.{MatchGot}
-use Rattle.funnel_io.specs.Calls.{Read, Write, Leads, AreOfRest, GaveBytes, WritesAs, bytes_read, bytes_written, found_end, is_end}
+use Rattle.funnel_io.specs.Calls.{Read, Write, Leads, GaveBytes, WritesAs, bytes_read, found_end, is_end}
 use Rattle.funnel_io.specs.declared.end.End.{End}
 use Rattle.funnel_io.specs.declared.end.End.TheVariants as end_of
 use Rattle.funnel_io.specs.declared.source.Got.{Got}
@@ -10,14 +10,15 @@ use Rattle.funnel_io.specs.declared.source.Got.TheVariants as got
 use Rattle.funnel_io.proofs.CallLaws.{bytes_read-append, gave_bytes-append}
 use Rattle.funnel_model.specs.declared.event.Event.{Event}
 use Rattle.line_proto.specs.Services.{Caller}
-use Rattle.session.specs.Turns.{AreBelow}
-use Rattle.http_front.specs.Entries.{BeginsWith, HasNoEntry, is_last}
-use Rattle.http_front.specs.Sessions.{Exchange, response_of}
+use Rattle.session.proofs.Turns.{stops_last, stops_written, taken_more, taken_none}
+use Rattle.session.specs.Turns.{AreBelow, AreReadInTurn, StopsReading, answers_of, reads_of}
+use Rattle.http_front.specs.Entries.{BeginsWith, Entry, HasNoEntry, is_last}
+use Rattle.http_front.specs.Sessions.{Exchange, entries_of}
 use Rattle.http_front.specs.Steps.{AnswersFront, IsRendered, IsUndecided}
-use Rattle.http_front.specs.Turns.{RequestTurn, AreLastForRequest, AreReadForRequest, AreRequestTurns, FollowsRequests, GoesByRequest, GoesRequestByRequest, IsWhollyWritten, StopsRequests, entries_had, reads_of_requests}
+use Rattle.http_front.specs.Turns.{request_by_request}
 use Rattle.http_front.specs.TurnSteps.{AreNeeded, FindsEndAs, HasHadTurns, ReadsAsNeeded, ReadsOnce}
 use Rattle.http_front.specs.declared.outcome.Outcome.{Outcome}
-use Rattle.http_front.proofs.Progress.{BeginsWith-append, BeginsWith-push, IsTold, last-push, rendered}
+use Rattle.http_front.proofs.Progress.{BeginsWith-append, BeginsWith-push, IsTold, entries-push, last-push, rendered}
 
 -- calls that lead on from where others led
 Leads-append : {S C : Type 0} (gives : S → C → S → Type 0) (first between now : S) (later earlier : List C) → Leads gives first earlier between → Leads gives between later now
@@ -114,25 +115,10 @@ module _ {S : Type 0} (read_gives : S → Read → S → Type 0) where
       );
     }
 
--- where the last response was written whole, the reads of no request may come
-last_for_request : (turns : List RequestTurn) (reads : List Read) → AreReadForRequest turns reads → IsWhollyWritten turns → AreLastForRequest turns reads
-last_for_request turns [] in_turn written = tt
-last_for_request turns (read ∷ earlier) in_turn written = (in_turn, written)
-
 module _ {S : Type 0} (read_gives : S → Read → S → Type 0) (write_gives : S → Write → S → Type 0) where
   -- nothing was done yet
   pub had_none : (limit : ℕ) (now : S) → HasHadTurns read_gives write_gives limit limit [] now now
-  had_none limit now = record {
-    turns = [];
-    turn_by_turn = refl;
-    are = tt;
-    written = tt;
-    begin = refl;
-    none_closes = refl;
-    count = omega arith;
-    below = tt;
-    gave = tt;
-  }
+  had_none limit now = record { so_far = taken_none request_by_request read_gives write_gives limit now; begin = refl; none_closes = refl; gave = tt }
 
   -- the same of a number and bytes that are equal
   pub had_as : (limit may may' : ℕ) (held held' : List ℕ) (before now : S) → may ≡ may' → held ≡ held'
@@ -141,61 +127,43 @@ module _ {S : Type 0} (read_gives : S → Read → S → Type 0) (write_gives : 
       subst (λ (n : ℕ). HasHadTurns read_gives write_gives limit n held' before now) may_is
       (subst (λ (bs : List ℕ). HasHadTurns read_gives write_gives limit may bs before now) held_is had)
 
-  -- and nothing was
-  goes_nowhere : (now : S) → GoesRequestByRequest read_gives write_gives now now
-  goes_nowhere now = record { turns = []; middle = now; turn_by_turn = refl; are = tt; last = []; last_lead = refl; last_are = tt }
-
-  pub stops_at_once : (limit : ℕ) (done : Type 0) (now : S) → (done → ⊥) → StopsRequests read_gives write_gives limit done now now
-  unfolding goes_nowhere
-  stops_at_once limit done now never = record { goes = goes_nowhere now; below = tt; at_end = λ is. absurd (never is) }
-
   module _ (limit may may' : ℕ) (held held' : List ℕ) (before now middle : S) (p : HasHadTurns read_gives write_gives limit may held before now) where
-    begin_on : (reads : List Read) → BeginsWith (bytes_read (reads ++ reads_of_requests p.turns)) (entries_had p.turns) (held ++ bytes_read reads)
-    begin_on reads = subst (λ (bs : List ℕ). BeginsWith bs (entries_had p.turns) (held ++ bytes_read reads)) (sym (bytes_read-append reads (reads_of_requests p.turns)))
-        (BeginsWith-append (bytes_read (reads_of_requests p.turns)) (entries_had p.turns) held (bytes_read reads) p.none_closes p.begin)
+    begin_on : (reads : List Read) → BeginsWith (bytes_read (reads ++ reads_of p.so_far.turns)) (entries_of (answers_of p.so_far.turns)) (held ++ bytes_read reads)
+    begin_on reads = subst (λ (bs : List ℕ). BeginsWith bs (entries_of (answers_of p.so_far.turns)) (held ++ bytes_read reads)) (sym (bytes_read-append reads (reads_of p.so_far.turns)))
+        (BeginsWith-append (bytes_read (reads_of p.so_far.turns)) (entries_of (answers_of p.so_far.turns)) held (bytes_read reads) p.none_closes p.begin)
 
     -- reads that have to be made come where every whole request had its turn, and every read gave bytes
-    in_turn : (reads : List Read) → AreNeeded HasNoEntry held may reads → AreReadForRequest p.turns reads
+    in_turn : (reads : List Read) → AreNeeded HasNoEntry held may reads → AreReadInTurn request_by_request p.so_far.turns reads
     in_turn [] needed = tt
     in_turn (read ∷ earlier) needed = (
       in_turn earlier needed.0,
       record {
-        going_on = gave_bytes-append earlier (reads_of_requests p.turns) needed.1.going_on p.gave;
+        going_on = gave_bytes-append earlier (reads_of p.so_far.turns) needed.1.going_on p.gave;
         answered = record { rest = held ++ bytes_read earlier; begin = begin_on earlier; all = inr needed.1.undecided };
         none_closes = p.none_closes;
       },
     )
 
     -- and below the limit
-    below_on : (reads : List Read) → AreNeeded HasNoEntry held may reads → AreBelow limit (reads ++ reads_of_requests p.turns)
-    below_on [] needed = p.below
+    below_on : (reads : List Read) → AreNeeded HasNoEntry held may reads → AreBelow limit (reads ++ reads_of p.so_far.turns)
+    below_on [] needed = p.so_far.below
     below_on (read ∷ earlier) needed = (
       below_on earlier needed.0,
       omega (
         arith,
         needed.1.below,
-        p.count,
-        ap length (bytes_read-append earlier (reads_of_requests p.turns)),
-        length-append (bytes_read (reads_of_requests p.turns)) (bytes_read earlier),
+        p.so_far.count,
+        ap length (bytes_read-append earlier (reads_of p.so_far.turns)),
+        length-append (bytes_read (reads_of p.so_far.turns)) (bytes_read earlier),
       ),
     )
 
     -- no further request came
     pub stops_reading : (end : End) → ReadsAsNeeded HasNoEntry (FindsEndAs end) read_gives now middle held held' may may'
-        → StopsRequests read_gives write_gives limit (end ≡ end_of.Done) before middle
-    stops_reading end r = record {
-      goes = record {
-        turns = p.turns;
-        middle = now;
-        turn_by_turn = p.turn_by_turn;
-        are = p.are;
-        last = r.reads;
-        last_lead = r.lead;
-        last_are = last_for_request p.turns r.reads (in_turn r.reads r.needed) p.written;
-      };
-      below = below_on r.reads r.needed;
-      at_end = λ done. inl (found-append r.reads (reads_of_requests p.turns) (r.last done));
-    }
+        → StopsReading request_by_request read_gives write_gives limit (end ≡ end_of.Done) before middle
+    stops_reading end r =
+        stops_last request_by_request read_gives write_gives limit may may' before now middle p.so_far r.reads r.lead (in_turn r.reads r.needed) (below_on r.reads r.needed)
+        (end ≡ end_of.Done) (λ done. inl (found-append r.reads (reads_of p.so_far.turns) (r.last done)))
 
     -- a request came, and this is the text of its response
     module _ (r : ReadsAsNeeded HasNoEntry GaveBytes read_gives now middle held held' may may') (caller : Caller) (front front' : List Event) (len : ℕ) (closing : Bool)
@@ -203,71 +171,41 @@ module _ {S : Type 0} (read_gives : S → Read → S → Type 0) (write_gives : 
       is_told : IsTold caller front a.entry text front'
       is_told = rendered caller front front' a.entry told text a.answers (subst (λ (c : Bool). IsRendered c told text) (sym a.last) rendering)
 
-      turn_of : List Write → RequestTurn
-      turn_of writes = record { reads = r.reads; exchange = record { entry = a.entry; told = is_told.told }; writes = writes }
+      abbrev exchange : Exchange
+      exchange = record { entry = a.entry; told = is_told.told }
 
-      begin_now : BeginsWith (bytes_read (r.reads ++ reads_of_requests p.turns)) (entries_had p.turns ++ a.entry ∷ []) (drop len held')
-      begin_now = BeginsWith-push (bytes_read (r.reads ++ reads_of_requests p.turns)) (entries_had p.turns) held' a.entry (drop len held') p.none_closes
-          (subst (BeginsWith (bytes_read (r.reads ++ reads_of_requests p.turns)) (entries_had p.turns)) (sym r.grown) (begin_on r.reads)) a.reads
+      begin_now : BeginsWith (bytes_read (r.reads ++ reads_of p.so_far.turns)) (entries_of (answers_of p.so_far.turns ++ exchange ∷ [])) (drop len held')
+      begin_now = subst (λ (es : List Entry). BeginsWith (bytes_read (r.reads ++ reads_of p.so_far.turns)) es (drop len held'))
+          (sym (entries-push (answers_of p.so_far.turns) exchange))
+          (BeginsWith-push (bytes_read (r.reads ++ reads_of p.so_far.turns)) (entries_of (answers_of p.so_far.turns)) held' a.entry (drop len held') p.none_closes
+          (subst (BeginsWith (bytes_read (r.reads ++ reads_of p.so_far.turns)) (entries_of (answers_of p.so_far.turns))) (sym r.grown) (begin_on r.reads)) a.reads)
 
-      follows : (writes : List Write) → AreOfRest text writes → FollowsRequests p.turns (turn_of writes)
-      unfolding turn_of
-      follows writes of_rest = record {
-        written = p.written;
-        reads = in_turn r.reads r.needed;
-        rest = drop len held';
-        next = begin_now;
-        one_text = subst (λ (bs : List ℕ). AreOfRest bs writes) is_told.is of_rest;
-      }
+      last_now : list_any is_last (entries_of (answers_of p.so_far.turns ++ exchange ∷ [])) ≡ closing
+      last_now = ap (list_any is_last) (entries-push (answers_of p.so_far.turns) exchange)
+          ∙ last-push (entries_of (answers_of p.so_far.turns)) a.entry closing p.none_closes a.last
 
       -- its response was written, and it doesn't close
       pub had_more : closing ≡ false → WritesAs write_gives text middle after false → HasHadTurns read_gives write_gives limit may' (drop len held') before after
-      unfolding turn_of
       had_more goes_on w = record {
-        turns = turn_of w.writes ∷ p.turns;
-        turn_by_turn = (now, p.turn_by_turn, record { middle = middle; reads = r.lead; writes = w.lead });
-        are = (p.are, follows w.writes w.of_rest);
-        written = w.sent ∙ is_told.is;
+        so_far = taken_more request_by_request read_gives write_gives limit may may' before now middle p.so_far r.reads r.lead (in_turn r.reads r.needed) (below_on r.reads r.needed)
+            exchange (drop len held', begin_now) text is_told.is after r.count w;
         begin = begin_now;
-        none_closes = last-push (entries_had p.turns) a.entry closing p.none_closes a.last ∙ goes_on;
-        count = omega (
-          arith,
-          p.count,
-          r.count,
-          ap length (bytes_read-append r.reads (reads_of_requests p.turns)),
-          length-append (bytes_read (reads_of_requests p.turns)) (bytes_read r.reads),
-        );
-        below = below_on r.reads r.needed;
-        gave = gave_bytes-append r.reads (reads_of_requests p.turns) r.last p.gave;
+        none_closes = last_now ∙ goes_on;
+        gave = gave_bytes-append r.reads (reads_of p.so_far.turns) r.last p.gave;
       }
 
       -- its writes are the last calls
-      goes_to_write : (failed : Bool) → WritesAs write_gives text middle after failed → GoesRequestByRequest read_gives write_gives before after
-      unfolding turn_of
-      goes_to_write failed w = record {
-        turns = turn_of w.writes ∷ p.turns;
-        middle = after;
-        turn_by_turn = (now, p.turn_by_turn, record { middle = middle; reads = r.lead; writes = w.lead });
-        are = (p.are, follows w.writes w.of_rest);
-        last = [];
-        last_lead = refl;
-        last_are = tt;
-      }
+      stops_writing : (failed : Bool) (done : Type 0) → (done → closing ≡ true) → WritesAs write_gives text middle after failed
+          → StopsReading request_by_request read_gives write_gives limit done before after
+      stops_writing failed done closes w =
+          stops_written request_by_request read_gives write_gives limit may may' before now middle p.so_far r.reads r.lead (in_turn r.reads r.needed) (below_on r.reads r.needed)
+          exchange (drop len held', begin_now) text is_told.is after failed done (λ is. inr (last_now ∙ closes is)) w
 
       -- it was written, and it closes
-      pub stops_closing : (done : Type 0) → closing ≡ true → WritesAs write_gives text middle after false → StopsRequests read_gives write_gives limit done before after
-      unfolding turn_of goes_to_write
-      stops_closing done closes w = record {
-        goes = goes_to_write false w;
-        below = below_on r.reads r.needed;
-        at_end = λ is. inr (last-push (entries_had p.turns) a.entry closing p.none_closes a.last ∙ closes);
-      }
+      pub stops_closing : (done : Type 0) → closing ≡ true → WritesAs write_gives text middle after false
+          → StopsReading request_by_request read_gives write_gives limit done before after
+      stops_closing done closes w = stops_writing false done (λ is. closes) w
 
       -- a write of it failed
-      pub stops_failed : WritesAs write_gives text middle after true → StopsRequests read_gives write_gives limit (end_of.WriteFault ≡ end_of.Done) before after
-      unfolding turn_of goes_to_write
-      stops_failed w = record {
-        goes = goes_to_write true w;
-        below = below_on r.reads r.needed;
-        at_end = λ done. cc;
-      }
+      pub stops_failed : WritesAs write_gives text middle after true → StopsReading request_by_request read_gives write_gives limit (end_of.WriteFault ≡ end_of.Done) before after
+      stops_failed w = stops_writing true (end_of.WriteFault ≡ end_of.Done) (λ done. cc) w

@@ -161,7 +161,7 @@ IsStopped end_of.WriteFault after may limit = ⊥
 IsStopped end_of.Memory after may limit = ⊥
 
 -- bytes were read, and no more are read before those that are held decide what begins them
-pub record StopsReading (Undecided : List ℕ → Type 0) (limit : ℕ) (end : End) (before after : Incoming) (old new : List ℕ) (may may' : ℕ) : Type 0 where
+pub record StopsUndecided (Undecided : List ℕ → Type 0) (limit : ℕ) (end : End) (before after : Incoming) (old new : List ℕ) (may may' : ℕ) : Type 0 where
   pub read : HasRead before after old new may may'
   pub undecided : Undecided new
   pub stopped : IsStopped end after may' limit

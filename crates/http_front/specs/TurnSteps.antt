@@ -5,9 +5,11 @@ use Rattle.funnel_io.specs.Calls.{Read, Write, Leads, GaveBytes, bytes_read, fou
 use Rattle.funnel_io.specs.declared.end.End.{End}
 use Rattle.funnel_io.specs.declared.end.End.TheVariants as end_of
 use Rattle.funnel_io.specs.declared.source.Got.{Got}
-use Rattle.session.specs.Turns.{AreBelow}
+use Rattle.session.specs.Turns.{answers_of, reads_of}
+use Rattle.session.specs.TurnSteps.{HasTakenTurns}
 use Rattle.http_front.specs.Entries.{BeginsWith, is_last}
-use Rattle.http_front.specs.Turns.{RequestTurn, AreRequestTurns, GoesByRequest, IsWhollyWritten, entries_had, reads_of_requests}
+use Rattle.http_front.specs.Sessions.{entries_of}
+use Rattle.http_front.specs.Turns.{request_by_request}
 
 -- one read was made, and its bytes stand behind those that were held
 pub record ReadsOnce {S : Type 0} (read_gives : S → Read → S → Type 0) (answer : Got) (before after : S) (old new : List ℕ) (may may' : ℕ) : Type 0 where
@@ -43,12 +45,7 @@ FindsEndAs end reads = end ≡ end_of.Done → found_end reads ≡ true
 
 -- every request before the bytes that are held had its turn, every response was written whole, none closes, and no call failed
 pub record HasHadTurns {S : Type 0} (read_gives : S → Read → S → Type 0) (write_gives : S → Write → S → Type 0) (limit may : ℕ) (held : List ℕ) (before now : S) : Type 0 where
-  pub turns : List RequestTurn
-  pub turn_by_turn : Leads (GoesByRequest read_gives write_gives) before turns now
-  pub are : AreRequestTurns turns
-  pub written : IsWhollyWritten turns
-  pub begin : BeginsWith (bytes_read (reads_of_requests turns)) (entries_had turns) held
-  pub none_closes : list_any is_last (entries_had turns) ≡ false
-  pub count : may + length (bytes_read (reads_of_requests turns)) ≡ limit
-  pub below : AreBelow limit (reads_of_requests turns)
-  pub gave : GaveBytes (reads_of_requests turns)
+  pub so_far : HasTakenTurns request_by_request read_gives write_gives limit may before now
+  pub begin : BeginsWith (bytes_read (reads_of so_far.turns)) (entries_of (answers_of so_far.turns)) held
+  pub none_closes : list_any is_last (entries_of (answers_of so_far.turns)) ≡ false
+  pub gave : GaveBytes (reads_of so_far.turns)

@@ -1,13 +1,12 @@
-ghost use Rattle.std.specs.Prelude.{◌≡◌, ◌<◌, ◌≤◌, ◌+◌, ◌-◌, min, [], ◌++◌, IfOk, length, take, drop, ⊤};
+ghost use Rattle.std.specs.Prelude.{◌≡◌, ◌<◌, ◌≤◌, ◌+◌, [], IfOk, length, drop, ⊤};
 ghost use Rattle.std.specs.Io.KnownBytes.{IsAtEnd};
-ghost use Rattle.funnel_io.specs.Answers.{MatchGot, bytes_got, read_failed};
+ghost use Rattle.funnel_io.specs.Answers.{MatchGot, read_failed};
 ghost use Rattle.funnel_io.specs.Counts.{counted};
-ghost use Rattle.funnel_io.specs.Streams.{Takes};
 ghost use Rattle.http_front.specs.Steps.{HasRead};
 ghost use Rattle.http_front.specs.TurnSteps.{ReadsOnce};
 
 use crate::front::{MAX_BODY, MAX_HEAD};
-use funnel_io::{Got, Source};
+use funnel_io::{Got, Source, read_behind};
 use std::alloc::{AllocError, Global};
 use std::marker::Model;
 
@@ -112,15 +111,7 @@ impl Buffer {
         ensures end { MatchGot result (λ _. ⊤) (IsAtEnd (C.incoming conn.new).left) ⊤ }
         ensures faults { (C.incoming conn.new).faults ≡ counted (read_failed result) (C.incoming conn.old).faults }
     {
-        match read_behind(conn, &mut self.room, self.end, *left) {
-            Got::Bytes(n) => {
-                self.end += n;
-                *left -= n as u64;
-                Got::Bytes(n)
-            }
-            Got::End => Got::End,
-            Got::Failed => Got::Failed,
-        }
+        read_behind(conn, &mut self.room, &mut self.end, left)
     }
 
     /// Moves the bytes to the front of the buffer.
@@ -132,23 +123,4 @@ impl Buffer {
         self.end -= self.start;
         self.start = 0;
     }
-}
-
-/// Reads into the buffer from `end` on.
-fn read_behind<C: Source>(conn: &mut C, room: &mut [u8], end: usize, left: u64) -> Got
-    requires room { end < length room.old }
-    requires some { 0 < left }
-    ensures borrowed { C.borrowed conn.new ≡ C.borrowed conn.old }
-    ensures beside { C.beside_read conn.new ≡ C.beside_read conn.old }
-    ensures kept { take end room.new ≡ take end room.old }
-    ensures count { MatchGot result (λ n. (1 ≤ n) × (n ≤ left) × (end + n ≤ length room.new)) ⊤ ⊤ }
-    ensures takes { Takes (bytes_got result (drop end room.new)) (C.incoming conn.old) (C.incoming conn.new) }
-    ensures gives { C.read_gives conn.old
-        (record { room = min left (length room.old - end); answer = result; bytes = bytes_got result (drop end room.new) })
-        conn.new }
-    ensures end { MatchGot result (λ _. ⊤) (IsAtEnd (C.incoming conn.new).left) ⊤ }
-    ensures faults { (C.incoming conn.new).faults ≡ counted (read_failed result) (C.incoming conn.old).faults }
-{
-    let most = left.min((room.len() - end) as u64) as usize;
-    conn.read(&mut room[end..end + most])
 }

@@ -3,8 +3,8 @@ ghost use Rattle.funnel_model.specs.declared.call.Call.TheVariants.{Add};
 ghost use Rattle.http_front.specs.Documents.{document_of};
 ghost use Rattle.http_front.specs.Tokens.{AsksAdd, AsksNothing, BeginsWithNoPart, BeginsWithPart, part_seen};
 
-use crate::numbers::parse_number;
 use json::{Reader, Scratch, Token};
+use line_proto::parse_number;
 use std::alloc::{AllocError, Global};
 use std::str;
 
@@ -73,7 +73,7 @@ fn parse_part<'a>(reader: &mut Reader<'a>) -> Option<Part<'a>>
         return None;
     };
     match (name, reader.next()) {
-        ("id", Some(Token::Number(digits))) => Some(Part::Id(parse_number(digits.as_bytes())?)),
+        ("id", Some(Token::Number(digits))) => Some(Part::Id(parse_number(digits)?)),
         ("text", Some(Token::String(text))) => Some(Part::Text(text)),
         _ => None,
     }

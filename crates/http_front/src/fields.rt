@@ -4,7 +4,7 @@ ghost use Rattle.http_front.specs.Heads.{closes_by, connections, length_said, le
 ghost use Rattle.http_front.specs.Steps.{AreValues, is_closing};
 
 use crate::closing::has_close;
-use crate::numbers::parse_number;
+use crate::numbers::read_number;
 use httparse::spans::{HeaderSpan, Span};
 
 /// The values of the fields of one name.
@@ -49,7 +49,7 @@ pub(crate) fn body_length(bytes: &[u8], fields: &[HeaderSpan]) -> Option<u64>
 {
     match field_values(bytes, fields, b"content-length") {
         Values::None => Some(0),
-        Values::One(value) => parse_number(value.of(bytes)),
+        Values::One(value) => read_number(value.of(bytes)),
         Values::Many => None,
     }
 }

@@ -22,6 +22,8 @@ mod serving;
 
 pub use cause::Cause;
 pub use front::{MAX_BODY, MAX_FIELDS, MAX_HEAD};
-pub use laws::{a_connection_is_one_run_of_calls, bytes_have_one_list_of_requests};
+pub use laws::{
+    a_connection_is_one_run_of_calls, bytes_have_one_list_of_requests, turns_write_their_responses,
+};
 pub use outcome::Outcome;
 pub use serving::serve_http;

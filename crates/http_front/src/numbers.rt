@@ -1,21 +1,15 @@
 ghost use Rattle.std.specs.Prelude.{◌≡◌};
 ghost use Rattle.line_proto.specs.Forms.{number_of};
 
+use line_proto::parse_number;
 use std::str;
 
-/// The most digits of a number.
-const MAX_DIGITS: usize = 20;
-
-/// The number that 1 to 20 digits write, if it is below 2^64.
-pub(crate) fn parse_number(word: &[u8]) -> Option<u64>
+/// The number that bytes write as a line's word would.
+pub(crate) fn read_number(word: &[u8]) -> Option<u64>
     ensures { result ≡ number_of word.now }
 {
     let Ok(word) = str::from_utf8(word) else {
         return None;
     };
-    // `parse` would read a plus sign, too
-    if word.starts_with('+') || word.len() > MAX_DIGITS {
-        return None;
-    }
-    word.parse().ok()
+    parse_number(word)
 }

@@ -1,7 +1,7 @@
 ghost use Rattle.std.specs.Prelude.{◌≡◌, ◌≢◌, MatchOption, List, ℕ, codes};
 ghost use Rattle.http_front.specs.Routes.{EndsFind, HasNoRoute, IsRoute, Place, route_seen};
 
-use crate::numbers::parse_number;
+use crate::numbers::read_number;
 
 /// What a method and a target ask for.
 #[derive(Clone, Copy, Debug)]
@@ -85,5 +85,5 @@ fn parse_delete(target: &[u8]) -> Option<Route<'_>>
         (λ route. IsRoute (codes "DELETE") target.now (route_seen route)) }
 {
     let digits = target.strip_prefix(b"/documents/")?;
-    Some(Route::Document(parse_number(digits)?))
+    Some(Route::Document(read_number(digits)?))
 }

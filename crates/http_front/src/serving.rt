@@ -1,12 +1,13 @@
 ghost use Rattle.std.specs.Prelude.{◌≡◌, ◌<◌, ◌≤◌, ◌+◌, length, [], false, IfNone, IfOk, IfErr, OnOk, MatchOption, Some};
 ghost use Rattle.funnel_io.specs.Calls.{GaveBytes};
 ghost use Rattle.session.specs.Ends.{Stand};
+ghost use Rattle.session.specs.Turns.{StopsReading};
 ghost use Rattle.session.specs.declared.serving.TheConstants.{MOST_BYTES};
 ghost use Rattle.http_front.specs.Ends.{ServesRequests};
 ghost use Rattle.http_front.specs.Entries.{HasNoEntry};
-ghost use Rattle.http_front.specs.Steps.{AnswersFront, HasRead, HasServed, IsFront, StopsReading};
+ghost use Rattle.http_front.specs.Steps.{AnswersFront, HasRead, HasServed, IsFront, StopsUndecided};
 ghost use Rattle.http_front.specs.Ready.{IsReady};
-ghost use Rattle.http_front.specs.Turns.{StopsRequests};
+ghost use Rattle.http_front.specs.Turns.{request_by_request};
 ghost use Rattle.http_front.specs.TurnSteps.{FindsEndAs, HasHadTurns, ReadsAsNeeded};
 
 use crate::answering::{Decoding, answer};
@@ -42,7 +43,7 @@ pub fn serve_http<S: Service, C: Connection>(
     // A request has its turn only where the response before it was written whole, at one go, and didn't close. Anything more
     // is read only where each request that is whole had its turn, and every read gave bytes. Nothing is read once `limit`
     // bytes were taken, and with `Done` the last read found the end, or a response closes.
-    ensures in_turns { StopsRequests C.read_gives C.write_gives limit (result ≡ End.Done) conn.old conn.new }
+    ensures in_turns { StopsReading request_by_request C.read_gives C.write_gives limit (result ≡ End.Done) conn.old conn.new }
     ensures untouched { result ≡ End.Memory → (conn.new ≡ conn.old) × (service.new ≡ service.old) }
 {
     let Ok(mut server) = Server::new(alloc, limit) else {
@@ -114,7 +115,7 @@ impl Server {
             record { front = S.front service.new; incoming = C.incoming conn.new; outgoing = C.outgoing conn.new }) }
         ensures in_turns { (first : C) → HasHadTurns C.read_gives C.write_gives limit self.old.left self.old.buffer.bytes first conn.old →
             MatchOption result (HasHadTurns C.read_gives C.write_gives limit self.new.left self.new.buffer.bytes first conn.new)
-            (λ end. StopsRequests C.read_gives C.write_gives limit (end ≡ End.Done) first conn.new) }
+            (λ end. StopsReading request_by_request C.read_gives C.write_gives limit (end ≡ End.Done) first conn.new) }
         ensures started { result ≡ Some End.Memory → ⊥ }
         ensures fewer { IfNone result (length self.new.buffer.bytes + self.new.left < length self.old.buffer.bytes + self.old.left) }
     {
@@ -141,7 +142,8 @@ impl Server {
         ensures kept { self.new ≡ record self.old { decoding = self.new.decoding } }
         ensures ready { IsReady self.new }
         ensures caller { S.caller service.new ≡ S.caller service.old }
-        ensures answers { AnswersFront self.old.buffer.bytes result.len result.closing (S.caller service.old) (S.front service.old) result.told (S.front service.new) }
+        ensures answers { AnswersFront self.old.buffer.bytes result.len result.closing
+            (S.caller service.old) (S.front service.old) result.told (S.front service.new) }
         ensures some { result.closing ≡ false → (0 < result.len) × (result.len ≤ length self.old.buffer.bytes) }
     {
         match front {
@@ -164,10 +166,11 @@ impl Server {
         ensures ready { IsReady self.new }
         ensures borrowed { C.borrowed conn.new ≡ C.borrowed conn.old }
         ensures beside { C.beside_read conn.new ≡ C.beside_read conn.old }
-        ensures read { OnOk result (HasRead (C.incoming conn.old) (C.incoming conn.new) self.old.buffer.bytes self.new.buffer.bytes self.old.left self.new.left) }
+        ensures read { OnOk result (HasRead (C.incoming conn.old) (C.incoming conn.new)
+            self.old.buffer.bytes self.new.buffer.bytes self.old.left self.new.left) }
         ensures faults { OnOk result ((C.incoming conn.new).faults ≡ (C.incoming conn.old).faults) }
         ensures front { IfOk result (IsFront self.new.buffer.bytes) }
-        ensures stops { IfErr result (λ end. StopsReading HasNoEntry limit end
+        ensures stops { IfErr result (λ end. StopsUndecided HasNoEntry limit end
             (C.incoming conn.old) (C.incoming conn.new) self.old.buffer.bytes self.new.buffer.bytes self.old.left self.new.left) }
         ensures going_on { OnOk result (ReadsAsNeeded HasNoEntry GaveBytes C.read_gives conn.old conn.new
             self.old.buffer.bytes self.new.buffer.bytes self.old.left self.new.left) }
@@ -195,10 +198,11 @@ impl Server {
         ensures ready { IsReady self.new }
         ensures borrowed { C.borrowed conn.new ≡ C.borrowed conn.old }
         ensures beside { C.beside_read conn.new ≡ C.beside_read conn.old }
-        ensures read { OnOk result (HasRead (C.incoming conn.old) (C.incoming conn.new) self.old.buffer.bytes self.new.buffer.bytes self.old.left self.new.left) }
+        ensures read { OnOk result (HasRead (C.incoming conn.old) (C.incoming conn.new)
+            self.old.buffer.bytes self.new.buffer.bytes self.old.left self.new.left) }
         ensures faults { OnOk result ((C.incoming conn.new).faults ≡ (C.incoming conn.old).faults) }
         ensures fewer { OnOk result (self.new.left < self.old.left) }
-        ensures stops { IfErr result (λ end. StopsReading (λ bytes. length bytes < least) limit end
+        ensures stops { IfErr result (λ end. StopsUndecided (λ bytes. length bytes < least) limit end
             (C.incoming conn.old) (C.incoming conn.new) self.old.buffer.bytes self.new.buffer.bytes self.old.left self.new.left) }
         ensures going_on { OnOk result (ReadsAsNeeded (λ bytes. length bytes < least) GaveBytes C.read_gives conn.old conn.new
             self.old.buffer.bytes self.new.buffer.bytes self.old.left self.new.left) }

@@ -90,6 +90,7 @@ fn rows_lie_by_rank(rt: HostRuntime) -> Result<(), Fail> {
     ];
     for (word, wanted) in cases {
         assert!(rt; rows(rt.alloc(), &layout, word)?.as_slice() == wanted);
+        assert_eq!(rt; layout.is_exact(word.as_bytes()), word == "the");
     }
     let all = layout.rows_of(rt.alloc(), &document(rt.alloc())?)?;
     assert_eq!(rt; all.len(), 14);

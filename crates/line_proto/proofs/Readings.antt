@@ -9,47 +9,47 @@ use Rattle.std.proofs.lemmas.List.{take_at}
 use Rattle.std.proofs.lemmas.Slice.Eq.{bytes_eq-Decides, ends_is}
 use Rattle.std.proofs.lemmas.Str.{IsUtf8-append, IsUtf8-from_ascii, IsUtf8-from_is_utf8, IsUtf8-nil}
 use Rattle.funnel_model.specs.declared.call.Call.{Call}
-use Rattle.funnel_model.specs.declared.call.Call.TheVariants.{Add, Delete, Find, Place, Journal, Recycle, Tune}
+use Rattle.funnel_model.specs.declared.call.Call.TheVariants.{Add, Delete, Find, Query, Place, Journal, Recycle, Tune}
 use Rattle.funnel_io.specs.declared.line_reader.TheConstants.{MAX_LINE_LEN}
-use Rattle.line_proto.specs.Forms.{without_return, word_of, after_space, number_of, add_of, delete_of, journal_of, call_of_word, call_of_text, form_of}
-use Rattle.line_proto.specs.Grammar.{WritesNumber, EndsWithText, IsForm, DropsReturn, HasForm, IsReadByForms}
+use Rattle.line_proto.specs.Forms.{Asked, Calls, Queries, without_return, word_of, after_space, number_of, add_of, delete_of, journal_of, query_of, asked_of_word, asked_of_text, form_of}
+use Rattle.line_proto.specs.Grammar.{WritesNumber, EndsWithText, IsForm, IsFormOfCall, DropsReturn, HasForm, IsReadByForms}
 use Rattle.line_proto.proofs.Lines.{form_of-text}
 use Rattle.line_proto.proofs.Numbers.{number_of-writes, number_of-written}
 use Rattle.line_proto.proofs.Words.{splits, split-digits}
 
 -- the tests by which a line is read
 
--- a line with a call passed both tests
-passes_both : (a b : Bool) (o : Option Call) (call : Call) → cond a None (cond b o None) ≡ Some call → (a ≡ false) × (b ≡ true) × (o ≡ Some call)
-passes_both true b o call h = absurd (cc)
-passes_both false true o call h = (refl, refl, h)
-passes_both false false o call h = absurd (cc)
+-- a line that asks for something passed both tests
+passes_both : (a b : Bool) (o : Option Asked) (asked : Asked) → cond a None (cond b o None) ≡ Some asked → (a ≡ false) × (b ≡ true) × (o ≡ Some asked)
+passes_both true b o asked h = absurd (cc)
+passes_both false true o asked h = (refl, refl, h)
+passes_both false false o asked h = absurd (cc)
 
--- a call comes from the form of its word, or from a later form
-abbrev ComesFrom : List ℕ → List ℕ → Option Call → Option Call → Call → Type 0
-ComesFrom bytes word o later call = ((word_of bytes ≡ word) × (o ≡ Some call)) ⊎ (later ≡ Some call)
+-- what is asked for comes from the form of its word, or from a later form
+abbrev ComesFrom : List ℕ → List ℕ → Option Asked → Option Asked → Asked → Type 0
+ComesFrom bytes word o later asked = ((word_of bytes ≡ word) × (o ≡ Some asked)) ⊎ (later ≡ Some asked)
 
 -- the same by any test
-by_test : (b : Bool) (o later : Option Call) (call : Call) → cond b o later ≡ Some call → ((b ≡ true) × (o ≡ Some call)) ⊎ (later ≡ Some call)
-by_test true o later call h = inl (refl, h)
-by_test false o later call h = inr h
+by_test : (b : Bool) (o later : Option Asked) (asked : Asked) → cond b o later ≡ Some asked → ((b ≡ true) × (o ≡ Some asked)) ⊎ (later ≡ Some asked)
+by_test true o later asked h = inl (refl, h)
+by_test false o later asked h = inr h
 
 -- the same by the first word
-by_word : (bytes word : List ℕ) (o later : Option Call) (call : Call) → cond (bytes_eq (word_of bytes) word) o later ≡ Some call → ComesFrom bytes word o later call
-by_word bytes word o later call h =
-    elim (by_test (bytes_eq (word_of bytes) word) o later call h) [
+by_word : (bytes word : List ℕ) (o later : Option Asked) (asked : Asked) → cond (bytes_eq (word_of bytes) word) o later ≡ Some asked → ComesFrom bytes word o later asked
+by_word bytes word o later asked h =
+    elim (by_test (bytes_eq (word_of bytes) word) o later asked h) [
       | inl found ↦ inl ((bytes_eq-Decides (word_of bytes) word).0 found.0, found.1)
       | inr found ↦ inr found
     ]
 
--- the call of an option is one
-same_call : (c d : Call) → Some c ≡ Some d → c ≡ d
-same_call c d h = cc
+-- an option has one thing
+same_asked : (c d : Asked) → Some c ≡ Some d → c ≡ d
+same_asked c d h = cc
 
--- a call that is made of a number was made of some number
-mapped : (f : ℕ → Call) (o : Option ℕ) (call : Call) → option_map f o ≡ Some call → (n : ℕ) × (o ≡ Some n) × (f n ≡ call)
-mapped f None call h = absurd (cc)
-mapped f (Some n) call h = (n, refl, same_call (f n) call h)
+-- what is made of a number was made of some number
+mapped : (f : ℕ → Asked) (o : Option ℕ) (asked : Asked) → option_map f o ≡ Some asked → (n : ℕ) × (o ≡ Some n) × (f n ≡ asked)
+mapped f None asked h = absurd (cc)
+mapped f (Some n) asked h = (n, refl, same_asked (f n) asked h)
 
 -- the carriage return
 
@@ -82,16 +82,16 @@ dropped-by line bytes false tells (inr e) = e.0
 dropped : (line bytes : List ℕ) → DropsReturn line bytes → without_return line ≡ bytes
 dropped line bytes d = dropped-by line bytes (ends_with nat_eq line (13 ∷ [])) (tells_return line) d
 
--- from a line's call to its form
+-- from what a line asks for to its form
 
 -- a text with the word `find` is a form of its query
-find-form : (bytes : List ℕ) → IsUtf8 bytes → word_of bytes ≡ codes "find" → IsForm bytes (Find (after_space bytes))
+find-form : (bytes : List ℕ) → IsUtf8 bytes → word_of bytes ≡ codes "find" → IsForm bytes (Calls (Find (after_space bytes)))
 find-form bytes u word =
     let split = splits bytes u in
     (split.0, subst (λ (w : List ℕ). bytes ≡ w ++ split.0) word split.1, split.2)
 
 -- the number stands behind a space, since without one nothing does
-add-form-at : (bytes end : List ℕ) (id : ℕ) → bytes ≡ codes "add" ++ end → WritesNumber (word_of (after_space bytes)) id → EndsWithText end (after_space bytes) → IsForm bytes (Add id (after_space (after_space bytes)))
+add-form-at : (bytes end : List ℕ) (id : ℕ) → bytes ≡ codes "add" ++ end → WritesNumber (word_of (after_space bytes)) id → EndsWithText end (after_space bytes) → IsForm bytes (Calls (Add id (after_space (after_space bytes))))
 add-form-at bytes end id whole w (inl e) =
     absurd (omega (arith, w.numeral.0, ap (λ (rest : List ℕ). length (word_of rest)) e.1))
 add-form-at bytes end id whole w (inr e) =
@@ -99,114 +99,145 @@ add-form-at bytes end id whole w (inr e) =
     (word_of (after_space bytes), split.0, whole ∙ ap (λ (x : List ℕ). codes "add" ++ x) e.0 ∙ ap (λ (x : List ℕ). codes "add " ++ x) split.1, w, split.2)
 
 -- a text with the word `add`, and with a number, is a form of the add
-add-form : (bytes : List ℕ) (call : Call) → IsUtf8 bytes → word_of bytes ≡ codes "add" → add_of (after_space bytes) ≡ Some call → IsForm bytes call
+add-form : (bytes : List ℕ) (asked : Asked) → IsUtf8 bytes → word_of bytes ≡ codes "add" → add_of (after_space bytes) ≡ Some asked → IsForm bytes asked
 unfolding add_of
-add-form bytes call u word h =
+add-form bytes asked u word h =
     let split = splits bytes u in
-    let read = mapped (λ (id : ℕ). Add id (after_space (after_space bytes))) (number_of (word_of (after_space bytes))) call h in
+    let read = mapped (λ (id : ℕ). Calls (Add id (after_space (after_space bytes)))) (number_of (word_of (after_space bytes))) asked h in
     subst (IsForm bytes) read.2 (add-form-at bytes split.0 read.0 (subst (λ (w : List ℕ). bytes ≡ w ++ split.0) word split.1) (number_of-writes (word_of (after_space bytes)) read.0 read.1) split.2)
 
 -- the number stands behind a space here, too
-delete-form-at : (bytes end : List ℕ) (id : ℕ) → bytes ≡ codes "del" ++ end → WritesNumber (after_space bytes) id → EndsWithText end (after_space bytes) → IsForm bytes (Delete id)
+delete-form-at : (bytes end : List ℕ) (id : ℕ) → bytes ≡ codes "del" ++ end → WritesNumber (after_space bytes) id → EndsWithText end (after_space bytes) → IsForm bytes (Calls (Delete id))
 delete-form-at bytes end id whole w (inl e) = absurd (omega (arith, w.numeral.0, ap length e.1))
 delete-form-at bytes end id whole w (inr e) = (after_space bytes, whole ∙ ap (λ (x : List ℕ). codes "del" ++ x) e.0, w)
 
 -- a text with the word `del`, and with a number and nothing else, is a form of the delete
-delete-form : (bytes : List ℕ) (call : Call) → IsUtf8 bytes → word_of bytes ≡ codes "del" → delete_of (after_space bytes) ≡ Some call → IsForm bytes call
+delete-form : (bytes : List ℕ) (asked : Asked) → IsUtf8 bytes → word_of bytes ≡ codes "del" → delete_of (after_space bytes) ≡ Some asked → IsForm bytes asked
 unfolding delete_of
-delete-form bytes call u word h =
+delete-form bytes asked u word h =
     let split = splits bytes u in
-    let read = mapped Delete (number_of (after_space bytes)) call h in
+    let read = mapped (λ (id : ℕ). Calls (Delete id)) (number_of (after_space bytes)) asked h in
     subst (IsForm bytes) read.2 (delete-form-at bytes split.0 read.0 (subst (λ (w : List ℕ). bytes ≡ w ++ split.0) word split.1) (number_of-writes (after_space bytes) read.0 read.1) split.2)
 
 -- and before the number of a journal
-journal-form-at : (bytes end : List ℕ) (from : ℕ) → bytes ≡ codes "journal" ++ end → WritesNumber (after_space bytes) from → EndsWithText end (after_space bytes) → IsForm bytes (Journal from)
+journal-form-at : (bytes end : List ℕ) (from : ℕ) → bytes ≡ codes "journal" ++ end → WritesNumber (after_space bytes) from → EndsWithText end (after_space bytes) → IsForm bytes (Calls (Journal from))
 journal-form-at bytes end from whole w (inl e) = absurd (omega (arith, w.numeral.0, ap length e.1))
 journal-form-at bytes end from whole w (inr e) = (after_space bytes, whole ∙ ap (λ (x : List ℕ). codes "journal" ++ x) e.0, w)
 
 -- a text with the word `journal`, and with a number and nothing else, is a form of the journal
-journal-form : (bytes : List ℕ) (call : Call) → IsUtf8 bytes → word_of bytes ≡ codes "journal" → journal_of (after_space bytes) ≡ Some call → IsForm bytes call
+journal-form : (bytes : List ℕ) (asked : Asked) → IsUtf8 bytes → word_of bytes ≡ codes "journal" → journal_of (after_space bytes) ≡ Some asked → IsForm bytes asked
 unfolding journal_of
-journal-form bytes call u word h =
+journal-form bytes asked u word h =
     let split = splits bytes u in
-    let read = mapped Journal (number_of (after_space bytes)) call h in
+    let read = mapped (λ (from : ℕ). Calls (Journal from)) (number_of (after_space bytes)) asked h in
     subst (IsForm bytes) read.2 (journal-form-at bytes split.0 read.0 (subst (λ (w : List ℕ). bytes ≡ w ++ split.0) word split.1) (number_of-writes (after_space bytes) read.0 read.1) split.2)
 
--- the call of a text whose word is not `add`, `del` or `find`
-abbrev journal_or_later : List ℕ → Option Call
-journal_or_later bytes = cond (bytes_eq (word_of bytes) (codes "journal")) (journal_of (after_space bytes)) (call_of_word bytes)
+-- past a test that gives none something is asked for only where the test isn't true
+past_test : (b : Bool) (o : Option Asked) (asked : Asked) → cond b None o ≡ Some asked → (b ≡ true → ⊥) × (o ≡ Some asked)
+past_test true o asked h = absurd (cc)
+past_test false o asked h = (false≢true, h)
 
--- the call of a text whose word is not `add` or `del`
-abbrev find_or_later : List ℕ → Option Call
-find_or_later bytes = cond (bytes_eq (word_of bytes) (codes "find")) (Some (Find (after_space bytes))) (journal_or_later bytes)
+-- a space stands behind the word, since alone it has no form
+query-form-at : (bytes end : List ℕ) → (bytes ≡ codes "query" → ⊥) → bytes ≡ codes "query" ++ end → EndsWithText end (after_space bytes) → IsForm bytes (Queries (after_space bytes))
+query-form-at bytes end not_alone whole (inl e) = absurd (not_alone (whole ∙ ap (λ (x : List ℕ). codes "query" ++ x) e.0))
+query-form-at bytes end not_alone whole (inr e) = (whole ∙ ap (λ (x : List ℕ). codes "query" ++ x) e.0, e.1)
 
--- the call of a text whose word is not `add`
-abbrev delete_or_later : List ℕ → Option Call
+-- a text with the word `query` and more is a form of what is behind the space
+query-form : (bytes : List ℕ) (asked : Asked) → IsUtf8 bytes → word_of bytes ≡ codes "query" → query_of bytes ≡ Some asked → IsForm bytes asked
+unfolding query_of
+query-form bytes asked u word h =
+    let split = splits bytes u in
+    let read = past_test (bytes_eq bytes (codes "query")) (Some (Queries (after_space bytes))) asked h in
+    subst (IsForm bytes) (same_asked (Queries (after_space bytes)) asked read.1)
+    (query-form-at bytes split.0 (λ alone. read.0 ((bytes_eq-Decides bytes (codes "query")).1 alone)) (subst (λ (w : List ℕ). bytes ≡ w ++ split.0) word split.1) split.2)
+
+-- what a text asks for whose word is not `add`, `del`, `find` or `query`
+abbrev journal_or_later : List ℕ → Option Asked
+journal_or_later bytes = cond (bytes_eq (word_of bytes) (codes "journal")) (journal_of (after_space bytes)) (asked_of_word bytes)
+
+-- what a text asks for whose word is not `add`, `del` or `find`
+abbrev query_or_later : List ℕ → Option Asked
+query_or_later bytes = cond (bytes_eq (word_of bytes) (codes "query")) (query_of bytes) (journal_or_later bytes)
+
+-- what a text asks for whose word is not `add` or `del`
+abbrev find_or_later : List ℕ → Option Asked
+find_or_later bytes = cond (bytes_eq (word_of bytes) (codes "find")) (Some (Calls (Find (after_space bytes)))) (query_or_later bytes)
+
+-- what a text asks for whose word is not `add`
+abbrev delete_or_later : List ℕ → Option Asked
 delete_or_later bytes = cond (bytes_eq (word_of bytes) (codes "del")) (delete_of (after_space bytes)) (find_or_later bytes)
 
 -- a text that is `recycle` is its form
-recycle-form : (bytes : List ℕ) (call : Call) → cond (bytes_eq bytes (codes "recycle")) (Some Recycle) None ≡ Some call → IsForm bytes call
-recycle-form bytes call h =
-    elim (by_test (bytes_eq bytes (codes "recycle")) (Some Recycle) None call h) [
-      | inl found ↦ subst (IsForm bytes) (same_call Recycle call found.1) ((bytes_eq-Decides bytes (codes "recycle")).0 found.0)
+recycle-form : (bytes : List ℕ) (asked : Asked) → cond (bytes_eq bytes (codes "recycle")) (Some (Calls Recycle)) None ≡ Some asked → IsForm bytes asked
+recycle-form bytes asked h =
+    elim (by_test (bytes_eq bytes (codes "recycle")) (Some (Calls Recycle)) None asked h) [
+      | inl found ↦ subst (IsForm bytes) (same_asked (Calls Recycle) asked found.1) ((bytes_eq-Decides bytes (codes "recycle")).0 found.0)
       | inr found ↦ absurd (cc)
     ]
 
 -- so is one that is `place`
-word-form : (bytes : List ℕ) (call : Call) → call_of_word bytes ≡ Some call → IsForm bytes call
-unfolding call_of_word
-word-form bytes call h =
-    elim (by_test (bytes_eq bytes (codes "place")) (Some Place) (cond (bytes_eq bytes (codes "recycle")) (Some Recycle) None) call h) [
-      | inl found ↦ subst (IsForm bytes) (same_call Place call found.1) ((bytes_eq-Decides bytes (codes "place")).0 found.0)
-      | inr found ↦ recycle-form bytes call found
+word-form : (bytes : List ℕ) (asked : Asked) → asked_of_word bytes ≡ Some asked → IsForm bytes asked
+unfolding asked_of_word
+word-form bytes asked h =
+    elim (by_test (bytes_eq bytes (codes "place")) (Some (Calls Place)) (cond (bytes_eq bytes (codes "recycle")) (Some (Calls Recycle)) None) asked h) [
+      | inl found ↦ subst (IsForm bytes) (same_asked (Calls Place) asked found.1) ((bytes_eq-Decides bytes (codes "place")).0 found.0)
+      | inr found ↦ recycle-form bytes asked found
     ]
 
--- a text whose word is not `add`, `del` or `find` is a form of its call
-journal-form-or-later : (bytes : List ℕ) (call : Call) → IsUtf8 bytes → journal_or_later bytes ≡ Some call → IsForm bytes call
-journal-form-or-later bytes call u h =
-    elim (by_word bytes (codes "journal") (journal_of (after_space bytes)) (call_of_word bytes) call h) [
-      | inl found ↦ journal-form bytes call u found.0 found.1
-      | inr found ↦ word-form bytes call found
+-- a text whose word is not `add`, `del`, `find` or `query` is a form of what it asks for
+journal-form-or-later : (bytes : List ℕ) (asked : Asked) → IsUtf8 bytes → journal_or_later bytes ≡ Some asked → IsForm bytes asked
+journal-form-or-later bytes asked u h =
+    elim (by_word bytes (codes "journal") (journal_of (after_space bytes)) (asked_of_word bytes) asked h) [
+      | inl found ↦ journal-form bytes asked u found.0 found.1
+      | inr found ↦ word-form bytes asked found
+    ]
+
+-- so is a text whose word is not `add`, `del` or `find`
+query-form-or-later : (bytes : List ℕ) (asked : Asked) → IsUtf8 bytes → query_or_later bytes ≡ Some asked → IsForm bytes asked
+query-form-or-later bytes asked u h =
+    elim (by_word bytes (codes "query") (query_of bytes) (journal_or_later bytes) asked h) [
+      | inl found ↦ query-form bytes asked u found.0 found.1
+      | inr found ↦ journal-form-or-later bytes asked u found
     ]
 
 -- so is a text whose word is not `add` or `del`
-find-form-or-later : (bytes : List ℕ) (call : Call) → IsUtf8 bytes → find_or_later bytes ≡ Some call → IsForm bytes call
-find-form-or-later bytes call u h =
-    elim (by_word bytes (codes "find") (Some (Find (after_space bytes))) (journal_or_later bytes) call h) [
-      | inl found ↦ subst (IsForm bytes) (same_call (Find (after_space bytes)) call found.1) (find-form bytes u found.0)
-      | inr found ↦ journal-form-or-later bytes call u found
+find-form-or-later : (bytes : List ℕ) (asked : Asked) → IsUtf8 bytes → find_or_later bytes ≡ Some asked → IsForm bytes asked
+find-form-or-later bytes asked u h =
+    elim (by_word bytes (codes "find") (Some (Calls (Find (after_space bytes)))) (query_or_later bytes) asked h) [
+      | inl found ↦ subst (IsForm bytes) (same_asked (Calls (Find (after_space bytes))) asked found.1) (find-form bytes u found.0)
+      | inr found ↦ query-form-or-later bytes asked u found
     ]
 
 -- so is a text whose word is not `add`
-delete-form-or-later : (bytes : List ℕ) (call : Call) → IsUtf8 bytes → delete_or_later bytes ≡ Some call → IsForm bytes call
-delete-form-or-later bytes call u h =
-    elim (by_word bytes (codes "del") (delete_of (after_space bytes)) (find_or_later bytes) call h) [
-      | inl found ↦ delete-form bytes call u found.0 found.1
-      | inr found ↦ find-form-or-later bytes call u found
+delete-form-or-later : (bytes : List ℕ) (asked : Asked) → IsUtf8 bytes → delete_or_later bytes ≡ Some asked → IsForm bytes asked
+delete-form-or-later bytes asked u h =
+    elim (by_word bytes (codes "del") (delete_of (after_space bytes)) (find_or_later bytes) asked h) [
+      | inl found ↦ delete-form bytes asked u found.0 found.1
+      | inr found ↦ find-form-or-later bytes asked u found
     ]
 
--- the call of a text is one that it is a form of
-text-form : (bytes : List ℕ) (call : Call) → IsUtf8 bytes → call_of_text bytes ≡ Some call → IsForm bytes call
-unfolding call_of_text
-text-form bytes call u h =
-    elim (by_word bytes (codes "add") (add_of (after_space bytes)) (delete_or_later bytes) call h) [
-      | inl found ↦ add-form bytes call u found.0 found.1
-      | inr found ↦ delete-form-or-later bytes call u found
+-- a text is a form of what it asks for
+text-form : (bytes : List ℕ) (asked : Asked) → IsUtf8 bytes → asked_of_text bytes ≡ Some asked → IsForm bytes asked
+unfolding asked_of_text
+text-form bytes asked u h =
+    elim (by_word bytes (codes "add") (add_of (after_space bytes)) (delete_or_later bytes) asked h) [
+      | inl found ↦ add-form bytes asked u found.0 found.1
+      | inr found ↦ delete-form-or-later bytes asked u found
     ]
 
--- the call of a line is one that it has a form of
-has-form : (line : List ℕ) (call : Call) → form_of line ≡ Some call → HasForm line call
+-- a line has a form of what it asks for
+has-form : (line : List ℕ) (asked : Asked) → form_of line ≡ Some asked → HasForm line asked
 unfolding form_of
-has-form line call h =
-    let read = passes_both (nat_lt MAX_LINE_LEN (length line)) (is_utf8 (without_return line)) (call_of_text (without_return line)) call h in
+has-form line asked h =
+    let read = passes_both (nat_lt MAX_LINE_LEN (length line)) (is_utf8 (without_return line)) (asked_of_text (without_return line)) asked h in
     record {
       short = ltb-false MAX_LINE_LEN (length line) read.0;
       bytes = without_return line;
       dropped = drops line;
-      form = text-form (without_return line) call (IsUtf8-from_is_utf8 (without_return line) read.1) read.2;
+      form = text-form (without_return line) asked (IsUtf8-from_is_utf8 (without_return line) read.1) read.2;
     }
 
--- from a form to the line's call
+-- from a form to what the line asks for
 
 -- a space, and the words of the forms, are UTF-8
 space-is-text : IsUtf8 (32 ∷ [])
@@ -237,92 +268,113 @@ recycle-is-text : IsUtf8 (codes "recycle")
 unfolding lib.Utf8.encode
 recycle-is-text = (codes "recycle", (refl, refl))
 
+query-is-text : IsUtf8 (codes "query ")
+unfolding lib.Utf8.encode
+query-is-text = (codes "query ", (refl, refl))
+
 -- an end with a text is UTF-8
 end-is-text : (end text : List ℕ) → EndsWithText end text → IsUtf8 end
 end-is-text end text (inl e) = subst IsUtf8 (sym e.0) IsUtf8-nil
 end-is-text end text (inr e) = subst IsUtf8 (sym e.0) (IsUtf8-append (32 ∷ []) text space-is-text e.1)
 
--- a form is UTF-8
-form-is-text : (bytes : List ℕ) (call : Call) → IsForm bytes call → IsUtf8 bytes
-form-is-text bytes (Add id text) f =
+-- a form of a call is UTF-8
+call-is-text : (bytes : List ℕ) (call : Call) → IsFormOfCall bytes call → IsUtf8 bytes
+call-is-text bytes (Add id text) f =
     let digits = IsUtf8-from_ascii f.0 (IsAscii-from_digits f.0 f.3.numeral.1) in
     subst IsUtf8 (sym f.2) (IsUtf8-append (codes "add ") (f.0 ++ f.1) add-is-text (IsUtf8-append f.0 f.1 digits (end-is-text f.1 text f.4)))
-form-is-text bytes (Delete id) f =
+call-is-text bytes (Delete id) f =
     subst IsUtf8 (sym f.1) (IsUtf8-append (codes "del ") f.0 delete-is-text (IsUtf8-from_ascii f.0 (IsAscii-from_digits f.0 f.2.numeral.1)))
-form-is-text bytes (Find query) f =
+call-is-text bytes (Find query) f =
     subst IsUtf8 (sym f.1) (IsUtf8-append (codes "find") f.0 find-is-text (end-is-text f.0 query f.2))
-form-is-text bytes Place f = subst IsUtf8 (sym f) place-is-text
-form-is-text bytes (Journal from) f =
+call-is-text bytes Place f = subst IsUtf8 (sym f) place-is-text
+call-is-text bytes (Journal from) f =
     subst IsUtf8 (sym f.1) (IsUtf8-append (codes "journal ") f.0 journal-is-text (IsUtf8-from_ascii f.0 (IsAscii-from_digits f.0 f.2.numeral.1)))
-form-is-text bytes Recycle f = subst IsUtf8 (sym f) recycle-is-text
-form-is-text bytes (Tune config) f = absurd f
+call-is-text bytes Recycle f = subst IsUtf8 (sym f) recycle-is-text
+call-is-text bytes (Query expr) f = absurd f
+call-is-text bytes (Tune config) f = absurd f
+
+-- so is one of a query
+form-is-text : (bytes : List ℕ) (asked : Asked) → IsForm bytes asked → IsUtf8 bytes
+form-is-text bytes (Calls call) f = call-is-text bytes call f
+form-is-text bytes (Queries text) f = subst IsUtf8 (sym f.0) (IsUtf8-append (codes "query ") text query-is-text f.1)
 
 -- behind `add` and a space stands what tells the add
-call-of-add : (rest : List ℕ) → call_of_text (codes "add " ++ rest) ≡ add_of rest
-unfolding call_of_text
+call-of-add : (rest : List ℕ) → asked_of_text (codes "add " ++ rest) ≡ add_of rest
+unfolding asked_of_text
 call-of-add rest = refl
 
 -- digits and an end tell the number and the text
-add-of-digits : (digits end text : List ℕ) (id : ℕ) → WritesNumber digits id → EndsWithText end text → add_of (digits ++ end) ≡ Some (Add id text)
+add-of-digits : (digits end text : List ℕ) (id : ℕ) → WritesNumber digits id → EndsWithText end text → add_of (digits ++ end) ≡ Some (Calls (Add id text))
 unfolding add_of
 add-of-digits digits end text id w e =
     let split = split-digits digits end text w.numeral.1 e in
-    ap (λ (t : List ℕ). option_map (λ (n : ℕ). Add n t) (number_of (word_of (digits ++ end)))) split.1 ∙ ap (λ (d : List ℕ). option_map (λ (n : ℕ). Add n text) (number_of d)) split.0 ∙ ap (option_map (λ (n : ℕ). Add n text)) (number_of-written digits id w)
+    ap (λ (t : List ℕ). option_map (λ (n : ℕ). Calls (Add n t)) (number_of (word_of (digits ++ end)))) split.1 ∙ ap (λ (d : List ℕ). option_map (λ (n : ℕ). Calls (Add n text)) (number_of d)) split.0 ∙ ap (option_map (λ (n : ℕ). Calls (Add n text))) (number_of-written digits id w)
 
 -- behind `del` and a space stands the number
-call-of-delete : (rest : List ℕ) → call_of_text (codes "del " ++ rest) ≡ delete_of rest
-unfolding call_of_text
+call-of-delete : (rest : List ℕ) → asked_of_text (codes "del " ++ rest) ≡ delete_of rest
+unfolding asked_of_text
 call-of-delete rest = refl
 
 -- digits tell the number of a delete
-delete-of-digits : (digits : List ℕ) (id : ℕ) → WritesNumber digits id → delete_of digits ≡ Some (Delete id)
+delete-of-digits : (digits : List ℕ) (id : ℕ) → WritesNumber digits id → delete_of digits ≡ Some (Calls (Delete id))
 unfolding delete_of
-delete-of-digits digits id w = ap (option_map Delete) (number_of-written digits id w)
+delete-of-digits digits id w = ap (option_map (λ (n : ℕ). Calls (Delete n))) (number_of-written digits id w)
 
 -- behind `journal` and a space stands the number
-call-of-journal : (rest : List ℕ) → call_of_text (codes "journal " ++ rest) ≡ journal_of rest
-unfolding call_of_text
+call-of-journal : (rest : List ℕ) → asked_of_text (codes "journal " ++ rest) ≡ journal_of rest
+unfolding asked_of_text
 call-of-journal rest = refl
 
 -- digits tell the number of a journal
-journal-of-digits : (digits : List ℕ) (from : ℕ) → WritesNumber digits from → journal_of digits ≡ Some (Journal from)
+journal-of-digits : (digits : List ℕ) (from : ℕ) → WritesNumber digits from → journal_of digits ≡ Some (Calls (Journal from))
 unfolding journal_of
-journal-of-digits digits from w = ap (option_map Journal) (number_of-written digits from w)
+journal-of-digits digits from w = ap (option_map (λ (n : ℕ). Calls (Journal n))) (number_of-written digits from w)
 
 -- `place` stands alone
-call-of-place : call_of_text (codes "place") ≡ Some Place
-unfolding call_of_text call_of_word
+call-of-place : asked_of_text (codes "place") ≡ Some (Calls Place)
+unfolding asked_of_text asked_of_word
 call-of-place = refl
 
 -- so does `recycle`
-call-of-recycle : call_of_text (codes "recycle") ≡ Some Recycle
-unfolding call_of_text call_of_word
+call-of-recycle : asked_of_text (codes "recycle") ≡ Some (Calls Recycle)
+unfolding asked_of_text asked_of_word
 call-of-recycle = refl
 
 -- behind `find` stands the query
-call-of-find : (end query : List ℕ) → EndsWithText end query → call_of_text (codes "find" ++ end) ≡ Some (Find query)
-unfolding call_of_text
+call-of-find : (end query : List ℕ) → EndsWithText end query → asked_of_text (codes "find" ++ end) ≡ Some (Calls (Find query))
+unfolding asked_of_text
 call-of-find end query (inl e) =
-    ap (λ (x : List ℕ). call_of_text (codes "find" ++ x)) e.0 ∙ ap (λ (t : List ℕ). Some (Find t)) (sym e.1)
-call-of-find end query (inr e) = ap (λ (x : List ℕ). call_of_text (codes "find" ++ x)) e.0
+    ap (λ (x : List ℕ). asked_of_text (codes "find" ++ x)) e.0 ∙ ap (λ (t : List ℕ). Some (Calls (Find t))) (sym e.1)
+call-of-find end query (inr e) = ap (λ (x : List ℕ). asked_of_text (codes "find" ++ x)) e.0
+
+-- behind `query` and a space stands its text
+asked-of-query : (text : List ℕ) → asked_of_text (codes "query " ++ text) ≡ Some (Queries text)
+unfolding asked_of_text query_of
+asked-of-query text = refl
 
 -- a form of a call is read as the call
-call-of-form : (bytes : List ℕ) (call : Call) → IsForm bytes call → call_of_text bytes ≡ Some call
+call-of-form : (bytes : List ℕ) (call : Call) → IsFormOfCall bytes call → asked_of_text bytes ≡ Some (Calls call)
 call-of-form bytes (Add id text) f =
-    ap call_of_text f.2 ∙ call-of-add (f.0 ++ f.1) ∙ add-of-digits f.0 f.1 text id f.3 f.4
-call-of-form bytes (Delete id) f = ap call_of_text f.1 ∙ call-of-delete f.0 ∙ delete-of-digits f.0 id f.2
-call-of-form bytes (Find query) f = ap call_of_text f.1 ∙ call-of-find f.0 query f.2
-call-of-form bytes Place f = ap call_of_text f ∙ call-of-place
-call-of-form bytes (Journal from) f = ap call_of_text f.1 ∙ call-of-journal f.0 ∙ journal-of-digits f.0 from f.2
-call-of-form bytes Recycle f = ap call_of_text f ∙ call-of-recycle
+    ap asked_of_text f.2 ∙ call-of-add (f.0 ++ f.1) ∙ add-of-digits f.0 f.1 text id f.3 f.4
+call-of-form bytes (Delete id) f = ap asked_of_text f.1 ∙ call-of-delete f.0 ∙ delete-of-digits f.0 id f.2
+call-of-form bytes (Find query) f = ap asked_of_text f.1 ∙ call-of-find f.0 query f.2
+call-of-form bytes Place f = ap asked_of_text f ∙ call-of-place
+call-of-form bytes (Journal from) f = ap asked_of_text f.1 ∙ call-of-journal f.0 ∙ journal-of-digits f.0 from f.2
+call-of-form bytes Recycle f = ap asked_of_text f ∙ call-of-recycle
+call-of-form bytes (Query expr) f = absurd f
 call-of-form bytes (Tune config) f = absurd f
 
--- a line with a form of a call is read as the call
-read-form : (line : List ℕ) (call : Call) → HasForm line call → form_of line ≡ Some call
-read-form line call h =
-    let same : without_return line ≡ h.bytes = dropped line h.bytes h.dropped in
-    form_of-text line h.short (subst IsUtf8 (sym same) (form-is-text h.bytes call h.form)) ∙ ap call_of_text same ∙ call-of-form h.bytes call h.form
+-- a form is read as that of which it is one
+asked-of-form : (bytes : List ℕ) (asked : Asked) → IsForm bytes asked → asked_of_text bytes ≡ Some asked
+asked-of-form bytes (Calls call) f = call-of-form bytes call f
+asked-of-form bytes (Queries text) f = ap asked_of_text f.0 ∙ asked-of-query text
 
--- a line is read as the call that it has a form of, and as no other
+-- a line with a form is read as that of which it has one
+read-form : (line : List ℕ) (asked : Asked) → HasForm line asked → form_of line ≡ Some asked
+read-form line asked h =
+    let same : without_return line ≡ h.bytes = dropped line h.bytes h.dropped in
+    form_of-text line h.short (subst IsUtf8 (sym same) (form-is-text h.bytes asked h.form)) ∙ ap asked_of_text same ∙ asked-of-form h.bytes asked h.form
+
+-- a line is read as that of which it has a form, and as nothing else
 pub read-by-forms : (line : List ℕ) → IsReadByForms line
-read-by-forms line = λ call. (has-form line call, read-form line call)
+read-by-forms line = λ asked. (has-form line asked, read-form line asked)

@@ -14,6 +14,8 @@ use Rattle.funnel_model.specs.Legal.{Limits}
 use Rattle.funnel_model.specs.Steps.{AddsCall, FindsNoMemory, IsReply, IsReplyToRecycle, IsReplyToRefused, Step}
 use Rattle.funnel_model.specs.Tunings.{tunings}
 use Rattle.funnel_model.proofs.ReplyLemmas.{dropped_at}
+use Rattle.line_proto.specs.Forms.{Asked, Calls, Queries}
+use Rattle.line_proto.specs.Services.{AnswersAsked, AnswersCall, Caller}
 use Rattle.line_proto.specs.Texts.{is_list}
 
 -- a reply that is none of the lists is no list
@@ -87,5 +89,35 @@ without_memory limits pass before after asked given long step =
       few_moves = step.few_moves;
       outcome = inr (inl (record { reply = refl; call = lists_want_memory limits pass answered.earlier before after answered.event asked given answered.reply long call made.call }));
     })
-    (λ others. ⊎_elim (λ lacks. absurd (not_long given reply.Memory lacks.reply refl long)) (λ spent. absurd (not_long given reply.Spent spent.reply refl long)) others)
+    (λ others. ⊎_elim
+    (λ lacks. absurd (not_long given reply.Memory lacks.reply refl long))
+    (λ last. ⊎_elim
+    (λ spent. absurd (not_long given reply.Spent spent.reply refl long))
+    (λ judged.
+    record {
+      grows = step.grows;
+      legal = step.legal;
+      idle_before = step.idle_before;
+      idle_after = step.idle_after;
+      few_moves = step.few_moves;
+      outcome = inr (inl (record { reply = refl; call = subst (FindsNoMemory pass before after) (sym judged.query) (inr judged.call) }));
+    })
+    last)
+    others)
     step.outcome
+
+-- and over a front that is spent it isn't made
+call_without_memory : (caller : Caller) (before after : List Event) (asked : Call) (given : Reply) → is_list given ≡ true → AnswersCall caller before after asked given →
+    AnswersCall caller before after asked reply.Memory
+call_without_memory caller before after asked given long answers = record {
+  step = without_memory caller.limits caller.pass before after asked given long answers.step;
+  spent = λ many. record { reply = inr refl; call = (answers.spent many).call };
+}
+
+-- so it is with what is asked
+pub asked_without_memory : (caller : Caller) (before after : List Event) (asked : Asked) (given : Reply) → is_list given ≡ true → AnswersAsked caller before after asked given →
+    AnswersAsked caller before after asked reply.Memory
+asked_without_memory caller before after (Calls asked) given long answers = call_without_memory caller before after asked given long answers
+asked_without_memory caller before after (Queries text) given long (inl read) =
+    inl (record { expr = read.expr; reads = read.reads; answers = call_without_memory caller before after (call.Query read.expr) given long read.answers })
+asked_without_memory caller before after (Queries text) given long (inr unread) = inr (unread.0, tt)

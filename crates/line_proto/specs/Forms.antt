@@ -32,49 +32,59 @@ is_number word = nat_lt 0 (length word) && nat_le (length word) 20 && all_ascii_
 abbrev pub number_of : List ℕ → Option ℕ
 number_of word = if is_number word then Some (digits_value 10 word) else None
 
+-- what a line of a form asks for: a call, or what a text finds that is yet to be read as a boolean query
+pub data Asked : Type 0 where
+  Calls : Call → Asked
+  Queries : List ℕ → Asked
+
 -- a number and then, after a space, the document's text
-unfoldable pub add_of : List ℕ → Option Call
-add_of bytes = option_map (λ id. Add id (after_space bytes)) (number_of (word_of bytes))
+unfoldable pub add_of : List ℕ → Option Asked
+add_of bytes = option_map (λ id. Calls (Add id (after_space bytes))) (number_of (word_of bytes))
 
 -- a number and nothing else
-unfoldable pub delete_of : List ℕ → Option Call
-delete_of bytes = option_map Delete (number_of bytes)
+unfoldable pub delete_of : List ℕ → Option Asked
+delete_of bytes = option_map (λ id. Calls (Delete id)) (number_of bytes)
 
 -- a number and nothing else
-unfoldable pub journal_of : List ℕ → Option Call
-journal_of bytes = option_map Journal (number_of bytes)
+unfoldable pub journal_of : List ℕ → Option Asked
+journal_of bytes = option_map (λ from. Calls (Journal from)) (number_of bytes)
 
--- the call of a text that is one word
-unfoldable pub call_of_word : List ℕ → Option Call
-call_of_word text =
-    if bytes_eq text (codes "place") then Some Place
-    else (if bytes_eq text (codes "recycle") then Some Recycle else None)
+-- a text whose word is `query` asks for what is behind the space; the word alone has no form
+unfoldable pub query_of : List ℕ → Option Asked
+query_of text = if bytes_eq text (codes "query") then None else Some (Queries (after_space text))
 
--- the call of a text, by its first word; `place` and `recycle` stand alone
-unfoldable pub call_of_text : List ℕ → Option Call
-call_of_text text =
+-- what a text asks for that is one word
+unfoldable pub asked_of_word : List ℕ → Option Asked
+asked_of_word text =
+    if bytes_eq text (codes "place") then Some (Calls Place)
+    else (if bytes_eq text (codes "recycle") then Some (Calls Recycle) else None)
+
+-- what a text asks for, by its first word; `place` and `recycle` stand alone
+unfoldable pub asked_of_text : List ℕ → Option Asked
+asked_of_text text =
     if bytes_eq (word_of text) (codes "add") then add_of (after_space text)
     else (if bytes_eq (word_of text) (codes "del") then delete_of (after_space text)
-    else (if bytes_eq (word_of text) (codes "find") then Some (Find (after_space text))
+    else (if bytes_eq (word_of text) (codes "find") then Some (Calls (Find (after_space text)))
+    else (if bytes_eq (word_of text) (codes "query") then query_of text
     else (if bytes_eq (word_of text) (codes "journal") then journal_of (after_space text)
-    else call_of_word text)))
+    else asked_of_word text))))
 
--- the call of a line, or none where the line has no form: it is too long, or no text, or of another shape
-unfoldable pub form_of : List ℕ → Option Call
+-- what a line asks for, or nothing where the line has no form: it is too long, or no text, or of another shape
+unfoldable pub form_of : List ℕ → Option Asked
 form_of line =
     if nat_lt MAX_LINE_LEN (length line) then None
-    else (if is_utf8 (without_return line) then call_of_text (without_return line) else None)
+    else (if is_utf8 (without_return line) then asked_of_text (without_return line) else None)
 
--- what a line is to the engine: a call, a line of no form, or a line that is too long
+-- what a line is to the engine: it asks for something, it has no form, or it is too long
 pub data Item : Type 0 where
-  Asks : Call → Item
+  Asks : Asked → Item
   Malformed : Item
   TooLong : Item
 
 -- the item of a line that has this form and isn't too long
-abbrev pub item_from : Option Call → Item
+abbrev pub item_from : Option Asked → Item
 item_from None = Malformed
-item_from (Some call) = Asks call
+item_from (Some asked) = Asks asked
 
 -- the item of a line
 abbrev pub item_of : List ℕ → Item

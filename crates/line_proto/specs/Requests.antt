@@ -1,14 +1,15 @@
 -- What a request asks of the engine.
-use Rattle.funnel_model.specs.declared.call.Call.{Call}
 use Rattle.funnel_model.specs.declared.call.Call.TheVariants as call
 use Rattle.line_proto.specs.declared.request.Request.{Request}
-use Rattle.line_proto.specs.declared.request.Request.TheVariants.{Add, Delete, Find, Place, Journal, Recycle}
+use Rattle.line_proto.specs.declared.request.Request.TheVariants.{Add, Delete, Find, Query, Place, Journal, Recycle}
+use Rattle.line_proto.specs.Forms.{Asked, Calls, Queries}
 
--- the call that a request stands for, with its text's bytes
-abbrev pub call_requested : Request → Call
-call_requested (Add id text) = call.Add id text.now
-call_requested (Delete id) = call.Delete id
-call_requested (Find query) = call.Find query.now
-call_requested Place = call.Place
-call_requested (Journal from) = call.Journal from
-call_requested Recycle = call.Recycle
+-- what a request stands for, with its text's bytes
+abbrev pub requested : Request → Asked
+requested (Add id text) = Calls (call.Add id text.now)
+requested (Delete id) = Calls (call.Delete id)
+requested (Find query) = Calls (call.Find query.now)
+requested (Query text) = Queries text.now
+requested Place = Calls call.Place
+requested (Journal from) = Calls (call.Journal from)
+requested Recycle = Calls call.Recycle

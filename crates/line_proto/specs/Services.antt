@@ -1,11 +1,16 @@
--- How a service answers a call.
-use Rattle.std.specs.Prelude.{ℕ, ◌≤◌, ◌≡◌, ◌⊎◌, List, length}
+-- How a service answers what it is asked.
+use Rattle.std.specs.Prelude.{ℕ, ◌≤◌, ◌≡◌, ◌⊎◌, ⊤, List, length}
 use Rattle.funnel_model.specs.declared.call.Call.{Call}
+use Rattle.funnel_model.specs.declared.call.Call.TheVariants as call
 use Rattle.funnel_model.specs.declared.event.Event.{Event}
+use Rattle.funnel_model.specs.declared.expr.Expr.{Expr}
 use Rattle.funnel_model.specs.declared.reply.Reply.{Reply}
 use Rattle.funnel_model.specs.declared.reply.Reply.TheVariants as reply
+use Rattle.funnel_model.specs.Expressions.{tree_of}
 use Rattle.funnel_model.specs.Legal.{Limits}
+use Rattle.funnel_model.specs.Queries.{IsMalformed, IsQuery, IsTooDeep}
 use Rattle.funnel_model.specs.Steps.{AddsNone, Step}
+use Rattle.line_proto.specs.Forms.{Asked, Calls, Queries}
 
 -- who calls: a pass of an engine with these limits
 pub record Caller : Type 0 where
@@ -21,3 +26,25 @@ pub record IsNotTaken (caller : Caller) (before after : List Event) (given : Rep
 pub record AnswersCall (caller : Caller) (before after : List Event) (asked : Call) (given : Reply) : Type 0 where
   pub step : Step caller.limits caller.pass before after asked given
   pub spent : caller.limits.events ≤ length before → IsNotTaken caller before after given
+
+-- the text is the query of an expression, and the query of that expression is answered as a call
+pub record AnswersExpr (caller : Caller) (before after : List Event) (text : List ℕ) (given : Reply) : Type 0 where
+  pub expr : Expr
+  pub reads : IsQuery text (tree_of expr)
+  pub answers : AnswersCall caller before after (call.Query expr) given
+
+-- the text is refused before anything is called: where it is no query with the place at which it fails to be one, and for want of memory
+abbrev pub IsUnread : List ℕ → Reply → Type 0
+IsUnread text (reply.Query at) = IsMalformed text at
+IsUnread text (reply.Deep at) = IsTooDeep text at
+IsUnread text reply.Memory = ⊤
+IsUnread text _ = ⊥
+
+-- a text that is to be read as a boolean query is answered as the query of its expression, or it is refused and there is no step
+abbrev pub AnswersQuery : Caller → List Event → List Event → List ℕ → Reply → Type 0
+AnswersQuery caller before after text given = AnswersExpr caller before after text given ⊎ ((before ≡ after) × IsUnread text given)
+
+-- what is asked is answered
+abbrev pub AnswersAsked : Caller → List Event → List Event → Asked → Reply → Type 0
+AnswersAsked caller before after (Calls asked) given = AnswersCall caller before after asked given
+AnswersAsked caller before after (Queries text) given = AnswersQuery caller before after text given

@@ -2,7 +2,7 @@
 use Rattle.std.specs.Prelude.{ℕ, Bool, true, false, List, ◌∷◌, ◌++◌, length, flat_map, codes, decimal, if◌then◌else◌}
 use Rattle.funnel_model.specs.declared.commit.Commit.{Commit}
 use Rattle.funnel_model.specs.declared.reply.Reply.{Reply}
-use Rattle.funnel_model.specs.declared.reply.Reply.TheVariants.{Added, Present, Full, Deleted, Absent, Found, Place, Commits, Trimmed, Recycled, NothingRetired, Guarded, Tuned, Tuning, Wide, Spent, Memory, Line, Long}
+use Rattle.funnel_model.specs.declared.reply.Reply.TheVariants.{Added, Present, Full, Deleted, Absent, Found, Place, Commits, Trimmed, Recycled, NothingRetired, Guarded, Tuned, Tuning, Wide, Query, Deep, Spent, Memory, Line, Long}
 
 -- each number after a space
 abbrev pub spaced : List ℕ → List ℕ
@@ -37,6 +37,8 @@ message_of (Guarded slice pass) = codes "guarded " ++ decimal slice ++ 32 ∷ de
 message_of (Tuned count) = codes "tuned " ++ decimal count
 message_of (Tuning fault) = codes "refused tuning " ++ decimal fault
 message_of (Wide needed room) = codes "refused room " ++ decimal needed ++ 32 ∷ decimal room
+message_of (Query at) = codes "refused query " ++ decimal at
+message_of (Deep at) = codes "refused deep " ++ decimal at
 message_of Spent = codes "refused spent"
 message_of Memory = codes "refused memory"
 message_of Line = codes "refused line"

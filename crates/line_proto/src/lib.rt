@@ -9,7 +9,7 @@ mod request;
 mod service;
 
 pub use laws::lines_are_read_by_the_grammar;
-pub use parse::parse_line;
+pub use parse::{parse_line, parse_number};
 pub use reply::reply_text;
 pub use request::Request;
 pub use service::Service;

@@ -1,6 +1,6 @@
 ghost use Rattle.std.specs.Prelude.{◌≡◌, MatchOption, Some, None};
-ghost use Rattle.line_proto.specs.Forms.{without_return, word_of, after_space, number_of, add_of, delete_of, journal_of, call_of_word, call_of_text, form_of};
-ghost use Rattle.line_proto.specs.Requests.{call_requested};
+ghost use Rattle.line_proto.specs.Forms.{without_return, word_of, after_space, number_of, add_of, delete_of, journal_of, query_of, asked_of_word, asked_of_text, form_of};
+ghost use Rattle.line_proto.specs.Requests.{requested};
 
 use crate::request::Request;
 use funnel_io::MAX_LINE_LEN;
@@ -13,7 +13,7 @@ const MAX_DIGITS: usize = 20;
 /// than [`MAX_LINE_LEN`], it isn't UTF-8, or it is of another shape. One carriage return at its end is dropped.
 #[tactic(auto, unfolding(crate::specs::Forms::form_of))]
 pub fn parse_line(line: &[u8]) -> Option<Request<'_>>
-    ensures { MatchOption result (form_of line.now ≡ None) (λ r. form_of line.now ≡ Some (call_requested r)) }
+    ensures { MatchOption result (form_of line.now ≡ None) (λ r. form_of line.now ≡ Some (requested r)) }
 {
     if line.len() > MAX_LINE_LEN {
         return None;
@@ -25,24 +25,25 @@ pub fn parse_line(line: &[u8]) -> Option<Request<'_>>
 }
 
 /// The request of a line's text, by its first word; `place` and `recycle` stand alone.
-#[tactic(auto, unfolding(crate::specs::Forms::call_of_text))]
+#[tactic(auto, unfolding(crate::specs::Forms::asked_of_text))]
 fn parse_text(text: &str) -> Option<Request<'_>>
-    ensures { MatchOption result (call_of_text text.now ≡ None) (λ r. call_of_text text.now ≡ Some (call_requested r)) }
+    ensures { MatchOption result (asked_of_text text.now ≡ None) (λ r. asked_of_text text.now ≡ Some (requested r)) }
 {
     let (word, rest) = split_word(text);
     match word {
         "add" => parse_add(rest),
         "del" => parse_delete(rest),
         "find" => Some(Request::Find { query: rest }),
+        "query" => parse_query(text, rest),
         "journal" => parse_journal(rest),
         _ => parse_word(text),
     }
 }
 
 /// The request of a text that is one word.
-#[tactic(auto, unfolding(crate::specs::Forms::call_of_word))]
+#[tactic(auto, unfolding(crate::specs::Forms::asked_of_word))]
 fn parse_word(text: &str) -> Option<Request<'_>>
-    ensures { MatchOption result (call_of_word text.now ≡ None) (λ r. call_of_word text.now ≡ Some (call_requested r)) }
+    ensures { MatchOption result (asked_of_word text.now ≡ None) (λ r. asked_of_word text.now ≡ Some (requested r)) }
 {
     match text {
         "place" => Some(Request::Place),
@@ -54,7 +55,7 @@ fn parse_word(text: &str) -> Option<Request<'_>>
 /// The request of what follows `add` and a space.
 #[tactic(auto, unfolding(crate::specs::Forms::add_of))]
 fn parse_add(rest: &str) -> Option<Request<'_>>
-    ensures { MatchOption result (add_of rest.now ≡ None) (λ r. add_of rest.now ≡ Some (call_requested r)) }
+    ensures { MatchOption result (add_of rest.now ≡ None) (λ r. add_of rest.now ≡ Some (requested r)) }
 {
     let (number, text) = split_word(rest);
     let id = parse_number(number)?;
@@ -64,7 +65,7 @@ fn parse_add(rest: &str) -> Option<Request<'_>>
 /// The request of what follows `del` and a space.
 #[tactic(auto, unfolding(crate::specs::Forms::delete_of))]
 fn parse_delete(rest: &str) -> Option<Request<'_>>
-    ensures { MatchOption result (delete_of rest.now ≡ None) (λ r. delete_of rest.now ≡ Some (call_requested r)) }
+    ensures { MatchOption result (delete_of rest.now ≡ None) (λ r. delete_of rest.now ≡ Some (requested r)) }
 {
     let id = parse_number(rest)?;
     Some(Request::Delete { id })
@@ -73,14 +74,26 @@ fn parse_delete(rest: &str) -> Option<Request<'_>>
 /// The request of what follows `journal` and a space.
 #[tactic(auto, unfolding(crate::specs::Forms::journal_of))]
 fn parse_journal(rest: &str) -> Option<Request<'_>>
-    ensures { MatchOption result (journal_of rest.now ≡ None) (λ r. journal_of rest.now ≡ Some (call_requested r)) }
+    ensures { MatchOption result (journal_of rest.now ≡ None) (λ r. journal_of rest.now ≡ Some (requested r)) }
 {
     let from = parse_number(rest)?;
     Some(Request::Journal { from })
 }
 
+/// The request of a text whose word is `query`, and of what follows its space.
+#[tactic(auto, unfolding(crate::specs::Forms::query_of))]
+fn parse_query<'a>(text: &'a str, rest: &'a str) -> Option<Request<'a>>
+    requires { rest.now ≡ after_space text.now }
+    ensures { MatchOption result (query_of text.now ≡ None) (λ r. query_of text.now ≡ Some (requested r)) }
+{
+    if text == "query" {
+        return None;
+    }
+    Some(Request::Query { text: rest })
+}
+
 /// The number that 1 to 20 digits write, if it is below 2^64.
-fn parse_number(word: &str) -> Option<u64>
+pub fn parse_number(word: &str) -> Option<u64>
     ensures { result ≡ number_of word.now }
 {
     // `parse` would read a plus sign, too

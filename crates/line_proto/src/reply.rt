@@ -52,6 +52,8 @@ fn push_message(out: &mut Vec<u8>, reply: &Reply) -> Result<(), AllocError>
         Reply::Tuned(count) => push_words_and_number(out, b"tuned ", *count),
         Reply::Tuning(fault) => push_words_and_number(out, b"refused tuning ", u64::from(*fault)),
         Reply::Wide { needed, room } => push_wide(out, *needed, *room),
+        Reply::Query(at) => push_words_and_number(out, b"refused query ", *at),
+        Reply::Deep(at) => push_words_and_number(out, b"refused deep ", *at),
         Reply::Spent => out.extend_from_slice(b"refused spent"),
         Reply::Memory => out.extend_from_slice(b"refused memory"),
         Reply::Line => out.extend_from_slice(b"refused line"),

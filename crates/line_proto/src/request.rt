@@ -7,6 +7,8 @@ pub enum Request<'a> {
     Delete { id: u64 },
     /// Find the documents that have every word of the query.
     Find { query: &'a str },
+    /// Find the documents that the boolean query keeps which is written so.
+    Query { text: &'a str },
     /// Tell how many commits there were.
     Place,
     /// Tell the commits but the first so many.

@@ -1,7 +1,7 @@
 ghost use Rattle.std.specs.Prelude.{◌≡◌, List};
 ghost use Rattle.funnel_model.specs.declared.event.Event.{Event};
-ghost use Rattle.line_proto.specs.Requests.{call_requested};
-ghost use Rattle.line_proto.specs.Services.{AnswersCall, Caller};
+ghost use Rattle.line_proto.specs.Requests.{requested};
+ghost use Rattle.line_proto.specs.Services.{AnswersAsked, Caller};
 
 use crate::request::Request;
 use funnel_model::Reply;
@@ -17,5 +17,5 @@ pub trait Service {
     /// Answers a request.
     fn call(&mut self, request: &Request<'_>) -> Reply
         ensures caller { caller self.new ≡ caller self.old }
-        ensures answers { AnswersCall (caller self.old) (front self.old) (front self.new) (call_requested request.now) result };
+        ensures answers { AnswersAsked (caller self.old) (front self.old) (front self.new) (requested request.now) result };
 }

@@ -7,10 +7,13 @@ use Rattle.load_gen.specs.Generator.{state_after, next_words}
 abbrev pub name_of_document : ℕ → List ℕ
 name_of_document id = codes "u" ++ decimal id
 
--- the text of document i, whose number is i + 1: its name, and the words of its draws, each after one space. Each document
--- before it made as many draws
+-- the text of the document with this number: its name, and the words of so many draws from this state, each after one space
+abbrev pub text_of_document : ℕ → ℕ → ℕ → List ℕ
+text_of_document state words id = name_of_document id ++ flat_map (λ word. 32 ∷ word) (next_words state words)
+
+-- the text of document i, whose number is i + 1. Each document before it made as many draws
 abbrev pub document : ℕ → ℕ → ℕ → List ℕ
-document words seed i = name_of_document (i + 1) ++ flat_map (λ word. 32 ∷ word) (next_words (state_after seed (i * words)) words)
+document words seed i = text_of_document (state_after seed (i * words)) words (i + 1)
 
 -- the texts of the documents, in order
 abbrev pub documents : ℕ → ℕ → ℕ → List (List ℕ)

@@ -1,6 +1,6 @@
 -- What each worker of a load asks, in three parts.
-use Rattle.std.specs.Prelude.{ℕ, ◌+◌, ◌%◌, ◌==◌, Bool, List, [], ◌∷◌, ◌++◌, map, filter, flat_map, if◌then◌else◌}
-use Rattle.std.specs.List.{enumerate_from}
+use Rattle.std.specs.Prelude.{ℕ, ◌≡◌, ◌+◌, ◌%◌, ◌==◌, Bool, List, [], ◌∷◌, ◌++◌, length, map, filter, flat_map, sum_by, slice_get, Some, if◌then◌else◌}
+use Rattle.std.specs.List.{enumerate_from, range_with_len}
 use Rattle.funnel_model.specs.declared.call.Call.{Call}
 use Rattle.funnel_model.specs.declared.call.Call.TheVariants as call
 use Rattle.load_gen.specs.declared.limits.TheConstants.{CHECKED_ONE_IN, DELETED_ONE_IN}
@@ -11,6 +11,14 @@ use Rattle.load_gen.specs.Queries.{queries}
 -- the number of workers. Each item with its place, in rising order
 abbrev pub share : {A : Type 0} → List A → ℕ → ℕ → List (ℕ × A)
 share items workers worker = filter (λ item. item.0 % workers == worker) (enumerate_from 0 items)
+
+-- the item at this place falls to the worker
+abbrev pub FallsTo : {A : Type 0} → List A → ℕ → ℕ → ℕ → A → Type 0
+FallsTo items workers worker i item = (i % workers ≡ worker) × (slice_get items i ≡ Some item)
+
+-- how many entries the lists of all workers have together
+abbrev pub count_all : {A : Type 0} → ℕ → (ℕ → List A) → ℕ
+count_all workers lists = sum_by (λ worker. length (lists worker)) (range_with_len 0 workers)
 
 -- the documents whose number is a multiple of 10 are deleted
 abbrev pub is_deleted : ℕ → Bool

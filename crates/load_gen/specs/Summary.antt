@@ -27,11 +27,15 @@ line words number = words ++ decimal number ++ codes "\n"
 abbrev pub query_line : List ℕ × (ℕ × ℕ) → List ℕ
 query_line (query, (count, total)) = codes "query " ++ query ++ codes ": " ++ decimal count ++ codes " " ++ decimal total ++ codes "\n"
 
--- the summary's text for so many documents, of which one in ten was deleted, and these results of the queries
-abbrev pub summary_text : ℕ → List (ℕ × ℕ) → List ℕ
-summary_text docs results =
+-- the lines that count so many documents, of which one in ten was deleted
+abbrev pub counts_text : ℕ → List ℕ
+counts_text docs =
     line (codes "documents ") docs ++ line (codes "deleted ") (docs / DELETED_ONE_IN) ++ line (codes "live ") (docs - docs / DELETED_ONE_IN)
-    ++ line (codes "misses ") 0 ++ flat_map query_line (zip queries results)
+    ++ line (codes "misses ") 0
+
+-- the summary's text for so many documents and these results of the queries
+abbrev pub summary_text : ℕ → List (ℕ × ℕ) → List ℕ
+summary_text docs results = counts_text docs ++ flat_map query_line (zip queries results)
 
 -- the summary's text for the documents themselves
 abbrev pub summary : ℕ → ℕ → ℕ → List ℕ

@@ -1,6 +1,6 @@
 ghost use Rattle.std.specs.Prelude.{◌≡◌, ◌<◌, ◌≤◌, ◌++◌, ◌∷◌, ℕ, List, Some, length, decimal, flat_map, string_bytes, slice_get, slice_index_or, IfOk, OnOk};
 ghost use Rattle.funnel_model.specs.WordSets.{pieces};
-ghost use Rattle.load_gen.specs.Documents.{documents, name_of_document};
+ghost use Rattle.load_gen.specs.Documents.{documents, name_of_document, text_of_document};
 ghost use Rattle.load_gen.specs.Generator.{state_after, next_words};
 ghost use Rattle.load_gen.specs.Stored.{AreStored};
 
@@ -101,7 +101,7 @@ fn push_document(
     id: u32,
     words: u32,
 ) -> Result<(), AllocError>
-    ensures text { OnOk result (string_bytes texts.new ≡ string_bytes texts.old ++ name_of_document id ++ flat_map (λ word. 32 ∷ word) (next_words generator.old words)) }
+    ensures text { OnOk result (string_bytes texts.new ≡ string_bytes texts.old ++ text_of_document generator.old words id) }
     ensures state { OnOk result (generator.new ≡ state_after generator.old words) }
 {
     push_numbered(texts, "u", u64::from(id))?;

@@ -1,7 +1,7 @@
-ghost use Rattle.std.specs.Prelude.{◌≡◌, ◌-◌, ◌/◌, ◌++◌, length, codes, flat_map, decimal, OnOk};
+ghost use Rattle.std.specs.Prelude.{◌≡◌, ◌++◌, length, codes, flat_map, decimal, OnOk};
 ghost use Rattle.std.specs.List.{zip};
 ghost use Rattle.load_gen.specs.Queries.{queries};
-ghost use Rattle.load_gen.specs.Summary.{line, query_line, summary_text};
+ghost use Rattle.load_gen.specs.Summary.{counts_text, line, query_line, summary_text};
 
 use crate::limits::DELETED_ONE_IN;
 use crate::queries::QUERIES;
@@ -23,7 +23,7 @@ pub fn summary(docs: u32, results: &[(u64, u64)], out: &mut Vec<u8>) -> Result<(
 }
 
 fn push_counts(out: &mut Vec<u8>, docs: u32) -> Result<(), AllocError>
-    ensures { OnOk result (out.new.items ≡ out.old.items ++ line (codes "documents ") docs ++ line (codes "deleted ") (docs / DELETED_ONE_IN) ++ line (codes "live ") (docs - docs / DELETED_ONE_IN) ++ line (codes "misses ") 0) }
+    ensures { OnOk result (out.new.items ≡ out.old.items ++ counts_text docs) }
 {
     let deleted = docs / DELETED_ONE_IN;
     push_line(out, b"documents ", docs)?;

@@ -1,5 +1,5 @@
 -- The event that answers a call of a pass that is alone, and how the history is before and after it.
-use Rattle.std.proofs.Common.{◌≡◌, ℕ, ◌+◌, ◌≤◌, ⊎_elim, cond, List, [], ◌∷◌, ◌++◌, length, Some, sym, refl, ap, ◌∙◌, subst, append_assoc, arith}
+use Rattle.std.proofs.Common.{◌≡◌, ℕ, ◌+◌, ◌≤◌, ⊎_elim, false, cond, List, [], ◌∷◌, ◌++◌, length, Some, sym, refl, ap, ◌∙◌, subst, append_assoc, arith}
 use Rattle.std.proofs.lemmas.Bool.{cases_lt}
 use Rattle.std.proofs.lemmas.List.{length-append}
 use Rattle.std.proofs.lemmas.List.Elements.{All-head}
@@ -8,6 +8,7 @@ use Rattle.funnel_model.proofs.Histories.{allowed_within, legal_before}
 use Rattle.funnel_model.proofs.LiveLemmas.{place-append}
 use Rattle.funnel_model.proofs.NothingMoved.{moves_nothing-before, moves_nothing-parts}
 use Rattle.funnel_model.proofs.Retirement.{split_front}
+use Rattle.funnel_model.proofs.StepCauses.{is_query, only_queries_are_judged}
 use Rattle.funnel_model.proofs.StepLemmas.{call_by-own, own-append}
 use Rattle.funnel_model.specs.declared.call.Call.{Call}
 use Rattle.funnel_model.specs.declared.event.Event.{Event}
@@ -35,13 +36,19 @@ none_of_length : {A : Type 0} (xs : List A) → length xs ≡ 0 → xs ≡ []
 none_of_length [] is = refl
 none_of_length (x ∷ xs) is = absurd (omega arith)
 
--- a call was made, as it found memory and wasn't refused as spent
-is_made : (limits : Limits) (pass : ℕ) (before after : List Event) (asked : Call) (given : Reply) → LoneStep limits pass before after asked given →
+-- a call that is no query was made, as it found memory and wasn't refused as spent
+is_made : (limits : Limits) (pass : ℕ) (before after : List Event) (asked : Call) (given : Reply) → is_query asked ≡ false → LoneStep limits pass before after asked given →
     IsMade limits pass before after asked given
-is_made limits pass before after asked given lone =
+is_made limits pass before after asked given no_query lone =
     ⊎_elim
     (λ made. made)
-    (λ rest. ⊎_elim (λ lacks. absurd (lone.memory lacks.reply)) (λ spent. let many = spent.many in let few = lone.unspent in absurd (omega arith)) rest)
+    (λ rest. ⊎_elim
+    (λ lacks. absurd (lone.memory lacks.reply))
+    (λ last. ⊎_elim
+    (λ spent. let many = spent.many in let few = lone.unspent in absurd (omega arith))
+    (λ judged. absurd (only_queries_are_judged pass before after asked given no_query judged))
+    last)
+    rest)
     lone.step.outcome
 
 -- the event that answers the call, and that nothing changes before it or after it; each take was followed by an add or a drop
@@ -90,10 +97,10 @@ event_is_new pass before after asked earlier e later at =
     (between.0, between.1, none_of_length (own pass between.0) (omega arith)))
     (cases_lt (length earlier) (length before))
 
-pub answered : (limits : Limits) (pass : ℕ) (before after : List Event) (asked : Call) (given : Reply) → LoneStep limits pass before after asked given →
+pub answered : (limits : Limits) (pass : ℕ) (before after : List Event) (asked : Call) (given : Reply) → is_query asked ≡ false → LoneStep limits pass before after asked given →
     Answered limits pass before after asked given
-answered limits pass before after asked given lone =
-    let made = is_made limits pass before after asked given lone in
+answered limits pass before after asked given no_query lone =
+    let made = is_made limits pass before after asked given no_query lone in
     let is = made.answered in
     let e = is.event in
     let grows = lone.step.grows in

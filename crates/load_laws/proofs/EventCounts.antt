@@ -14,6 +14,7 @@ use Rattle.funnel_model.specs.declared.call.Call.{Call}
 use Rattle.funnel_model.specs.declared.call.Call.TheVariants as call
 use Rattle.funnel_model.specs.declared.event.Event.{Event}
 use Rattle.funnel_model.specs.declared.event.Event.TheVariants as event
+use Rattle.funnel_model.specs.declared.expr.Expr.{Expr}
 use Rattle.funnel_model.specs.declared.reply.Reply.{Reply}
 use Rattle.funnel_model.specs.Events.{call_of, leaves_open, moves, pass_of}
 use Rattle.funnel_model.specs.History.{last_by, moved_by, own}
@@ -169,42 +170,55 @@ no_more_calls : (w : Call → ℕ) (pass : ℕ) (before after : List Event) (ask
     sum_by w (own pass after) ≤ sum_by w (own pass before) + w asked
 no_more_calls w pass before after asked is = omega (arith, ap (sum_by w) is)
 
-without_memory : (w : Call → ℕ) (pass : ℕ) (before after : List Event) (asked : Call) → FindsNoMemory pass before after asked →
-    sum_by w (own pass after) ≤ sum_by w (own pass before) + w asked
-without_memory w pass before after (call.Add id text) none = no_more_calls w pass before after (call.Add id text) none
-without_memory w pass before after (call.Tune config) none = no_more_calls w pass before after (call.Tune config) none
-without_memory w pass before after (call.Find query) found =
-    ⊎_elim (no_more_calls w pass before after (call.Find query)) (one_more_call w pass before after (call.Find query)) found
-without_memory w pass before after (call.Journal from) found =
-    ⊎_elim (no_more_calls w pass before after (call.Journal from)) (one_more_call w pass before after (call.Journal from)) found
-without_memory w pass before after _ none = absurd none
+-- a find of no words, which is what a pass makes for a query, weighs no more than the query
+abbrev pub IsLight : (Call → ℕ) → Type 0
+IsLight w = (expr : Expr) → w (call.Find []) ≤ w (call.Query expr)
 
-calls_of_step : (w : Call → ℕ) (limits : Limits) (pass : ℕ) (before after : List Event) (asked : Call) (given : Reply) → Step limits pass before after asked given →
+without_memory : (w : Call → ℕ) → IsLight w → (pass : ℕ) (before after : List Event) (asked : Call) → FindsNoMemory pass before after asked →
     sum_by w (own pass after) ≤ sum_by w (own pass before) + w asked
-calls_of_step w limits pass before after asked given step =
+without_memory w light pass before after (call.Add id text) none = no_more_calls w pass before after (call.Add id text) none
+without_memory w light pass before after (call.Tune config) none = no_more_calls w pass before after (call.Tune config) none
+without_memory w light pass before after (call.Find query) found =
+    ⊎_elim (no_more_calls w pass before after (call.Find query)) (one_more_call w pass before after (call.Find query)) found
+without_memory w light pass before after (call.Query expr) found =
+    ⊎_elim (no_more_calls w pass before after (call.Query expr))
+    (λ made. let less = light expr in omega (arith, less, one_more_call w pass before after (call.Find []) made)) found
+without_memory w light pass before after (call.Journal from) found =
+    ⊎_elim (no_more_calls w pass before after (call.Journal from)) (one_more_call w pass before after (call.Journal from)) found
+without_memory w light pass before after _ none = absurd none
+
+calls_of_step : (w : Call → ℕ) → IsLight w → (limits : Limits) (pass : ℕ) (before after : List Event) (asked : Call) (given : Reply) → Step limits pass before after asked given →
+    sum_by w (own pass after) ≤ sum_by w (own pass before) + w asked
+calls_of_step w light limits pass before after asked given step =
     ⊎_elim
     (λ made. one_more_call w pass before after asked made.call)
-    (λ rest. ⊎_elim (λ lacks. without_memory w pass before after asked lacks.call) (λ spent. no_more_calls w pass before after asked spent.call) rest)
+    (λ rest. ⊎_elim
+    (λ lacks. without_memory w light pass before after asked lacks.call)
+    (λ last. ⊎_elim
+    (λ spent. no_more_calls w pass before after asked spent.call)
+    (λ judged. let less = light judged.expr in omega (arith, less, one_more_call w pass before after (call.Find []) judged.call, ap w judged.query))
+    last)
+    rest)
     step.outcome
 
--- the pass is idle after its calls, its history has no more calls than it made, whatever these weigh, and it moved no more than they may
+-- the pass is idle after its calls, its history has no more calls than it was asked, whatever these weigh, and it moved no more than they may
 pub record Ends (pass : ℕ) (before after : List Event) (calls : List Call) : Type 0 where
   pub idle : IsIdle pass after
-  pub few : (w : Call → ℕ) → sum_by w (own pass after) ≤ sum_by w (own pass before) + sum_by w calls
+  pub few : (w : Call → ℕ) → IsLight w → sum_by w (own pass after) ≤ sum_by w (own pass before) + sum_by w calls
   pub moves_few : moved_by pass after ≤ moved_by pass before + sum_by most_moves calls
 
 pub ends : (limits : Limits) (pass : ℕ) (before after : List Event) (calls : List Call) (replies : List Reply) → IsIdle pass before →
     Linear limits pass before after calls replies → Ends pass before after calls
 ends limits pass before after [] [] idle is = record {
   idle = subst (IsIdle pass) is idle;
-  few = λ w. omega (arith, ap (λ (h : List Event). sum_by w (own pass h)) is);
+  few = λ w light. omega (arith, ap (λ (h : List Event). sum_by w (own pass h)) is);
   moves_few = omega (arith, ap (λ (h : List Event). moved_by pass h) is);
 }
 ends limits pass before after (asked ∷ calls) (given ∷ replies) idle run =
     let others = ends limits pass run.0 after calls replies run.1.idle_after run.2 in
     record {
       idle = others.idle;
-      few = λ w. omega (arith, calls_of_step w limits pass before run.0 asked given run.1, others.few w, sum_by-cons w asked calls);
+      few = λ w light. omega (arith, calls_of_step w light limits pass before run.0 asked given run.1, others.few w light, sum_by-cons w asked calls);
       moves_few = omega (arith, run.1.few_moves, others.moves_few, sum_by-cons most_moves asked calls);
     }
 ends limits pass before after [] (given ∷ replies) idle run = absurd run
@@ -233,7 +247,7 @@ few_events_a_call limits pass history calls legal end =
     omega (
       arith,
       few_events limits pass history legal end.idle,
-      end.few (λ c. 1),
+      end.few (λ c. 1) (λ expr. omega arith),
       end.moves_few,
       moves_a_call calls,
       length_is_sum calls,

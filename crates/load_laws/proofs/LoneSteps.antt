@@ -47,7 +47,7 @@ finds_by limits pass before after query given is =
 pub finds : (limits : Limits) (pass : ℕ) (before after : List Event) (query : List ℕ) (given : Reply) → LoneStep limits pass before after (call.Find query) given →
     Finds before after query given
 finds limits pass before after query given lone =
-    finds_by limits pass before after query given (answered limits pass before after (call.Find query) given lone)
+    finds_by limits pass before after query given (answered limits pass before after (call.Find query) given refl lone)
 
 -- a live document of a pass that is alone is deleted
 deletes_it_by : (limits : Limits) (pass : ℕ) (before after : List Event) (id : ℕ) (given : Reply) → Answered limits pass before after (call.Delete id) given →
@@ -71,7 +71,7 @@ deletes_it_by limits pass before after id given is present =
 pub deletes_it : (limits : Limits) (pass : ℕ) (before after : List Event) (id : ℕ) (given : Reply) → LoneStep limits pass before after (call.Delete id) given →
     is_live id before ≡ true → Deletes before after id given
 deletes_it limits pass before after id given lone present =
-    deletes_it_by limits pass before after id given (answered limits pass before after (call.Delete id) given lone) present
+    deletes_it_by limits pass before after id given (answered limits pass before after (call.Delete id) given refl lone) present
 
 -- while a pass that is alone makes an add, the engine isn't full where fewer columns were claimed than it has
 room_left : (limits : Limits) (pass : ℕ) (before after : List Event) (asked : Call) (given : Reply) → (is : Answered limits pass before after asked given) →
@@ -116,4 +116,4 @@ pub adds : (limits : Limits) (pass : ℕ) (before after : List Event) (id : ℕ)
     LoneStep limits pass before after (call.Add id text) given → is_live id before ≡ false →
     count_of_takes before < limits.slices * limits.columns → Adds before after id text given
 adds limits pass before after id text given lone absent few =
-    adds_by limits pass before after id text given (answered limits pass before after (call.Add id text) given lone) absent few
+    adds_by limits pass before after id text given (answered limits pass before after (call.Add id text) given refl lone) absent few

@@ -1,10 +1,11 @@
 -- The events in a history that answer the calls of a pass, one for each.
 use Rattle.std.proofs.Common.{◌≡◌, ◌≢◌, ℕ, ◌<◌, ◌==◌, ⊎_elim, Bool, true, false, cond, List, [], ◌∷◌, ◌++◌, length, Some, None, refl, sym, ap, ◌∙◌, subst, arith, append_assoc}
-use Rattle.std.proofs.lemmas.Bool.{eqb-true}
+use Rattle.std.proofs.lemmas.Bool.{eqb-true, or_parts}
 use Rattle.std.proofs.lemmas.List.{append-nil, append_cancel_right, length-append}
 use Rattle.std.proofs.lemmas.List.Elements.{All-head, All-tail}
-use Rattle.std.specs.List.{All, cons_option}
+use Rattle.std.specs.List.{All, cons_option, list_any}
 use mathlib.Core.List.{IsPrefix}
+use Rattle.funnel_model.proofs.StepCauses.{is_query, only_queries_are_judged}
 use Rattle.funnel_model.proofs.StepLemmas.{linear-grows, own-append, prefix_trans}
 use Rattle.funnel_model.specs.declared.call.Call.{Call}
 use Rattle.funnel_model.specs.declared.event.Event.{Event}
@@ -62,26 +63,33 @@ event_of_step limits pass before middle history done asked given made goes so_fa
       reply = is.reply;
     }
 
--- so has each call of a pass that found memory, in a history that wasn't spent
+-- so has each call of a pass that is no query and found memory, in a history that wasn't spent
 pub events_of_run : (limits : Limits) (pass : ℕ) (before after history : List Event) (done calls : List Call) (replies : List Reply) →
     Linear limits pass before after calls replies → IsPrefix after history → length history < limits.events → All (λ r. r ≢ reply.Memory) replies →
-    own pass before ≡ done → HaveEvents limits pass history done calls replies
-events_of_run limits pass before after history done [] [] run goes unspent memory so_far = tt
-events_of_run limits pass before after history done (asked ∷ calls) (given ∷ replies) run goes unspent memory so_far =
+    own pass before ≡ done → list_any is_query calls ≡ false → HaveEvents limits pass history done calls replies
+events_of_run limits pass before after history done [] [] run goes unspent memory so_far none = tt
+events_of_run limits pass before after history done (asked ∷ calls) (given ∷ replies) run goes unspent memory so_far none =
     let middle = run.0 in
     let from_middle = prefix_trans middle after history (linear-grows limits pass middle after calls replies run.2) goes in
     let lengths = length-append middle from_middle.0 in
     let same = ap length from_middle.1 in
+    let others = or_parts (is_query asked) (list_any is_query calls) none in
     let made = ⊎_elim
     (λ made. made)
-    (λ rest. ⊎_elim (λ lacks. absurd (All-head (λ r. r ≢ reply.Memory) given replies memory lacks.reply)) (λ spent. let many = spent.many in absurd (omega arith)) rest)
+    (λ rest. ⊎_elim
+    (λ lacks. absurd (All-head (λ r. r ≢ reply.Memory) given replies memory lacks.reply))
+    (λ last. ⊎_elim
+    (λ spent. let many = spent.many in absurd (omega arith))
+    (λ judged. absurd (only_queries_are_judged pass before middle asked given others.0 judged))
+    last)
+    rest)
     run.1.outcome in (
       event_of_step limits pass before middle history done asked given made from_middle so_far,
       events_of_run limits pass middle after history (done ++ asked ∷ []) calls replies run.2 goes unspent (All-tail (λ r. r ≢ reply.Memory) given replies memory)
-          (made.call ∙ ap (λ cs. cs ++ asked ∷ []) so_far),
+          (made.call ∙ ap (λ cs. cs ++ asked ∷ []) so_far) others.1,
     )
-events_of_run limits pass before after history done [] (given ∷ replies) run goes unspent memory so_far = absurd run
-events_of_run limits pass before after history done (asked ∷ calls) [] run goes unspent memory so_far = absurd run
+events_of_run limits pass before after history done [] (given ∷ replies) run goes unspent memory so_far none = absurd run
+events_of_run limits pass before after history done (asked ∷ calls) [] run goes unspent memory so_far none = absurd run
 
 -- the events of calls in two parts
 pub record TwoParts (limits : Limits) (pass : ℕ) (history : List Event) (before first second : List Call) (replies : List Reply) : Type 0 where

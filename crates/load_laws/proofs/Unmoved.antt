@@ -22,7 +22,7 @@ use Rattle.load_gen.proofs.Totals.{total-none}
 use Rattle.load_laws.specs.LonePass.{IsAlone}
 use Rattle.load_laws.specs.Workers.{IsLoaded}
 use Rattle.load_laws.proofs.Balance.{added_was_asked, balanced, is_among, is_number, number_is}
-use Rattle.load_laws.proofs.EventCounts.{ends, moved_once, moved_weighs, moves_none}
+use Rattle.load_laws.proofs.EventCounts.{IsLight, ends, moved_once, moved_weighs, moves_none}
 use Rattle.load_laws.proofs.JobCounts.{add_weight, adds_in_adds, delete_weight, deletes_in_adds, deletes_move_nothing, over, queries_move_nothing}
 use Rattle.load_laws.proofs.JobFacts.{at_most_once}
 use Rattle.load_laws.proofs.Parts.{parts_asked}
@@ -134,13 +134,13 @@ lone_load_moves_nothing limits pass docs words seed after replies run alone caus
     let grows = linear-grows limits pass adding after others runs.to_more runs.more_run in
     let end = ends limits pass [] adding adds runs.to_first tt runs.first_run in
     let alone_adding = alone_front pass adding grows.0 (subst (IsAlone pass) (sym grows.1) alone) in
-    let weighs : (w : Call → ℕ) → sum_by (asked w) adding ≤ sum_by w adds =
-    λ w. omega (arith, end.few w, weigh_by-alone (asked w) pass adding alone_adding, weigh_by-calls w pass adding) in
+    let weighs : (w : Call → ℕ) → IsLight w → sum_by (asked w) adding ≤ sum_by w adds =
+    λ w light. omega (arith, end.few w light, weigh_by-alone (asked w) pass adding alone_adding, weigh_by-calls w pass adding) in
     let still = adds_move_nothing limits adding (linear-legal limits pass [] adding adds runs.to_first tt runs.first_run)
     (caused-front adding grows.0 (subst MovesAreCaused (sym grows.1) caused))
     (record {
-      once = λ id. omega (arith, weighs (add_weight (is_number id)), numbers (is_number id), at_most_once docs id);
-      no_delete = omega (arith, weighs (delete_weight (λ id. 1)), no_deletes);
+      once = λ id. omega (arith, weighs (add_weight (is_number id)) (λ expr. omega arith), numbers (is_number id), at_most_once docs id);
+      no_delete = omega (arith, weighs (delete_weight (λ id. 1)) (λ expr. omega arith), no_deletes);
     }) in
     let later = (ends limits pass adding after others runs.to_more end.idle runs.more_run).moves_few in
     let nothing : moved_by pass after ≡ 0 = omega (arith, later, moved_by-still pass adding still, others_move_nothing) in

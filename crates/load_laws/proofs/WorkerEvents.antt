@@ -40,7 +40,7 @@ ends_in limits history pass calls replies asked =
     let end = ends limits pass [] asked.front calls replies tt asked.run in
     record {
       idle = idle_from_front pass asked.front history asked.seen end.idle;
-      few = λ w. omega (arith, end.few w, ap (sum_by w) (calls_in_front pass asked.front history asked.seen));
+      few = λ w light. omega (arith, end.few w light, ap (sum_by w) (calls_in_front pass asked.front history asked.seen));
       moves_few = omega (arith, end.moves_few, moved_in_front pass asked.front history asked.seen);
     }
 

@@ -31,7 +31,7 @@ use Rattle.load_laws.proofs.Balance.{added, balanced, by_number, deleted, delete
 use Rattle.load_laws.proofs.CallEvents.{find_event}
 use Rattle.load_laws.proofs.Committed.{add_is_committed, added_as_asked, after_or_in, call_of_load, delete_is_committed, deleted_as_asked, same_stretch, sum_around}
 use Rattle.load_laws.proofs.FoundLive.{IsOfDocuments, found_over, met, met_weighs, one_named, same_result, where_met}
-use Rattle.load_laws.proofs.JobCounts.{add_weight, delete_weight, over, where_deleted}
+use Rattle.load_laws.proofs.JobCounts.{jobs_are_no_queries, add_weight, delete_weight, over, where_deleted}
 use Rattle.load_laws.proofs.JobFacts.{IsItem, share_items}
 use Rattle.load_laws.proofs.Parts.{adds_asked, deletes_asked, parts_asked}
 use Rattle.load_laws.proofs.PassTotals.{asked, weigh_by, weigh_by-calls}
@@ -320,7 +320,8 @@ worker_is_answered limits docs words seed workers history replies loaded room wo
     let few = load_is_unspent limits docs words seed workers history replies loaded.some room.few loaded.legal loaded.no_other loaded.asked in
     let events = room.events in
     let have = events_of_run limits worker [] was_asked.front history [] (jobs docs words seed workers worker) (replies worker) was_asked.run
-    (was_asked.seen.later, sym was_asked.seen.whole) (omega (arith, few, events)) was_asked.memory refl in
+    (was_asked.seen.later, sym was_asked.seen.whole) (omega (arith, few, events)) was_asked.memory refl
+    (jobs_are_no_queries docs words seed workers worker) in
     let last = two_parts limits worker history [] (adds_of texts workers worker ++ deletes_of texts workers worker) (queries_of workers worker) (replies worker) have in
     let first = two_parts limits worker history [] (adds_of texts workers worker) (deletes_of texts workers worker) last.to_first last.first_events in
     record {

@@ -1,7 +1,8 @@
 -- What a load that one worker makes asks and is answered.
-use Rattle.std.specs.Prelude.{ℕ, ◌+◌, ◌/◌, ◌%◌, ◌==◌, List, [], ◌∷◌, ◌++◌, map, flat_map, if◌then◌else◌}
+use Rattle.std.specs.Prelude.{ℕ, ◌+◌, ◌*◌, ◌/◌, ◌%◌, ◌==◌, List, [], ◌∷◌, ◌++◌, map, flat_map, if◌then◌else◌}
 use Rattle.std.specs.List.{range_with_len}
 use Rattle.funnel_model.specs.declared.call.Call.{Call}
+use Rattle.funnel_model.specs.declared.call.Call.TheVariants as call
 use Rattle.funnel_model.specs.declared.reply.Reply.{Reply}
 use Rattle.funnel_model.specs.declared.reply.Reply.TheVariants as reply
 use Rattle.load_gen.specs.declared.limits.TheConstants.{CHECKED_ONE_IN, DELETED_ONE_IN}
@@ -13,6 +14,10 @@ use Rattle.load_gen.specs.Summary.{found, result_of}
 -- the calls for a document of this number and text where one worker adds all: it is then the worker's document of this number
 abbrev pub lone_add : ℕ × List ℕ → List Call
 lone_add (id, text) = add_and_check id (id, text)
+
+-- the delete with this number, from 1 on, where one worker makes all
+abbrev pub lone_delete : ℕ → Call
+lone_delete k = call.Delete (DELETED_ONE_IN * k)
 
 -- the add of the document of this number is the commit of this number, and the find of its name finds this document alone
 abbrev pub replies_to_add : ℕ → List Reply

@@ -1,6 +1,6 @@
 -- A load that several workers make: the history of the engine once all of them have ended, and what each was answered.
 use Rattle.std.specs.Prelude.{ℕ, ◌-◌, ◌*◌, ◌^◌, ◌<◌, ◌≤◌, ◌≡◌, ◌≢◌, List, [], ◌∷◌, ◌++◌, length, map, filter, not}
-use Rattle.std.specs.List.{All, range_with_len, sum_by}
+use Rattle.std.specs.List.{All, range_with_len}
 use Rattle.std.specs.List.Sorted.{IsPermutation}
 use mathlib.Core.List.{IsPrefix}
 use Rattle.funnel_model.specs.declared.call.Call.{Call}
@@ -14,7 +14,7 @@ use Rattle.funnel_model.specs.Legal.{Limits, IsIdle, IsLegal}
 use Rattle.funnel_model.specs.Steps.{Linear}
 use Rattle.load_gen.specs.declared.limits.TheConstants.{MOST_DOCS}
 use Rattle.load_gen.specs.Documents.{document, documents, name_of_document}
-use Rattle.load_gen.specs.Jobs.{adds_of, calls_of_share, deletes_of, is_deleted, jobs, queries_of, share}
+use Rattle.load_gen.specs.Jobs.{adds_of, calls_of_share, count_all, deletes_of, is_deleted, jobs, queries_of, share}
 use Rattle.load_gen.specs.Summary.{results_of}
 use Rattle.load_laws.specs.Replies.{result_in}
 
@@ -102,7 +102,7 @@ pub record HasRoomFor (limits : Limits) (docs : ℕ) : Type 0 where
 
 -- how many calls all workers make
 abbrev pub calls_of_load : ℕ → ℕ → ℕ → ℕ → ℕ
-calls_of_load docs words seed workers = sum_by (λ worker. length (jobs docs words seed workers worker)) (range_with_len 0 workers)
+calls_of_load docs words seed workers = count_all workers (jobs docs words seed workers)
 
 -- an add and a delete are committed, and the find of a document's name finds this document alone
 abbrev pub IsAnswered : Call → Reply → Type 0

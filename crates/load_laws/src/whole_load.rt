@@ -16,14 +16,14 @@ ghost use Rattle.load_gen.specs.Queries.{queries};
 ghost use Rattle.load_gen.specs.Summary.{results_of};
 ghost use Rattle.load_laws.specs.LonePass.{IsAlone};
 ghost use Rattle.load_laws.specs.Loads.{FitsEmptyEngine, answers_of};
-ghost use Rattle.load_laws.specs.Replies.{lone_add, replies_to_adds, replies_to_deletes, replies_to_jobs, result_in};
+ghost use Rattle.load_laws.specs.Replies.{lone_add, lone_delete, replies_to_adds, replies_to_deletes, replies_to_jobs, result_in};
 
 /// To one worker falls all. It adds the documents in order, and looks for each 100th one when it has added it; then it
 /// deletes the documents 10, 20 and so on; and then it runs all queries in order.
 pub fn one_worker_walks_the_documents()
     ensures share { (items : List (List ℕ)) → share items 1 0 ≡ enumerate_from 0 items }
     ensures adds { (texts : List (List ℕ)) → adds_of texts 1 0 ≡ flat_map lone_add (enumerate_from 1 texts) }
-    ensures deletes { (texts : List (List ℕ)) → deletes_of texts 1 0 ≡ map (λ k. call.Delete (DELETED_ONE_IN * k)) (range_with_len 1 (length texts / DELETED_ONE_IN)) }
+    ensures deletes { (texts : List (List ℕ)) → deletes_of texts 1 0 ≡ map lone_delete (range_with_len 1 (length texts / DELETED_ONE_IN)) }
     ensures queries { queries_of 1 0 ≡ map call.Find queries }
 {}
 
@@ -31,8 +31,7 @@ pub fn one_worker_walks_the_documents()
 pub fn one_more_document_is_walked()
     ensures add { (texts : List (List ℕ)) (i : ℕ) (text : List ℕ) → slice_get texts i ≡ Some text →
         adds_of (take (i + 1) texts) 1 0 ≡ adds_of (take i texts) 1 0 ++ lone_add (i + 1, text) }
-    ensures delete { (k : ℕ) → map (λ j. call.Delete (DELETED_ONE_IN * j)) (range_with_len 1 (k + 1))
-        ≡ map (λ j. call.Delete (DELETED_ONE_IN * j)) (range_with_len 1 k) ++ call.Delete (DELETED_ONE_IN * (k + 1)) ∷ [] }
+    ensures delete { (k : ℕ) → map lone_delete (range_with_len 1 (k + 1)) ≡ map lone_delete (range_with_len 1 k) ++ lone_delete (k + 1) ∷ [] }
     ensures query { (j : ℕ) (query : List ℕ) → slice_get queries j ≡ Some query →
         map call.Find (take (j + 1) queries) ≡ map call.Find (take j queries) ++ call.Find query ∷ [] }
 {}

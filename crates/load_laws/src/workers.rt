@@ -1,7 +1,7 @@
 //! Laws of a load that several workers make, each by a pass of its own: the history has the events of all of them, in any order
 //! within each part of the load.
 ghost use Rattle.std.specs.Prelude.{◌≡◌, ◌+◌, ◌*◌, ◌/◌, ◌^◌, ◌<◌, ◌≤◌, ℕ, List, ◌++◌, length, map};
-ghost use Rattle.std.specs.List.{All, range_with_len, sum_by};
+ghost use Rattle.std.specs.List.{All};
 ghost use Rattle.funnel_model.specs.declared.call.Call.{Call};
 ghost use Rattle.funnel_model.specs.declared.call.TheConstants.{MOST_MOVES};
 ghost use Rattle.funnel_model.specs.declared.event.Event.{Event};
@@ -12,7 +12,7 @@ ghost use Rattle.funnel_model.specs.Legal.{IsIdle, IsLegal, Limits};
 ghost use Rattle.funnel_model.specs.Steps.{Linear};
 ghost use Rattle.load_gen.specs.declared.limits.TheConstants.{DELETED_ONE_IN, MOST_DOCS};
 ghost use Rattle.load_gen.specs.Documents.{documents};
-ghost use Rattle.load_gen.specs.Jobs.{deletes_of, jobs, queries_of, share};
+ghost use Rattle.load_gen.specs.Jobs.{count_all, deletes_of, jobs, queries_of, share};
 ghost use Rattle.load_gen.specs.Summary.{results_of};
 ghost use Rattle.load_laws.specs.Workers.{AreLeft, Fronts, HasAsked, HasParts, HasRoomFor, HaveMet, IsAnsweredAsTold, IsLoaded, calls_of_load};
 ghost use Rattle.load_laws.specs.WorkersExample.{both_added, both_queried, replies_to, two_passes};
@@ -39,7 +39,7 @@ pub fn loads_of_workers_are_short()
     ensures events { (limits : Limits) (workers : ℕ) (history : List Event) (calls : ℕ → List Call) (replies : ℕ → List Reply) →
         IsLegal limits history → All (λ e. pass_of e < workers) history →
         ((worker : ℕ) → worker < workers → HasAsked limits history worker (calls worker) (replies worker)) →
-        length history ≤ (4 + 4 * MOST_MOVES) * sum_by (λ worker. length (calls worker)) (range_with_len 0 workers) }
+        length history ≤ (4 + 4 * MOST_MOVES) * count_all workers calls }
     ensures unspent { (limits : Limits) (docs words seed workers : ℕ) (history : List Event) (replies : ℕ → List Reply) → 0 < workers → docs ≤ MOST_DOCS →
         IsLegal limits history → All (λ e. pass_of e < workers) history →
         ((worker : ℕ) → worker < workers → HasAsked limits history worker (jobs docs words seed workers worker) (replies worker)) →

@@ -14,6 +14,8 @@ mod fits;
 #[cfg(test)]
 mod meetings;
 #[cfg(test)]
+mod requests;
+#[cfg(test)]
 mod serving;
 #[cfg(test)]
 mod setting;

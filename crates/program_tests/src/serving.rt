@@ -37,17 +37,9 @@ const LINES: &[u8] = b"add 7 The cat sat\nfind CAT\n";
 
 const REPLIES: &[u8] = b"added 1\nfound 1 7\n";
 
-const REQUESTS: &[u8] =
-    b"POST /documents HTTP/1.1\r\nHost: a\r\nContent-Length: 25\r\n\r\n{\"id\":7,\"text\":\"The cat\"}\
-GET /find?q=CAT HTTP/1.1\r\nHost: a\r\n\r\n";
-
-const RESPONSES: &[u8] =
-    b"HTTP/1.1 201 Created\r\nContent-Type: application/json\r\nContent-Length: 11\r\n\r\n{\"place\":1}\
-HTTP/1.1 200 OK\r\nContent-Type: application/json\r\nContent-Length: 11\r\n\r\n{\"ids\":[7]}";
-
 const WHOLE: Faults = (&[], &[]);
 
-static SERVES: [ServeRow; 5] = [
+static SERVES: [ServeRow; 4] = [
     // A gate that fails ends its worker alone, at its first call
     ServeRow {
         words: TWO,
@@ -114,17 +106,6 @@ static SERVES: [ServeRow; 5] = [
         }],
         status: 0,
     },
-    // Requests over HTTP are answered.
-    ServeRow {
-        words: &["serve", "--port=7000", "--workers=1", "--http"],
-        lines: REQUESTS,
-        gates: &[GateRow {
-            fails: &[],
-            conns: &[WHOLE],
-            sessions: &[(End::Done, RESPONSES)],
-        }],
-        status: 0,
-    },
 ];
 
 /// A connection that sends these lines.
@@ -154,7 +135,7 @@ fn gates_of(alloc: Global, row: &ServeRow) -> Result<Vec<MemGate>, Fail> {
 }
 
 /// What a serve by these words ends with, in the default configuration.
-fn serve<R: Threads + Wait + Abort + Sync>(
+pub(crate) fn serve<R: Threads + Wait + Abort + Sync>(
     rt: &R,
     alloc: Global,
     words: &[&str],
@@ -166,7 +147,7 @@ fn serve<R: Threads + Wait + Abort + Sync>(
     Ok(ended)
 }
 
-fn expect_sessions<R: Abort>(rt: &R, gate: &MemGate, sessions: &[(End, &[u8])]) {
+pub(crate) fn expect_sessions<R: Abort>(rt: &R, gate: &MemGate, sessions: &[(End, &[u8])]) {
     expect(rt, gate.served().len(), sessions.len());
     for (served, (end, written)) in gate.served().iter().zip(sessions) {
         expect(rt, served.session_end, *end);

@@ -27,6 +27,16 @@ fn a_line_of_more_than_65536_bytes_asks_for_nothing(rt: HostRuntime) -> Result<(
 }
 
 #[test]
+fn a_query_stands_behind_a_space(rt: HostRuntime) -> Result<(), Fail> {
+    let wanted = Request::Query { text: " a |b" };
+    assert_eq!(rt; parse_line(b"query  a |b"), Some(wanted));
+    let wanted = Request::Query { text: "" };
+    assert_eq!(rt; parse_line(b"query \r"), Some(wanted));
+    assert!(rt; parse_line(b"query\r").is_none());
+    Ok(())
+}
+
+#[test]
 fn a_reply_is_one_line(rt: HostRuntime) -> Result<(), Fail> {
     let mut out = Vec::with_capacity(rt.alloc(), 64)?;
     expect_texts(&rt, &mut out);
@@ -86,6 +96,18 @@ fn expect_texts(rt: &impl Abort, out: &mut Vec<u8>) {
             room: u64::MAX,
         },
         "refused room 18446744073709551615 18446744073709551615\n",
+        out,
+    );
+    expect_text(
+        rt,
+        Reply::Query(u64::MAX),
+        "refused query 18446744073709551615\n",
+        out,
+    );
+    expect_text(
+        rt,
+        Reply::Deep(u64::MAX),
+        "refused deep 18446744073709551615\n",
         out,
     );
     expect_text(rt, Reply::Spent, "refused spent\n", out);

@@ -7,7 +7,7 @@ use std::alloc::Global;
 use std::process::Abort;
 use std::test::Fail;
 
-// A pass of an engine that takes no event any more.
+// A pass of an engine that takes no event any more, and that finds no memory to read a query.
 #[derive(Drop)]
 pub(crate) struct SpentPass;
 
@@ -21,8 +21,11 @@ impl Service for SpentPass {
 
     ghost front = { λ _. [] };
 
-    fn call(&mut self, _request: &Request<'_>) -> Reply {
-        Reply::Spent
+    fn call(&mut self, request: &Request<'_>) -> Reply {
+        match request {
+            Request::Query { .. } => Reply::Memory,
+            _ => Reply::Spent,
+        }
     }
 }
 

@@ -1,9 +1,11 @@
 -- How many words a scan reads.
-use Rattle.std.specs.Prelude.{ℕ, ◌+◌, ◌-◌, ◌*◌, ◌^◌, Bool, min, List, [], ◌∷◌, ◌++◌, sum_by, count_by}
+use Rattle.std.specs.Prelude.{◌≡◌, ℕ, ◌≤◌, ◌+◌, ◌-◌, ◌*◌, ◌^◌, Bool, min, List, [], ◌∷◌, ◌++◌, sum_by, count_by, OnOk, Result}
 use Rattle.std.specs.List.{list_any, range_with_len}
 use Rattle.funnel_model.specs.declared.config.Config.{Config}
+use Rattle.funnel_model.specs.declared.memory.Memory.{Memory}
 use Rattle.row_layout.specs.declared.row.Row.{Row}
-use Rattle.rank_matcher.specs.Hits.{is_hit}
+use Rattle.rank_matcher.specs.Appended.{IsBeginning}
+use Rattle.rank_matcher.specs.Hits.{hits, is_hit}
 
 -- a number of reads as their counter shows it, which stays at its last value
 abbrev pub shown_reads : ℕ → ℕ
@@ -31,3 +33,11 @@ reads_of_scan config words plan slice = reads_after config words [] plan slice
 -- how many words the planned rows have
 abbrev pub words_of_plan : List Row → ℕ
 words_of_plan plan = sum_by (λ row. row.width) plan
+
+-- Where the words are known: at its end the scan has found exactly the hits and read exactly what they take; wherever it stopped,
+-- a beginning of them, and no more.
+pub record ScansTold (config : Config) (words : List ℕ) (plan : List Row) (slice : ℕ) (answer : Result (Unit {0}) Memory) (columns : List ℕ) (old new : ℕ) : Type 0 where
+  pub all : OnOk answer (columns ≡ hits config words plan slice)
+  pub part : IsBeginning columns (hits config words plan slice)
+  pub reads : OnOk answer (shown_reads new ≡ shown_reads (old + reads_of_scan config words plan slice))
+  pub few : shown_reads new ≤ old + reads_of_scan config words plan slice

@@ -6,7 +6,9 @@ use Rattle.std.specs.declared.option.Option.TheVariants.{Some}
 use Rattle.funnel_model.specs.declared.bit_list.Bit.{Bit}
 use Rattle.rank_matcher.specs.Appended.{candidates_of}
 use Rattle.rank_matcher.specs.Reads.{columns_of_word, shown_reads}
+use Rattle.rank_matcher.specs.declared.walk.Search.{Search}
 use Rattle.row_layout.specs.DocumentBits.{bit_from}
+use Rattle.row_layout.specs.Orders.{rows_below_rank, rows_from_rank}
 use Rattle.row_layout.specs.declared.row.Row.{Row}
 use Rattle.row_read.specs.Bits.{has_bit, is_set}
 
@@ -103,3 +105,35 @@ pub record HasReadPlace (told : Option (List ℕ)) (place running : ℕ) (rows :
   pub is : shown_reads new ≡ shown_reads (old + count)
   pub at_most : count ≤ length rows
   pub told_is : (words : List ℕ) → told ≡ Some words → count ≡ reads_left words place running rows
+
+-- A walk can begin at this rank, over the words from `from` up to `to` of rank 0: the numbers of its columns fit, the words of each
+-- planned row may be read, and the rows below the rank have whole words for its columns.
+pub record CanWalk (reach : ℕ → Type 0) (search : Search) (ranks from to : ℕ) : Type 0 where
+  pub low : ranks ≤ 7
+  pub span : from ≤ to
+  pub few : 64 * to < 2 ^ 32
+  pub readable : All (IsReadable reach search.first) search.plan.now
+  pub whole : All (IsWhole from to) (rows_below_rank ranks search.plan.now)
+
+-- the bits that are left say of the walk's columns what the rows from the rank on say
+abbrev pub AreLeft : Option (List ℕ) → (Bit → Type 0) → (Bit → Type 0) → Search → ℕ → ℕ → ℕ → ℕ → Type 0
+AreLeft told least seen search ranks from to running =
+    IsTestOf told least seen search.first (rows_from_rank ranks search.plan.now) (64 * from) (64 * to) (has_column running)
+
+-- the walk's columns were found
+abbrev pub FindsAll : Option (List ℕ) → (Bit → Type 0) → (Bit → Type 0) → Search → ℕ → ℕ → List (ℕ × ℕ) → List (ℕ × ℕ) → Type 0
+FindsAll told least seen search from to old new = HasFound told least seen search.first search.plan.now search.slice (64 * from) (64 * to) old new
+
+-- or a beginning of them, wherever it stopped
+abbrev pub FindsPart : Option (List ℕ) → (Bit → Type 0) → (Bit → Type 0) → Search → ℕ → ℕ → List (ℕ × ℕ) → List (ℕ × ℕ) → Type 0
+FindsPart told least seen search from to old new = HasFoundPart told least seen search.first search.plan.now search.slice (64 * from) (64 * to) old new
+
+-- as many words were read as the walk reads
+abbrev pub ReadsAll : Option (List ℕ) → Search → ℕ → ℕ → ℕ → ℕ → ℕ → Type 0
+ReadsAll told search ranks from to old new =
+    HasRead told search.first (rows_from_rank ranks search.plan.now) (rows_below_rank ranks search.plan.now) from to old new
+
+-- or fewer, wherever it stopped
+abbrev pub ReadsPart : Option (List ℕ) → Search → ℕ → ℕ → ℕ → ℕ → ℕ → Type 0
+ReadsPart told search ranks from to old new =
+    HasReadPart told search.first (rows_from_rank ranks search.plan.now) (rows_below_rank ranks search.plan.now) from to old new

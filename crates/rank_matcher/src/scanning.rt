@@ -1,13 +1,10 @@
-ghost use Rattle.std.specs.Prelude.{◌≡◌, ℕ, ◌+◌, ◌<◌, ◌≤◌, ◌++◌, ◌↔◌, All, IfSome, OnOk};
-ghost use Rattle.std.specs.List.Sorted.{IsStrictlySortedBy};
-ghost use Rattle.std.specs.Ordering.{nat_cmp};
+ghost use Rattle.std.specs.Prelude.{ℕ, ◌+◌, ◌<◌, ◌≤◌, All, IfSome};
 ghost use Rattle.funnel_model.specs.Legal.{IsInSlice};
-ghost use Rattle.funnel_model.specs.Sizes.{columns_of_slice, words_of_slice};
-ghost use Rattle.funnel_model.specs.declared.bit_list.Bit.{Bit};
-ghost use Rattle.rank_matcher.specs.Appended.{HasBits, HasEach, IsBeginning, appended, candidates_of};
-ghost use Rattle.rank_matcher.specs.Hits.{hits};
-ghost use Rattle.rank_matcher.specs.Reads.{shown_reads, reads_of_scan, words_of_plan};
+ghost use Rattle.funnel_model.specs.Sizes.{words_of_slice};
+ghost use Rattle.rank_matcher.specs.Appended.{AppendsColumns, FindsBits, appended};
+ghost use Rattle.rank_matcher.specs.Reads.{ScansTold, shown_reads, words_of_plan};
 ghost use Rattle.row_layout.specs.Rows.{IsRowOf};
+ghost use Rattle.row_read.specs.Readable.{StaysReadable};
 
 use crate::walk::{Search, visit};
 use funnel_model::{Candidates, Memory};
@@ -26,23 +23,11 @@ pub fn scan<R: Rows>(
     requires slice { slice < layout.now.slices }
     requires laid { All (IsRowOf layout.now) plan.now }
     requires reach { (word : ℕ) → IsInSlice (words_of_slice layout.now) slice word → R.reach rows.old word }
-    ensures appends { out.new ≡ out.old ++ candidates_of slice (appended out.old out.new) }
-    ensures hits { OnOk result (IfSome (R.told rows.old) (λ words. appended out.old out.new ≡ hits layout.now words plan.now slice)) }
-    ensures part_of_hits { IfSome (R.told rows.old) (λ words. IsBeginning (appended out.old out.new) (hits layout.now words plan.now slice)) }
-    ensures covered { OnOk result (HasEach (R.least rows.old) layout.now plan.now slice (appended out.old out.new)) }
-    ensures in_slice { All (λ column. column < columns_of_slice layout.now) (appended out.old out.new) }
-    ensures rising { IsStrictlySortedBy nat_cmp (appended out.old out.new) }
-    ensures seen { All (HasBits (R.seen rows.new) layout.now plan.now slice) (appended out.old out.new) }
-    ensures reads { OnOk result (IfSome (R.told rows.old)
-        (λ words. shown_reads (R.reads rows.new) ≡ shown_reads (R.reads rows.old + reads_of_scan layout.now words plan.now slice))) }
-    ensures part_of_reads { IfSome (R.told rows.old)
-        (λ words. shown_reads (R.reads rows.new) ≤ R.reads rows.old + reads_of_scan layout.now words plan.now slice) }
+    ensures appends { AppendsColumns layout.now slice out.old out.new }
+    ensures told { IfSome (R.told rows.old) (λ words. ScansTold layout.now words plan.now slice result (appended out.old out.new) (R.reads rows.old) (R.reads rows.new)) }
+    ensures bits { FindsBits (R.least rows.old) (R.seen rows.new) layout.now plan.now slice result (appended out.old out.new) }
     ensures reads_at_most { shown_reads (R.reads rows.new) ≤ R.reads rows.old + words_of_plan plan.now }
-    ensures seen_stays { (bit : Bit) → R.seen rows.old bit → R.seen rows.new bit }
-    ensures reach_stays { (other : ℕ) → R.reach rows.old other ↔ R.reach rows.new other }
-    ensures least_stays { (bit : Bit) → R.least rows.old bit ↔ R.least rows.new bit }
-    ensures told_stays { R.told rows.new ≡ R.told rows.old }
-    ensures kept { R.kept rows.new ≡ R.kept rows.old }
+    ensures stays { StaysReadable R.reach R.least R.seen R.told R.kept rows.old rows.new }
 {
     let (first, _) = layout.slice_range(slice);
     let search = Search { plan, slice, first };

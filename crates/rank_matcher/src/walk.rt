@@ -1,10 +1,9 @@
 //! The walk of a slice, from the rows of the highest rank down.
 
-ghost use Rattle.std.specs.Prelude.{◌≡◌, ℕ, ◌+◌, ◌-◌, ◌*◌, ◌<◌, ◌≤◌, ◌^◌, ◌++◌, ◌↔◌, ◌&&◌, true, List, All, IfSome, OnOk, length};
-ghost use Rattle.funnel_model.specs.declared.bit_list.Bit.{Bit};
-ghost use Rattle.rank_matcher.specs.Walk.{HasFound, HasFoundPart, HasRead, HasReadPart, HasReadPlace, IsReadable, IsTestOf, IsWhole, all_have, bit_in, has_column};
-ghost use Rattle.row_layout.specs.Orders.{rows_below_rank, rows_from_rank};
+ghost use Rattle.std.specs.Prelude.{◌≡◌, ℕ, ◌+◌, ◌<◌, ◌^◌, ◌&&◌, true, All, IfSome, OnOk};
+ghost use Rattle.rank_matcher.specs.Walk.{AreLeft, CanWalk, FindsAll, FindsPart, HasReadPlace, ReadsAll, ReadsPart, all_have, bit_in};
 ghost use Rattle.row_read.specs.Bits.{has_bit};
+ghost use Rattle.row_read.specs.Readable.{StaysReadable};
 
 use crate::words::push_words;
 use funnel_model::{Candidates, Memory};
@@ -30,22 +29,14 @@ pub(crate) fn visit<R: Rows>(
     running: u64,
     out: &mut Candidates,
 ) -> Result<(), Memory>
-    requires ranks { ranks ≤ 7 }
-    requires span { from ≤ to }
-    requires few { 64 * to < 2 ^ 32 }
-    requires readable { All (IsReadable (R.reach rows.old) search.now.first) search.now.plan.now }
-    requires whole { All (IsWhole from to) (rows_below_rank ranks search.now.plan.now) }
+    requires walk { CanWalk (R.reach rows.old) search.now ranks from to }
     requires some { 0 < running }
-    requires running { IsTestOf (R.told rows.old) (R.least rows.old) (R.seen rows.old) search.now.first (rows_from_rank ranks search.now.plan.now) (64 * from) (64 * to) (has_column running) }
-    ensures found { OnOk result (HasFound (R.told rows.old) (R.least rows.old) (R.seen rows.new) search.now.first search.now.plan.now search.now.slice (64 * from) (64 * to) out.old out.new) }
-    ensures part { HasFoundPart (R.told rows.old) (R.least rows.old) (R.seen rows.new) search.now.first search.now.plan.now search.now.slice (64 * from) (64 * to) out.old out.new }
-    ensures reads { OnOk result (HasRead (R.told rows.old) search.now.first (rows_from_rank ranks search.now.plan.now) (rows_below_rank ranks search.now.plan.now) from to (R.reads rows.old) (R.reads rows.new)) }
-    ensures reads_at_most { HasReadPart (R.told rows.old) search.now.first (rows_from_rank ranks search.now.plan.now) (rows_below_rank ranks search.now.plan.now) from to (R.reads rows.old) (R.reads rows.new) }
-    ensures seen_stays { (bit : Bit) → R.seen rows.old bit → R.seen rows.new bit }
-    ensures reach_stays { (other : ℕ) → R.reach rows.old other ↔ R.reach rows.new other }
-    ensures least_stays { (bit : Bit) → R.least rows.old bit ↔ R.least rows.new bit }
-    ensures told_stays { R.told rows.new ≡ R.told rows.old }
-    ensures kept { R.kept rows.new ≡ R.kept rows.old }
+    requires running { AreLeft (R.told rows.old) (R.least rows.old) (R.seen rows.old) search.now ranks from to running }
+    ensures found { OnOk result (FindsAll (R.told rows.old) (R.least rows.old) (R.seen rows.new) search.now from to out.old out.new) }
+    ensures part { FindsPart (R.told rows.old) (R.least rows.old) (R.seen rows.new) search.now from to out.old out.new }
+    ensures reads { OnOk result (ReadsAll (R.told rows.old) search.now ranks from to (R.reads rows.old) (R.reads rows.new)) }
+    ensures reads_at_most { ReadsPart (R.told rows.old) search.now ranks from to (R.reads rows.old) (R.reads rows.new) }
+    ensures stays { StaysReadable R.reach R.least R.seen R.told R.kept rows.old rows.new }
 {
     if ranks == 0 {
         return push_words(out, search.slice, from, to, running);
@@ -82,11 +73,7 @@ fn intersect<R: Rows>(rows: &mut R, planned: &[Row], place: u32, running: u64) -
     ensures running { (bit : ℕ) → has_bit result bit ≡ true → has_bit running bit ≡ true }
     ensures seen { (bit : ℕ) → has_bit result bit ≡ true → All (λ row. R.seen rows.new (bit_in place bit row)) planned.now }
     ensures reads { HasReadPlace (R.told rows.old) place running planned.now (R.reads rows.old) (R.reads rows.new) }
-    ensures seen_stays { (bit : Bit) → R.seen rows.old bit → R.seen rows.new bit }
-    ensures reach_stays { (other : ℕ) → R.reach rows.old other ↔ R.reach rows.new other }
-    ensures least_stays { (bit : Bit) → R.least rows.old bit ↔ R.least rows.new bit }
-    ensures told_stays { R.told rows.new ≡ R.told rows.old }
-    ensures kept { R.kept rows.new ≡ R.kept rows.old }
+    ensures stays { StaysReadable R.reach R.least R.seen R.told R.kept rows.old rows.new }
 {
     let mut left = running;
     for row in planned {

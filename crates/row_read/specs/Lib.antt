@@ -1,3 +1,4 @@
 pub mod Bits
 pub mod Images
+pub mod Readable
 pub mod SharedRows

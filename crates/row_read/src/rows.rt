@@ -1,6 +1,7 @@
 ghost use Rattle.std.specs.Prelude.{◌≡◌, ℕ, ◌+◌, ◌-◌, ◌^◌, ◌↔◌, ◌⊎◌, min, IsBitSet, List, IfSome, slice_index};
 ghost use Rattle.std.specs.declared.option.Option.{Option};
 ghost use Rattle.funnel_model.specs.declared.bit_list.Bit.{Bit};
+ghost use Rattle.row_read.specs.Readable.{StaysReadable};
 
 /// Row words that can be read one by one.
 pub trait Rows {
@@ -30,10 +31,7 @@ pub trait Rows {
         ensures told { IfSome (told self.old) (λ words. result ≡ slice_index words word) }
         ensures least { (bit : ℕ) → least self.old (record { word = word; bit = bit }) → IsBitSet result bit }
         ensures seen { (bit : Bit) → seen self.new bit ↔ (seen self.old bit ⊎ ((bit.word ≡ word) × IsBitSet result bit.bit)) }
-        ensures reach_stays { (other : ℕ) → reach self.old other ↔ reach self.new other }
-        ensures least_stays { (bit : Bit) → least self.old bit ↔ least self.new bit }
-        ensures told_stays { told self.new ≡ told self.old }
-        ensures kept { kept self.new ≡ kept self.old }
+        ensures stays { StaysReadable reach least seen told kept self.old self.new }
         ensures reads { reads self.new ≡ min (reads self.old + 1) (2 ^ 64 - 1) };
 
     /// How many words were read. The count stays at its last value.

@@ -1,3 +1,4 @@
 pub mod Progress
+pub mod Turns
 pub mod TurnLaws
 pub mod SessionLaws

@@ -15,7 +15,7 @@ use Rattle.funnel_io.specs.declared.end.End.TheVariants as end_of
 use Rattle.funnel_model.specs.declared.event.Event.{Event}
 use Rattle.funnel_model.specs.declared.reply.Reply.{Reply}
 use Rattle.funnel_model.specs.declared.reply.Reply.TheVariants as reply
-use Rattle.line_proto.proofs.Rendering.{not_long, without_memory}
+use Rattle.line_proto.proofs.Rendering.{asked_without_memory, not_long}
 use Rattle.line_proto.specs.Forms.{Item, Asks, Malformed, TooLong, item_of, items, items_of}
 use Rattle.line_proto.specs.Services.{Caller}
 use Rattle.line_proto.specs.Texts.{text_of, texts}
@@ -46,10 +46,7 @@ rendered : (caller : Caller) (before after : List Event) (item : Item) (given : 
 rendered caller before after item given room text answers (inl is) = (given, answers, is)
 rendered caller before after (Asks asked) given room text answers (inr wanting) = (
   reply.Memory,
-  record {
-    step = without_memory caller.limits caller.pass before after asked given wanting.0 answers.step;
-    spent = λ many. record { reply = inr refl; call = (answers.spent many).call };
-  },
+  asked_without_memory caller before after asked given wanting.0 answers,
   wanting.2,
 )
 rendered caller before after Malformed given room text answers (inr wanting) = absurd (not_long given reply.Line answers.0 refl wanting.0)

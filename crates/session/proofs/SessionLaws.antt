@@ -1,85 +1,124 @@
 -- Laws of sessions.
-use Rattle.std.proofs.Common.{◌≡◌, ◌≢◌, ℕ, ◌<◌, ◌≤◌, ◌⊎◌, true, false, List, [], ◌∷◌, ◌++◌, length, take, drop, sym, refl, ap, ◌∙◌, subst, inl, inr, arith, append_assoc, length-append, length-drop, take-append-drop}
+use Rattle.std.proofs.Common.{◌≡◌, ◌≢◌, ℕ, ◌<◌, ◌≤◌, ◌⊎◌, true, false, List, [], ◌∷◌, ◌++◌, length, take, drop, sym, refl, ap, ◌∙◌, subst, ⊎_elim, inl, inr, arith, append_assoc, length-append, length-drop, take-append-drop}
 use Rattle.std.specs.Io.KnownBytes.{IsAtEnd}
-use Rattle.std.specs.List.{AllByRecursion}
 use Rattle.std.proofs.lemmas.List.{length-map}
-use Rattle.std.proofs.lemmas.List.Elements.{All-from_recursion}
 use Rattle.funnel_io.specs.Lines.{last_line, lines, rest_of, whole_lines}
 use Rattle.funnel_io.specs.declared.end.End.{End}
 use Rattle.funnel_io.specs.declared.end.End.TheVariants as end_of
 use Rattle.funnel_model.proofs.LastEvents.{token_is_last}
 use Rattle.funnel_model.proofs.NextEvents.{busy}
+use Rattle.funnel_model.proofs.StepCauses.{query_not_made}
+use Rattle.funnel_model.specs.declared.call.Call.{Call}
 use Rattle.funnel_model.specs.declared.call.Call.TheVariants as call
 use Rattle.funnel_model.specs.declared.event.Event.{Event}
 use Rattle.funnel_model.specs.declared.event.Event.TheVariants as event
+use Rattle.funnel_model.specs.declared.expr.Expr.{Expr}
 use Rattle.funnel_model.specs.declared.reply.Reply.{Reply}
 use Rattle.funnel_model.specs.declared.reply.Reply.TheVariants as reply
 use Rattle.funnel_model.specs.History.{own}
-use Rattle.funnel_model.specs.Steps.{AddsCall, AddsNone, IsMade, IsSpent, LacksMemory, Linear}
-use Rattle.line_proto.specs.Forms.{Item, Asks, Malformed, TooLong, item_of}
-use Rattle.line_proto.specs.Services.{AnswersCall, Caller, IsNotTaken}
+use Rattle.funnel_model.specs.Steps.{AddsCall, AddsNone, IsJudged, IsMade, IsSpent, LacksMemory, Linear}
+use Rattle.line_proto.specs.Forms.{Item, Asks, Malformed, TooLong, Calls, Queries, item_of}
+use Rattle.line_proto.specs.Services.{AnswersCall, Caller, IsNotTaken, IsUnread}
 use Rattle.line_proto.specs.Texts.{text_of, texts}
 use Rattle.session.proofs.Progress.{texts-push}
 use Rattle.session.specs.Ends.{Serves, Stand}
-use Rattle.session.specs.Laws.{calls_of, replies_to_calls, IsRefusal, TakesNone, IsProperFront, EndsByCount, FindIsOver}
+use Rattle.session.specs.Laws.{AreCalls, RunsCalls, IsRefusedAs, TakesNone, IsProperFront, EndsByCount, FindIsOver}
 use Rattle.session.specs.Sessions.{Answers, AnswersItem, CutsLast}
 
-pub linear : (caller : Caller) (before after : List Event) (asked : List Item) (replies : List Reply) → Answers caller before asked replies after
-    → Linear caller.limits caller.pass before after (calls_of asked) (replies_to_calls asked replies)
-linear caller before after [] [] run = run
-linear caller before after (Asks asked ∷ items) (given ∷ replies) run = (run.0, run.1.step, linear caller run.0 after items replies run.2)
-linear caller before after (Malformed ∷ items) (given ∷ replies) run =
-    subst (λ h. Linear caller.limits caller.pass h after (calls_of items) (replies_to_calls items replies)) (sym run.1.1) (linear caller run.0 after items replies run.2)
-linear caller before after (TooLong ∷ items) (given ∷ replies) run =
-    subst (λ h. Linear caller.limits caller.pass h after (calls_of items) (replies_to_calls items replies)) (sym run.1.1) (linear caller run.0 after items replies run.2)
-linear caller before after [] (given ∷ replies) run = absurd run
-linear caller before after (item ∷ items) [] run = absurd run
+-- an item with its reply is the first call, or no call
+runs_one : (caller : Caller) (before middle after : List Event) (item : Item) (given : Reply) (items : List Item) (replies : List Reply)
+    → AnswersItem caller before item given middle → RunsCalls caller middle after items replies → RunsCalls caller before after (item ∷ items) (given ∷ replies)
+runs_one caller before middle after (Asks (Calls asked)) given items replies answers run = record {
+  calls = asked ∷ run.calls;
+  told = given ∷ run.told;
+  are = inr (asked, run.calls, run.told, refl, run.are, refl, refl);
+  steps = (middle, answers.step, run.steps);
+}
+runs_one caller before middle after (Asks (Queries text)) given items replies (inl read) run = record {
+  calls = call.Query read.expr ∷ run.calls;
+  told = given ∷ run.told;
+  are = inr (call.Query read.expr, run.calls, run.told, (read.expr, read.reads, refl), run.are, refl, refl);
+  steps = (middle, read.answers.step, run.steps);
+}
+runs_one caller before middle after (Asks (Queries text)) given items replies (inr unread) run = record {
+  calls = run.calls;
+  told = run.told;
+  are = inl (unread.1, run.are);
+  steps = subst (λ h. Linear caller.limits caller.pass h after run.calls run.told) (sym unread.0) run.steps;
+}
+runs_one caller before middle after Malformed given items replies answers run = record {
+  calls = run.calls;
+  told = run.told;
+  are = inl (tt, run.are);
+  steps = subst (λ h. Linear caller.limits caller.pass h after run.calls run.told) (sym answers.1) run.steps;
+}
+runs_one caller before middle after TooLong given items replies answers run = record {
+  calls = run.calls;
+  told = run.told;
+  are = inl (tt, run.are);
+  steps = subst (λ h. Linear caller.limits caller.pass h after run.calls run.told) (sym answers.1) run.steps;
+}
 
--- a call that wasn't taken is refused
-refused : (given : Reply) → (given ≡ reply.Spent) ⊎ (given ≡ reply.Memory) → IsRefusal given
-refused given (inl is) = subst IsRefusal (sym is) tt
-refused given (inr is) = subst IsRefusal (sym is) tt
+pub runs_calls : (caller : Caller) (before after : List Event) (asked : List Item) (replies : List Reply) → Answers caller before asked replies after
+    → RunsCalls caller before after asked replies
+runs_calls caller before after [] [] run = record { calls = []; told = []; are = (refl, refl); steps = run }
+runs_calls caller before after (item ∷ items) (given ∷ replies) run =
+    runs_one caller before run.0 after item given items replies run.1 (runs_calls caller run.0 after items replies run.2)
+runs_calls caller before after [] (given ∷ replies) run = absurd run
+runs_calls caller before after (item ∷ items) [] run = absurd run
+
+-- so items have at most as many calls
+pub calls_few : (items : List Item) (replies : List Reply) (calls : List Call) (told : List Reply) → AreCalls items replies calls told → length calls ≤ length items
+calls_few [] [] calls told are = let none = ap length are.0 in omega arith
+calls_few (item ∷ items) (given ∷ replies) calls told (inl no_call) = let few = calls_few items replies calls told no_call.1 in omega arith
+calls_few (item ∷ items) (given ∷ replies) calls told (inr one) =
+    let few = calls_few items replies one.1 one.2 one.4 in
+    let same = ap length one.5 in
+    omega arith
+calls_few [] (given ∷ replies) calls told are = absurd are
+calls_few (item ∷ items) [] calls told are = absurd are
 
 -- one item over a spent front
-record OneRefused (caller : Caller) (before middle : List Event) (given : Reply) : Type 0 where
-  pub refusal : IsRefusal given
+record OneRefused (caller : Caller) (before middle : List Event) (item : Item) (given : Reply) : Type 0 where
+  pub refusal : IsRefusedAs item given
   pub none : AddsNone caller.pass before middle
   pub spent : caller.limits.events ≤ length middle
 
-one_refused : (caller : Caller) (before middle : List Event) (item : Item) (given : Reply) → caller.limits.events ≤ length before
-    → AnswersItem caller before item given middle → OneRefused caller before middle given
-one_refused caller before middle (Asks asked) given many answers =
-    let not_taken : IsNotTaken caller before middle given = answers.spent many in
+-- a front that grows stays spent
+still_spent : (caller : Caller) (before middle : List Event) (asked : Call) (given : Reply) → caller.limits.events ≤ length before
+    → AnswersCall caller before middle asked given → caller.limits.events ≤ length middle
+still_spent caller before middle asked given many answers =
     let grows = answers.step.grows in
+    omega (arith, many, length-append before grows.0, ap length grows.1)
+
+one_refused : (caller : Caller) (before middle : List Event) (item : Item) (given : Reply) → caller.limits.events ≤ length before
+    → AnswersItem caller before item given middle → OneRefused caller before middle item given
+one_refused caller before middle (Asks (Calls asked)) given many answers =
+    let not_taken : IsNotTaken caller before middle given = answers.spent many in
+    record { refusal = not_taken.reply; none = not_taken.call; spent = still_spent caller before middle asked given many answers }
+one_refused caller before middle (Asks (Queries text)) given many (inl read) =
+    let not_taken : IsNotTaken caller before middle given = read.answers.spent many in
     record {
-      refusal = refused given not_taken.reply;
+      refusal = ⊎_elim (λ (spent : given ≡ reply.Spent). inl spent) (λ (memory : given ≡ reply.Memory). inr (subst (IsUnread text) (sym memory) tt)) not_taken.reply;
       none = not_taken.call;
-      spent = omega (arith, many, length-append before grows.0, ap length grows.1);
+      spent = still_spent caller before middle (call.Query read.expr) given many read.answers;
     }
+one_refused caller before middle (Asks (Queries text)) given many (inr unread) =
+    record { refusal = inr unread.1; none = ap (own caller.pass) (sym unread.0); spent = subst (λ h. caller.limits.events ≤ length h) unread.0 many }
 one_refused caller before middle Malformed given many answers =
-    record { refusal = subst IsRefusal (sym answers.0) tt; none = ap (own caller.pass) (sym answers.1); spent = subst (λ h. caller.limits.events ≤ length h) answers.1 many }
+    record { refusal = answers.0; none = ap (own caller.pass) (sym answers.1); spent = subst (λ h. caller.limits.events ≤ length h) answers.1 many }
 one_refused caller before middle TooLong given many answers =
-    record { refusal = subst IsRefusal (sym answers.0) tt; none = ap (own caller.pass) (sym answers.1); spent = subst (λ h. caller.limits.events ≤ length h) answers.1 many }
-
-record AllRefused (caller : Caller) (before after : List Event) (replies : List Reply) : Type 0 where
-  pub refusals : AllByRecursion IsRefusal replies
-  pub none : AddsNone caller.pass before after
-
-all_refused : (caller : Caller) (before after : List Event) (asked : List Item) (replies : List Reply) → caller.limits.events ≤ length before
-    → Answers caller before asked replies after → AllRefused caller before after replies
-all_refused caller before after [] [] many run = record { refusals = tt; none = ap (own caller.pass) (sym run) }
-all_refused caller before after (item ∷ items) (given ∷ replies) many run =
-    let one = one_refused caller before run.0 item given many run.1 in
-    let others = all_refused caller run.0 after items replies one.spent run.2 in
-    record { refusals = (one.refusal, others.refusals); none = others.none ∙ one.none }
-all_refused caller before after [] (given ∷ replies) many run = absurd run
-all_refused caller before after (item ∷ items) [] many run = absurd run
+    record { refusal = answers.0; none = ap (own caller.pass) (sym answers.1); spent = subst (λ h. caller.limits.events ≤ length h) answers.1 many }
 
 pub takes_none : (caller : Caller) (before after : List Event) (asked : List Item) (replies : List Reply) → caller.limits.events ≤ length before
-    → Answers caller before asked replies after → TakesNone caller.pass before after replies
-takes_none caller before after asked replies many run =
-    let all = all_refused caller before after asked replies many run in
-    record { refused = All-from_recursion IsRefusal replies all.refusals; none = all.none }
+    → Answers caller before asked replies after → TakesNone caller.pass before after asked replies
+takes_none caller before after [] [] many run = record { refused = tt; none = ap (own caller.pass) (sym run) }
+takes_none caller before after (item ∷ items) (given ∷ replies) many run =
+    let one = one_refused caller before run.0 item given many run.1 in
+    let others = takes_none caller run.0 after items replies one.spent run.2 in
+    record { refused = (one.refusal, others.refused); none = others.none ∙ one.none }
+takes_none caller before after [] (given ∷ replies) many run = absurd run
+takes_none caller before after (item ∷ items) [] many run = absurd run
 
 pub proper_front : (replies : List Reply) (written : List ℕ) → CutsLast replies written → IsProperFront written (texts replies)
 proper_front replies written cuts = record {
@@ -130,11 +169,22 @@ at_limit caller limit old new end_of.Memory served some many = absurd (omega (ar
 -- a call that found no memory, as its step says
 find_calls : (caller : Caller) (before after : List Event) (query : List ℕ)
     → IsMade caller.limits caller.pass before after (call.Find query) reply.Memory ⊎ LacksMemory caller.pass before after (call.Find query) reply.Memory
-    ⊎ IsSpent caller.limits caller.pass before after reply.Memory
+    ⊎ IsSpent caller.limits caller.pass before after reply.Memory ⊎ IsJudged caller.pass before after (call.Find query) reply.Memory
     → AddsNone caller.pass before after ⊎ AddsCall caller.pass before after (call.Find query)
 find_calls caller before after query (inl made) = inr made.call
 find_calls caller before after query (inr (inl lacks)) = lacks.call
-find_calls caller before after query (inr (inr spent)) = inl spent.call
+find_calls caller before after query (inr (inr (inl spent))) = inl spent.call
+find_calls caller before after query (inr (inr (inr judged))) = let other = judged.query in absurd (cc)
+
+-- and so of a query
+query_calls : (caller : Caller) (before after : List Event) (expr : Expr)
+    → IsMade caller.limits caller.pass before after (call.Query expr) reply.Memory ⊎ LacksMemory caller.pass before after (call.Query expr) reply.Memory
+    ⊎ IsSpent caller.limits caller.pass before after reply.Memory ⊎ IsJudged caller.pass before after (call.Query expr) reply.Memory
+    → AddsNone caller.pass before after ⊎ AddsCall caller.pass before after (call.Find [])
+query_calls caller before after expr (inl made) = absurd (query_not_made caller.limits caller.pass before after expr reply.Memory made)
+query_calls caller before after expr (inr (inl lacks)) = lacks.call
+query_calls caller before after expr (inr (inr (inl spent))) = inl spent.call
+query_calls caller before after expr (inr (inr (inr judged))) = inr judged.call
 
 pub find_is_over : (caller : Caller) (before after : List Event) (query : List ℕ) → AnswersCall caller before after (call.Find query) reply.Memory
     → FindIsOver caller.pass before after query
@@ -143,4 +193,13 @@ find_is_over caller before after query answers = record {
       let last = token_is_last caller.limits after caller.pass number answers.step.legal token in
       busy caller.pass after (event.Find caller.pass last.0) last.1 refl answers.step.idle_after;
   calls = find_calls caller before after query answers.step.outcome;
+}
+
+pub query_is_over : (caller : Caller) (before after : List Event) (expr : Expr) → AnswersCall caller before after (call.Query expr) reply.Memory
+    → FindIsOver caller.pass before after []
+query_is_over caller before after expr answers = record {
+  no_token = λ number token.
+      let last = token_is_last caller.limits after caller.pass number answers.step.legal token in
+      busy caller.pass after (event.Find caller.pass last.0) last.1 refl answers.step.idle_after;
+  calls = query_calls caller before after expr answers.step.outcome;
 }

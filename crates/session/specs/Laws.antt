@@ -1,7 +1,7 @@
 -- What the laws of sessions say.
-use Rattle.std.specs.Prelude.{◌≡◌, ◌≢◌, ◌↔◌, ◌<◌, ◌⊎◌, ⊤, ℕ, List, [], ◌∷◌, ◌++◌, length, All, Option, Some, None}
-use Rattle.std.specs.List.{filter_map}
-use Rattle.funnel_io.specs.Calls.{Read, bytes_written}
+use Rattle.std.specs.Prelude.{◌≡◌, ◌≢◌, ◌↔◌, ◌<◌, ◌⊎◌, ⊤, ℕ, List, [], ◌∷◌, ◌++◌, length}
+use Rattle.std.specs.List.{AllZip}
+use Rattle.funnel_io.specs.Calls.{Read}
 use Rattle.funnel_io.specs.Counts.{Rose}
 use Rattle.funnel_io.specs.declared.end.End.{End}
 use Rattle.funnel_io.specs.declared.end.End.TheVariants as end_of
@@ -9,43 +9,59 @@ use Rattle.funnel_io.specs.declared.source.Got.TheVariants as got
 use Rattle.funnel_model.specs.declared.call.Call.{Call}
 use Rattle.funnel_model.specs.declared.call.Call.TheVariants as call
 use Rattle.funnel_model.specs.declared.event.Event.{Event}
+use Rattle.funnel_model.specs.declared.expr.Expr.{Expr}
 use Rattle.funnel_model.specs.declared.reply.Reply.{Reply}
 use Rattle.funnel_model.specs.declared.reply.Reply.TheVariants as reply
-use Rattle.funnel_model.specs.Steps.{AddsCall, AddsNone}
+use Rattle.funnel_model.specs.Expressions.{tree_of}
+use Rattle.funnel_model.specs.Queries.{IsQuery}
+use Rattle.funnel_model.specs.Steps.{AddsCall, AddsNone, Linear}
 use Rattle.funnel_model.specs.Tokens.{HasToken}
-use Rattle.line_proto.specs.Services.{Caller}
-use Rattle.line_proto.specs.Forms.{Item, Asks, Malformed, TooLong}
+use Rattle.line_proto.specs.Services.{Caller, IsUnread}
+use Rattle.line_proto.specs.Forms.{Item, Asks, Malformed, TooLong, Calls, Queries}
 use Rattle.session.specs.Ends.{Serves, Stand}
-use Rattle.session.specs.Turns.{Turn}
 
--- the call that an item asks for
-abbrev pub asked_by : Item → Option Call
-asked_by (Asks asked) = Some asked
-asked_by _ = None
+-- the call that an item asks for; where it asks for what a text finds, the query of the expression that the text is the query of
+abbrev pub AsksFor : Item → Call → Type 0
+AsksFor (Asks (Calls asked)) made = made ≡ asked
+AsksFor (Asks (Queries text)) made = (expr : Expr) × IsQuery text (tree_of expr) × (made ≡ call.Query expr)
+AsksFor Malformed made = ⊥
+AsksFor TooLong made = ⊥
 
--- the calls that the items ask for, in order
-abbrev pub calls_of : List Item → List Call
-calls_of items = filter_map asked_by items
+-- an item that is answered so is no call: a line of no form, one that is too long, or a text that was refused before anything was called
+abbrev pub IsNoCall : Item → Reply → Type 0
+IsNoCall (Asks (Calls asked)) given = ⊥
+IsNoCall (Asks (Queries text)) given = IsUnread text given
+IsNoCall Malformed given = ⊤
+IsNoCall TooLong given = ⊤
 
--- of the replies to the items, those to their calls
-abbrev pub replies_to_calls : List Item → List Reply → List Reply
-replies_to_calls [] replies = []
-replies_to_calls (item ∷ items) [] = []
-replies_to_calls (Asks asked ∷ items) (given ∷ replies) = given ∷ replies_to_calls items replies
-replies_to_calls (Malformed ∷ items) (given ∷ replies) = replies_to_calls items replies
-replies_to_calls (TooLong ∷ items) (given ∷ replies) = replies_to_calls items replies
+-- of items and the replies to them, these are the calls in order, with the replies to those
+abbrev pub AreCalls : List Item → List Reply → List Call → List Reply → Type 0
+AreCalls [] [] calls told = (calls ≡ []) × (told ≡ [])
+AreCalls (item ∷ items) (given ∷ replies) calls told =
+    (IsNoCall item given × AreCalls items replies calls told)
+    ⊎ ((made : Call) × (rest : List Call) × (others : List Reply) × AsksFor item made × AreCalls items replies rest others
+    × (calls ≡ made ∷ rest) × (told ≡ given ∷ others))
+AreCalls [] (given ∷ replies) calls told = ⊥
+AreCalls (item ∷ items) [] calls told = ⊥
 
--- the reply is that of a call which wasn't taken, as spent or for want of memory, or of a line that is no call
-abbrev pub IsRefusal : Reply → Type 0
-IsRefusal reply.Spent = ⊤
-IsRefusal reply.Memory = ⊤
-IsRefusal reply.Line = ⊤
-IsRefusal reply.Long = ⊤
-IsRefusal _ = ⊥
+-- the items are answered by one run of calls: those of the items lead from front to front, one step for each
+pub record RunsCalls (caller : Caller) (before after : List Event) (asked : List Item) (replies : List Reply) : Type 0 where
+  pub calls : List Call
+  pub told : List Reply
+  pub are : AreCalls asked replies calls told
+  pub steps : Linear caller.limits caller.pass before after calls told
 
--- every reply is a refusal, and no call of the pass came into the history
-pub record TakesNone (pass : ℕ) (before after : List Event) (replies : List Reply) : Type 0 where
-  pub refused : All IsRefusal replies
+-- over a spent front an item is refused so: a call as spent or for want of memory, a text that is to be read as a query as spent or
+-- before anything is called, and any other line as over each front
+abbrev pub IsRefusedAs : Item → Reply → Type 0
+IsRefusedAs (Asks (Calls asked)) given = (given ≡ reply.Spent) ⊎ (given ≡ reply.Memory)
+IsRefusedAs (Asks (Queries text)) given = (given ≡ reply.Spent) ⊎ IsUnread text given
+IsRefusedAs Malformed given = given ≡ reply.Line
+IsRefusedAs TooLong given = given ≡ reply.Long
+
+-- every item is refused so, and no call of the pass came into the history
+pub record TakesNone (pass : ℕ) (before after : List Event) (asked : List Item) (replies : List Reply) : Type 0 where
+  pub refused : AllZip IsRefusedAs asked replies
   pub none : AddsNone pass before after
 
 -- the bytes begin with these, and are more
@@ -66,16 +82,6 @@ EndsByCount caller limit old new end served = NoFault old new → end ≢ end_of
 pub record FindIsOver (pass : ℕ) (before after : List Event) (query : List ℕ) : Type 0 where
   pub no_token : (number : ℕ) → HasToken after pass number → ⊥
   pub calls : AddsNone pass before after ⊎ AddsCall pass before after (call.Find query)
-
--- the replies of the turns, of which the last comes first
-abbrev pub replies_of : List Turn → List Reply
-replies_of [] = []
-replies_of (turn ∷ earlier) = replies_of earlier ++ turn.reply ∷ []
-
--- and the bytes that their writes took
-abbrev pub bytes_of : List Turn → List ℕ
-bytes_of [] = []
-bytes_of (turn ∷ earlier) = bytes_of earlier ++ bytes_written turn.writes
 
 -- there is a last read, and it found the end
 pub record FindsEnd (reads : List Read) : Type 0 where

@@ -6,13 +6,12 @@ use Rattle.funnel_model.specs.declared.event.Event.{Event}
 use Rattle.funnel_model.specs.declared.reply.Reply.{Reply}
 use Rattle.funnel_model.specs.declared.reply.Reply.TheVariants as reply
 use Rattle.line_proto.specs.Forms.{Item, Asks, Malformed, TooLong, items}
-use Rattle.line_proto.specs.Services.{AnswersCall, Caller}
+use Rattle.line_proto.specs.Services.{AnswersAsked, Caller}
 use Rattle.line_proto.specs.Texts.{text_of, texts}
 
--- an item is answered: a call by a step from front to front, and a line of no form or one that is too long by its
--- refusal and no step
+-- an item is answered: what is asked as a service answers it, and a line of no form or one that is too long by its refusal and no step
 abbrev pub AnswersItem : Caller → List Event → Item → Reply → List Event → Type 0
-AnswersItem caller before (Asks asked) given after = AnswersCall caller before after asked given
+AnswersItem caller before (Asks asked) given after = AnswersAsked caller before after asked given
 AnswersItem caller before Malformed given after = (given ≡ reply.Line) × (before ≡ after)
 AnswersItem caller before TooLong given after = (given ≡ reply.Long) × (before ≡ after)
 

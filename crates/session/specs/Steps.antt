@@ -15,7 +15,8 @@ use Rattle.line_proto.specs.Services.{Caller}
 use Rattle.line_proto.specs.Texts.{is_list, text_of, texts}
 use Rattle.session.specs.Sessions.{Answers, AnswersItem}
 use Rattle.session.specs.Ends.{Stand, is_read_fault}
-use Rattle.session.specs.Turns.{Turn, GoesBy, AreBelow, AreTurns, IsWritten, reads_of}
+use Rattle.session.specs.Turns.{answers_of, line_by_line, reads_of}
+use Rattle.session.specs.TurnSteps.{HasTakenTurns}
 
 -- the text is the reply's, or that of a want of memory, for a list whose text has more bytes than there was room for
 abbrev pub IsRendered : Reply → ℕ → List ℕ → Type 0
@@ -66,17 +67,12 @@ pub record EndsNext (limit : ℕ) (old_reader reader : ReaderState) (before afte
 
 -- every line that was given had its turn, every reply was written whole, and no call failed
 pub record HasGone {S : Type 0} (read_gives : S → Read → S → Type 0) (write_gives : S → Write → S → Type 0) (limit may : ℕ) (before now : S) (reader : ReaderState) : Type 0 where
-  pub turns : List Turn
-  pub turn_by_turn : Leads (GoesBy read_gives write_gives) before turns now
-  pub are : AreTurns turns
-  pub written : IsWritten turns
+  pub so_far : HasTakenTurns line_by_line read_gives write_gives limit may before now
   pub given : List (List ℕ)
-  pub has_given : HasGiven reader (bytes_read (reads_of turns)) given
-  pub answered : length given ≡ length turns
-  pub count : may + length (bytes_read (reads_of turns)) ≡ limit
-  pub below : AreBelow limit (reads_of turns)
-  pub ended : found_end (reads_of turns) ≡ reader.ended
-  pub none_failed : last_failed (reads_of turns) ≡ false
+  pub has_given : HasGiven reader (bytes_read (reads_of so_far.turns)) given
+  pub answered : length given ≡ length (answers_of so_far.turns)
+  pub ended : found_end (reads_of so_far.turns) ≡ reader.ended
+  pub none_failed : last_failed (reads_of so_far.turns) ≡ false
 
 -- the reads of which a next line came, or none
 pub record ReadsOn {S : Type 0} (read_gives : S → Read → S → Type 0) (before after : S) (old new : ReaderState) (may may' : ℕ) (more : Bool) : Type 0 where

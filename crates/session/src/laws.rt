@@ -6,31 +6,33 @@ ghost use Rattle.funnel_io.specs.Lines.{rest_of};
 ghost use Rattle.funnel_io.specs.declared.end.End.{End};
 ghost use Rattle.funnel_model.specs.declared.call.Call.TheVariants as call;
 ghost use Rattle.funnel_model.specs.declared.event.Event.{Event};
+ghost use Rattle.funnel_model.specs.declared.expr.Expr.{Expr};
 ghost use Rattle.funnel_model.specs.declared.reply.Reply.{Reply};
 ghost use Rattle.funnel_model.specs.declared.reply.Reply.TheVariants as reply;
-ghost use Rattle.funnel_model.specs.Steps.{Linear};
 ghost use Rattle.line_proto.specs.Forms.{Item};
 ghost use Rattle.line_proto.specs.Services.{AnswersCall, Caller};
 ghost use Rattle.line_proto.specs.Texts.{texts};
 ghost use Rattle.session.specs.Ends.{Serves, Stand};
-ghost use Rattle.session.specs.Laws.{bytes_of, calls_of, replies_of, replies_to_calls, TakesNone, IsProperFront, EndsByCount, FindIsOver, FindsEnd};
+ghost use Rattle.session.specs.Laws.{RunsCalls, TakesNone, IsProperFront, EndsByCount, FindIsOver, FindsEnd};
 ghost use Rattle.session.specs.Sessions.{Answers, CutsLast};
-ghost use Rattle.session.specs.Turns.{AreTurns, StopsReading, Turn, reads_of};
+ghost use Rattle.session.specs.Turns.{AreTurns, StopsReading, Turn, answers_of, bytes_of, line_by_line, reads_of};
 
 use funnel_io::Connection;
 
-/// The calls of a session lead from front to front, one step for each, and their replies are those that were given.
+/// The calls of a session lead from front to front, one step for each, and their replies are those that were given. A line's call is
+/// the one of which it has a form, or the query of the expression that its text is the query of. No other line is a call.
 pub fn a_session_is_one_run_of_calls()
     ensures { (caller : Caller) (before after : List Event) (asked : List Item) (replies : List Reply) →
         Answers caller before asked replies after →
-        Linear caller.limits caller.pass before after (calls_of asked) (replies_to_calls asked replies) }
+        RunsCalls caller before after asked replies }
 {}
 
-/// Over a front that is spent every call is refused, as spent or for want of memory, and is in no history.
+/// Over a front that is spent every call is refused, as spent or for want of memory, and is in no history; every other line is
+/// refused as it is over any front, a text that is no query among them.
 pub fn spent_fronts_take_no_call()
     ensures { (caller : Caller) (before after : List Event) (asked : List Item) (replies : List Reply) →
         caller.limits.events ≤ length before → Answers caller before asked replies after →
-        TakesNone caller.pass before after replies }
+        TakesNone caller.pass before after asked replies }
 {}
 
 /// Where a write failed, the text of the replies is not written to its end.
@@ -59,18 +61,22 @@ pub fn sessions_end_at_their_limit()
 
 /// The last read of a session that is done found the end of the input.
 pub fn sessions_that_are_done_found_the_end<C: Connection>()
-    ensures { (limit : ℕ) (end : End) (before after : C) (stops : StopsReading C.read_gives C.write_gives limit (end ≡ End.Done) before after) →
+    ensures { (limit : ℕ) (end : End) (before after : C) (stops : StopsReading line_by_line C.read_gives C.write_gives limit (end ≡ End.Done) before after) →
         end ≡ End.Done → FindsEnd (stops.goes.last ++ reads_of stops.goes.turns) }
 {}
 
 /// What the turns of a session write begins the texts of their replies.
 pub fn turns_write_their_replies()
-    ensures { (turns : List Turn) → AreTurns turns → IsPrefix (bytes_of turns) (texts (replies_of turns)) }
+    ensures { (turns : List (Turn Reply)) → AreTurns line_by_line turns → IsPrefix (bytes_of turns) (texts (answers_of turns)) }
 {}
 
-/// A find that found no memory is over: its pass has no token, and made no other call.
+/// A find that found no memory is over: its pass has no token, and made no other call. So is a query, whose find is that of the empty
+/// query.
 pub fn finds_without_memory_are_over()
-    ensures { (caller : Caller) (before after : List Event) (query : List ℕ) →
+    ensures find { (caller : Caller) (before after : List Event) (query : List ℕ) →
         AnswersCall caller before after (call.Find query) reply.Memory →
         FindIsOver caller.pass before after query }
+    ensures query { (caller : Caller) (before after : List Event) (expr : Expr) →
+        AnswersCall caller before after (call.Query expr) reply.Memory →
+        FindIsOver caller.pass before after [] }
 {}

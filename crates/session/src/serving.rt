@@ -2,7 +2,7 @@ ghost use Rattle.std.specs.Prelude.{◌≡◌, ◌<◌, ◌≤◌, ◌+◌, OnOk
 ghost use Rattle.funnel_io.specs.LineReading.{most_lines, unused};
 ghost use Rattle.session.specs.Ends.{Serves, Stand, is_read_fault, is_write_fault};
 ghost use Rattle.session.specs.Steps.{AnswersNext, EndsNext, HasGone, HasServedLines, ReadsOn};
-ghost use Rattle.session.specs.Turns.{StopsReading};
+ghost use Rattle.session.specs.Turns.{StopsReading, line_by_line};
 ghost use Rattle.session.specs.declared.serving.TheConstants.{MOST_BYTES};
 
 use crate::answering::{TEXT_ROOM, answer, render};
@@ -33,10 +33,10 @@ pub fn serve_session<S: Service, C: Connection>(
         record { front = S.front service.new; incoming = C.incoming conn.new; outgoing = C.outgoing conn.new }
         result }
 
-    // A line has its turn only where the reply before it was written whole, at one go. Anything more is read only where
-    // each line that ended so far had its turn, and every read gave bytes. Nothing is read once `limit` bytes were taken,
-    // and with `Done` the last read found the end.
-    ensures in_turns { StopsReading C.read_gives C.write_gives limit (result ≡ End.Done) conn.old conn.new }
+    // A line has its turn only once it was read, and where the reply before it was written whole, at one go. Anything more
+    // is read only where each line that ended so far had its turn, and every read gave bytes. Nothing is read once `limit`
+    // bytes were taken, and with `Done` the last read found the end.
+    ensures in_turns { StopsReading line_by_line C.read_gives C.write_gives limit (result ≡ End.Done) conn.old conn.new }
     ensures untouched { result ≡ End.Memory → (conn.new ≡ conn.old) × (service.new ≡ service.old) }
 {
     let Ok(reader) = LineReader::new(alloc) else {
@@ -87,7 +87,7 @@ impl Server {
             record { front = S.front service.new; incoming = C.incoming conn.new; outgoing = C.outgoing conn.new }) }
         ensures in_turns { (first : C) → HasGone C.read_gives C.write_gives limit self.old.left first conn.old self.old.reader →
             MatchOption result (HasGone C.read_gives C.write_gives limit self.new.left first conn.new self.new.reader)
-            (λ end. StopsReading C.read_gives C.write_gives limit (end ≡ End.Done) first conn.new) }
+            (λ end. StopsReading line_by_line C.read_gives C.write_gives limit (end ≡ End.Done) first conn.new) }
         ensures started { result ≡ Some End.Memory → ⊥ }
         ensures fewer { IfNone result (most_lines self.new.reader.held self.new.reader.long + self.new.left
             < most_lines self.old.reader.held self.old.reader.long + self.old.left) }

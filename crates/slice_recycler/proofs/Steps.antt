@@ -160,11 +160,11 @@ step_spent_after limits pass before middle after asked idle idle_middle first tu
       idle_before = idle;
       idle_after = idle_still pass middle after turn idle_middle;
       few_moves = let few = quiet_moves_few pass (most + 0) before after quiet in omega (arith, few);
-      outcome = inr (inr (record {
+      outcome = inr (inr (inl (record {
         reply = refl;
         call = quiet_adds_none pass (most + 0) before after quiet;
         many = subst (λ (h : List Event). limits.events ≤ length h) (sym (turn.made ∙ append-nil turn.earlier)) many;
-      }));
+      })));
     }
 
 pub step_spent_turn : {answers : List Event → Type 0} (limits : Limits) (pass : ℕ) (before after : List Event) (asked : Call) →

@@ -1,7 +1,12 @@
 -- A turn of a pass at the desk, as its own front tells it.
-use Rattle.std.specs.Prelude.{◌≡◌, ℕ, List, ◌++◌}
+use Rattle.std.specs.Prelude.{◌≡◌, ℕ, List, ◌++◌, MatchResult, Result}
 use Rattle.funnel_model.specs.declared.event.Event.{Event}
 use Rattle.funnel_model.specs.History.{IsFrontOf}
+use Rattle.commit_desk.specs.declared.answers.ClearRefusal.{ClearRefusal}
+use Rattle.commit_desk.specs.declared.answers.ToClear.{ToClear}
+use Rattle.commit_desk.specs.Passes.{IsResting, IsToClear}
+use Rattle.slice_rule.specs.Pools.{PoolId}
+use Rattle.slice_rule.specs.Seats.{PassState}
 
 -- The history had gone on since the pass saw it last, without an event of the pass; after that the desk answered, and made these
 -- events; and the pass has seen them all.
@@ -10,3 +15,8 @@ pub record IsTurn (pass : ℕ) (before after : List Event) (answers : List Event
   pub seen : IsFrontOf pass before earlier
   pub answer : answers earlier
   pub made : after ≡ earlier ++ events
+
+-- what the first turn of a recycle leaves: the pass has a slice to clear, with all slots of its columns, or it rests
+abbrev pub ClearsOrRests : PoolId → PassState → Result ToClear ClearRefusal → Type 0
+ClearsOrRests pool pass answer =
+    MatchResult answer (λ work. IsToClear pool work.job pass × (work.slots ≡ pool.limits.columns)) (λ _. IsResting pool pass)

@@ -1,10 +1,10 @@
 //! The two turns of a recycle at the desk.
-ghost use Rattle.std.specs.Prelude.{◌≡◌, [], ◌∷◌, true, MatchResult};
+ghost use Rattle.std.specs.Prelude.{◌≡◌, [], ◌∷◌, true};
 ghost use Rattle.funnel_model.specs.declared.event.Event.TheVariants as event;
 ghost use Rattle.funnel_model.specs.Legal.{IsLegal};
 ghost use Rattle.commit_desk.specs.Answers.{AnswersClear, events_of_clear};
 ghost use Rattle.commit_desk.specs.Passes.{HasCleared, IsResting, IsToClear};
-ghost use Rattle.slice_recycler.specs.Turns.{IsTurn};
+ghost use Rattle.slice_recycler.specs.Turns.{ClearsOrRests, IsTurn};
 
 use commit_desk::{ClearRefusal, Named, ToClear};
 use document_store::FreeSlots;
@@ -23,7 +23,7 @@ pub(crate) fn start<N: PoolName, R: Wait>(
     requires rests { IsResting pool.now seat.old }
     ensures turn { IsTurn seat.old.number seat.old.front seat.new.front
         (λ history. AnswersClear pool.now.limits.events pool.now.limits history seat.old.number result) (events_of_clear seat.old.number result) }
-    ensures next { MatchResult result (λ work. IsToClear pool.now work.job seat.new × (work.slots ≡ pool.now.limits.columns)) (λ _. IsResting pool.now seat.new) }
+    ensures next { ClearsOrRests pool.now seat.new result }
     ensures number { seat.new.number ≡ seat.old.number }
     ensures legal { IsLegal pool.now.limits seat.new.front }
 {

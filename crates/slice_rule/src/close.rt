@@ -15,10 +15,14 @@ pub struct Ended {
 }
 
 impl Model for Ended {
+    ghost use Rattle.std.specs.Coded.{codes};
+    ghost use Rattle.funnel_model.specs.contracts.expr.Expr as e;
     ghost use Rattle.std.specs.Prelude.{◌≡◌, length};
     ghost use Rattle.slice_rule.specs.Seats.{EndedState};
 
     ghost Value = { EndedState };
+
+    ghost coded = { Prim.hlevel (codes, e.the_row.coded) };
 
     ghost view = { λ e. record { events = e.events; history = e.seen.front } };
 

@@ -12,9 +12,13 @@ pub struct PassSeat {
 }
 
 impl Model for PassSeat {
+    ghost use Rattle.std.specs.Coded.{codes};
+    ghost use Rattle.funnel_model.specs.contracts.expr.Expr as e;
     ghost use Rattle.slice_rule.specs.Seats.{PassState, pass_state, IsPassSeat};
 
     ghost Value = { PassState };
+
+    ghost coded = { Prim.hlevel (codes, e.the_row.coded) };
 
     ghost view = { λ s. pass_state s.number s.seat.table_id s.seat.me.0 };
 
@@ -42,9 +46,13 @@ pub struct Home {
 }
 
 impl Model for Home {
+    ghost use Rattle.std.specs.Coded.{codes};
+    ghost use Rattle.funnel_model.specs.contracts.expr.Expr as e;
     ghost use Rattle.slice_rule.specs.Seats.{HomeState, home_state, IsHomeSeat};
 
     ghost Value = { HomeState };
+
+    ghost coded = { Prim.hlevel (codes, e.the_row.coded) };
 
     ghost view = { λ s. home_state s.seat.table_id s.seat.me.0 };
 
@@ -58,9 +66,13 @@ pub struct Note {
 }
 
 impl Model for Note {
+    ghost use Rattle.std.specs.Coded.{codes};
+    ghost use Rattle.funnel_model.specs.contracts.expr.Expr as e;
     ghost use Rattle.slice_rule.specs.Seats.{NoteState, note_state, IsNoteSeat};
 
     ghost Value = { NoteState };
+
+    ghost coded = { Prim.hlevel (codes, e.the_row.coded) };
 
     ghost view = { λ s. note_state s.seat.table_id s.seat.me.0 };
 

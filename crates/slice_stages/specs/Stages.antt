@@ -1,5 +1,5 @@
 -- What is kept of each slice, and the sets that it makes.
-use Rattle.std.specs.Prelude.{ℕ, ◌+◌, ◌-◌, ◌<◌, ◌≤◌, ◌==◌, nat_le, List, length, sum_by, slice_index_or, slice_set, if◌then◌else◌}
+use Rattle.std.specs.Prelude.{◌≡◌, ℕ, ◌+◌, ◌-◌, ◌<◌, ◌≤◌, ◌==◌, nat_le, List, length, sum_by, slice_index_or, slice_set, if◌then◌else◌}
 use Rattle.slice_stages.specs.declared.stage.Stage.{Stage}
 use Rattle.slice_stages.specs.declared.stage.Stage.TheVariants as stage
 
@@ -78,3 +78,14 @@ HoldsOfNone holds table = (slice : ℕ) → slice < length table.stages → hold
 -- the stage after one more of its columns is over, by the event with this number
 abbrev pub after_end : ℕ → ℕ → ℕ → ℕ → Stage
 after_end columns event claimed over = if over + 1 == columns then stage.Retired event else stage.InUse claimed (over + 1)
+
+-- the next column of a slice, whose number is how many were claimed, is claimed
+abbrev pub ClaimsNext : StageTable → ℕ → ℕ → StageTable → Type 0
+ClaimsNext before slice column after =
+    (claimed over : ℕ) → stage_of before slice ≡ stage.InUse claimed over
+    → (column ≡ claimed) × (after ≡ with_stage before slice (stage.InUse (claimed + 1) over))
+
+-- one more column of a slice is over, by the event with this number
+abbrev pub EndsColumn : StageTable → ℕ → ℕ → StageTable → Type 0
+EndsColumn before slice event after =
+    (claimed over : ℕ) → stage_of before slice ≡ stage.InUse claimed over → after ≡ with_stage before slice (after_end before.columns event claimed over)

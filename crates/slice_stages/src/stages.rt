@@ -1,6 +1,6 @@
 ghost use Rattle.std.specs.Prelude.{◌≡◌, ℕ, ◌+◌, ◌<◌, ◌≤◌, ◌↔◌, All, Contains, IfOk, IsTrue, MatchOption, false, length, replicate};
 ghost use Rattle.funnel_model.specs.declared.config.TheConstants.{MOST_SLICES};
-ghost use Rattle.slice_stages.specs.Stages.{HasLeft, HoldsOfNone, IsLowest, IsRetiredBy, IsUsed, RetiredBefore, RetiredIn, after_end, empty_stage, ready_in, ready_of, spare_of, stage_of, with_stage};
+ghost use Rattle.slice_stages.specs.Stages.{ClaimsNext, EndsColumn, HasLeft, HoldsOfNone, IsLowest, IsRetiredBy, IsUsed, RetiredBefore, RetiredIn, after_end, empty_stage, ready_in, ready_of, spare_of, stage_of, with_stage};
 ghost use Rattle.slice_stages.specs.declared.stage.Stage.TheVariants as stage;
 
 use crate::stage::Stage;
@@ -111,7 +111,7 @@ impl Stages {
     pub fn claim(&mut self, slice: u32) -> u32
         requires in_range { slice < length self.old.stages }
         requires left { HasLeft self.old.columns (stage_of self.old slice) }
-        ensures { (claimed over : ℕ) → stage_of self.old slice ≡ stage.InUse claimed over → (result ≡ claimed) × (self.new ≡ with_stage self.old slice (stage.InUse (claimed + 1) over)) }
+        ensures { ClaimsNext self.old slice result self.new }
     {
         let Stage::InUse { claimed, over } = self.stages[slice as usize] else {
             unreachable!()
@@ -133,7 +133,7 @@ impl Stages {
         requires used { IsUsed (stage_of self.old slice) }
         requires last { All (RetiredBefore event) self.old.stages }
         requires later { self.old.mark < event }
-        ensures { (claimed over : ℕ) → stage_of self.old slice ≡ stage.InUse claimed over → self.new ≡ with_stage self.old slice (after_end self.old.columns event claimed over) }
+        ensures { EndsColumn self.old slice event self.new }
     {
         let Stage::InUse { claimed, over } = self.stages[slice as usize] else {
             unreachable!()

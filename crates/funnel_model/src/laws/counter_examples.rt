@@ -120,9 +120,9 @@ pub fn steps_answer_their_call()
 {}
 
 /// A step is made between calls of the pass. Only a history with so many events is answered Spent, and then the call isn't made;
-/// and only an add and a tuning, which aren't made then, a find and a journal are answered by want of memory. No step is answered as
-/// a malformed or a too long line, or as a tuning that has a fault or is too wide, and no place that is read by Spent. The second
-/// add of a number is not answered by the reply to the first, and no step makes both adds.
+/// and only an add and a tuning, which aren't made then, a find, a query and a journal are answered by want of memory. No step is
+/// answered as a malformed or a too long line, as a tuning that has a fault or is too wide, or as a text that is no query, and no place
+/// that is read by Spent. The second add of a number is not answered by the reply to the first, and no step makes both adds.
 pub fn steps_have_their_cause()
     ensures spent { (limits : Limits) (pass : ℕ) (before after : List Event) (asked : Call) →
         Step limits pass before after asked reply.Spent → (limits.events ≤ length after) × AddsNone pass before after }
@@ -143,6 +143,8 @@ pub fn steps_have_their_cause()
         Step limits pass before after asked reply.Line ⊎ Step limits pass before after asked reply.Long → ⊥ }
     ensures untuned { (limits : Limits) (pass fault needed room : ℕ) (before after : List Event) (asked : Call) →
         Step limits pass before after asked (reply.Tuning fault) ⊎ Step limits pass before after asked (reply.Wide needed room) → ⊥ }
+    ensures unasked { (limits : Limits) (pass at : ℕ) (before after : List Event) (asked : Call) →
+        Step limits pass before after asked (reply.Query at) ⊎ Step limits pass before after asked (reply.Deep at) → ⊥ }
     ensures read { (before : List Event) → IsReply paired before (event.Read 0 call.Place) reply.Spent → ⊥ }
     ensures older { Step small 0 first_added (first_added ++ event.No 0 (call.Add 9 []) ∷ []) (call.Add 9 []) (reply.Added 1) → ⊥ }
     ensures twice { Step small 0 [] (first_added ++ event.No 0 (call.Add 9 []) ∷ []) (call.Add 9 []) (reply.Present 1) → ⊥ }

@@ -22,7 +22,7 @@ loop-seat-preserved g c =
     let next : into_iter_items c.loop-seat.seat-iterator ≡ seat ∷ into_iter_items c.next.new.self = search rules in
     let seats = into_iter_items c.next.new.self in
     let passes = c.loop-seat.passes.items in
-    let pushed : c.push.new.self.items ≡ passes ++ view_of seat ∷ [] = search rules in
+    let pushed : c.push.new.self.items ≡ passes ++ view_of seat ∷ [] = c.in_ok-push.ensures.items in
     record {
       named =
           c.loop-seat.invariant.named ∙ ap (λ (xs : List PassState). passes ++ map view_of xs) next

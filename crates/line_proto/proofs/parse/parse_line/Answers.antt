@@ -1,8 +1,7 @@
 use Rattle.std.proofs.Common.{◌≡◌, List, ℕ, Option, Some, None, MatchOption, sym, ap, subst, ◌∙◌}
 use Rattle.std.specs.Str.{IsUtf8}
-use Rattle.funnel_model.specs.declared.call.Call.{Call}
-use Rattle.line_proto.specs.Forms.{call_of_text, form_of}
-use Rattle.line_proto.specs.Requests.{call_requested}
+use Rattle.line_proto.specs.Forms.{Asked, asked_of_text, form_of}
+use Rattle.line_proto.specs.Requests.{requested}
 use Rattle.line_proto.proofs.Lines.{form_of-not_text, form_of-text}
 use Rattle.line_proto.proofs.parse.parse_line.Goals as goal
 
@@ -13,6 +12,6 @@ returns-in_default c =
 pub returns : goal.returns
 returns c =
     let text = subst IsUtf8 c.without_return.ensures c.in-Ok.ensures.cases.1 in
-    let same : form_of c.args.line.now ≡ call_of_text c.in-Ok.text.now =
-    form_of-text c.args.line.now c.if-line-gt-MAX_LINE_LEN.false text ∙ ap call_of_text (sym (c.in-Ok.ensures.cases.0 ∙ c.without_return.ensures)) in
-    subst (λ (o : Option Call). MatchOption c.parse_text.result (o ≡ None) (λ r. o ≡ Some (call_requested r))) (sym same) c.parse_text.ensures
+    let same : form_of c.args.line.now ≡ asked_of_text c.in-Ok.text.now =
+    form_of-text c.args.line.now c.if-line-gt-MAX_LINE_LEN.false text ∙ ap asked_of_text (sym (c.in-Ok.ensures.cases.0 ∙ c.without_return.ensures)) in
+    subst (λ (o : Option Asked). MatchOption c.parse_text.result (o ≡ None) (λ r. o ≡ Some (requested r))) (sym same) c.parse_text.ensures

@@ -1,11 +1,11 @@
 -- The text of one more document.
-use Rattle.std.proofs.Common.{◌≡◌, ◌+◌, ◌++◌, ◌∷◌, [], flat_map, length, string_bytes, sym, ap, subst, ◌∙◌, arith, rules}
+use Rattle.std.proofs.Common.{◌≡◌, ◌+◌, ◌++◌, ◌∷◌, [], length, string_bytes, sym, ap, subst, ◌∙◌, arith, rules}
 use Rattle.std.specs.Str.{IsAscii}
-use Rattle.std.proofs.lemmas.List.{append_assoc, length-append}
+use Rattle.std.proofs.lemmas.List.{length-append}
 use Rattle.std.proofs.lemmas.Str.{IsAscii-append}
 use Rattle.funnel_model.proofs.WordSetLemmas.{ends_with, words_with}
-use Rattle.load_gen.specs.Documents.{document, documents, name_of_document}
-use Rattle.load_gen.specs.Generator.{next_words, state_after}
+use Rattle.load_gen.specs.Documents.{document, documents, text_of_document}
+use Rattle.load_gen.specs.Generator.{state_after}
 use Rattle.load_gen.proofs.Draws.{documents-more, state_after-document}
 use Rattle.load_gen.proofs.Texts.{document_ascii}
 use Rattle.load_gen.proofs.load.make.Goals as goal
@@ -15,8 +15,7 @@ loop-i-preserved c =
     let text = document c.args.words c.args.seed c.loop-i.i in
     let grown : string_bytes c.push_document.new.texts ≡ string_bytes c.loop-i.texts ++ text =
     c.in_ok-push_document.ensures.text
-    ∙ append_assoc (string_bytes c.loop-i.texts) (name_of_document (c.loop-i.i + 1)) (flat_map (λ word. 32 ∷ word) (next_words c.loop-i.generator c.args.words))
-    ∙ ap (λ state. string_bytes c.loop-i.texts ++ (name_of_document (c.loop-i.i + 1) ++ flat_map (λ word. 32 ∷ word) (next_words state c.args.words))) c.loop-i.invariant.state in
+    ∙ ap (λ state. string_bytes c.loop-i.texts ++ text_of_document state c.args.words (c.loop-i.i + 1)) c.loop-i.invariant.state in
     let end : c.len.result ≡ length (string_bytes c.push_document.new.texts) = search (rules, c.len.ensures) in
     record {
       within =

@@ -23,20 +23,21 @@ use Rattle.rank_matcher.proofs.scanning.scan.Goals.{After-visit}
 low_ranks : (config : Config) (plan : List Row) → IsInRange config → All (IsRowOf config) plan → All (λ row. row.rank ≤ 6) plan
 low_ranks config plan range laid = All-weaker (IsRowOf config) (λ row. row.rank ≤ 6) (rank-small config range) plan laid
 
-pub visit-requires-clause-readable : goal.visit-requires-clause-readable
-visit-requires-clause-readable g c =
-    let config = c.args.layout.now in
-    All-weaker (IsRowOf config) (IsReadable (g.R.Rows.reach c.args.rows.now) c.slice_range-first.result.0)
-    (λ row laid. readable-row config (g.R.Rows.reach c.args.rows.now) c.args.slice c.slice_range-first.result.0 c.slice_range-first.ensures.small_pool c.requires.slice c.slice_range-first.ensures.first c.requires.reach row (row-span config row laid))
-    c.args.plan.now c.requires.laid
-
-pub visit-requires-clause-whole : goal.visit-requires-clause-whole
-visit-requires-clause-whole g c =
+pub visit-requires-clause-walk : goal.visit-requires-clause-walk
+visit-requires-clause-walk g c =
     let config = c.args.layout.now in
     let plan : List Row = c.args.plan.now in
     let whole : All (IsWhole 0 (columns_of_slice config / 64)) plan = All-weaker (IsRowOf config) (IsWhole 0 (columns_of_slice config / 64)) (λ row laid. whole-of_row config row (row-span config row laid)) plan c.requires.laid in
-    subst (λ n. All (IsWhole 0 (n / 64)) (rows_below_rank 7 plan)) (sym c.columns.ensures.value)
-    (subst (All (IsWhole 0 (columns_of_slice config / 64))) (sym (all_below_rank plan (low_ranks config plan c.columns.ensures.in_range c.requires.laid))) whole)
+    record {
+      low = omega arith;
+      span = omega arith;
+      few = omega arith;
+      readable = All-weaker (IsRowOf config) (IsReadable (g.R.Rows.reach c.args.rows.now) c.slice_range-first.result.0)
+          (λ row laid. readable-row config (g.R.Rows.reach c.args.rows.now) c.args.slice c.slice_range-first.result.0 c.slice_range-first.ensures.small_pool c.requires.slice c.slice_range-first.ensures.first c.requires.reach row (row-span config row laid))
+          plan c.requires.laid;
+      whole = subst (λ n. All (IsWhole 0 (n / 64)) (rows_below_rank 7 plan)) (sym c.columns.ensures.value)
+          (subst (All (IsWhole 0 (columns_of_slice config / 64))) (sym (all_below_rank plan (low_ranks config plan c.columns.ensures.in_range c.requires.laid))) whole);
+    }
 
 pub visit-requires-clause-running : goal.visit-requires-clause-running
 visit-requires-clause-running g c =
@@ -65,26 +66,17 @@ whole_is g c is =
     (subst (λ n. HasFound (g.R.Rows.told c.args.rows.now) (g.R.Rows.least c.args.rows.now) (g.R.Rows.seen c.visit.new.rows) c.slice_range-first.result.0 c.args.plan.now c.args.slice 0 n c.args.out.now c.visit.new.out) (end_is g c) is)
 
 pub returns-clause-appends : goal.returns-clause-appends
-returns-clause-appends g c = part-appends _ _ _ _ _ _ _ _ (part_is g c)
+returns-clause-appends g c = record {
+  appends = part-appends _ _ _ _ _ _ _ _ (part_is g c);
+  in_slice = part-in_slice _ _ _ _ _ _ _ _ (part_is g c);
+  rising = part-rising _ _ _ _ _ _ _ _ (part_is g c);
+}
 
-pub returns-clause-in_slice : goal.returns-clause-in_slice
-returns-clause-in_slice g c = part-in_slice _ _ _ _ _ _ _ _ (part_is g c)
-
-pub returns-clause-seen : goal.returns-clause-seen
-returns-clause-seen g c = part-seen _ _ _ _ _ _ _ _ (part_is g c)
-
-pub returns-clause-rising : goal.returns-clause-rising
-returns-clause-rising g c = part-rising _ _ _ _ _ _ _ _ (part_is g c)
-
-pub returns-clause-part_of_hits : goal.returns-clause-part_of_hits
-returns-clause-part_of_hits g c = if_told _ (g.R.Rows.told c.args.rows.now) (λ words is. part-of_hits _ _ _ _ _ _ _ _ words is (part_is g c))
-
-pub returns-clause-hits : goal.returns-clause-hits
-returns-clause-hits g c =
-    on_ok c.visit.result (λ found. if_told _ (g.R.Rows.told c.args.rows.now) (λ words is. all-hits _ _ _ _ _ _ _ _ words is (whole_is g c found))) c.visit.ensures.found
-
-pub returns-clause-covered : goal.returns-clause-covered
-returns-clause-covered g c = on_ok c.visit.result (λ found. all-covered _ _ _ _ _ _ _ _ (whole_is g c found)) c.visit.ensures.found
+pub returns-clause-bits : goal.returns-clause-bits
+returns-clause-bits g c = record {
+  covered = on_ok c.visit.result (λ found. all-covered _ _ _ _ _ _ _ _ (whole_is g c found)) c.visit.ensures.found;
+  were_seen = part-seen _ _ _ _ _ _ _ _ (part_is g c);
+}
 
 -- what the walk reads of told words, and how many words there are
 over_is : (g : Over) (c : After-visit g) → All (SpansSlice c.args.layout.now) c.args.plan.now
@@ -112,17 +104,17 @@ words_are g c =
     ∙ ap (λ (xs : List Row). words_between xs 0 (columns_of_slice config / 64)) (all_below_rank plan (low_ranks config plan c.columns.ensures.in_range c.requires.laid))
     ∙ words-of_slice_rows config plan (over_is g c)
 
-pub returns-clause-reads : goal.returns-clause-reads
-returns-clause-reads g c =
-    on_ok c.visit.result
-    (λ read. if_told _ (g.R.Rows.told c.args.rows.now)
-    (λ words is. read.is ∙ ap (λ n. shown_reads (g.R.Rows.reads c.args.rows.now + n)) (read.told_is words is ∙ reads_are g c words)))
-    c.visit.ensures.reads
-
-pub returns-clause-part_of_reads : goal.returns-clause-part_of_reads
-returns-clause-part_of_reads g c =
-    let read = c.visit.ensures.reads_at_most in
-    if_told _ (g.R.Rows.told c.args.rows.now) (λ words is. omega (arith, read.is, read.told_at_most words is, reads_are g c words))
+pub returns-clause-told : goal.returns-clause-told
+returns-clause-told g c =
+    let some = c.visit.ensures.reads_at_most in
+    if_told _ (g.R.Rows.told c.args.rows.now)
+    (λ words is. record {
+      all = on_ok c.visit.result (λ found. all-hits _ _ _ _ _ _ _ _ words is (whole_is g c found)) c.visit.ensures.found;
+      part = part-of_hits _ _ _ _ _ _ _ _ words is (part_is g c);
+      reads = on_ok c.visit.result
+          (λ read. read.is ∙ ap (λ n. shown_reads (g.R.Rows.reads c.args.rows.now + n)) (read.told_is words is ∙ reads_are g c words)) c.visit.ensures.reads;
+      few = omega (arith, some.is, some.told_at_most words is, reads_are g c words);
+    })
 
 pub returns-clause-reads_at_most : goal.returns-clause-reads_at_most
 returns-clause-reads_at_most g c = let read = c.visit.ensures.reads_at_most in omega (arith, read.is, read.at_most, words_are g c)

@@ -1,7 +1,6 @@
 use Rattle.std.proofs.Common.{◌≡◌, ℕ, ◌+◌, ◌-◌, ◌*◌, ◌^◌, ◌<◌, ◌/◌, ◌%◌, ◌≤◌, List, [], ◌∷◌, ◌++◌, get_or, length, sym, subst, ap, ◌∙◌, refl, arith}
 use Rattle.std.specs.List.{All}
-use Rattle.std.specs.Prelude.{◌↔◌, OnOk}
-use Rattle.funnel_model.specs.declared.bit_list.Bit.{Bit}
+use Rattle.std.specs.Prelude.{OnOk}
 use Rattle.std.proofs.Math.Pow.{shr_mono}
 use Rattle.std.proofs.lemmas.Bool.Decides.{nat_tests}
 use Rattle.std.proofs.lemmas.List.{append-nil}
@@ -11,6 +10,8 @@ use Rattle.row_layout.specs.declared.row.Row.{Row}
 use Rattle.rank_matcher.specs.Walk.{HasFound, HasFoundPart, HasRead, HasReadPart, HasReadPlace, IsTestOf, IsWhole, has_column}
 use Rattle.rank_matcher.proofs.Intersections.{All-split}
 use Rattle.rank_matcher.proofs.Walks.{IsLevel, below_rank-zero, from_rank-zero, found-from, found-joined, found-none, found-zero, left-test, level-is, on_any, on_ok, part-from_found, part-from, part-from_read, part-joined, place-is, ranks-of_rank, read-joined, read-none, read-part_joined, shifted, test-to, turn-is, turn-read, turn-read_part, turn-read_zero}
+use Rattle.row_read.proofs.Stays.{stays-later, stays-same}
+use Rattle.row_read.specs.Readable.{StaysReadable}
 use Rattle.rank_matcher.proofs.walk.+visit.Goals as goal
 use Rattle.rank_matcher.proofs.walk.+visit.Goals.{then-left-ne0+in_ok-visit, else-left-ne0}
 
@@ -35,7 +36,7 @@ returns-then-ranks-eq0-clause-part g t c =
     let part = c.push_words.ensures.part in
     record {
       n = 64 * c.args.to;
-      from = omega (arith, c.requires.span);
+      from = omega (arith, c.requires.walk.span);
       to = omega arith;
       test = has_column c.args.running;
       is_test = subst (λ (xs : List Row). IsTestOf (g.R.Rows.told c.args.rows.now) (g.R.Rows.least c.args.rows.now) (g.R.Rows.seen c.args.rows.now) c.args.search.now.first xs (64 * c.args.from) (64 * c.args.to) (has_column c.args.running)) (whole_plan plan c.args.ranks c.if-ranks-eq0.true) c.requires.running;
@@ -85,22 +86,16 @@ visit-requires g t c =
       (
         lives,
         (
-          omega (arith, c.requires.ranks),
+          record {
+            low = omega (arith, c.requires.walk.low);
+            span = c.requires.walk.span;
+            few = c.requires.walk.few;
+            readable = c.requires.walk.readable;
+            whole = subst (All (IsWhole c.args.from c.args.to)) same.1 c.requires.walk.whole;
+          },
           (
-            c.requires.span,
-            (
-              c.requires.few,
-              (
-                c.requires.readable,
-                (
-                  subst (All (IsWhole c.args.from c.args.to)) same.1 c.requires.whole,
-                  (
-                    c.requires.some,
-                    subst (λ (xs : List Row). IsTestOf (g.R.Rows.told c.args.rows.now) (g.R.Rows.least c.args.rows.now) (g.R.Rows.seen c.args.rows.now) c.args.search.now.first xs (64 * c.args.from) (64 * c.args.to) (has_column c.args.running)) (sym same.0) c.requires.running,
-                  ),
-                ),
-              ),
-            ),
+            c.requires.some,
+            subst (λ (xs : List Row). IsTestOf (g.R.Rows.told c.args.rows.now) (g.R.Rows.least c.args.rows.now) (g.R.Rows.seen c.args.rows.now) c.args.search.now.first xs (64 * c.args.from) (64 * c.args.to) (has_column c.args.running)) (sym same.0) c.requires.running,
           ),
         ),
       ),
@@ -138,7 +133,7 @@ loop-word-init g t c =
     let rank : ℕ = c.args.ranks - 1 in
     let next : c.args.ranks ≡ rank + 1 = omega (arith, c.if-ranks-eq0.false) in
     let some : 0 < length c.of_rank-planned.result.now = grind (arith, nat_tests) in
-    let is = level plan c.of_rank-planned.result.now c.args.ranks rank c.args.from c.args.to next c.of_rank-planned.ensures.in_order c.of_rank-planned.ensures.rows some c.requires.whole in
+    let is = level plan c.of_rank-planned.result.now c.args.ranks rank c.args.from c.args.to next c.of_rank-planned.ensures.in_order c.of_rank-planned.ensures.rows some c.requires.walk.whole in
     record {
       found =
           subst (λ n. HasFound (g.R.Rows.told c.args.rows.now) (g.R.Rows.least c.args.rows.now) (g.R.Rows.seen c.args.rows.now) c.args.search.now.first plan c.args.search.now.slice (64 * c.args.from) (64 * n) c.args.out.now c.args.out.now) (sym is.begins)
@@ -146,11 +141,7 @@ loop-word-init g t c =
       reads =
           subst (λ n. HasRead (g.R.Rows.told c.args.rows.now) c.args.search.now.first (rows_from_rank c.args.ranks plan) (rows_below_rank c.args.ranks plan) c.args.from n (g.R.Rows.reads c.args.rows.now) (g.R.Rows.reads c.args.rows.now)) (sym is.begins)
           (read-none (g.R.Rows.told c.args.rows.now) c.args.search.now.first (rows_from_rank c.args.ranks plan) (rows_below_rank c.args.ranks plan) c.args.from (g.R.Rows.reads c.args.rows.now));
-      seen_stays = λ bit has. has;
-      reach_stays = λ other. (λ r. r, λ r. r);
-      least_stays = λ bit. (λ r. r, λ r. r);
-      told_stays = refl;
-      kept = refl;
+      stays = stays-same g.R.Rows.reach g.R.Rows.least g.R.Rows.seen g.R.Rows.told g.R.Rows.kept c.args.rows.now;
     }
 
 pub overflow_add-search : goal.overflow_add-search
@@ -160,8 +151,8 @@ overflow_add-search g t c =
     let word : ℕ = c.loop-word.word in
     let next : c.args.ranks ≡ rank + 1 = omega (arith, c.if-ranks-eq0.false) in
     let some : 0 < length c.of_rank-planned.result.now = grind (arith, nat_tests) in
-    let turn = turn-is plan c.of_rank-planned.result.now c.args.ranks rank c.args.from c.args.to word next c.of_rank-planned.ensures.in_order c.of_rank-planned.ensures.rows some c.requires.whole c.loop-word.auto.word c.loop-word-test.true in
-    let place = place-is (g.R.Rows.reach c.args.rows.now) c.args.search.now.first plan c.of_rank-planned.result.now c.args.ranks rank c.args.from c.args.to word c.of_rank-planned.ensures.rows c.requires.readable turn in
+    let turn = turn-is plan c.of_rank-planned.result.now c.args.ranks rank c.args.from c.args.to word next c.of_rank-planned.ensures.in_order c.of_rank-planned.ensures.rows some c.requires.walk.whole c.loop-word.auto.word c.loop-word-test.true in
+    let place = place-is (g.R.Rows.reach c.args.rows.now) c.args.search.now.first plan c.of_rank-planned.result.now c.args.ranks rank c.args.from c.args.to word c.of_rank-planned.ensures.rows c.requires.walk.readable turn in
     let fits = (place 0 (record { rank = 0; start = 0; width = 0 }) some).fits in
     omega (arith, fits)
 
@@ -172,8 +163,8 @@ intersect-left-requires-clause-fits g t c =
     let word : ℕ = c.loop-word.word in
     let next : c.args.ranks ≡ rank + 1 = omega (arith, c.if-ranks-eq0.false) in
     let some : 0 < length c.of_rank-planned.result.now = grind (arith, nat_tests) in
-    let turn = turn-is plan c.of_rank-planned.result.now c.args.ranks rank c.args.from c.args.to word next c.of_rank-planned.ensures.in_order c.of_rank-planned.ensures.rows some c.requires.whole c.loop-word.auto.word c.loop-word-test.true in
-    let place = place-is (g.R.Rows.reach c.args.rows.now) c.args.search.now.first plan c.of_rank-planned.result.now c.args.ranks rank c.args.from c.args.to word c.of_rank-planned.ensures.rows c.requires.readable turn in
+    let turn = turn-is plan c.of_rank-planned.result.now c.args.ranks rank c.args.from c.args.to word next c.of_rank-planned.ensures.in_order c.of_rank-planned.ensures.rows some c.requires.walk.whole c.loop-word.auto.word c.loop-word-test.true in
+    let place = place-is (g.R.Rows.reach c.args.rows.now) c.args.search.now.first plan c.of_rank-planned.result.now c.args.ranks rank c.args.from c.args.to word c.of_rank-planned.ensures.rows c.requires.walk.readable turn in
     λ k d inside. (place k d inside).fits
 
 pub intersect-left-requires-clause-reach : goal.intersect-left-requires-clause-reach
@@ -183,9 +174,9 @@ intersect-left-requires-clause-reach g t c =
     let word : ℕ = c.loop-word.word in
     let next : c.args.ranks ≡ rank + 1 = omega (arith, c.if-ranks-eq0.false) in
     let some : 0 < length c.of_rank-planned.result.now = grind (arith, nat_tests) in
-    let turn = turn-is plan c.of_rank-planned.result.now c.args.ranks rank c.args.from c.args.to word next c.of_rank-planned.ensures.in_order c.of_rank-planned.ensures.rows some c.requires.whole c.loop-word.auto.word c.loop-word-test.true in
-    let place = place-is (g.R.Rows.reach c.args.rows.now) c.args.search.now.first plan c.of_rank-planned.result.now c.args.ranks rank c.args.from c.args.to word c.of_rank-planned.ensures.rows c.requires.readable turn in
-    λ k d inside. (c.loop-word.invariant.reach_stays (c.args.search.now.first + word + (get_or c.of_rank-planned.result.now k d).start)).0 ((place k d inside).reaches)
+    let turn = turn-is plan c.of_rank-planned.result.now c.args.ranks rank c.args.from c.args.to word next c.of_rank-planned.ensures.in_order c.of_rank-planned.ensures.rows some c.requires.walk.whole c.loop-word.auto.word c.loop-word-test.true in
+    let place = place-is (g.R.Rows.reach c.args.rows.now) c.args.search.now.first plan c.of_rank-planned.result.now c.args.ranks rank c.args.from c.args.to word c.of_rank-planned.ensures.rows c.requires.walk.readable turn in
+    λ k d inside. (c.loop-word.invariant.stays.reach_stays (c.args.search.now.first + word + (get_or c.of_rank-planned.result.now k d).start)).0 ((place k d inside).reaches)
 
 pub visit-requires-then-left-ne0 : goal.visit-requires-then-left-ne0
 visit-requires-then-left-ne0 g t c κs lives =
@@ -196,43 +187,37 @@ visit-requires-then-left-ne0 g t c κs lives =
     let before = c.loop-word.invariant in
     let next : c.args.ranks ≡ rank + 1 = omega (arith, c.if-ranks-eq0.false) in
     let some : 0 < length planned = grind (arith, nat_tests) in
-    let turn = turn-is plan planned c.args.ranks rank c.args.from c.args.to word next c.of_rank-planned.ensures.in_order c.of_rank-planned.ensures.rows some c.requires.whole c.loop-word.auto.word c.loop-word-test.true in
-    let from : word * 2 ^ rank % 2 ^ 32 ≡ 2 ^ rank * word = shifted rank word (omega (arith, turn.high, c.requires.few)) in
-    let to : (word + 1) * 2 ^ rank % 2 ^ 32 ≡ 2 ^ rank * (word + 1) = shifted rank (word + 1) (omega (arith, turn.high, c.requires.few)) in
+    let turn = turn-is plan planned c.args.ranks rank c.args.from c.args.to word next c.of_rank-planned.ensures.in_order c.of_rank-planned.ensures.rows some c.requires.walk.whole c.loop-word.auto.word c.loop-word-test.true in
+    let from : word * 2 ^ rank % 2 ^ 32 ≡ 2 ^ rank * word = shifted rank word (omega (arith, turn.high, c.requires.walk.few)) in
+    let to : (word + 1) * 2 ^ rank % 2 ^ 32 ≡ 2 ^ rank * (word + 1) = shifted rank (word + 1) (omega (arith, turn.high, c.requires.walk.few)) in
     let told = g.R.Rows.told c.args.rows.now in
     let least = g.R.Rows.least c.args.rows.now in
     let after = g.R.Rows.seen c.intersect-left.new.rows in
     let left : ℕ = c.intersect-left.result in
-    let is = left-test told (g.R.Rows.told c.loop-word.rows) before.told_stays least (g.R.Rows.least c.loop-word.rows) before.least_stays
-    (g.R.Rows.seen c.args.rows.now) (g.R.Rows.seen c.loop-word.rows) after before.seen_stays c.intersect-left.ensures.seen_stays
+    let is = left-test told (g.R.Rows.told c.loop-word.rows) before.stays.told_stays least (g.R.Rows.least c.loop-word.rows) before.stays.least_stays
+    (g.R.Rows.seen c.args.rows.now) (g.R.Rows.seen c.loop-word.rows) after before.stays.seen_stays c.intersect-left.ensures.stays.seen_stays
     c.args.search.now.first c.args.running left plan planned c.args.ranks rank c.args.from c.args.to word turn c.requires.running
     c.intersect-left.ensures.told c.intersect-left.ensures.least c.intersect-left.ensures.running c.intersect-left.ensures.seen in
-    let is_now = test-to told (g.R.Rows.told c.intersect-left.new.rows) (c.intersect-left.ensures.told_stays ∙ before.told_stays) least (g.R.Rows.least c.intersect-left.new.rows)
-    (λ bit. (λ r. (c.intersect-left.ensures.least_stays bit).0 ((before.least_stays bit).0 r), λ r. (before.least_stays bit).1 ((c.intersect-left.ensures.least_stays bit).1 r)))
+    let is_now = test-to told (g.R.Rows.told c.intersect-left.new.rows) (c.intersect-left.ensures.stays.told_stays ∙ before.stays.told_stays) least (g.R.Rows.least c.intersect-left.new.rows)
+    (λ bit. (λ r. (c.intersect-left.ensures.stays.least_stays bit).0 ((before.stays.least_stays bit).0 r), λ r. (before.stays.least_stays bit).1 ((c.intersect-left.ensures.stays.least_stays bit).1 r)))
     after c.args.search.now.first (rows_from_rank rank plan) (64 * (2 ^ rank * word)) (64 * (2 ^ rank * (word + 1))) (has_column left) is in (
       omega (arith, c.decreases, c.if-ranks-eq0.false),
       (
         lives,
         (
-          omega (arith, c.requires.ranks),
+          record {
+            low = omega (arith, c.requires.walk.low);
+            span = omega (arith, from, to);
+            few = omega (arith, to, turn.high, c.requires.walk.few);
+            readable = λ k d inside.
+                let can = c.requires.walk.readable k d inside in
+                record { reaches = λ w low. (c.intersect-left.ensures.stays.reach_stays _).0 ((before.stays.reach_stays _).0 (can.reaches w low)); fits = can.fits };
+            whole = subst (λ n. All (IsWhole n ((word + 1) * 2 ^ rank % 2 ^ 32)) (rows_below_rank rank plan)) (sym from) (subst (λ n. All (IsWhole (2 ^ rank * word) n) (rows_below_rank rank plan)) (sym to) turn.later);
+          },
           (
-            omega (arith, from, to),
-            (
-              omega (arith, to, turn.high, c.requires.few),
-              (
-                λ k d inside.
-                    let can = c.requires.readable k d inside in
-                    record { reaches = λ w low. (c.intersect-left.ensures.reach_stays _).0 ((before.reach_stays _).0 (can.reaches w low)); fits = can.fits },
-                (
-                  subst (λ n. All (IsWhole n ((word + 1) * 2 ^ rank % 2 ^ 32)) (rows_below_rank rank plan)) (sym from) (subst (λ n. All (IsWhole (2 ^ rank * word) n) (rows_below_rank rank plan)) (sym to) turn.later),
-                  (
-                    omega (arith, c.if-left-ne0.true),
-                    subst (λ n. IsTestOf (g.R.Rows.told c.intersect-left.new.rows) (g.R.Rows.least c.intersect-left.new.rows) after c.args.search.now.first (rows_from_rank rank plan) (64 * n) (64 * ((word + 1) * 2 ^ rank % 2 ^ 32)) (has_column left)) (sym from)
-                        (subst (λ n. IsTestOf (g.R.Rows.told c.intersect-left.new.rows) (g.R.Rows.least c.intersect-left.new.rows) after c.args.search.now.first (rows_from_rank rank plan) (64 * (2 ^ rank * word)) (64 * n) (has_column left)) (sym to) is_now),
-                  ),
-                ),
-              ),
-            ),
+            omega (arith, c.if-left-ne0.true),
+            subst (λ n. IsTestOf (g.R.Rows.told c.intersect-left.new.rows) (g.R.Rows.least c.intersect-left.new.rows) after c.args.search.now.first (rows_from_rank rank plan) (64 * n) (64 * ((word + 1) * 2 ^ rank % 2 ^ 32)) (has_column left)) (sym from)
+                (subst (λ n. IsTestOf (g.R.Rows.told c.intersect-left.new.rows) (g.R.Rows.least c.intersect-left.new.rows) after c.args.search.now.first (rows_from_rank rank plan) (64 * (2 ^ rank * word)) (64 * n) (has_column left)) (sym to) is_now),
           ),
         ),
       ),
@@ -248,8 +233,8 @@ returns-clause-found g t c =
     let rank : ℕ = c.args.ranks - 1 in
     let next : c.args.ranks ≡ rank + 1 = omega (arith, c.if-ranks-eq0.false) in
     let some : 0 < length c.of_rank-planned.result.now = grind (arith, nat_tests) in
-    let is = level plan c.of_rank-planned.result.now c.args.ranks rank c.args.from c.args.to next c.of_rank-planned.ensures.in_order c.of_rank-planned.ensures.rows some c.requires.whole in
-    let end = ends_at c.args.from c.args.to rank c.loop-word.word is (omega (arith, c.loop-word-test.false)) (c.loop-word.auto.word-end (shr_mono rank c.requires.span)) in
+    let is = level plan c.of_rank-planned.result.now c.args.ranks rank c.args.from c.args.to next c.of_rank-planned.ensures.in_order c.of_rank-planned.ensures.rows some c.requires.walk.whole in
+    let end = ends_at c.args.from c.args.to rank c.loop-word.word is (omega (arith, c.loop-word-test.false)) (c.loop-word.auto.word-end (shr_mono rank c.requires.walk.span)) in
     subst (λ n. HasFound (g.R.Rows.told c.args.rows.now) (g.R.Rows.least c.args.rows.now) (g.R.Rows.seen c.loop-word.rows) c.args.search.now.first plan c.args.search.now.slice (64 * c.args.from) (64 * n) c.args.out.now c.loop-word.out) end c.loop-word.invariant.found
 
 pub returns-clause-part : goal.returns-clause-part
@@ -258,9 +243,9 @@ returns-clause-part g t c =
     let rank : ℕ = c.args.ranks - 1 in
     let next : c.args.ranks ≡ rank + 1 = omega (arith, c.if-ranks-eq0.false) in
     let some : 0 < length c.of_rank-planned.result.now = grind (arith, nat_tests) in
-    let is = level plan c.of_rank-planned.result.now c.args.ranks rank c.args.from c.args.to next c.of_rank-planned.ensures.in_order c.of_rank-planned.ensures.rows some c.requires.whole in
-    let end = ends_at c.args.from c.args.to rank c.loop-word.word is (omega (arith, c.loop-word-test.false)) (c.loop-word.auto.word-end (shr_mono rank c.requires.span)) in
-    part-from_found (g.R.Rows.told c.args.rows.now) (g.R.Rows.least c.args.rows.now) c.args.search.now.first plan c.args.search.now.slice (g.R.Rows.seen c.loop-word.rows) (64 * c.args.from) (64 * c.args.to) c.args.out.now c.loop-word.out (omega (arith, c.requires.span))
+    let is = level plan c.of_rank-planned.result.now c.args.ranks rank c.args.from c.args.to next c.of_rank-planned.ensures.in_order c.of_rank-planned.ensures.rows some c.requires.walk.whole in
+    let end = ends_at c.args.from c.args.to rank c.loop-word.word is (omega (arith, c.loop-word-test.false)) (c.loop-word.auto.word-end (shr_mono rank c.requires.walk.span)) in
+    part-from_found (g.R.Rows.told c.args.rows.now) (g.R.Rows.least c.args.rows.now) c.args.search.now.first plan c.args.search.now.slice (g.R.Rows.seen c.loop-word.rows) (64 * c.args.from) (64 * c.args.to) c.args.out.now c.loop-word.out (omega (arith, c.requires.walk.span))
     (subst (λ n. HasFound (g.R.Rows.told c.args.rows.now) (g.R.Rows.least c.args.rows.now) (g.R.Rows.seen c.loop-word.rows) c.args.search.now.first plan c.args.search.now.slice (64 * c.args.from) (64 * n) c.args.out.now c.loop-word.out) end c.loop-word.invariant.found)
 
 pub returns-clause-reads : goal.returns-clause-reads
@@ -269,8 +254,8 @@ returns-clause-reads g t c =
     let rank : ℕ = c.args.ranks - 1 in
     let next : c.args.ranks ≡ rank + 1 = omega (arith, c.if-ranks-eq0.false) in
     let some : 0 < length c.of_rank-planned.result.now = grind (arith, nat_tests) in
-    let is = level plan c.of_rank-planned.result.now c.args.ranks rank c.args.from c.args.to next c.of_rank-planned.ensures.in_order c.of_rank-planned.ensures.rows some c.requires.whole in
-    let end = ends_at c.args.from c.args.to rank c.loop-word.word is (omega (arith, c.loop-word-test.false)) (c.loop-word.auto.word-end (shr_mono rank c.requires.span)) in
+    let is = level plan c.of_rank-planned.result.now c.args.ranks rank c.args.from c.args.to next c.of_rank-planned.ensures.in_order c.of_rank-planned.ensures.rows some c.requires.walk.whole in
+    let end = ends_at c.args.from c.args.to rank c.loop-word.word is (omega (arith, c.loop-word-test.false)) (c.loop-word.auto.word-end (shr_mono rank c.requires.walk.span)) in
     subst (λ n. HasRead (g.R.Rows.told c.args.rows.now) c.args.search.now.first (rows_from_rank c.args.ranks plan) (rows_below_rank c.args.ranks plan) c.args.from n (g.R.Rows.reads c.args.rows.now) (g.R.Rows.reads c.loop-word.rows)) end c.loop-word.invariant.reads
 
 pub returns-clause-reads_at_most : goal.returns-clause-reads_at_most
@@ -279,8 +264,8 @@ returns-clause-reads_at_most g t c =
     let rank : ℕ = c.args.ranks - 1 in
     let next : c.args.ranks ≡ rank + 1 = omega (arith, c.if-ranks-eq0.false) in
     let some : 0 < length c.of_rank-planned.result.now = grind (arith, nat_tests) in
-    let is = level plan c.of_rank-planned.result.now c.args.ranks rank c.args.from c.args.to next c.of_rank-planned.ensures.in_order c.of_rank-planned.ensures.rows some c.requires.whole in
-    let end = ends_at c.args.from c.args.to rank c.loop-word.word is (omega (arith, c.loop-word-test.false)) (c.loop-word.auto.word-end (shr_mono rank c.requires.span)) in
+    let is = level plan c.of_rank-planned.result.now c.args.ranks rank c.args.from c.args.to next c.of_rank-planned.ensures.in_order c.of_rank-planned.ensures.rows some c.requires.walk.whole in
+    let end = ends_at c.args.from c.args.to rank c.loop-word.word is (omega (arith, c.loop-word-test.false)) (c.loop-word.auto.word-end (shr_mono rank c.requires.walk.span)) in
     part-from_read (g.R.Rows.told c.args.rows.now) c.args.search.now.first (rows_from_rank c.args.ranks plan) (rows_below_rank c.args.ranks plan) c.args.from c.args.to (g.R.Rows.reads c.args.rows.now) (g.R.Rows.reads c.loop-word.rows)
     (subst (λ n. HasRead (g.R.Rows.told c.args.rows.now) c.args.search.now.first (rows_from_rank c.args.ranks plan) (rows_below_rank c.args.ranks plan) c.args.from n (g.R.Rows.reads c.args.rows.now) (g.R.Rows.reads c.loop-word.rows)) end c.loop-word.invariant.reads)
 
@@ -297,9 +282,9 @@ returns-in_err-visit-clause-part g t c =
     let before = c.loop-word.invariant in
     let next : c.args.ranks ≡ rank + 1 = omega (arith, c.if-ranks-eq0.false) in
     let some : 0 < length planned = grind (arith, nat_tests) in
-    let turn = turn-is plan planned c.args.ranks rank c.args.from c.args.to word next c.of_rank-planned.ensures.in_order c.of_rank-planned.ensures.rows some c.requires.whole c.loop-word.auto.word c.loop-word-test.true in
-    let from : word * 2 ^ rank % 2 ^ 32 ≡ 2 ^ rank * word = shifted rank word (omega (arith, turn.high, c.requires.few)) in
-    let to : (word + 1) * 2 ^ rank % 2 ^ 32 ≡ 2 ^ rank * (word + 1) = shifted rank (word + 1) (omega (arith, turn.high, c.requires.few)) in
+    let turn = turn-is plan planned c.args.ranks rank c.args.from c.args.to word next c.of_rank-planned.ensures.in_order c.of_rank-planned.ensures.rows some c.requires.walk.whole c.loop-word.auto.word c.loop-word-test.true in
+    let from : word * 2 ^ rank % 2 ^ 32 ≡ 2 ^ rank * word = shifted rank word (omega (arith, turn.high, c.requires.walk.few)) in
+    let to : (word + 1) * 2 ^ rank % 2 ^ 32 ≡ 2 ^ rank * (word + 1) = shifted rank (word + 1) (omega (arith, turn.high, c.requires.walk.few)) in
     let told = g.R.Rows.told c.args.rows.now in
     let least = g.R.Rows.least c.args.rows.now in
     let first : ℕ = c.args.search.now.first in
@@ -308,10 +293,10 @@ returns-in_err-visit-clause-part g t c =
     let new = c.visit-then-left-ne0.new.out in
     let out = c.loop-word.out in
     let deeper = moved (λ a b. HasFoundPart told least seen first plan slice (64 * a) (64 * b) out new) (word * 2 ^ rank % 2 ^ 32) ((word + 1) * 2 ^ rank % 2 ^ 32) (2 ^ rank * word) (2 ^ rank * (word + 1)) from to
-    (part-from told (g.R.Rows.told c.intersect-left.new.rows) (c.intersect-left.ensures.told_stays ∙ before.told_stays) least (g.R.Rows.least c.intersect-left.new.rows)
-    (λ bit. (λ r. (c.intersect-left.ensures.least_stays bit).0 ((before.least_stays bit).0 r), λ r. (before.least_stays bit).1 ((c.intersect-left.ensures.least_stays bit).1 r)))
+    (part-from told (g.R.Rows.told c.intersect-left.new.rows) (c.intersect-left.ensures.stays.told_stays ∙ before.stays.told_stays) least (g.R.Rows.least c.intersect-left.new.rows)
+    (λ bit. (λ r. (c.intersect-left.ensures.stays.least_stays bit).0 ((before.stays.least_stays bit).0 r), λ r. (before.stays.least_stays bit).1 ((c.intersect-left.ensures.stays.least_stays bit).1 r)))
     seen first plan slice (64 * (word * 2 ^ rank % 2 ^ 32)) (64 * ((word + 1) * 2 ^ rank % 2 ^ 32)) out new c.visit-then-left-ne0.ensures.part) in
-    part-joined told least first plan slice (g.R.Rows.seen c.loop-word.rows) seen (λ bit has. c.visit-then-left-ne0.ensures.seen_stays bit (c.intersect-left.ensures.seen_stays bit has))
+    part-joined told least first plan slice (g.R.Rows.seen c.loop-word.rows) seen (λ bit has. c.visit-then-left-ne0.ensures.stays.seen_stays bit (c.intersect-left.ensures.stays.seen_stays bit has))
     (64 * c.args.from) (64 * (2 ^ rank * word)) (64 * (2 ^ rank * (word + 1))) (64 * c.args.to) c.args.out.now out new (omega (arith, turn.low)) (omega (arith, turn.high)) before.found deeper
 
 pub returns-in_err-visit-clause-reads_at_most : goal.returns-in_err-visit-clause-reads_at_most
@@ -323,17 +308,17 @@ returns-in_err-visit-clause-reads_at_most g t c =
     let before = c.loop-word.invariant in
     let next : c.args.ranks ≡ rank + 1 = omega (arith, c.if-ranks-eq0.false) in
     let some : 0 < length planned = grind (arith, nat_tests) in
-    let turn = turn-is plan planned c.args.ranks rank c.args.from c.args.to word next c.of_rank-planned.ensures.in_order c.of_rank-planned.ensures.rows some c.requires.whole c.loop-word.auto.word c.loop-word-test.true in
-    let from : word * 2 ^ rank % 2 ^ 32 ≡ 2 ^ rank * word = shifted rank word (omega (arith, turn.high, c.requires.few)) in
-    let to : (word + 1) * 2 ^ rank % 2 ^ 32 ≡ 2 ^ rank * (word + 1) = shifted rank (word + 1) (omega (arith, turn.high, c.requires.few)) in
+    let turn = turn-is plan planned c.args.ranks rank c.args.from c.args.to word next c.of_rank-planned.ensures.in_order c.of_rank-planned.ensures.rows some c.requires.walk.whole c.loop-word.auto.word c.loop-word-test.true in
+    let from : word * 2 ^ rank % 2 ^ 32 ≡ 2 ^ rank * word = shifted rank word (omega (arith, turn.high, c.requires.walk.few)) in
+    let to : (word + 1) * 2 ^ rank % 2 ^ 32 ≡ 2 ^ rank * (word + 1) = shifted rank (word + 1) (omega (arith, turn.high, c.requires.walk.few)) in
     let told = g.R.Rows.told c.args.rows.now in
     let first : ℕ = c.args.search.now.first in
     let old : ℕ = g.R.Rows.reads c.loop-word.rows in
     let mid : ℕ = g.R.Rows.reads c.intersect-left.new.rows in
     let new : ℕ = g.R.Rows.reads c.visit-then-left-ne0.new.rows in
     let deeper = moved (λ a b. HasReadPart told first (rows_from_rank rank plan) (rows_below_rank rank plan) a b mid new) (word * 2 ^ rank % 2 ^ 32) ((word + 1) * 2 ^ rank % 2 ^ 32) (2 ^ rank * word) (2 ^ rank * (word + 1)) from to
-    (subst (λ o. HasReadPart o first (rows_from_rank rank plan) (rows_below_rank rank plan) (word * 2 ^ rank % 2 ^ 32) ((word + 1) * 2 ^ rank % 2 ^ 32) mid new) (c.intersect-left.ensures.told_stays ∙ before.told_stays) c.visit-then-left-ne0.ensures.reads_at_most) in
-    let here = subst (λ o. HasReadPlace o (first + word) c.args.running planned old mid) before.told_stays c.intersect-left.ensures.reads in
+    (subst (λ o. HasReadPart o first (rows_from_rank rank plan) (rows_below_rank rank plan) (word * 2 ^ rank % 2 ^ 32) ((word + 1) * 2 ^ rank % 2 ^ 32) mid new) (c.intersect-left.ensures.stays.told_stays ∙ before.stays.told_stays) c.visit-then-left-ne0.ensures.reads_at_most) in
+    let here = subst (λ o. HasReadPlace o (first + word) c.args.running planned old mid) before.stays.told_stays c.intersect-left.ensures.reads in
     read-part_joined told first (rows_from_rank c.args.ranks plan) (rows_below_rank c.args.ranks plan) c.args.from (2 ^ rank * word) (2 ^ rank * (word + 1)) c.args.to (g.R.Rows.reads c.args.rows.now) old new turn.low (omega arith) turn.high before.reads
     (turn-read_part told (g.R.Rows.least c.args.rows.now) (g.R.Rows.seen c.args.rows.now) first c.args.running plan planned c.args.ranks rank c.args.from c.args.to word turn c.requires.some c.ranges.running.fits c.requires.running old mid new here deeper)
 
@@ -349,9 +334,9 @@ loop-word-preserved g t c =
     let read = c.intersect-left.ensures in
     let next : c.args.ranks ≡ rank + 1 = omega (arith, c.if-ranks-eq0.false) in
     let some : 0 < length planned = grind (arith, nat_tests) in
-    let turn = turn-is plan planned c.args.ranks rank c.args.from c.args.to word next c.of_rank-planned.ensures.in_order c.of_rank-planned.ensures.rows some c.requires.whole c.loop-word.auto.word c.loop-word-test.true in
-    let from : word * 2 ^ rank % 2 ^ 32 ≡ a = shifted rank word (omega (arith, turn.high, c.requires.few)) in
-    let to : (word + 1) * 2 ^ rank % 2 ^ 32 ≡ b = shifted rank (word + 1) (omega (arith, turn.high, c.requires.few)) in
+    let turn = turn-is plan planned c.args.ranks rank c.args.from c.args.to word next c.of_rank-planned.ensures.in_order c.of_rank-planned.ensures.rows some c.requires.walk.whole c.loop-word.auto.word c.loop-word-test.true in
+    let from : word * 2 ^ rank % 2 ^ 32 ≡ a = shifted rank word (omega (arith, turn.high, c.requires.walk.few)) in
+    let to : (word + 1) * 2 ^ rank % 2 ^ 32 ≡ b = shifted rank (word + 1) (omega (arith, turn.high, c.requires.walk.few)) in
     let told = g.R.Rows.told c.args.rows.now in
     let least = g.R.Rows.least c.args.rows.now in
     let first : ℕ = c.args.search.now.first in
@@ -359,9 +344,10 @@ loop-word-preserved g t c =
     let out = c.loop-word.out in
     let old : ℕ = g.R.Rows.reads c.loop-word.rows in
     let mid : ℕ = g.R.Rows.reads c.intersect-left.new.rows in
-    let told_same = read.told_stays ∙ before.told_stays in
-    let least_same : (bit : Bit) → least bit ↔ g.R.Rows.least c.intersect-left.new.rows bit = λ bit. (λ r. (read.least_stays bit).0 ((before.least_stays bit).0 r), λ r. (before.least_stays bit).1 ((read.least_stays bit).1 r)) in
-    let here = subst (λ o. HasReadPlace o (first + word) c.args.running planned old mid) before.told_stays read.reads in
+    let stays_here = stays-later g.R.Rows.reach g.R.Rows.least g.R.Rows.seen g.R.Rows.told g.R.Rows.kept c.args.rows.now c.loop-word.rows c.intersect-left.new.rows before.stays read.stays in
+    let told_same = stays_here.told_stays in
+    let least_same = stays_here.least_stays in
+    let here = subst (λ o. HasReadPlace o (first + word) c.args.running planned old mid) before.stays.told_stays read.reads in
     elim c.if-left-ne0.branch [
       | then-left-ne0+in_ok-visit w ↦
           let visited = w.in_ok-visit.ensures in
@@ -376,51 +362,32 @@ loop-word-preserved g t c =
             found =
                 subst (λ r. HasFound told least (g.R.Rows.seen r) first plan slice (64 * c.args.from) (64 * b) c.args.out.now c.if-left-ne0.out) (sym w.rows-is)
                 (subst (HasFound told least (g.R.Rows.seen rows) first plan slice (64 * c.args.from) (64 * b) c.args.out.now) (sym w.out-is)
-                (found-joined told least first plan slice (g.R.Rows.seen c.loop-word.rows) (g.R.Rows.seen rows) (λ bit has. visited.seen_stays bit (read.seen_stays bit has))
+                (found-joined told least first plan slice (g.R.Rows.seen c.loop-word.rows) (g.R.Rows.seen rows) (λ bit has. visited.stays.seen_stays bit (read.stays.seen_stays bit has))
                 (64 * c.args.from) (64 * a) (64 * b) c.args.out.now out new (omega (arith, turn.low)) (omega arith) before.found deeper));
             reads =
                 subst (λ r. HasRead told first (rows_from_rank c.args.ranks plan) (rows_below_rank c.args.ranks plan) c.args.from b (g.R.Rows.reads c.args.rows.now) (g.R.Rows.reads r)) (sym w.rows-is)
                 (read-joined told first (rows_from_rank c.args.ranks plan) (rows_below_rank c.args.ranks plan) c.args.from a b (g.R.Rows.reads c.args.rows.now) old (g.R.Rows.reads rows) turn.low (omega arith) before.reads
                 (turn-read told least (g.R.Rows.seen c.args.rows.now) first c.args.running plan planned c.args.ranks rank c.args.from c.args.to word turn c.requires.some c.ranges.running.fits c.requires.running old mid (g.R.Rows.reads rows) here deeper_read));
-            seen_stays = λ bit has. subst (λ r. g.R.Rows.seen r bit) (sym w.rows-is) (visited.seen_stays bit (read.seen_stays bit (before.seen_stays bit has)));
-            reach_stays = λ other. (
-              λ r. subst (λ x. g.R.Rows.reach x other) (sym w.rows-is) ((visited.reach_stays other).0 ((read.reach_stays other).0 ((before.reach_stays other).0 r))),
-              λ r. (before.reach_stays other).1 ((read.reach_stays other).1 ((visited.reach_stays other).1 (subst (λ x. g.R.Rows.reach x other) w.rows-is r))),
-            );
-            least_stays = λ bit. (
-              λ r. subst (λ x. g.R.Rows.least x bit) (sym w.rows-is) ((visited.least_stays bit).0 ((read.least_stays bit).0 ((before.least_stays bit).0 r))),
-              λ r. (before.least_stays bit).1 ((read.least_stays bit).1 ((visited.least_stays bit).1 (subst (λ x. g.R.Rows.least x bit) w.rows-is r))),
-            );
-            told_stays = ap g.R.Rows.told w.rows-is ∙ visited.told_stays ∙ told_same;
-            kept = ap g.R.Rows.kept w.rows-is ∙ visited.kept ∙ read.kept ∙ before.kept;
+            stays = subst (λ r. StaysReadable g.R.Rows.reach g.R.Rows.least g.R.Rows.seen g.R.Rows.told g.R.Rows.kept c.args.rows.now r) (sym w.rows-is)
+                (stays-later g.R.Rows.reach g.R.Rows.least g.R.Rows.seen g.R.Rows.told g.R.Rows.kept c.args.rows.now c.intersect-left.new.rows rows stays_here visited.stays);
           }
       | else-left-ne0 w ↦
           let rows = c.intersect-left.new.rows in
           let left : ℕ = c.intersect-left.result in
-          let is = left-test told (g.R.Rows.told c.loop-word.rows) before.told_stays least (g.R.Rows.least c.loop-word.rows) before.least_stays
-          (g.R.Rows.seen c.args.rows.now) (g.R.Rows.seen c.loop-word.rows) (g.R.Rows.seen rows) before.seen_stays read.seen_stays
+          let is = left-test told (g.R.Rows.told c.loop-word.rows) before.stays.told_stays least (g.R.Rows.least c.loop-word.rows) before.stays.least_stays
+          (g.R.Rows.seen c.args.rows.now) (g.R.Rows.seen c.loop-word.rows) (g.R.Rows.seen rows) before.stays.seen_stays read.stays.seen_stays
           first c.args.running left plan planned c.args.ranks rank c.args.from c.args.to word turn c.requires.running read.told read.least read.running read.seen in
           record {
             found =
                 subst (λ r. HasFound told least (g.R.Rows.seen r) first plan slice (64 * c.args.from) (64 * b) c.args.out.now c.if-left-ne0.out) (sym w.rows-is)
                 (subst (HasFound told least (g.R.Rows.seen rows) first plan slice (64 * c.args.from) (64 * b) c.args.out.now) (sym w.out-is)
-                (found-joined told least first plan slice (g.R.Rows.seen c.loop-word.rows) (g.R.Rows.seen rows) read.seen_stays
+                (found-joined told least first plan slice (g.R.Rows.seen c.loop-word.rows) (g.R.Rows.seen rows) read.stays.seen_stays
                 (64 * c.args.from) (64 * a) (64 * b) c.args.out.now out out (omega (arith, turn.low)) (omega arith) before.found
                 (found-zero told least first plan slice (g.R.Rows.seen rows) (rows_from_rank rank plan) (rows_below_rank rank plan) (plan-parts rank plan c.of_rank-planned.ensures.in_order) (64 * a) (64 * b) left out w.if-left-ne0.false is)));
             reads =
                 subst (λ r. HasRead told first (rows_from_rank c.args.ranks plan) (rows_below_rank c.args.ranks plan) c.args.from b (g.R.Rows.reads c.args.rows.now) (g.R.Rows.reads r)) (sym w.rows-is)
                 (read-joined told first (rows_from_rank c.args.ranks plan) (rows_below_rank c.args.ranks plan) c.args.from a b (g.R.Rows.reads c.args.rows.now) old mid turn.low (omega arith) before.reads
                 (turn-read_zero told least (g.R.Rows.seen c.args.rows.now) first c.args.running plan planned c.args.ranks rank c.args.from c.args.to word turn c.requires.some c.ranges.running.fits c.requires.running (g.R.Rows.seen rows) left old mid w.if-left-ne0.false is here));
-            seen_stays = λ bit has. subst (λ r. g.R.Rows.seen r bit) (sym w.rows-is) (read.seen_stays bit (before.seen_stays bit has));
-            reach_stays = λ other. (
-              λ r. subst (λ x. g.R.Rows.reach x other) (sym w.rows-is) ((read.reach_stays other).0 ((before.reach_stays other).0 r)),
-              λ r. (before.reach_stays other).1 ((read.reach_stays other).1 (subst (λ x. g.R.Rows.reach x other) w.rows-is r)),
-            );
-            least_stays = λ bit. (
-              λ r. subst (λ x. g.R.Rows.least x bit) (sym w.rows-is) ((read.least_stays bit).0 ((before.least_stays bit).0 r)),
-              λ r. (before.least_stays bit).1 ((read.least_stays bit).1 (subst (λ x. g.R.Rows.least x bit) w.rows-is r)),
-            );
-            told_stays = ap g.R.Rows.told w.rows-is ∙ told_same;
-            kept = ap g.R.Rows.kept w.rows-is ∙ read.kept ∙ before.kept;
+            stays = subst (λ r. StaysReadable g.R.Rows.reach g.R.Rows.least g.R.Rows.seen g.R.Rows.told g.R.Rows.kept c.args.rows.now r) (sym w.rows-is) stays_here;
           }
     ]

@@ -6,6 +6,7 @@ use Rattle.row_layout.specs.declared.row.Row.{Row}
 use Rattle.rank_matcher.specs.Walk.{bit_in}
 use Rattle.rank_matcher.proofs.Bits.{both_have, set-from_test, test-from_set}
 use Rattle.rank_matcher.proofs.Intersections.{HasLeast, IsLeft, WasSeen, if_told, when_told, left-next, left-zero, least-next, least-zero, reads-all, reads-next, reads-zero, seen-next}
+use Rattle.row_read.proofs.Stays.{stays-later}
 use Rattle.rank_matcher.proofs.walk.intersect.Given.{Over}
 use Rattle.rank_matcher.proofs.walk.intersect.Goals as goal
 use Rattle.rank_matcher.proofs.walk.intersect.Goals.{After-read-left}
@@ -16,7 +17,7 @@ no_row = record { rank = 0; start = 0; width = 0 }
 -- what this read told
 read_is : (g : Over) (c : After-read-left g) (words : List ℕ) → g.R.Rows.told c.args.rows.now ≡ Some words
     → c.read-left.result ≡ slice_index words (c.args.place + (get_or c.args.planned.now c.loop-row.row-index no_row).start)
-read_is g c words told = when_told _ (g.R.Rows.told c.loop-row.rows) words (c.loop-row.invariant.told_stays ∙ told) c.read-left.ensures.told
+read_is g c words told = when_told _ (g.R.Rows.told c.loop-row.rows) words (c.loop-row.invariant.stays.told_stays ∙ told) c.read-left.ensures.told
 
 pub returns-then-left-eq0-clause-told : goal.returns-then-left-eq0-clause-told
 returns-then-left-eq0-clause-told g c =
@@ -29,7 +30,7 @@ pub returns-then-left-eq0-clause-least : goal.returns-then-left-eq0-clause-least
 returns-then-left-eq0-clause-least g c =
     let i : ℕ = c.loop-row.row-index in
     least-zero (g.R.Rows.least c.args.rows.now) c.args.place c.args.running c.args.planned.now (i + 1) (bit_and c.loop-row.left c.read-left.result) c.if-left-eq0.true
-    (least-next (g.R.Rows.least c.args.rows.now) (g.R.Rows.least c.loop-row.rows) c.loop-row.invariant.least_stays c.args.place c.args.running c.args.planned.now i no_row c.loop-row.left c.read-left.result c.loop-row-test.true
+    (least-next (g.R.Rows.least c.args.rows.now) (g.R.Rows.least c.loop-row.rows) c.loop-row.invariant.stays.least_stays c.args.place c.args.running c.args.planned.now i no_row c.loop-row.left c.read-left.result c.loop-row-test.true
     c.loop-row.invariant.least (λ bit is. test-from_set c.read-left.result bit (c.read-left.ensures.least bit is)))
 
 pub returns-then-left-eq0-clause-reads : goal.returns-then-left-eq0-clause-reads
@@ -55,7 +56,7 @@ loop-row-preserved g c =
       told = λ words told.
           left-next words place c.args.running planned i no_row c.loop-row.left c.read-left.result c.loop-row-test.true (before.told words told) (read_is g c.before words told);
       least =
-          least-next (g.R.Rows.least c.args.rows.now) (g.R.Rows.least c.loop-row.rows) before.least_stays place c.args.running planned i no_row c.loop-row.left c.read-left.result c.loop-row-test.true
+          least-next (g.R.Rows.least c.args.rows.now) (g.R.Rows.least c.loop-row.rows) before.stays.least_stays place c.args.running planned i no_row c.loop-row.left c.read-left.result c.loop-row-test.true
           before.least (λ bit is. test-from_set c.read-left.result bit (read.least bit is));
       running = λ bit has. before.running bit ((both_have c.loop-row.left c.read-left.result bit has).0);
       seen =
@@ -65,11 +66,7 @@ loop-row-preserved g c =
       reads_are = λ words told.
           reads-next words place c.args.running c.loop-row.left planned i no_row c.read-left.result c.loop-row-test.true (read_is g c.before words told) (omega (arith, c.if-left-eq0.false))
           (before.reads_are words told);
-      seen_stays = λ bit has. (read.seen bit).1 (inl (before.seen_stays bit has));
-      reach_stays = λ other. (λ r. (read.reach_stays other).0 ((before.reach_stays other).0 r), λ r. (before.reach_stays other).1 ((read.reach_stays other).1 r));
-      least_stays = λ bit. (λ r. (read.least_stays bit).0 ((before.least_stays bit).0 r), λ r. (before.least_stays bit).1 ((read.least_stays bit).1 r));
-      told_stays = read.told_stays ∙ before.told_stays;
-      kept = read.kept ∙ before.kept;
+      stays = stays-later g.R.Rows.reach g.R.Rows.least g.R.Rows.seen g.R.Rows.told g.R.Rows.kept c.args.rows.now c.loop-row.rows c.read-left.new.self before.stays read.stays;
     }
 
 pub returns-clause-told : goal.returns-clause-told

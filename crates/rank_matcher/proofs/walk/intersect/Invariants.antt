@@ -1,12 +1,11 @@
 use Rattle.std.proofs.Common.{◌≡◌, ℕ, ◌+◌, ◌&&◌, true, List, take, drop}
-use Rattle.std.specs.Prelude.{◌↔◌}
 use Rattle.std.specs.List.{All}
 use Rattle.std.specs.declared.option.Option.TheVariants.{Some}
-use Rattle.funnel_model.specs.declared.bit_list.Bit.{Bit}
 use Rattle.rank_matcher.specs.Reads.{shown_reads}
 use Rattle.rank_matcher.specs.Walk.{all_have, bit_in, reads_left}
 use Rattle.rank_matcher.proofs.walk.intersect.Given as goal
 use Rattle.row_read.specs.Bits.{has_bit}
+use Rattle.row_read.specs.Readable.{StaysReadable}
 
 -- the bits that the rows so far leave
 abbrev pub invariant-loop-row : goal.invariant-loop-row
@@ -25,9 +24,5 @@ invariant-loop-row g l = record {
   reads_are :
       (words : List ℕ) → g.R.Rows.told l.fn.rows ≡ Some words
       → reads_left words l.place l.running l.planned ≡ l.row-index + reads_left words l.place l.left (drop l.row-index l.planned);
-  seen_stays : (bit : Bit) → g.R.Rows.seen l.fn.rows bit → g.R.Rows.seen l.rows bit;
-  reach_stays : (other : ℕ) → g.R.Rows.reach l.fn.rows other ↔ g.R.Rows.reach l.rows other;
-  least_stays : (bit : Bit) → g.R.Rows.least l.fn.rows bit ↔ g.R.Rows.least l.rows bit;
-  told_stays : g.R.Rows.told l.rows ≡ g.R.Rows.told l.fn.rows;
-  kept : g.R.Rows.kept l.rows ≡ g.R.Rows.kept l.fn.rows;
+  stays : StaysReadable g.R.Rows.reach g.R.Rows.least g.R.Rows.seen g.R.Rows.told g.R.Rows.kept l.fn.rows l.rows;
 }

@@ -2,6 +2,7 @@ use Rattle.std.proofs.Common.{◌≡◌, ℕ, ◌+◌, ◌<◌, [], ◌∷◌, �
 use Rattle.document_store.specs.Slots.{IsColumn, with_slot}
 use Rattle.document_store.specs.declared.column.Column.TheVariants as became
 use Rattle.funnel_model.specs.declared.event.Event.TheVariants as event
+use Rattle.funnel_model.specs.declared.claim.Claim.{Claim}
 use Rattle.funnel_model.specs.Legal.{IsAllowed, MayTake}
 use Rattle.funnel_model.specs.Slices.{claimed}
 use Rattle.funnel_model.proofs.Claims.{take_within}
@@ -135,10 +136,13 @@ returns-clause-made c =
     (made_one c.args.self.now i.home home i.events_limit c.args.seat.now seat e c.self.view_is c.requires.caught_up made.home
     (legal-push i.home.pool.limits i.home.history e c.self.invariant.kept.legal (allowed_now then)) made.seat)
 
-pub returns-clause-column : goal.returns-clause-column
-returns-clause-column c =
+abbrev column_of : ℕ → ℕ → Claim
+column_of slice column = record { slice = slice; column = column }
+
+pub returns-clause-claim : goal.returns-clause-claim
+returns-clause-claim c =
     let then = c.before.before.before.before.before.before.before.before in
-    (told then).2 ∙ ap (λ (d : DeskState). length (claimed c.args.slice d.history)) c.self.view_is
+    ap (column_of c.args.slice) ((told then).2 ∙ ap (λ (d : DeskState). length (claimed c.args.slice d.history)) c.self.view_is)
 
 pub returns-clause-nothing_yet : goal.returns-clause-nothing_yet
 returns-clause-nothing_yet c =

@@ -1,5 +1,6 @@
-use Rattle.std.proofs.Common.{◌≡◌, ◌+◌, ◌<◌, false, inr, None, [], ◌∷◌, ◌++◌, length, Some, refl, sym, ap, ◌∙◌, subst, arith}
+use Rattle.std.proofs.Common.{◌≡◌, ℕ, ◌+◌, ◌<◌, false, inr, None, [], ◌∷◌, ◌++◌, length, Some, refl, sym, ap, ◌∙◌, subst, arith}
 use Rattle.funnel_model.specs.declared.event.Event.TheVariants as event
+use Rattle.funnel_model.specs.declared.claim.Claim.{Claim}
 use Rattle.funnel_model.specs.Legal.{IsAllowed}
 use Rattle.slice_rule.specs.Pools.{PoolId}
 use Rattle.commit_desk.specs.Desks.{Makes}
@@ -27,6 +28,9 @@ use Rattle.commit_desk.proofs.RecordFacts.{is_column, taken_is_free, taken_is_th
 use Rattle.commit_desk.proofs.desk.Desk.opened_take.Goals as goal
 use Rattle.commit_desk.proofs.desk.Desk.opened_take.Goals.{After-number-pass, After-open, After-claim-column}
 
+abbrev column_of : ℕ → ℕ → Claim
+column_of slice column = record { slice = slice; column = column }
+
 -- the pass caught up
 turn_now : (c : After-number-pass) →
     JobTurn c.args.self.now c.self.inside.events_limit c.catch_up.new.home (books_of c.self.inside) c.args.seat.now c.catch_up.new.seat c.number-pass.result c.args.job.slice
@@ -34,7 +38,7 @@ turn_now c =
     let i = c.self.inside in
     let up = c.catch_up.ensures in
     job_turn c.args.pool.now c.args.self.now i.events_limit i.home c.catch_up.new.home (books_of i) c.args.seat.now c.catch_up.new.seat c.number-pass.result c.args.job c.requires.pool
-    c.requires.seat c.requires.job c.self.view_is c.self.invariant up.home up.seat up.front up.none_since up.none_outstanding up.in_range c.number-pass.ensures.number
+    c.requires.seat c.requires.cleared.holds c.self.view_is c.self.invariant up.home up.seat up.front up.none_since up.none_outstanding up.in_range c.number-pass.ensures.number
 
 allowed_now : (c : After-number-pass) → IsAllowed c.catch_up.new.home.pool.limits c.catch_up.new.home.history (event.Opened c.number-pass.result c.args.job.slice false)
 allowed_now c = opened_allowed c.args.self.now c.self.inside.events_limit c.catch_up.new.home (books_of c.self.inside) c.args.seat.now c.catch_up.new.seat c.number-pass.result c.args.job.slice (turn_now c) false
@@ -48,7 +52,7 @@ make_event-self-inside-requires-clause-allowed c =
 pub make_event-self-inside-requires-clause-ready : goal.make_event-self-inside-requires-clause-ready
 make_event-self-inside-requires-clause-ready c =
     let up = c.catch_up.ensures in
-    zero_caught c.args.pool.now c.args.self.now.pool c.args.seat.now c.catch_up.new.seat c.number-pass.result c.args.job.slice c.requires.pool up.seat up.none_since c.number-pass.ensures.number c.requires.zero
+    zero_caught c.args.pool.now c.args.self.now.pool c.args.seat.now c.catch_up.new.seat c.number-pass.result c.args.job.slice c.requires.pool up.seat up.none_since c.number-pass.ensures.number c.requires.cleared.zeros
 
 in_range_now : (c : After-number-pass) → c.args.job.slice < c.catch_up.new.home.pool.limits.slices
 in_range_now c = slice_in_range c.args.self.now c.self.inside.events_limit c.catch_up.new.home (books_of c.self.inside) c.args.seat.now c.catch_up.new.seat c.number-pass.result c.args.job.slice (turn_now c)
@@ -195,8 +199,8 @@ invariant_of-self c =
     c.make_event-self-inside-2.result c.claim.new.self c.claim-column.new.self made.home.history (number_is middle home e c.make_event-self-inside-2.result made.home made.number) c.claim.ensures (told then).1
     (kept-take caught.pool.config caught.pool.limits i.events_limit middle.history opened kept pass slice column 0 (take_allowed then) few told_stage))
 
-pub returns-clause-column : goal.returns-clause-column
-returns-clause-column c = (told c.before.before.before.before.before.before.before.before.before).0
+pub returns-clause-claim : goal.returns-clause-claim
+returns-clause-claim c = ap (column_of c.args.job.slice) (told c.before.before.before.before.before.before.before.before.before).0
 
 pub returns-clause-events : goal.returns-clause-events
 returns-clause-events c =

@@ -1,4 +1,5 @@
 use Rattle.std.proofs.Common.{◌≡◌, ℕ, ◌<◌, ◌≤◌, length, inl, inr, refl, sym, ap, ◌∙◌, subst}
+use Rattle.funnel_model.specs.declared.claim.Claim.{Claim}
 use Rattle.funnel_model.specs.Legal.{HasRoom, IsIdle, MayTake}
 use Rattle.funnel_model.specs.Slices.{claimed}
 use Rattle.slice_stages.specs.Stages.{HasLeft, HoldsOfNone, IsLowest}
@@ -36,12 +37,12 @@ pub returns-then-slice-look-clause-answer : goal.returns-then-slice-look-clause-
 returns-then-slice-look-clause-answer c =
     let start = c.before.before.before.before.before.before.before.before.before in
     let now = c.args.self.now in
-    let column : c.claim.result.column ≡ length (claimed c.in-Some.slice now.history) = c.claim.ensures.column ∙ ap (λ (d : DeskState). length (claimed c.in-Some.slice d.history)) (view_now start) in (
+    let column : c.claim.result.column ≡ length (claimed c.in-Some.slice now.history) = (ap (λ (k : Claim). k.column) c.claim.ensures.claim) ∙ ap (λ (d : DeskState). length (claimed c.in-Some.slice d.history)) (view_now start) in (
       subst (λ (d : DeskState). TakesCalls d.events_limit d.history) (view_now start) (takes_calls c.self.inside.events_limit c.catch_up.new.home.history c.if-not-is_spent.ensures.spent.1),
       subst (λ n. MayTake now.pool.limits now.history n c.claim.result.slice c.claim.result.column) c.catch_up.ensures.seat.number
-          (subst (λ n. MayTake now.pool.limits now.history c.catch_up.new.seat.number n c.claim.result.column) (sym c.claim.ensures.slice)
+          (subst (λ n. MayTake now.pool.limits now.history c.catch_up.new.seat.number n c.claim.result.column) (sym (ap (λ (k : Claim). k.slice) c.claim.ensures.claim))
           (subst (λ n. MayTake now.pool.limits now.history c.catch_up.new.seat.number c.in-Some.slice n) (sym column) (may_by start c.in-Some.slice c.in-Some.ensures))),
-      λ same. c.if-slice-look.true (sym c.claim.ensures.slice ∙ same),
+      λ same. c.if-slice-look.true (sym (ap (λ (k : Claim). k.slice) c.claim.ensures.claim) ∙ same),
       refl,
     )
 

@@ -1,4 +1,5 @@
 use Rattle.std.proofs.Common.{ℕ, ◌<◌, length, inr, sym, subst}
+use Rattle.funnel_model.specs.declared.claim.Claim.{Claim}
 use Rattle.funnel_model.specs.Blocks.{AreBlocks}
 use Rattle.funnel_model.specs.Legal.{HasRoom, IsFull, IsIdle, MayTake, NoneCanClear}
 use Rattle.funnel_model.specs.Slices.{claimed}
@@ -27,8 +28,7 @@ returns-in-Some-clause-answer c =
     let pass = c.args.seat.now.number in
     let claim = c.claim.ensures in (
       c.requires.may,
-      subst (λ n. MayTake c.args.self.now.pool.limits c.args.self.now.history pass n c.claim.result.column) (sym claim.slice)
-          (subst (λ n. MayTake c.args.self.now.pool.limits c.args.self.now.history pass c.in-Some.slice n) (sym claim.column) (may_now c.before.before.before)),
+      subst (λ (k : Claim). MayTake c.args.self.now.pool.limits c.args.self.now.history pass k.slice k.column) (sym claim.claim) (may_now c.before.before.before),
     )
 
 none_left : (c : In_default) → HoldsOfNone (HasLeft c.self.inside.home.pool.limits.columns) c.self.inside.stages

@@ -7,13 +7,7 @@ pub commit-answer-requires : goal.commit-answer-requires
 commit-answer-requires g c =
     let is = c.self.invariant in
     let written = c.written.inside in
-    let all : HasWritten c.self.inside.desk.pool written.claim written.doc.words written.bits.bits written.seat =
-    subst (λ (p : PoolId). HasWritten p written.claim written.doc.words written.bits.bits written.seat) (sym is.desk_of_name) c.written.invariant in
     record {
       pool = is.of_name ∙ sym is.desk_of_name;
-      seat = all.seated;
-      claim = all.holds;
-      bits = all.document;
-      inside = all.inside;
-      set = all.bits_set;
+      written = subst (λ (p : PoolId). HasWritten p written.claim written.doc.words written.bits.bits written.seat) (sym is.desk_of_name) c.written.invariant;
     }

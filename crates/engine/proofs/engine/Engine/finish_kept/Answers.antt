@@ -2,6 +2,7 @@ use Rattle.std.proofs.Common.{[], ◌∷◌, List, sym, ap, subst, ◌∙◌, ar
 use Rattle.std.proofs.lemmas.List.Sorted.{length_permutation}
 use Rattle.commit_desk.proofs.Given.{given_few}
 use Rattle.commit_desk.specs.Judging.{answer_where}
+use Rattle.engine.specs.Branches.{words_of_each}
 use Rattle.engine.specs.Passes.{view_of}
 use Rattle.engine.proofs.Finds.{begun_still, finding_still}
 use Rattle.engine.proofs.JudgedFinds.{judged_none, kept_is_answer}
@@ -19,7 +20,7 @@ judge_each-requires g c =
     let next = c.scan_any.new.pass in
     let seat = c.scan_any.ensures.seat in
     record {
-      so_far = judged_none g.N.PoolName.pool next c.args.token (g.J.Judge.test c.args.judge.now) c.args.branches.now c.in-Ok.candidates c.in-Ok.found
+      so_far = judged_none g.N.PoolName.pool next c.args.token (g.J.Judge.test c.args.judge.now) (words_of_each c.args.branches.now) c.in-Ok.candidates c.in-Ok.found
           (finding_still g.N.PoolName.pool c.args.token pass next seat c.requires.finding) (begun_still pass next seat c.requires.begun) c.requires.judge c.in-Ok.ensures.scanned c.in-Ok.ensures.none c.in-Ok.ensures.room;
     }
 
@@ -45,6 +46,6 @@ returns-in-Ok-clause-kept g c earlier query at =
     let after = c.judge_each.new.pass.front in
     let same = begun_last next token.opened_at earlier query (subst (λ (s : PassState). IsBegunAt (view_of s) earlier query) (sym seat) at) begun in
     c.into_ids.ensures
-    ∙ kept_is_answer g.N.PoolName.pool next token test c.args.branches.now c.in-Ok.candidates c.judge_each.new.out.found c.sort.new.self.found after c.judge_each.ensures.legal
+    ∙ kept_is_answer g.N.PoolName.pool next token test (words_of_each c.args.branches.now) c.in-Ok.candidates c.judge_each.new.out.found c.sort.new.self.found after c.judge_each.ensures.legal
     (turn_grows {answers = λ history. Unit {0}} next.number next.front after (event.End next.number ∷ []) c.judge_each.ensures.ended) begun c.in-Ok.ensures.scanned c.judge_each.ensures.found c.sort.ensures.same c.sort.ensures.rising
     ∙ ap (λ (h : List Event). answer_where h test) (sym same.0)

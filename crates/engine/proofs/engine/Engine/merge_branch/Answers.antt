@@ -1,14 +1,16 @@
-use Rattle.engine.proofs.JudgedScans.{column_below, number_below}
+use Rattle.std.proofs.Common.{◌<◌, ◌∙◌, subst, sym}
+use Rattle.engine.proofs.BranchScans.{column_below, of_slice}
 use Rattle.engine.proofs.engine.Engine.merge_branch.Goals as goal
+
+pub add_all-requires-clause-slice : goal.add_all-requires-clause-slice
+add_all-requires-clause-slice g c candidate has =
+    let pool = g.N.PoolName.pool in
+    let found = c.in_ok-found in
+    of_slice pool.config pool c.args.rows.now c.scan_at.new.rows found.ensures.kept c.requires.scan.can_read c.args.slice c.args.branch.now.words.now found.found found.ensures.scanned candidate has ∙ sym c.requires.begun
 
 pub add_all-requires-clause-columns : goal.add_all-requires-clause-columns
 add_all-requires-clause-columns g c candidate has =
     let pool = g.N.PoolName.pool in
-    column_below pool pool.config c.args.rows.now c.scan_words.new.rows c.in_ok-scanned.ensures.kept c.requires.can_read c.args.words.now c.in_ok-scanned.scanned c.in_ok-scanned.ensures.scanned candidate has
-    c.args.merged.now.columns c.requires.columns
-
-pub add_all-requires-clause-within : goal.add_all-requires-clause-within
-add_all-requires-clause-within g c candidate has =
-    let pool = g.N.PoolName.pool in
-    number_below pool pool.config c.args.rows.now c.scan_words.new.rows c.in_ok-scanned.ensures.kept c.requires.can_read c.args.words.now c.in_ok-scanned.scanned c.in_ok-scanned.ensures.scanned candidate has
-    c.args.merged.now.columns c.args.merged.now.size c.requires.columns c.requires.size
+    let found = c.in_ok-found in
+    subst (λ n. candidate.1 < n) (sym c.requires.columns)
+    (column_below pool.config pool c.args.rows.now c.scan_at.new.rows found.ensures.kept c.requires.scan.can_read c.args.slice c.args.branch.now.words.now found.found found.ensures.scanned candidate has)

@@ -49,7 +49,7 @@ returns-then-has-clause-scanned g c =
     (λ _. AreScannedBelow pool.config after.seat.now after.token.now words (slice + 1) new)
     (λ _ covered.
     subst (λ (config : Config). AreScannedBelow config after.seat.now after.token.now words (slice + 1) new) laid_out
-    (scanned_slice layout before after words plan slice old new did.kept columns (c.if-has.ensures.0 refl) rows below did.appends covered did.in_slice did.rising did.seen did.seen_stays)) did.covered
+    (scanned_slice layout before after words plan slice old new did.kept columns (c.if-has.ensures.0 refl) rows below did.appends.appends covered did.appends.in_slice did.appends.rising did.bits.were_seen did.seen_stays)) did.bits.covered
 
 pub returns-else-has-clause-scanned : goal.returns-else-has-clause-scanned
 returns-else-has-clause-scanned g c =

@@ -43,6 +43,13 @@ returns-clause-untuned c limits pass fault needed room before after asked step =
     (λ wide. never_unread limits pass before after asked (reply.Wide needed room) refl wide)
     step
 
+pub returns-clause-unasked : goal.returns-clause-unasked
+returns-clause-unasked c limits pass at before after asked step =
+    ⊎_elim
+    (λ malformed. never_unread limits pass before after asked (reply.Query at) refl malformed)
+    (λ deep. never_unread limits pass before after asked (reply.Deep at) refl deep)
+    step
+
 pub returns-clause-read : goal.returns-clause-read
 returns-clause-read c before is = cc
 
@@ -54,12 +61,12 @@ pub returns-clause-older : goal.returns-clause-older
 returns-clause-older c step =
     ⊎_elim
     (λ made. let same = one_answer small 0 (first_added ++ event.No 0 (call.Add 9 []) ∷ []) (call.Add 9 []) (call.Add 9 []) (reply.Added 1) (reply.Present 1) made.answered refused in cc)
-    (λ rest. ⊎_elim (λ lacks. let other = lacks.reply in cc) (λ spent. let other = spent.reply in cc) rest)
+    (λ rest. ⊎_elim (λ lacks. let other = lacks.reply in cc) (λ last. ⊎_elim (λ spent. let other = spent.reply in cc) (λ judged. let other = judged.query in cc) last) rest)
     step.outcome
 
 pub returns-clause-twice : goal.returns-clause-twice
 returns-clause-twice c step =
-    ⊎_elim (λ made. let alone = made.call in cc) (λ rest. ⊎_elim (λ lacks. let other = lacks.reply in cc) (λ spent. let other = spent.reply in cc) rest) step.outcome
+    ⊎_elim (λ made. let alone = made.call in cc) (λ rest. ⊎_elim (λ lacks. let other = lacks.reply in cc) (λ last. ⊎_elim (λ spent. let other = spent.reply in cc) (λ judged. let other = judged.query in cc) last) rest) step.outcome
 
 pub returns-clause-empty : goal.returns-clause-empty
 returns-clause-empty c asked step = let many = (spent_cause paired 0 [] [] asked step).0 in omega arith

@@ -1,5 +1,4 @@
 use Rattle.funnel_model.proofs.QueryLemmas.{one-expression, one-deep, one-malformed, query-formed, query-shallow}
-use Rattle.funnel_model.proofs.ReadingOnce.{no_front, read-whole}
 use Rattle.funnel_model.proofs.laws.queries.queries_have_one_answer.Goals as goal
 
 pub returns-clause-one_expression : goal.returns-clause-one_expression

@@ -4,7 +4,7 @@ use Rattle.session.specs.Ends.{Serves}
 use Rattle.session.specs.Steps.{HasServedLines}
 use Rattle.funnel_io.specs.declared.end.End.TheVariants as end_of
 use Rattle.session.proofs.Progress.{served_more, serves_end, serves_part}
-use Rattle.session.proofs.TurnLaws.{gone_on, stops_failed, stops_last}
+use Rattle.session.proofs.TurnLaws.{gone_on, stops_failed, stops_done}
 use Rattle.session.proofs.serving.Server.turn.Goals as goal
 
 pub returns-in-Err-clause-serves : goal.returns-in-Err-clause-serves
@@ -42,7 +42,7 @@ returns-clause-serves g c old p =
 
 pub returns-in-Err-clause-in_turns : goal.returns-in-Err-clause-in_turns
 returns-in-Err-clause-in_turns g c first p =
-    stops_last g.C.Source.read_gives g.C.Sink.write_gives c.args.limit c.args.self.now.left c.next_reply.new.self.left first c.args.conn.now
+    stops_done g.C.Source.read_gives g.C.Sink.write_gives c.args.limit c.args.self.now.left c.next_reply.new.self.left first c.args.conn.now
     c.args.self.now.reader c.next_reply.new.self.reader p c.next_reply.new.conn c.in-Err.ensures.reads
     (g.C.Source.incoming c.args.conn.now) (g.C.Source.incoming c.next_reply.new.conn) _ _ c.in-Err.end c.in-Err.ensures.ends
 

@@ -1,0 +1,286 @@
+-- The candidates of branches, slice by slice.
+use Rattle.std.proofs.Common.{◌≡◌, ◌↔◌, ◌⊎◌, ◌==◌, ⊎_elim, ℕ, ◌+◌, ◌<◌, ◌≤◌, List, [], ◌∷◌, ◌++◌, length, get_or, map, take, refl, sym, ap, ◌∙◌, subst, arith, All, AllPairs, Contains, inl, inr}
+use Rattle.std.specs.List.Sorted.{IsStrictlySortedBy}
+use Rattle.std.specs.Ordering.{nat_cmp}
+use Rattle.std.proofs.lemmas.Bool.{cases_lt, eq-eqb, eqb-true}
+use Rattle.std.proofs.lemmas.List.{map-append, take_more}
+use Rattle.std.proofs.lemmas.List.Elements.{All-append, All-cons, All-nil, All-weaker, Contains-append_cases, Contains-append_left, Contains-append_right, Contains-push_cases}
+use Rattle.commit_desk.specs.Judging.{AreScannedForAny}
+use Rattle.commit_desk.specs.Scans.{AreScanned, HasAllCommitted, IsOfToken}
+use Rattle.engine.specs.Branches.{AddsEach, AddsScan, AreScannedForAnyBelow, IsPlanned, token_at, words_of_each}
+use Rattle.engine.specs.declared.branch_scans.Planned.{Planned}
+use Rattle.engine.specs.Scans.{AreScannedBelow, CanScan, token_below}
+use Rattle.engine.proofs.CandidateParts.{pairs-append}
+use Rattle.engine.proofs.Scans.{below, is_below, of_token_later, read_kept, scanned_all, scanned_more, scanned_none, scanned_without, token_kept}
+use Rattle.funnel_model.proofs.AnswerLemmas.{Contains-filter, Contains-filtered}
+use Rattle.funnel_model.specs.declared.bit_list.Bit.{Bit}
+use Rattle.funnel_model.specs.declared.claim.Token.{Token}
+use Rattle.funnel_model.specs.declared.config.Config.{Config}
+use Rattle.funnel_model.specs.declared.event.Event.{Event}
+use Rattle.funnel_model.specs.RowWords.{IsCommitted}
+use Rattle.funnel_model.specs.Sizes.{columns_of_slice, words_of_slice}
+use Rattle.rank_matcher.specs.Appended.{candidates_of}
+use Rattle.row_layout.specs.declared.row.Row.{Row}
+use Rattle.row_layout.specs.DocumentBits.{bit_of_row}
+use Rattle.row_layout.specs.Orders.{HasRowsOf}
+use Rattle.row_layout.specs.Rows.{IsRowOf}
+use Rattle.row_read.specs.declared.shared.Shared.{Shared}
+use Rattle.row_read.specs.SharedRows.{CanRead, SharedKept, WasReadSet, kept_of}
+use Rattle.slice_rule.specs.Pools.{PoolId}
+use Rattle.slice_rule.specs.Seats.{PassState, WasReadUnder}
+
+-- no list of none has a member
+nothing : {X : Type 0} (x : X) → Contains [] x → ⊥
+nothing x (k, within, is) = omega (arith, within)
+
+-- The one slice of a token.
+module _ (slice other : ℕ) (token : Token) where
+  is_at : Contains (token_at slice token).slices other → Contains token.slices other × (other ≡ slice)
+  is_at has = let kept = Contains-filtered (λ s. s == slice) token.slices other has in (kept.0, eqb-true other slice kept.1)
+
+  at_slice : Contains token.slices other → other ≡ slice → Contains (token_at slice token).slices other
+  at_slice has is = Contains-filter (λ s. s == slice) token.slices other has (eq-eqb other slice is)
+
+-- A pass that read more.
+module _ (config : Config) (before after : PassState) (token : Token) (pool : after.pool ≡ before.pool) (front : after.front ≡ before.front)
+    (seen_stays : (bit : Bit) → WasReadUnder before token.opened_at bit → WasReadUnder after token.opened_at bit) where
+  -- what was scanned is scanned still
+  pub scanned_later : (words : List (List ℕ)) (scanned : List (ℕ × ℕ)) → AreScanned config before token words scanned → AreScanned config after token words scanned
+  scanned_later words scanned are = record {
+    of_token = subst (λ (p : PoolId). (candidate : ℕ × ℕ) → Contains scanned candidate → IsOfToken p.limits.columns token candidate) (sym pool) are.of_token;
+    each_once = are.each_once;
+    every = λ slice column has below all.
+        are.every slice column has (subst (λ (p : PoolId). column < p.limits.columns) pool below)
+        (λ bit of. subst (λ (h : List Event). IsCommitted h slice bit) front (all bit of));
+    read = λ candidate has bit of. seen_stays bit (are.read candidate has bit of);
+    laid = subst (λ (p : PoolId). p.limits.slice_words ≡ words_of_slice config) (sym pool) are.laid;
+  }
+
+  pub any_scanned_later : (branches : List (List (List ℕ))) (candidates : List (ℕ × ℕ)) → AreScannedForAny config before token branches candidates → AreScannedForAny config after token branches candidates
+  any_scanned_later branches candidates are = record {
+    each_once = are.each_once;
+    of_each = λ branch has. let of = are.of_each branch has in (of.0, scanned_later branch of.0 of.1, of.2);
+    of_some = λ candidate has. let of = are.of_some candidate has in (of.0, of.1, of.2, scanned_later of.0 of.1 of.3, of.4);
+  }
+
+-- What is scanned of one slice after those below it.
+module _ (config : Config) (seat : PassState) (token : Token) (slice : ℕ) (readable : Contains token.slices slice) where
+  pub scanned_join : (words : List (List ℕ)) (first second : List (ℕ × ℕ)) → AreScannedBelow config seat token words slice first → AreScanned config seat (token_at slice token) words second →
+      AreScannedBelow config seat token words (slice + 1) (first ++ second)
+  scanned_join words first second before here = record {
+    of_token = λ candidate has.
+        ⊎_elim (λ (h : Contains first candidate). of_token_later seat.pool.limits.columns slice token candidate (before.of_token candidate h))
+        (λ (h : Contains second candidate).
+        let of = here.of_token candidate h in
+        let is = is_at slice candidate.0 token of.slice in
+        record { slice = below (slice + 1) candidate.0 token is.0 (let same = is.1 in omega (arith, same)); column = of.column })
+        (Contains-append_cases first second candidate has);
+    each_once =
+        pairs-append (λ (candidate other : ℕ × ℕ). candidate ≡ other → ⊥) first second before.each_once here.each_once
+        (λ candidate other of_first of_second same.
+        let low = (is_below slice candidate.0 token (before.of_token candidate of_first).slice).1 in
+        let is = (is_at slice other.0 token (here.of_token other of_second).slice).1 in
+        let slices = ap (λ (c : ℕ × ℕ). c.0) same in
+        omega (arith, low, is, slices));
+    every = λ s column has. let is = is_below (slice + 1) s token has in each s is.1 is.0 column (cases_lt s slice);
+    read = λ candidate has.
+        ⊎_elim (λ (h : Contains first candidate). before.read candidate h) (λ (h : Contains second candidate). here.read candidate h) (Contains-append_cases first second candidate has);
+    laid = before.laid;
+  }
+    where
+      each : (s : ℕ) → s < slice + 1 → Contains token.slices s → (column : ℕ) → (s < slice) ⊎ (slice ≤ s) → column < seat.pool.limits.columns → HasAllCommitted config seat words s column →
+          Contains (first ++ second) (s, column)
+      each s low has column (inl lower) in_range committed =
+          Contains-append_left first second (s, column) (before.every s column (below slice s token has lower) in_range committed)
+      each s low has column (inr high) in_range committed =
+          Contains-append_right first second (s, column) (here.every s column (at_slice slice s token has (omega (arith, low, high))) in_range committed)
+
+  -- the candidates of branches, and what the scans of the slice added
+  any_joined : (branches : List (List (List ℕ))) (old new : List (ℕ × ℕ)) → AreScannedForAnyBelow config seat token branches slice old → AddsEach config seat token slice branches old new →
+      AllPairs (λ (candidate other : ℕ × ℕ). candidate ≡ other → ⊥) new → AreScannedForAnyBelow config seat token branches (slice + 1) new
+  any_joined branches old new before adds once = record {
+    each_once = once;
+    of_each = λ branch has.
+        let first = before.of_each branch has in
+        let second = adds.of_each branch has in (
+          first.0 ++ second.0,
+          scanned_join branch first.0 second.0 first.1 second.1,
+          λ candidate found.
+              ⊎_elim (λ (h : Contains first.0 candidate). adds.of_before candidate (first.2 candidate h)) (λ (h : Contains second.0 candidate). second.2 candidate h)
+              (Contains-append_cases first.0 second.0 candidate found),
+        );
+    of_some = λ candidate has.
+        ⊎_elim
+        (λ (h : Contains old candidate).
+        let first = before.of_some candidate h in
+        let second = adds.of_each first.0 first.2 in
+        (first.0, first.1 ++ second.0, first.2, scanned_join first.0 first.1 second.0 first.3 second.1, Contains-append_left first.1 second.0 candidate first.4))
+        (λ (second : (branch : List (List ℕ)) × (scanned : List (ℕ × ℕ)) × Contains branches branch × AreScanned config seat (token_at slice token) branch scanned × Contains scanned candidate).
+        let first = before.of_each second.0 second.2 in
+        (second.0, first.0 ++ second.1, second.2, scanned_join second.0 first.0 second.1 first.1 second.3, Contains-append_right first.0 second.1 candidate second.4))
+        (adds.of_some candidate has);
+  }
+
+-- before the first slice
+pub any_none : (config : Config) (seat : PassState) (token : Token) (branches : List (List (List ℕ))) → seat.pool.limits.slice_words ≡ words_of_slice config → AreScannedForAnyBelow config seat token branches 0 []
+any_none config seat token branches laid = record {
+  each_once = λ i j d lt within. absurd (omega (arith, within));
+  of_each = λ branch has. ([], scanned_none config seat token branch laid, λ candidate found. found);
+  of_some = λ candidate has. absurd (nothing candidate has);
+}
+
+-- after the last
+pub any_all : (config : Config) (seat : PassState) (token : Token) (branches : List (List (List ℕ))) (slices : ℕ) (candidates : List (ℕ × ℕ)) → ((slice : ℕ) → Contains token.slices slice → slice < slices) →
+    AreScannedForAnyBelow config seat token branches slices candidates → AreScannedForAny config seat token branches candidates
+any_all config seat token branches slices candidates in_range are = record {
+  each_once = are.each_once;
+  of_each = λ branch has. let of = are.of_each branch has in (of.0, scanned_all config seat token branch slices of.0 in_range of.1, of.2);
+  of_some = λ candidate has. let of = are.of_some candidate has in (of.0, of.1, of.2, scanned_all config seat token of.0 slices of.1 in_range of.3, of.4);
+}
+
+-- a slice that the token doesn't have
+pub any_without : (config : Config) (seat : PassState) (token : Token) (branches : List (List (List ℕ))) (slice : ℕ) (candidates : List (ℕ × ℕ)) → (Contains token.slices slice → ⊥) →
+    AreScannedForAnyBelow config seat token branches slice candidates → AreScannedForAnyBelow config seat token branches (slice + 1) candidates
+any_without config seat token branches slice candidates lacks are = record {
+  each_once = are.each_once;
+  of_each = λ branch has. let of = are.of_each branch has in (of.0, scanned_without config seat token branch slice of.0 lacks of.1, of.2);
+  of_some = λ candidate has. let of = are.of_some candidate has in (of.0, of.1, of.2, scanned_without config seat token of.0 slice of.1 lacks of.3, of.4);
+}
+
+-- one branch alone
+pub any_of_one : (config : Config) (seat : PassState) (token : Token) (words : List (List ℕ)) (candidates : List (ℕ × ℕ)) → AreScanned config seat token words candidates → AreScannedForAny config seat token (words ∷ []) candidates
+any_of_one config seat token words candidates are = record {
+  each_once = are.each_once;
+  of_each = λ branch has.
+      ⊎_elim (λ (none : Contains [] branch). absurd (nothing branch none))
+      (λ (this : words ≡ branch). (candidates, subst (λ ws. AreScanned config seat token ws candidates) this are, λ candidate found. found)) (Contains-push_cases [] words branch has);
+  of_some = λ candidate has. (words, candidates, (0, omega arith, refl), are, has);
+}
+
+-- no branch adds anything
+pub adds_none : (config : Config) (seat : PassState) (token : Token) (slice : ℕ) (list : List (ℕ × ℕ)) → AddsEach config seat token slice [] list list
+adds_none config seat token slice list = record { of_before = λ column has. has; of_each = λ branch has. absurd (nothing branch has); of_some = λ column has. inl has }
+
+-- What reads of the rows add. They keep the token, the pool and the front.
+module _ (config : Config) (before after : Shared) (kept : kept_of after ≡ kept_of before) (seen_stays : (bit : Bit) → WasReadSet before bit → WasReadSet after bit) where
+  same_pool : after.seat.now.pool ≡ before.seat.now.pool
+  same_pool = ap (λ (k : SharedKept). k.seat_pool) kept
+
+  same_front : after.seat.now.front ≡ before.seat.now.front
+  same_front = ap (λ (k : SharedKept). k.front) kept
+
+  stays : (bit : Bit) → WasReadUnder before.seat.now before.token.now.opened_at bit → WasReadUnder after.seat.now before.token.now.opened_at bit
+  stays =
+      subst (λ (t : Token). (bit : Bit) → WasReadUnder before.seat.now before.token.now.opened_at bit → WasReadUnder after.seat.now t.opened_at bit) (token_kept before after kept) seen_stays
+
+  -- one more branch
+  pub adds_more : (slice : ℕ) (branches : List (List (List ℕ))) (words : List (List ℕ)) (start old new : List (ℕ × ℕ)) → AddsEach config before.seat.now before.token.now slice branches start old →
+      AddsScan config after.seat.now after.token.now slice words old new → AddsEach config after.seat.now after.token.now slice (branches ++ words ∷ []) start new
+  adds_more slice branches words start old new adds added =
+      let token = before.token.now in
+      let seat = after.seat.now in
+      let one = subst (λ (t : Token). AddsScan config seat t slice words old new) (token_kept before after kept) added in
+      let both = one.2 in
+      let kept_scan = scanned_later config before.seat.now seat (token_at slice token) same_pool same_front stays in
+      subst (λ (t : Token). AddsEach config seat t slice (branches ++ words ∷ []) start new) (sym (token_kept before after kept))
+      (record {
+        of_before = λ column has. (both column).1 (inl (adds.of_before column has));
+        of_each = λ branch has.
+            ⊎_elim (λ (earlier : Contains branches branch). let of = adds.of_each branch earlier in (of.0, kept_scan branch of.0 of.1, λ column found. (both column).1 (inl (of.2 column found))))
+            (λ (this : words ≡ branch). (one.0, subst (λ ws. AreScanned config seat (token_at slice token) ws one.0) this one.1, λ column found. (both column).1 (inr found)))
+            (Contains-push_cases branches words branch has);
+        of_some = λ column has.
+            ⊎_elim
+            (λ (earlier : Contains old column).
+            ⊎_elim (λ (h : Contains start column). inl h)
+            (λ (of : (branch : List (List ℕ)) × (scanned : List (ℕ × ℕ)) × Contains branches branch × AreScanned config before.seat.now (token_at slice token) branch scanned × Contains scanned column).
+            inr (of.0, of.1, Contains-append_left branches (words ∷ []) of.0 of.2, kept_scan of.0 of.1 of.3, of.4))
+            (adds.of_some column earlier))
+            (λ (found : Contains one.0 column). inr (words, one.0, Contains-append_right branches (words ∷ []) words (0, omega arith, refl), one.1, found)) ((both column).0 has);
+      })
+
+  -- one more slice
+  pub any_more : (branches : List (List (List ℕ))) (slice : ℕ) (old new : List (ℕ × ℕ)) → Contains before.token.now.slices slice → AreScannedForAnyBelow config before.seat.now before.token.now branches slice old →
+      AddsEach config after.seat.now after.token.now slice branches old new → AllPairs (λ (candidate other : ℕ × ℕ). candidate ≡ other → ⊥) new →
+      AreScannedForAnyBelow config after.seat.now after.token.now branches (slice + 1) new
+  any_more branches slice old new readable are adds once =
+      let token = before.token.now in
+      let seat = after.seat.now in
+      subst (λ (t : Token). AreScannedForAnyBelow config seat t branches (slice + 1) new) (sym (token_kept before after kept))
+      (any_joined config seat token slice readable branches old new (any_scanned_later config before.seat.now seat (token_below slice token) same_pool same_front stays branches old are)
+      (subst (λ (t : Token). AddsEach config seat t slice branches old new) (token_kept before after kept) adds) once)
+
+  -- the scan of one slice for the words of a plan
+  pub scanned_at : (words : List (List ℕ)) (plan : List Row) (slice : ℕ) (columns : List ℕ) (found : List (ℕ × ℕ)) → before.seat.now.pool.limits.columns ≡ columns_of_slice config →
+      before.seat.now.pool.limits.slice_words ≡ words_of_slice config → Contains before.token.now.slices slice → HasRowsOf config words plan → found ≡ candidates_of slice columns →
+      ((column : ℕ) → column < columns_of_slice config →
+      All (λ row. (s : ℕ) × Contains before.token.now.slices s × IsCommitted before.seat.now.front s (bit_of_row (words_of_slice config) slice column row)) plan → Contains columns column) →
+      All (λ column. column < columns_of_slice config) columns → IsStrictlySortedBy nat_cmp columns →
+      All (λ column. All (λ row. WasReadSet after (bit_of_row (words_of_slice config) slice column row)) plan) columns → AreScanned config after.seat.now (token_at slice after.token.now) words found
+  scanned_at words plan slice columns found sizes laid readable rows found_is covered in_slice rising seen =
+      let token = token_at slice before.token.now in
+      let here = at_slice slice slice before.token.now readable refl in
+      let none : AreScannedBelow config before.seat.now token words slice [] = record {
+        of_token = λ candidate has. absurd (nothing candidate has);
+        each_once = λ i j d lt within. absurd (omega (arith, within));
+        every = λ s column has.
+            let low = is_below slice s token has in
+            let is = (is_at slice s before.token.now low.0).1 in
+            let less = low.1 in
+            absurd (omega (arith, is, less));
+        read = λ candidate has. absurd (nothing candidate has);
+        laid = laid;
+      } in
+      subst (λ (t : Token). AreScanned config after.seat.now (token_at slice t) words found) (sym (token_kept before after kept))
+      (subst (AreScanned config after.seat.now token words) (sym found_is)
+      (scanned_all config after.seat.now token words (slice + 1) (candidates_of slice columns) (λ s has. let is = (is_at slice s before.token.now has).1 in omega (arith, is))
+      (scanned_more config before.seat.now after.seat.now token words plan slice [] columns same_pool same_front sizes here rows none stays
+      (λ column low all.
+      covered column low
+      (All-weaker (λ row. (s : ℕ) × Contains token.slices s × IsCommitted before.seat.now.front s (bit_of_row (words_of_slice config) slice column row))
+      (λ row. (s : ℕ) × Contains before.token.now.slices s × IsCommitted before.seat.now.front s (bit_of_row (words_of_slice config) slice column row))
+      (λ row committed. (committed.0, (is_at slice committed.0 before.token.now committed.1).0, committed.2)) plan all))
+      in_slice rising
+      (subst (λ (t : Token). All (λ column. All (λ row. WasReadUnder after.seat.now t.opened_at (bit_of_row (words_of_slice config) slice column row)) plan) columns) (token_kept before after kept) seen))))
+
+-- What a scan of one slice found is of that slice, and in its range.
+module _ (config : Config) (pool : PoolId) (before after : Shared) (kept : kept_of after ≡ kept_of before) (can_read : CanRead pool before.seat.now before.token.now) (slice : ℕ) (words : List (List ℕ))
+    (scanned : List (ℕ × ℕ)) (are : AreScanned config after.seat.now (token_at slice after.token.now) words scanned) (candidate : ℕ × ℕ) (has : Contains scanned candidate) where
+  pub column_below : candidate.1 < pool.limits.columns
+  column_below =
+      subst (λ n. candidate.1 < n) (ap (λ (p : PoolId). p.limits.columns) (ap (λ (k : SharedKept). k.seat_pool) kept ∙ can_read.same)) (are.of_token candidate has).column
+
+  pub of_slice : candidate.0 ≡ slice
+  of_slice = (is_at slice candidate.0 after.token.now (are.of_token candidate has).slice).1
+
+-- no candidate of the slices below one is of that slice
+pub none_of_slice : (config : Config) (seat : PassState) (token : Token) (branches : List (List (List ℕ))) (slice : ℕ) (candidates : List (ℕ × ℕ)) → AreScannedForAnyBelow config seat token branches slice candidates →
+    (column : ℕ) → Contains candidates (slice, column) → ⊥
+none_of_slice config seat token branches slice candidates are column has =
+    let of = are.of_some (slice, column) has in
+    let low = (is_below slice slice token (of.3.of_token (slice, column) of.4).slice).1 in
+    omega (arith, low)
+
+-- the words of the branches up to one, and those of that one
+pub words_more : (branches : List Planned) (at : ℕ) (d : Planned) → at < length branches → words_of_each (take (at + 1) branches) ≡ words_of_each (take at branches) ++ (get_or branches at d).words.now ∷ []
+words_more branches at d inside =
+    ap words_of_each (take_more branches at d inside) ∙ map-append (λ (b : Planned). b.words.now) (take at branches) (get_or branches at d ∷ [])
+
+-- a branch may be scanned for while reads keep the pass as it is
+pub can_scan : (pool : PoolId) (before after : Shared) (branch : Planned) → kept_of after ≡ kept_of before → before.pool.now ≡ pool → CanRead pool before.seat.now before.token.now → IsPlanned pool.config branch →
+    CanScan pool after branch.words.now branch.plan
+can_scan pool before after branch kept same can_read planned = record {
+  same = ap (λ (k : SharedKept). k.pool) kept ∙ same;
+  can_read = read_kept pool before after kept can_read;
+  rows = planned.rows;
+  laid = planned.laid;
+}
+
+-- one more branch is planned
+pub planned_push : (config : Config) (planned after : List Planned) (before : List (List (List ℕ))) (one : Planned) → after ≡ planned ++ one ∷ [] → words_of_each planned ≡ before → All (IsPlanned config) planned →
+    HasRowsOf config one.words.now one.plan → All (IsRowOf config) one.plan → (words_of_each after ≡ before ++ one.words.now ∷ []) × All (IsPlanned config) after
+planned_push config planned after before one pushed words each rows laid = (
+  ap words_of_each pushed ∙ map-append (λ (b : Planned). b.words.now) planned (one ∷ []) ∙ ap (λ ws. ws ++ one.words.now ∷ []) words,
+  subst (All (IsPlanned config)) (sym pushed)
+      (All-append (IsPlanned config) planned (one ∷ []) each (All-cons (IsPlanned config) one [] (record { rows = rows; laid = laid }) (All-nil (IsPlanned config)))),
+)
