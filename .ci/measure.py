@@ -85,8 +85,10 @@ def refusals(log):
     """What refused each edit, by its crate and name: the goal, and the file of its proof or of the code."""
     found = {}
     for crate, name, why in re.findall(r"must-fail (\w+)/(\S+)\.edit: refused, as it must be(.*)", log):
-        at = re.search(r"(?:\./)?((?:src|specs|proofs)/[^:\s]+):\d+:\d+:", why)
-        goal = re.search(r"`([^`]+)`", why)
+        # a note comes before what refused it, of which the log has no more
+        told = "" if re.search(r":\d+:\d+: note:", why) else why
+        at = re.search(r"(?:\./)?((?:src|specs|proofs)/[^:\s]+):\d+:\d+:", told)
+        goal = re.search(r"`([^`]+)`", told)
         where = f"`{at[1]}`" if at else "the check"
         found[crate, name] = f"{where}, `{goal[1]}`" if goal else where
         if "names what the edit took away" in why:

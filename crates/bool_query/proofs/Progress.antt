@@ -1,17 +1,17 @@
 -- What a parser's progress becomes with the next token, and what it means where there is none that can come next.
-use Rattle.std.proofs.Common.{◌≡◌, ℕ, zero, suc, ◌+◌, ◌<◌, ◌≤◌, Bool, true, false, inl, inr, List, [], ◌∷◌, ◌++◌, map, length, drop, refl, sym, ap, ap₂, ◌∙◌, subst, append_assoc, arith}
+use Rattle.std.proofs.Common.{◌≡◌, ℕ, ◌+◌, ◌≤◌, false, inl, inr, List, [], ◌∷◌, ◌++◌, length, drop, refl, sym, ap, ap₂, ◌∙◌, subst, append_assoc}
 use Rattle.std.proofs.lemmas.List.{append-nil, map-append}
 use Rattle.std.specs.Str.{IsCharBoundary}
 use Rattle.funnel_model.specs.declared.expr.TheConstants.{MOST_OPEN}
-use Rattle.funnel_model.specs.Expressions.{Tree, Trees, some, trees_of}
-use Rattle.funnel_model.specs.Queries.{Token, left, minus, Placed, put, Spelled, tokens, tokens_from, kinds, tokens_of, IsExpression, IsFront, AreShallow, IsQuery, IsMisplaced, IsCut, IsTooDeep, IsMalformed}
+use Rattle.funnel_model.specs.Expressions.{Tree, some, trees_of}
+use Rattle.funnel_model.specs.Queries.{Token, Placed, put, Spelled, tokens, tokens_from, kinds, tokens_of, IsExpression, IsFront, AreShallow, IsQuery, IsTooDeep, IsMalformed}
 use Rattle.funnel_model.specs.Readings.{Level, Reading, start, terms_with_last, IsComplete, Takes, level_at, Reads}
 use Rattle.funnel_model.proofs.ReadingLemmas.{spell}
 use Rattle.funnel_model.proofs.ReadingSound.{IsRead as IsReadTo, list_of, reads-append}
 use Rattle.funnel_model.proofs.ReadingEnds.{GoesOn, read-goes_on, read-front, read-expression, expression-read}
 use Rattle.funnel_model.proofs.ReadingOnce.{no_front, not_deep, read-whole, IsStuck}
 use Rattle.bool_query.specs.declared.parser.Parser.{Parser}
-use Rattle.bool_query.specs.Parsers.{Counts, IsRead, IsStuckAt, IsWhole, reading_of}
+use Rattle.bool_query.specs.Parsers.{IsRead, IsStuckAt, IsWhole, reading_of}
 use Rattle.bool_query.specs.Progress.{HasRead}
 use Rattle.bool_query.proofs.Lexing.{tokens-none}
 

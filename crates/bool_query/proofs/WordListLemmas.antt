@@ -1,12 +1,12 @@
 -- Words in some set and in all, and the words that an expression asks for.
-use Rattle.std.proofs.Common.{◌≡◌, ◌↔◌, ◌&&◌, ◌||◌, ℕ, Bool, true, false, cond, List, [], ◌∷◌, ◌++◌, Bor, map, filter, refl, sym, ap, ap₂, ◌∙◌, subst, append_assoc}
+use Rattle.std.proofs.Common.{◌≡◌, ◌↔◌, ◌&&◌, ◌||◌, ℕ, Bool, true, false, cond, List, [], ◌∷◌, ◌++◌, Bor, map, filter, refl, sym, ap, ap₂, ◌∙◌, append_assoc}
 use Rattle.std.proofs.lemmas.List.{append-nil}
 use Rattle.std.proofs.lemmas.List.Folds.{list_any-append}
 use Rattle.std.proofs.lemmas.Map.Views.{any-filter_same}
 use Rattle.std.proofs.lemmas.Slice.Eq.{bytes_eq-Decides}
-use Rattle.std.specs.List.{Contains, list_all, list_any}
+use Rattle.std.specs.List.{Contains, list_all}
 use Rattle.std.specs.Str.{bytes_eq}
-use Rattle.funnel_model.specs.Expressions.{Tree, Trees, atom, every, some, no_trees, tree, trees_of, must, all_must, one_must, AreMusts, AreMustsOfEach}
+use Rattle.funnel_model.specs.Expressions.{Tree, Trees, atom, some, no_trees, tree, trees_of, must, all_must, one_must, AreMusts, AreMustsOfEach}
 use Rattle.funnel_model.specs.Words.{words}
 use Rattle.funnel_model.proofs.WordLemmas.{one_test, Contains-has}
 use Rattle.bool_query.specs.WordLists.{has, in_all, in_some, together}

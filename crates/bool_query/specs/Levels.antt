@@ -1,5 +1,5 @@
 -- What a parser has read, as the definitions see it.
-use Rattle.std.specs.Prelude.{◌≡◌, ℕ, List, map, reverse}
+use Rattle.std.specs.Prelude.{map}
 use Rattle.bool_query.specs.declared.level.Level.{Level}
 use Rattle.funnel_model.specs.Expressions.{tree_of}
 use Rattle.funnel_model.specs.Readings as readings

@@ -1,11 +1,11 @@
 -- What a parser has read, and what it does with a token.
-use Rattle.std.specs.Prelude.{ℕ, ◌≡◌, ◌≤◌, List, [], map, reverse}
+use Rattle.std.specs.Prelude.{◌≡◌, ◌≤◌, [], map, reverse}
 use Rattle.bool_query.specs.declared.parser.Parser.{Parser}
 use Rattle.bool_query.specs.Levels.{level_of}
 use Rattle.funnel_model.specs.declared.expr.TheConstants.{MOST_OPEN}
-use Rattle.funnel_model.specs.Expressions.{Tree, some, trees_of}
+use Rattle.funnel_model.specs.Expressions.{Tree}
 use Rattle.funnel_model.specs.Queries.{Token}
-use Rattle.funnel_model.specs.Readings.{Level, Reading, IsComplete, Takes, level_at, opened, terms_with_last, with_factor}
+use Rattle.funnel_model.specs.Readings.{Reading, IsComplete, Takes, level_at, opened, with_factor}
 
 abbrev pub reading_of : Parser → Reading
 reading_of parser = record { inner = level_of parser.inner; outer = reverse (map level_of parser.outer.items) }

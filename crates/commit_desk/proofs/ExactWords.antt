@@ -3,7 +3,6 @@ use Rattle.std.proofs.Common.{◌≡◌, ℕ, ◌+◌, ◌<◌, ◌≤◌, true,
 use Rattle.std.specs.List.{list_any}
 use Rattle.std.specs.Option.{is_some}
 use Rattle.funnel_model.specs.Configuration.{IsInRange}
-use Rattle.funnel_model.specs.declared.bit_list.Bit.{Bit}
 use Rattle.funnel_model.specs.declared.claim.Token.{Token}
 use Rattle.funnel_model.specs.declared.config.Config.{Config}
 use Rattle.funnel_model.specs.declared.event.Event.{Event}
@@ -21,14 +20,13 @@ use Rattle.row_layout.proofs.Lists.{Contains-flat_map}
 use Rattle.row_layout.proofs.Owners.{exact-has_row, exact-owned, owned-tells-documents}
 use Rattle.row_layout.proofs.SetBits.{live_uncleared, put_stands}
 use Rattle.row_layout.proofs.Standing.{stands-later}
-use Rattle.row_layout.specs.declared.row.Row.{Row}
 use Rattle.row_layout.specs.DocumentBits.{bit_of_row}
 use Rattle.row_layout.specs.Owners.{Owns, OwnsIn, StandsOn, is_exact}
 use Rattle.row_layout.specs.Rows.{row_of_word, rows_of_word}
 use Rattle.row_layout.specs.Sound.{IsSound}
 use Rattle.slice_rule.specs.Seats.{PassState}
 use Rattle.commit_desk.specs.Scans.{AreScanned}
-use Rattle.commit_desk.specs.Laws.{ReadBitsTellWords, ReadsWordAt}
+use Rattle.commit_desk.specs.Laws.{ReadBitsTellWords}
 
 -- the treatment of a slice stays as it is when a find begins
 treat_find : (opening : Config) (slice pass : ℕ) (query : List ℕ) (earlier : List Event) → treat opening slice (earlier ++ event.Find pass query ∷ []) ≡ treat opening slice earlier

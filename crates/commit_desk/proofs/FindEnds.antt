@@ -4,7 +4,7 @@ use Rattle.std.specs.List.{list_any}
 use Rattle.std.specs.Option.{is_some}
 use Rattle.std.proofs.lemmas.Bool.{or_parts}
 use Rattle.std.proofs.lemmas.List.Folds.{list_any-append}
-use Rattle.document_store.specs.Finding.{found_at, looked_at}
+use Rattle.document_store.specs.Finding.{has_words, kept_at, looked_at}
 use Rattle.document_store.specs.Slots.{IsColumn, Table}
 use Rattle.funnel_model.specs.Configuration.{IsInRange}
 use Rattle.funnel_model.specs.declared.bit_list.Bit.{Bit}
@@ -28,13 +28,13 @@ use Rattle.row_layout.specs.Sound.{IsSound}
 use Rattle.slice_rule.specs.declared.view.Fact.{Fact}
 use Rattle.slice_rule.specs.declared.view.Fact.TheVariants as fact
 use Rattle.slice_rule.specs.Pools.{PoolId}
-use Rattle.slice_rule.specs.Seats.{HoldsToken, IsSamePass, PassState, WasReadUnder}
+use Rattle.slice_rule.specs.Seats.{HasNoneOutstanding, HoldsToken, IsSamePass, PassState, WasReadUnder}
 use Rattle.commit_desk.specs.Records.{AreRecorded}
-use Rattle.commit_desk.specs.Resolving.{AreGiven, AreLookedFor, GiveAll, IsRestOf}
+use Rattle.commit_desk.specs.Resolving.{AreGiven, AreLookedFor, GiveAll, IsRestOf, IsVerifying}
 use Rattle.commit_desk.specs.Scans.{AreScanned, IsOfToken, WereScanned}
 use Rattle.commit_desk.proofs.ExactWords.{has_exact}
-use Rattle.commit_desk.proofs.FindTurns.{begun_later}
-use Rattle.commit_desk.proofs.Found.{scan_gives_all, table_gives_each, table_looks}
+use Rattle.commit_desk.proofs.FindTurns.{begun_later, token_kept}
+use Rattle.commit_desk.proofs.Found.{rest_gives_each, scan_gives_all, table_keeps_each, table_looks}
 
 -- a find began once: the events before it are those before its event, which has its query
 pub begun_once : (history : List Event) (pass number : ℕ) (one other : HasToken history pass number) → (one.earlier ≡ other.earlier) × (one.query ≡ other.query)
@@ -77,34 +77,33 @@ module _ (config : Config) (limits : Limits) (history : List Event) (table : Tab
   whole : history ≡ begun.earlier ++ event.Find seat.number begun.query ∷ now.later
   whole = now.whole
 
+  -- each candidate is a column of the table, and its slice was in use
+  of_table : (candidate : ℕ × ℕ) → Contains candidates candidate → IsColumn table candidate.0 candidate.1 × IsInUse limits.columns candidate.0 begun.earlier
+  of_table candidate has =
+      let of_token = (scanned begun).2.of_token in
+      (scanned_in_table limits history table seat token candidates recorded same holds of_token candidate.0 candidate.1 has, ((held_are candidate.0).0 (of_token candidate has).slice).1)
+
   -- what the records give of a part of the candidates is what these give, although only the rest of the words is looked for
   pub part_gives : IsInRange config → limits.columns ≡ columns_of_slice config → seat.pool.config ≡ config → (rest : List (List ℕ)) → IsRestOf config begun.query rest →
       (part : List (ℕ × ℕ)) → ((candidate : ℕ × ℕ) → Contains part candidate → Contains candidates candidate) →
-      AreGiven begun.earlier begun.query part (filter_map (found_at table rest token.opened_at) part)
+      AreGiven begun.earlier begun.query part (filter_map (kept_at table (has_words rest) token.opened_at) part)
   part_gives in_range columns_are made rest is_rest part among =
       let scan = (scanned begun).2 in
       let used : (slice : ℕ) → Contains token.slices slice → IsInUse limits.columns slice begun.earlier = λ slice has. ((held_are slice).0 has).1 in
       let later = event.Find seat.number begun.query ∷ now.later in
-      table_gives_each config limits history table legal sound untuned recorded seat.number token.opened_at now rest part is_rest
-      (λ candidate has. (
-        scanned_in_table limits history table seat token candidates recorded same holds scan.of_token candidate.0 candidate.1 (among candidate has),
-        used candidate.0 (scan.of_token candidate (among candidate has)).slice,
-        has_exact config limits in_range columns_are begun.earlier begun.query
-            (legal_before limits begun.earlier later (subst (IsLegal limits) whole legal))
-            (sound_before config begun.earlier later (subst (IsSound config) whole sound))
-            (or_parts (list_any (λ e. is_some (tuning_of e)) begun.earlier) (list_any (λ e. is_some (tuning_of e)) later)
-            (sym (list_any-append (λ e. is_some (tuning_of e)) begun.earlier later) ∙ ap (list_any (λ e. is_some (tuning_of e))) (sym whole) ∙ untuned)).0
-            seat made same token (scanned begun).0 candidates (scanned begun).1 used scan candidate.0 candidate.1 (among candidate has),
-      ))
+      rest_gives_each config limits history table legal sound untuned recorded seat.number token.opened_at now rest part (filter_map (kept_at table (has_words rest) token.opened_at) part) is_rest
+      (λ candidate has.
+      has_exact config limits in_range columns_are begun.earlier begun.query
+      (legal_before limits begun.earlier later (subst (IsLegal limits) whole legal))
+      (sound_before config begun.earlier later (subst (IsSound config) whole sound))
+      (or_parts (list_any (λ e. is_some (tuning_of e)) begun.earlier) (list_any (λ e. is_some (tuning_of e)) later)
+      (sym (list_any-append (λ e. is_some (tuning_of e)) begun.earlier later) ∙ ap (list_any (λ e. is_some (tuning_of e))) (sym whole) ∙ untuned)).0
+      seat made same token (scanned begun).0 candidates (scanned begun).1 used scan candidate.0 candidate.1 (among candidate has))
+      (table_keeps_each config limits history table legal sound untuned recorded seat.number token.opened_at now (has_words rest) part (λ candidate has. of_table candidate (among candidate has)))
 
   -- and so many words are looked for in them by the records
-  pub candidates_look : (rest : List (List ℕ)) → AreLookedFor begun.earlier rest candidates (looked_at table rest token.opened_at)
-  candidates_look rest =
-      let scan = (scanned begun).2 in
-      table_looks config limits history table legal sound untuned recorded seat.number token.opened_at now rest candidates (λ candidate has. (
-        scanned_in_table limits history table seat token candidates recorded same holds scan.of_token candidate.0 candidate.1 has,
-        ((held_are candidate.0).0 (scan.of_token candidate has).slice).1,
-      ))
+  pub candidates_look : (cost : ℕ) → AreLookedFor begun.earlier cost candidates (looked_at table cost token.opened_at)
+  candidates_look cost = table_looks config limits history table legal sound untuned recorded seat.number token.opened_at now cost candidates of_table
 
   -- all candidates give all of the answer
   pub candidates_give_all : GiveAll begun.earlier begun.query candidates
@@ -168,3 +167,13 @@ were_scanned config seat next token candidates same goes holds scanned begun =
       scanned_as config (record seat { front = first.earlier ++ event.Find seat.number first.query ∷ [] }) (record next { front = begun.earlier ++ event.Find next.number begun.query ∷ [] }) token scan.0 candidates
           same.pool same.number front same.own scan.2,
     )
+
+-- so the pass verifies them still
+pub verifying_still : (pool : PoolId) (seat next : PassState) (token : Token) (rest : List (List ℕ)) (candidates : List (ℕ × ℕ)) → IsSamePass seat next → IsFrontOf seat.number seat.front next.front →
+    HasNoneOutstanding next → IsVerifying pool token rest candidates seat → IsVerifying pool token rest candidates next
+verifying_still pool seat next token rest candidates same goes none is = record {
+  seated = record { same = same.pool ∙ is.seated.same; none_outstanding = none };
+  holds = token_kept seat next token same goes is.holds;
+  rest_of = λ begun. subst (λ q. IsRestOf pool.config q rest) (sym (begun_still seat next token.opened_at same.number goes is.holds.begun begun).1) (is.rest_of is.holds.begun);
+  scanned = were_scanned pool.config seat next token candidates same goes is.holds is.scanned;
+}

@@ -5,10 +5,10 @@ use Rattle.std.proofs.lemmas.List.Folds.{list_any-append}
 use Rattle.std.specs.List.{list_any}
 use Rattle.std.specs.Option.{is_some}
 use Rattle.std.specs.Prelude.{◌==◌, nat_lt}
-use Rattle.document_store.proofs.FoundLemmas.{AddedAt, WasLiveAt, found_in-gives, found_in-tells, looked_elsewhere, looked_where_live}
-use Rattle.document_store.proofs.WordSets.{meets_by_words}
-use Rattle.document_store.specs.Documents.{HasEvery, Parts}
-use Rattle.document_store.specs.Finding.{found_at, looked_at}
+use Rattle.document_store.proofs.FoundLemmas.{AddedAt, HadLive, WasLiveAt, kept_in-gives, kept_in-tells, looked_elsewhere, looked_where_live}
+use Rattle.document_store.proofs.WordSets.{has_words-decides}
+use Rattle.document_store.specs.Documents.{Parts}
+use Rattle.document_store.specs.Finding.{has_words, kept_at, looked_at}
 use Rattle.document_store.specs.Slots.{FitsColumn, IsColumn, Table, slot_at}
 use Rattle.document_store.specs.declared.column.Column.{Column}
 use Rattle.document_store.specs.declared.column.Column.TheVariants as became
@@ -33,6 +33,7 @@ use Rattle.funnel_model.proofs.LiveColumns.{live_column_is_live, live_has_column
 use Rattle.funnel_model.proofs.OpenTokens.{token_is_silent}
 use Rattle.funnel_model.proofs.SeenColumns.{sees_all_that_was_live, sees_what_was_live}
 use Rattle.funnel_model.proofs.TuningLemmas.{treat_untuned}
+use Rattle.funnel_model.proofs.WordLemmas.{one_test}
 use Rattle.row_layout.proofs.BitLemmas.{bits-of_part, bits-of_query}
 use Rattle.row_layout.proofs.Owners.{put_bits}
 use Rattle.row_layout.specs.DocumentBits.{AreDocumentBits, AreDocumentBitsIn, IsDocumentBit}
@@ -40,6 +41,7 @@ use Rattle.row_layout.specs.Owners.{is_exact}
 use Rattle.row_layout.specs.Sound.{IsSound}
 use Rattle.slice_rule.specs.Seats.{PassState}
 use Rattle.commit_desk.specs.Records.{AreRecorded, document_added_at, state_in, state_of}
+use Rattle.commit_desk.specs.Judging.{AreGivenWhere, GivesWhere}
 use Rattle.commit_desk.specs.Resolving.{AreGiven, AreLookedFor, GiveAll, Gives, IsRestOf}
 use Rattle.commit_desk.specs.Scans.{AreScanned}
 use Rattle.commit_desk.proofs.LaterStates.{not_cleared_since}
@@ -179,17 +181,14 @@ module _ (config : Config) (limits : Limits) (history : List Event) (table : Tab
       (word : List ℕ) → is_exact config word ≡ true → Contains (words token.query) word → (d : Document) (since : ℕ) → IsLiveOn token.earlier slice column d since →
       Contains (words d.text) word
 
-  -- a document that has the exact words of the query meets it where it has the rest
-  rest_met : (rest : List (List ℕ)) (doc : Parts) → AreWordsOf doc.words doc.text → IsRestOf config token.query rest →
-      ((word : List ℕ) → is_exact config word ≡ true → Contains (words token.query) word → Contains (words doc.text) word) → HasEvery doc.words rest → meets doc.text token.query ≡ true
-  rest_met rest doc of_text is_rest exact every =
-      (meets_by_words doc.text token.query doc.words (words token.query) of_text (λ word. (λ has. has, λ has. has))).0
-      (λ word has. ⊎_elim (λ left. every word left) (λ is. (of_text word).1 (exact word is has)) (is_rest.others_exact word has))
-
-  -- and a document that meets it has the rest
-  met_rest : (rest : List (List ℕ)) (doc : Parts) → AreWordsOf doc.words doc.text → IsRestOf config token.query rest → meets doc.text token.query ≡ true → HasEvery doc.words rest
-  met_rest rest doc of_text is_rest met word left =
-      (meets_by_words doc.text token.query doc.words (words token.query) of_text (λ other. (λ has. has, λ has. has))).1 met word (is_rest.part word left)
+  -- a document that has the exact words of the query meets it exactly where it has the rest
+  rest_decides : (rest : List (List ℕ)) (text : List ℕ) → IsRestOf config token.query rest →
+      ((word : List ℕ) → is_exact config word ≡ true → Contains (words token.query) word → Contains (words text) word) → has_words rest text ≡ meets text token.query
+  rest_decides rest text is_rest exact =
+      one_test (has_words rest text) (meets text token.query)
+      (λ has. (has_words-decides text (words token.query)).0
+      (λ word asked. ⊎_elim (λ left. (has_words-decides text rest).1 has word left) (λ is. exact word is asked) (is_rest.others_exact word asked)))
+      (λ met. (has_words-decides text rest).0 (λ word left. (has_words-decides text (words token.query)).1 met word (is_rest.part word left)))
 
   -- a column in which a document was live is recorded with it
   kept_where_live : (slice column : ℕ) (d : Document) (since : ℕ) → IsColumn table slice column → IsInUse limits.columns slice token.earlier → IsLiveOn token.earlier slice column d since →
@@ -202,71 +201,83 @@ module _ (config : Config) (limits : Limits) (history : List Event) (table : Tab
       let here : IsInState history slice column seen.3 = subst (λ s. IsInState history s column seen.3) one.0 (subst (λ k. IsInState history seen.0 k seen.3) one.1 seen.9) in
       kept_seen number d slot.column slot.doc rec.fits (ap (seen_by number) (one_state limits history slice column (state_of slot) seen.3 legal rec.state here) ∙ seen.10)
 
+  -- and a document that is recorded so was live in its column
+  was_live_where_kept : (slice column : ℕ) → IsColumn table slice column → IsInUse limits.columns slice token.earlier → (had : HadLive (slot_at table slice column) number) →
+      (since : ℕ) × IsLiveOn token.earlier slice column (document_added_at had.place had.doc) since
+  was_live_where_kept slice column in_table used had =
+      let slot = slot_at table slice column in
+      let rec = recorded.each slice column in_table (open_now slice used) in
+      sees_what_was_live limits history pass number slice column (state_of slot) (document_added_at had.place had.doc) legal token used rec.state
+      (seen_then number had.place had.doc slot.column slot.doc had.was_live had.added had.kept)
+
   -- so many words are looked for in candidates by the table
-  pub table_looks : (rest : List (List ℕ)) (candidates : List (ℕ × ℕ)) →
+  pub table_looks : (cost : ℕ) (candidates : List (ℕ × ℕ)) →
       ((candidate : ℕ × ℕ) → Contains candidates candidate → IsColumn table candidate.0 candidate.1 × IsInUse limits.columns candidate.0 token.earlier) →
-      AreLookedFor token.earlier rest candidates (looked_at table rest number)
-  table_looks rest candidates each = record {
+      AreLookedFor token.earlier cost candidates (looked_at table cost number)
+  table_looks cost candidates each = record {
     where_live = λ candidate has d since lives.
         let of = each candidate has in
         let at = kept_where_live candidate.0 candidate.1 d since of.0 of.1 lives in
-        looked_where_live (slot_at table candidate.0 candidate.1) rest number d.place at.parts at.live_at at.added at.kept;
+        looked_where_live (slot_at table candidate.0 candidate.1) cost number (record { place = d.place; doc = at.parts; was_live = at.live_at; added = at.added; kept = at.kept });
     elsewhere = λ candidate has none.
         let of = each candidate has in
-        let slot = slot_at table candidate.0 candidate.1 in
-        looked_elsewhere slot rest number (λ had.
-        let rec = recorded.each candidate.0 candidate.1 of.0 (open_now candidate.0 of.1) in
-        let d = document_added_at had.place had.doc in
-        let was =
-        sees_what_was_live limits history pass number candidate.0 candidate.1 (state_of slot) d legal token of.1 rec.state
-        (seen_then number had.place had.doc slot.column slot.doc had.was_live had.added had.kept) in
-        none d was.0 was.1);
+        looked_elsewhere (slot_at table candidate.0 candidate.1) cost number
+        (λ had. let was = was_live_where_kept candidate.0 candidate.1 of.0 of.1 had in none (document_added_at had.place had.doc) was.0 was.1);
   }
 
   -- what the table gives of a candidate is what the candidate gives
-  table_gives : (rest : List (List ℕ)) (slice column : ℕ) → IsRestOf config token.query rest → HasExactWords slice column → IsColumn table slice column → IsInUse limits.columns slice token.earlier →
-      (given : Option (ℕ × ℕ)) → found_at table rest number (slice, column) ≡ given → Gives token.earlier token.query (slice, column) given
-  table_gives rest slice column is_rest exact in_table used (Some found) gives =
-      let slot = slot_at table slice column in
-      let rec = recorded.each slice column in_table (open_now slice used) in
-      let is = found_in-tells slot rest number found gives in
-      let d = document_added_at found.0 is.doc in
-      let was =
-      sees_what_was_live limits history pass number slice column (state_of slot) d legal token used rec.state (seen_then number found.0 is.doc slot.column slot.doc is.was_live is.added is.kept) in (
-        d,
-        was.0,
-        was.1,
-        rest_met rest is.doc (rec.words_of_text is.doc is.kept) is_rest (λ word is_word has. exact word is_word has d was.0 was.1) is.every,
-        ap (λ n. (found.0, n)) (sym is.id_is),
-      )
-  table_gives rest slice column is_rest exact in_table used None none = λ d since lives.
-      false_from_ne_true (meets d.text token.query) (λ met.
-      let slot = slot_at table slice column in
-      let rec = recorded.each slice column in_table (open_now slice used) in
+  table_keeps : (test : List ℕ → Bool) (slice column : ℕ) → IsColumn table slice column → IsInUse limits.columns slice token.earlier → (given : Option (ℕ × ℕ)) →
+      kept_at table test number (slice, column) ≡ given → GivesWhere token.earlier test (slice, column) given
+  table_keeps test slice column in_table used (Some found) gives =
+      let is = kept_in-tells (slot_at table slice column) test number found gives in
+      let was = was_live_where_kept slice column in_table used (record { place = found.0; doc = is.doc; was_live = is.was_live; added = is.added; kept = is.kept }) in
+      (document_added_at found.0 is.doc, was.0, was.1, is.passes, ap (λ n. (found.0, n)) (sym is.id_is))
+  table_keeps test slice column in_table used None none = λ d since lives.
+      false_from_ne_true (test d.text) (λ passes.
       let at = kept_where_live slice column d since in_table used lives in
       let text : at.parts.text ≡ d.text = ap (λ (y : Document). y.text) at.is in
-      let every = met_rest rest at.parts (rec.words_of_text at.parts at.kept) is_rest (ap (λ t. meets t token.query) text ∙ met) in
       let gives =
-      found_in-gives slot rest number (d.place, d.id)
-      (record { doc = at.parts; was_live = at.live_at; added = at.added; kept = at.kept; id_is = ap (λ (y : Document). y.id) at.is; every = every }) in
+      kept_in-gives (slot_at table slice column) test number (d.place, d.id)
+      (record { doc = at.parts; was_live = at.live_at; added = at.added; kept = at.kept; id_is = ap (λ (y : Document). y.id) at.is; passes = ap test text ∙ passes }) in
       none_is_some (sym none ∙ gives))
     where
       none_is_some : {Y : Type 0} {y : Y} → None ≡ Some y → ⊥
       none_is_some is = cc
 
   -- and the same of several
-  pub table_gives_each : (rest : List (List ℕ)) (candidates : List (ℕ × ℕ)) → IsRestOf config token.query rest →
-      ((candidate : ℕ × ℕ) → Contains candidates candidate → IsColumn table candidate.0 candidate.1 × IsInUse limits.columns candidate.0 token.earlier × HasExactWords candidate.0 candidate.1) →
-      AreGiven token.earlier token.query candidates (filter_map (found_at table rest number) candidates)
-  table_gives_each rest [] is_rest each = refl
-  table_gives_each rest (candidate ∷ later) is_rest each =
+  pub table_keeps_each : (test : List ℕ → Bool) (candidates : List (ℕ × ℕ)) →
+      ((candidate : ℕ × ℕ) → Contains candidates candidate → IsColumn table candidate.0 candidate.1 × IsInUse limits.columns candidate.0 token.earlier) →
+      AreGivenWhere token.earlier test candidates (filter_map (kept_at table test number) candidates)
+  table_keeps_each test [] each = refl
+  table_keeps_each test (candidate ∷ later) each =
       let first = each candidate (0, omega arith, refl) in (
-        found_at table rest number candidate,
-        filter_map (found_at table rest number) later,
-        table_gives rest candidate.0 candidate.1 is_rest first.2 first.0 first.1 (found_at table rest number candidate) refl,
-        table_gives_each rest later is_rest (λ other has. each other (Contains-cons candidate later other has)),
+        kept_at table test number candidate,
+        filter_map (kept_at table test number) later,
+        table_keeps test candidate.0 candidate.1 first.0 first.1 (kept_at table test number candidate) refl,
+        table_keeps_each test later (λ other has. each other (Contains-cons candidate later other has)),
         refl,
       )
+
+  -- what a candidate gives by the rest it gives by the query, where each document that was live there has the exact words
+  rest_gives : (rest : List (List ℕ)) (slice column : ℕ) → IsRestOf config token.query rest → HasExactWords slice column → (given : Option (ℕ × ℕ)) →
+      GivesWhere token.earlier (has_words rest) (slice, column) given → Gives token.earlier token.query (slice, column) given
+  rest_gives rest slice column is_rest exact (Some found) (d, since, lives, has, is) =
+      (d, since, lives, sym (rest_decides rest d.text is_rest (λ word is_word asked. exact word is_word asked d since lives)) ∙ has, is)
+  rest_gives rest slice column is_rest exact None none = λ d since lives.
+      sym (rest_decides rest d.text is_rest (λ word is_word asked. exact word is_word asked d since lives)) ∙ none d since lives
+
+  -- and the same of several
+  pub rest_gives_each : (rest : List (List ℕ)) (candidates found : List (ℕ × ℕ)) → IsRestOf config token.query rest →
+      ((candidate : ℕ × ℕ) → Contains candidates candidate → HasExactWords candidate.0 candidate.1) → AreGivenWhere token.earlier (has_words rest) candidates found →
+      AreGiven token.earlier token.query candidates found
+  rest_gives_each rest [] found is_rest exact given = given
+  rest_gives_each rest (candidate ∷ later) found is_rest exact given = (
+    given.0,
+    given.1,
+    rest_gives rest candidate.0 candidate.1 is_rest (exact candidate (0, omega arith, refl)) given.0 given.2,
+    rest_gives_each rest later given.1 is_rest (λ other has. exact other (Contains-cons candidate later other has)) given.3,
+    given.4,
+  )
 
   -- the column of a document that was live and meets the query is a candidate of a scan
   is_candidate : (seat : PassState) (held : Token) (set : List (List ℕ)) (candidates : List (ℕ × ℕ)) (between rest : List Event) → seat.pool.limits ≡ limits →
@@ -277,8 +288,8 @@ module _ (config : Config) (limits : Limits) (history : List Event) (table : Tab
   is_candidate seat held set candidates between rest same_limits held_are scanned of_query front_is later_is slice column d since in' below is meets_it =
       scanned.every slice column ((held_are slice).1 (in', live_in_use slice column d since below is)) (subst (λ (l : Limits). column < l.columns) (sym same_limits) below)
       (λ bit of_set. bits_committed seat.front rest slice column d since between below is front_is later_is bit
-      (bits-of_query config d.text token.query meets_it slice column bit
-      (bits-of_part config set (words token.query) (λ word has. (of_query word).0 has) slice column bit of_set)))
+      (bits-of_query (words_of_slice config) config d.text token.query meets_it slice column bit
+      (bits-of_part (words_of_slice config) config set (words token.query) (λ word has. (of_query word).0 has) slice column bit of_set)))
 
   -- so the candidates of a scan give all of the answer
   pub scan_gives_all : (seat : PassState) (held : Token) (set : List (List ℕ)) (candidates : List (ℕ × ℕ)) → seat.pool.limits ≡ limits →

@@ -14,9 +14,11 @@ use Rattle.row_layout.specs.DocumentBits.{AreDocumentBits}
 use Rattle.slice_rule.specs.declared.view.Fact.{Fact}
 use Rattle.slice_rule.specs.declared.view.Fact.TheVariants as fact
 use Rattle.slice_rule.specs.Numbers.{last_number}
-use Rattle.slice_rule.specs.Seats.{HoldsClaim, IsSamePass, PassState}
+use Rattle.slice_rule.specs.Pools.{PoolId}
+use Rattle.slice_rule.specs.Seats.{HasNoneOutstanding, HoldsClaim, IsSamePass, PassState}
 use Rattle.slice_rule.proofs.Since.{number-front}
 use Rattle.commit_desk.specs.Moving.{HoldsLook}
+use Rattle.commit_desk.specs.Passes.{HasWritten}
 use Rattle.commit_desk.specs.declared.look.Look.{Look}
 
 -- the bits of a document are bits of words
@@ -51,4 +53,14 @@ module _ (seat caught : PassState) (same : IsSamePass seat caught) (goes : IsFro
     live = held.live;
     of_text = held.of_text;
     cause = ap (list_any deletes_or_drops) goes.whole ∙ list_any-append deletes_or_drops seat.front goes.later ∙ ap (λ b. b || list_any deletes_or_drops goes.later) held.cause;
+  }
+
+  -- and all that it wrote
+  pub written_held : (pool : PoolId) (claim : Claim) (words : List (List ℕ)) (bits : List Bit) → HasNoneOutstanding caught → HasWritten pool claim words bits seat → HasWritten pool claim words bits caught
+  written_held pool claim words bits none written = record {
+    seated = record { same = same.pool ∙ written.seated.same; none_outstanding = none };
+    holds = claim_held claim written.holds;
+    document = written.document;
+    inside = written.inside;
+    bits_set = bits_held bits written.bits_set;
   }

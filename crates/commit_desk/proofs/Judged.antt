@@ -1,11 +1,9 @@
 -- What a find keeps of its candidates by a test of their texts, as the records tell, is what they give by the history before it.
-use Rattle.std.proofs.Common.{◌≡◌, ◌↔◌, ℕ, ◌<◌, Bool, false, List, [], ◌∷◌, ◌++◌, filter_map, Option, Some, None, refl, sym, ap, ◌∙◌, subst, arith, Contains}
-use Rattle.std.proofs.lemmas.Bool.{false_from_ne_true}
+use Rattle.std.proofs.Common.{◌≡◌, ◌↔◌, ℕ, ◌<◌, Bool, false, List, [], ◌∷◌, ◌++◌, filter_map, refl, sym, ap, ◌∙◌, subst, Contains}
 use Rattle.std.specs.List.{list_any}
 use Rattle.std.specs.Option.{is_some}
-use Rattle.document_store.proofs.JudgeLemmas.{HadLive, judged_elsewhere, judged_where_live, kept_in-gives, kept_in-tells}
-use Rattle.document_store.specs.Judging.{judged_at, kept_at}
-use Rattle.document_store.specs.Slots.{IsColumn, Table, slot_at}
+use Rattle.document_store.specs.Finding.{kept_at, looked_at}
+use Rattle.document_store.specs.Slots.{IsColumn, Table}
 use Rattle.funnel_model.specs.declared.claim.Token.{Token}
 use Rattle.funnel_model.specs.declared.config.Config.{Config}
 use Rattle.funnel_model.specs.declared.event.Event.{Event}
@@ -13,25 +11,23 @@ use Rattle.funnel_model.specs.declared.event.Event.TheVariants as event
 use Rattle.funnel_model.specs.Events.{tuning_of}
 use Rattle.funnel_model.specs.History.{Document, IsFrontOf, live}
 use Rattle.funnel_model.specs.Legal.{IsLegal, Limits}
-use Rattle.funnel_model.specs.Slices.{IsInState, IsInUse, IsLiveOn}
-use Rattle.funnel_model.specs.Tokens.{HasToken, seen_by}
+use Rattle.funnel_model.specs.Sizes.{words_of_slice}
+use Rattle.funnel_model.specs.Slices.{IsInUse}
+use Rattle.funnel_model.specs.Tokens.{HasToken}
 use Rattle.funnel_model.specs.Words.{words}
-use Rattle.funnel_model.proofs.AnswerLemmas.{Contains-cons, kept_by_filter}
-use Rattle.funnel_model.proofs.Columns.{one_state}
-use Rattle.funnel_model.proofs.LiveColumns.{live_column_is_live, live_has_column, live_on_one_column}
-use Rattle.funnel_model.proofs.SeenColumns.{sees_all_that_was_live, sees_what_was_live}
+use Rattle.funnel_model.proofs.AnswerLemmas.{kept_by_filter}
+use Rattle.funnel_model.proofs.LiveColumns.{live_has_column}
 use Rattle.row_layout.proofs.BitLemmas.{bits-of_part}
 use Rattle.row_layout.specs.Sound.{IsSound}
-use Rattle.slice_rule.specs.Seats.{HoldsToken, IsSamePass, PassState}
-use Rattle.commit_desk.specs.Judging.{AreGivenWhere, AreJudged, AreScannedForAny, GiveAllWhere, GivesWhere, HasSomeBranch, WereScannedForAny}
-use Rattle.commit_desk.specs.Records.{AreRecorded, document_added_at, state_of}
+use Rattle.slice_rule.specs.Pools.{PoolId}
+use Rattle.slice_rule.specs.Seats.{HasNoneOutstanding, HoldsToken, IsSamePass, PassState}
+use Rattle.commit_desk.specs.Judging.{AreGivenWhere, AreScannedForAny, GiveAllWhere, HasSomeBranch, WereScannedForAny}
+use Rattle.commit_desk.specs.Records.{AreRecorded}
+use Rattle.commit_desk.specs.Resolving.{AreLookedFor, IsJudging}
 use Rattle.commit_desk.specs.Scans.{IsOfToken}
 use Rattle.commit_desk.proofs.FindEnds.{begun_once, begun_still, scanned_as, scanned_in_table}
-use Rattle.commit_desk.proofs.FindTurns.{begun_later}
-use Rattle.commit_desk.proofs.Found.{KeptAt, bits_committed, kept_seen, legal_earlier, live_in_use, open_now, seen_then}
-
-none_is_some : {Y : Type 0} {y : Y} → None ≡ Some y → ⊥
-none_is_some is = cc
+use Rattle.commit_desk.proofs.FindTurns.{begun_later, token_kept}
+use Rattle.commit_desk.proofs.Found.{bits_committed, legal_earlier, live_in_use, table_keeps_each, table_looks}
 
 -- the candidates of branches are columns that the find may read
 pub branch_of_token : (config : Config) (seat : PassState) (token : Token) (branches : List (List (List ℕ))) (candidates : List (ℕ × ℕ)) → AreScannedForAny config seat token branches candidates →
@@ -41,71 +37,6 @@ branch_of_token config seat token branches candidates scanned candidate has = le
 -- A find, by the records of the whole history.
 module _ (config : Config) (limits : Limits) (history : List Event) (table : Table) (legal : IsLegal limits history) (sound : IsSound config history) (untuned : list_any (λ e. is_some (tuning_of e)) history ≡ false)
     (recorded : AreRecorded limits history table) (pass number : ℕ) (token : HasToken history pass number) where
-  -- the records keep a document that was live in its column before the find
-  kept_where_live : (slice column : ℕ) (d : Document) (since : ℕ) → IsColumn table slice column → IsInUse limits.columns slice token.earlier → IsLiveOn token.earlier slice column d since →
-      KeptAt (slot_at table slice column).column (slot_at table slice column).doc d number
-  kept_where_live slice column d since in_table used lives =
-      let slot = slot_at table slice column in
-      let legal_then = legal_earlier config limits history table legal sound untuned recorded pass number token in
-      let rec = recorded.each slice column in_table (open_now config limits history table legal sound untuned recorded pass number token slice used) in
-      let seen = sees_all_that_was_live limits history pass number d legal token (live_column_is_live token.earlier slice column d since lives) in
-      let one = live_on_one_column limits token.earlier seen.0 seen.1 slice column seen.2 since d d legal_then seen.6 lives refl in
-      let here : IsInState history slice column seen.3 = subst (λ s. IsInState history s column seen.3) one.0 (subst (λ k. IsInState history seen.0 k seen.3) one.1 seen.9) in
-      kept_seen number d slot.column slot.doc rec.fits (ap (seen_by number) (one_state limits history slice column (state_of slot) seen.3 legal rec.state here) ∙ seen.10)
-
-  -- and a document that they keep so was live in its column
-  was_live_where_kept : (slice column : ℕ) → IsColumn table slice column → IsInUse limits.columns slice token.earlier → (had : HadLive (slot_at table slice column) number) →
-      (since : ℕ) × IsLiveOn token.earlier slice column (document_added_at had.place had.doc) since
-  was_live_where_kept slice column in_table used had =
-      let slot = slot_at table slice column in
-      let rec = recorded.each slice column in_table (open_now config limits history table legal sound untuned recorded pass number token slice used) in
-      sees_what_was_live limits history pass number slice column (state_of slot) (document_added_at had.place had.doc) legal token used rec.state
-      (seen_then number had.place had.doc slot.column slot.doc had.was_live had.added had.kept)
-
-  -- what the table gives of a candidate is what the candidate gives
-  table_keeps : (test : List ℕ → Bool) (slice column : ℕ) → IsColumn table slice column → IsInUse limits.columns slice token.earlier → (given : Option (ℕ × ℕ)) →
-      kept_at table test number (slice, column) ≡ given → GivesWhere token.earlier test (slice, column) given
-  table_keeps test slice column in_table used (Some found) gives =
-      let is = kept_in-tells (slot_at table slice column) test number found gives in
-      let was = was_live_where_kept slice column in_table used (record { place = found.0; doc = is.doc; was_live = is.was_live; added = is.added; kept = is.kept }) in
-      (document_added_at found.0 is.doc, was.0, was.1, is.passes, ap (λ n. (found.0, n)) (sym is.id_is))
-  table_keeps test slice column in_table used None none = λ d since lives.
-      false_from_ne_true (test d.text) (λ passes.
-      let at = kept_where_live slice column d since in_table used lives in
-      let text : at.parts.text ≡ d.text = ap (λ (y : Document). y.text) at.is in
-      let gives =
-      kept_in-gives (slot_at table slice column) test number (d.place, d.id)
-      (record { doc = at.parts; was_live = at.live_at; added = at.added; kept = at.kept; id_is = ap (λ (y : Document). y.id) at.is; passes = ap test text ∙ passes }) in
-      none_is_some (sym none ∙ gives))
-
-  -- and the same of several
-  table_keeps_each : (test : List ℕ → Bool) (candidates : List (ℕ × ℕ)) →
-      ((candidate : ℕ × ℕ) → Contains candidates candidate → IsColumn table candidate.0 candidate.1 × IsInUse limits.columns candidate.0 token.earlier) →
-      AreGivenWhere token.earlier test candidates (filter_map (kept_at table test number) candidates)
-  table_keeps_each test [] each = refl
-  table_keeps_each test (candidate ∷ later) each =
-      let first = each candidate (0, omega arith, refl) in (
-        kept_at table test number candidate,
-        filter_map (kept_at table test number) later,
-        table_keeps test candidate.0 candidate.1 first.0 first.1 (kept_at table test number candidate) refl,
-        table_keeps_each test later (λ other has. each other (Contains-cons candidate later other has)),
-        refl,
-      )
-
-  -- so many documents of candidates are judged by the table
-  table_judges : (candidates : List (ℕ × ℕ)) → ((candidate : ℕ × ℕ) → Contains candidates candidate → IsColumn table candidate.0 candidate.1 × IsInUse limits.columns candidate.0 token.earlier) →
-      AreJudged token.earlier candidates (judged_at table number)
-  table_judges candidates each = record {
-    where_live = λ candidate has d since lives.
-        let of = each candidate has in
-        let at = kept_where_live candidate.0 candidate.1 d since of.0 of.1 lives in
-        judged_where_live (slot_at table candidate.0 candidate.1) number (record { place = d.place; doc = at.parts; was_live = at.live_at; added = at.added; kept = at.kept });
-    elsewhere = λ candidate has none.
-        let of = each candidate has in
-        judged_elsewhere (slot_at table candidate.0 candidate.1) number
-        (λ had. let was = was_live_where_kept candidate.0 candidate.1 of.0 of.1 had in none (document_added_at had.place had.doc) was.0 was.1);
-  }
-
   -- the candidates of branches give each document that passes the test, where each text that passes has all words of some branch
   scan_keeps_all : (test : List ℕ → Bool) (seat : PassState) (held : Token) (branches : List (List (List ℕ))) (candidates : List (ℕ × ℕ)) → seat.pool.limits ≡ limits →
       ((slice : ℕ) → Contains held.slices slice ↔ ((slice < limits.slices) × IsInUse limits.columns slice token.earlier)) → HasSomeBranch test branches → AreScannedForAny config seat held branches candidates →
@@ -122,7 +53,7 @@ module _ (config : Config) (limits : Limits) (history : List Event) (table : Tab
             (scan.1.every home.0 home.1 ((held_are home.0).1 (home.3, in_use)) (subst (λ (l : Limits). home.1 < l.columns) (sym same_limits) home.4)
             (λ bit of_branch.
             bits_committed config limits history table legal sound untuned recorded pass number token seat.front token.later home.0 home.1 d home.2 [] home.4 home.5 front_is refl bit
-            (bits-of_part config branch.0 (words d.text) branch.2 home.0 home.1 bit of_branch))),
+            (bits-of_part (words_of_slice config) config branch.0 (words d.text) branch.2 home.0 home.1 bit of_branch))),
         (d, home.2, home.5, kept.3, sym kept.2),
       )
 
@@ -153,9 +84,9 @@ module _ (config : Config) (limits : Limits) (history : List Event) (table : Tab
   part_is_kept part among =
       table_keeps_each config limits history table legal sound untuned recorded seat.number token.opened_at now test part (λ candidate has. of_table candidate (among candidate has))
 
-  -- so many documents of the candidates are judged by the records
-  pub candidates_are_judged : AreJudged begun.earlier candidates (judged_at table token.opened_at)
-  candidates_are_judged = table_judges config limits history table legal sound untuned recorded seat.number token.opened_at now candidates of_table
+  -- and so many words are looked for in them by the records
+  pub candidates_cost : (cost : ℕ) → AreLookedFor begun.earlier cost candidates (looked_at table cost token.opened_at)
+  candidates_cost cost = table_looks config limits history table legal sound untuned recorded seat.number token.opened_at now cost candidates of_table
 
   -- all candidates give all that pass the test
   pub all_are_kept : GiveAllWhere begun.earlier test candidates
@@ -188,3 +119,12 @@ were_scanned_for_any config seat next token test candidates same goes holds scan
       scan.1,
       any_scanned_as config then later token scan.0 candidates same.pool same.number front same.own scan.2,
     )
+
+-- so the pass judges them still
+pub judging_still : (pool : PoolId) (seat next : PassState) (token : Token) (test : List ℕ → Bool) (candidates : List (ℕ × ℕ)) → IsSamePass seat next → IsFrontOf seat.number seat.front next.front →
+    HasNoneOutstanding next → IsJudging pool token test candidates seat → IsJudging pool token test candidates next
+judging_still pool seat next token test candidates same goes none is = record {
+  seated = record { same = same.pool ∙ is.seated.same; none_outstanding = none };
+  holds = token_kept seat next token same goes is.holds;
+  scanned = were_scanned_for_any pool.config seat next token test candidates same goes is.holds is.scanned;
+}

@@ -4,6 +4,7 @@ pub mod Causes
 pub mod Checks
 pub mod DocumentEvents
 pub mod Few
+pub mod FewJudged
 pub mod Emptying
 pub mod FindEnds
 pub mod FindEvents

@@ -9,7 +9,7 @@ use Rattle.funnel_model.specs.declared.commit.Commit.{Commit}
 use Rattle.funnel_model.specs.declared.event.Event.{Event}
 use Rattle.funnel_model.specs.declared.event.Event.TheVariants as event
 use Rattle.funnel_model.specs.History.{base, commits_after, is_live, live_place, place}
-use Rattle.funnel_model.specs.Legal.{HasRoom, IsFull, Limits, MayClear, MayTake, NoneCanClear}
+use Rattle.funnel_model.specs.Legal.{HasRoom, IsFull, IsIdle, Limits, MayClear, MayTake, NoneCanClear}
 use Rattle.funnel_model.specs.Slices.{IsInUse, IsRetired}
 use Rattle.funnel_model.specs.Steps.{NoneRetired}
 use Rattle.commit_desk.specs.declared.answers.AddFault.{AddFault}
@@ -44,6 +44,11 @@ pub record IsPresent (history : List Event) (id added : ℕ) : Type 0 where
 pub record MayEnter (most : ℕ) (history : List Event) (id : ℕ) : Type 0 where
   pub takes_calls : TakesCalls most history
   pub absent : is_live id history ≡ false
+
+-- and the pass isn't in the middle of a call
+pub record MayAdd (most : ℕ) (history : List Event) (pass id : ℕ) : Type 0 where
+  pub idle : IsIdle pass history
+  pub enters : MayEnter most history id
 
 -- why an add is refused: each reason yields to those before it
 abbrev pub RefusesAdd : ℕ → Limits → List Event → ℕ → AddFault → Type 0

@@ -3,7 +3,6 @@
 use Rattle.std.specs.Prelude.{◌≡◌, ℕ, Bool, true, false, List, [], ◌∷◌, ◌++◌, map, filter, Option, Some, None, Contains}
 use Rattle.std.specs.List.{AllPairs, cons_option}
 use Rattle.document_store.specs.Documents.{HasEvery}
-use Rattle.document_store.specs.Judging.{EndsJudgedTurn}
 use Rattle.funnel_model.specs.declared.claim.Token.{Token}
 use Rattle.funnel_model.specs.declared.config.Config.{Config}
 use Rattle.funnel_model.specs.declared.event.Event.{Event}
@@ -43,17 +42,6 @@ AreGivenWhere earlier test (candidate ∷ later) found =
 abbrev pub GiveAllWhere : List Event → (List ℕ → Bool) → List (ℕ × ℕ) → Type 0
 GiveAllWhere earlier test candidates =
     (found : ℕ × ℕ) → Contains (found_where earlier test) found → (candidate : ℕ × ℕ) × Contains candidates candidate × GivesWhere earlier test candidate (Some found)
-
--- so many documents are judged of each candidate: the one that was live in the column before the find, where there was one
-pub record AreJudged (earlier : List Event) (candidates : List (ℕ × ℕ)) (judged : ℕ × ℕ → ℕ) : Type 0 where
-  pub where_live : (candidate : ℕ × ℕ) → Contains candidates candidate → (document : Document) (since : ℕ) → IsLiveOn earlier candidate.0 candidate.1 document since
-      → judged candidate ≡ 1
-  pub elsewhere : (candidate : ℕ × ℕ) → Contains candidates candidate
-      → ((document : Document) (since : ℕ) → IsLiveOn earlier candidate.0 candidate.1 document since → ⊥) → judged candidate ≡ 0
-
--- a turn from one candidate up to another ends where it may, by the documents that it has judged
-abbrev pub JudgesUpTo : List Event → List (ℕ × ℕ) → ℕ → ℕ → Type 0
-JudgesUpTo earlier candidates from to = (judged : ℕ × ℕ → ℕ) × AreJudged earlier candidates judged × EndsJudgedTurn candidates judged from to
 
 -- each text that passes the test has all words of some branch
 abbrev pub HasSomeBranch : (List ℕ → Bool) → List (List (List ℕ)) → Type 0

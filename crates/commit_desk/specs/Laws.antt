@@ -1,7 +1,9 @@
 -- What holds of what a desk keeps, whatever the history.
-use Rattle.std.specs.Prelude.{◌≡◌, ℕ, ◌*◌, ◌<◌, ◌≤◌, ◌↔◌, true, false, List, [], ◌∷◌, ◌++◌, length, replicate, Contains, Err, Option, None}
+use Rattle.std.specs.Prelude.{◌≡◌, ℕ, ◌*◌, ◌<◌, ◌≤◌, ◌↔◌, true, false, List, [], ◌∷◌, ◌++◌, length, replicate, sum_by, Contains, Err, Option, None}
+use Rattle.std.specs.List.{slice_range}
 use mathlib.Core.List.{IsPrefix}
 use Rattle.document_store.specs.Entries.{column_of}
+use Rattle.document_store.specs.Finding.{judged_cost}
 use Rattle.document_store.specs.Slots.{free_slot}
 use Rattle.funnel_model.specs.declared.config.Config.{Config}
 use Rattle.funnel_model.specs.declared.event.Event.{Event}
@@ -36,6 +38,7 @@ use Rattle.commit_desk.specs.declared.look.Look.{Look}
 use Rattle.commit_desk.specs.Judging.{answer_where}
 use Rattle.commit_desk.specs.Kept.{Books, AreBooksOf}
 use Rattle.commit_desk.specs.Moving.{AnswersTakeMove, HoldsLook, IsNextLook, IsThereStill, LooksState, document_of}
+use Rattle.commit_desk.specs.Resolving.{AreLookedFor, LooksUpTo}
 
 -- nothing is kept yet: every column is free, no number is live, no find runs and no column of a slice is claimed
 pub record AreNew (limits : Limits) (books : Books) : Type 0 where
@@ -108,6 +111,12 @@ CallsDoNothingElse = (events : List Event) (before after : DeskState) (seat next
 pub record AnswersAreByTests : Type 0 where
   pub query : (history : List Event) (query : List ℕ) → answer history query ≡ answer_where history (λ text. meets text query)
   pub expression : (history : List Event) (expr : Tree) → answer_by history expr ≡ answer_where history (keeps expr)
+
+-- a turn of a judge has few documents: were one word looked for in each, these would be few
+abbrev pub TurnsJudgeFewDocuments : Type 0
+TurnsJudgeFewDocuments =
+    (earlier : List Event) (cost : ℕ) (candidates : List (ℕ × ℕ)) (from to : ℕ) (documents : ℕ × ℕ → ℕ) → LooksUpTo earlier (judged_cost cost) candidates from to →
+    AreLookedFor earlier 1 candidates documents → sum_by documents (slice_range candidates from to) ≤ 32
 
 -- A pass began a find after these events, and read as set, under a find's number, the bit of a word's row at a column of a slice that it may
 -- read; the word is exact under the slice's treatment.

@@ -1,13 +1,19 @@
 -- What a find finds of its candidates, turn by turn. It is told by the history before the find, which later events don't change.
-use Rattle.std.specs.Prelude.{◌≡◌, ◌⊎◌, ℕ, true, List, length, Option, Contains}
+use Rattle.std.specs.Prelude.{◌≡◌, ◌⊎◌, ℕ, Bool, true, List, ◌++◌, Option, Contains}
+use Rattle.std.specs.List.{slice_range}
 use Rattle.document_store.specs.Finding.{EndsTurn}
 use Rattle.funnel_model.specs.declared.event.Event.{Event}
 use Rattle.funnel_model.specs.History.{Document}
 use Rattle.funnel_model.specs.Slices.{IsLiveOn}
+use Rattle.funnel_model.specs.Tokens.{HasToken}
 use Rattle.funnel_model.specs.Words.{meets, words}
+use Rattle.funnel_model.specs.declared.claim.Token.{Token}
 use Rattle.funnel_model.specs.declared.config.Config.{Config}
 use Rattle.row_layout.specs.Owners.{is_exact}
-use Rattle.commit_desk.specs.Judging.{AreGivenWhere, GiveAllWhere, GivesWhere}
+use Rattle.slice_rule.specs.Pools.{PoolId}
+use Rattle.slice_rule.specs.Seats.{HoldsToken, IsSeated, PassState}
+use Rattle.commit_desk.specs.Judging.{AreGivenWhere, GiveAllWhere, GivesWhere, WereScannedForAny}
+use Rattle.commit_desk.specs.Scans.{WereScanned}
 
 -- the rest of a query, which is looked for in the documents: words of it, of which each other one is exact under the configuration
 pub record IsRestOf (config : Config) (query : List ℕ) (rest : List (List ℕ)) : Type 0 where
@@ -27,13 +33,36 @@ AreGiven earlier query = AreGivenWhere earlier (λ text. meets text query)
 abbrev pub GiveAll : List Event → List ℕ → List (ℕ × ℕ) → Type 0
 GiveAll earlier query = GiveAllWhere earlier (λ text. meets text query)
 
--- so many words are looked for in each candidate: all of the rest, where a document was live in the column before the find, and else none
-pub record AreLookedFor (earlier : List Event) (rest : List (List ℕ)) (candidates : List (ℕ × ℕ)) (looked : ℕ × ℕ → ℕ) : Type 0 where
+-- so many words are looked for in each candidate: as many as in each document, where one was live in the column before the find, and else
+-- none
+pub record AreLookedFor (earlier : List Event) (cost : ℕ) (candidates : List (ℕ × ℕ)) (looked : ℕ × ℕ → ℕ) : Type 0 where
   pub where_live : (candidate : ℕ × ℕ) → Contains candidates candidate → (document : Document) (since : ℕ) → IsLiveOn earlier candidate.0 candidate.1 document since
-      → looked candidate ≡ length rest
+      → looked candidate ≡ cost
   pub elsewhere : (candidate : ℕ × ℕ) → Contains candidates candidate
       → ((document : Document) (since : ℕ) → IsLiveOn earlier candidate.0 candidate.1 document since → ⊥) → looked candidate ≡ 0
 
--- a turn from one candidate up to another ends where it may, by the words that it looks for
-abbrev pub LooksUpTo : List Event → List (List ℕ) → List (ℕ × ℕ) → ℕ → ℕ → Type 0
-LooksUpTo earlier rest candidates from to = (looked : ℕ × ℕ → ℕ) × AreLookedFor earlier rest candidates looked × EndsTurn candidates looked from to
+-- a turn from one candidate up to another ends where it may, by the words that it looks for: so many in each document
+abbrev pub LooksUpTo : List Event → ℕ → List (ℕ × ℕ) → ℕ → ℕ → Type 0
+LooksUpTo earlier cost candidates from to = (looked : ℕ × ℕ → ℕ) × AreLookedFor earlier cost candidates looked × EndsTurn candidates looked from to
+
+-- A turn of a find whose documents are to pass a test, from one candidate up to another, by the history before the find: what its candidates
+-- give comes after what was found before, all candidates give all that pass, and it ends where it may.
+pub record FindsUpTo (earlier : List Event) (test : List ℕ → Bool) (cost : ℕ) (candidates : List (ℕ × ℕ)) (from to : ℕ) (before after : List (ℕ × ℕ)) : Type 0 where
+  pub more : List (ℕ × ℕ)
+  pub given : AreGivenWhere earlier test (slice_range candidates from to) more
+  pub found : after ≡ before ++ more
+  pub all : GiveAllWhere earlier test candidates
+  pub turn : LooksUpTo earlier cost candidates from to
+
+-- the pass has a find open whose candidates were scanned for the words of its query, of which this is the rest
+pub record IsVerifying (pool : PoolId) (token : Token) (rest : List (List ℕ)) (candidates : List (ℕ × ℕ)) (seat : PassState) : Type 0 where
+  pub seated : IsSeated pool seat
+  pub holds : HoldsToken seat token
+  pub rest_of : (begun : HasToken seat.front seat.number token.opened_at) → IsRestOf pool.config begun.query rest
+  pub scanned : WereScanned pool.config seat token candidates
+
+-- the pass has a find open whose candidates were scanned for branches, one of which each text that passes the test has
+pub record IsJudging (pool : PoolId) (token : Token) (test : List ℕ → Bool) (candidates : List (ℕ × ℕ)) (seat : PassState) : Type 0 where
+  pub seated : IsSeated pool seat
+  pub holds : HoldsToken seat token
+  pub scanned : WereScannedForAny pool.config seat token test candidates

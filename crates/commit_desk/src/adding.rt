@@ -1,15 +1,12 @@
-ghost use Rattle.std.specs.Prelude.{◌≡◌, ◌+◌, ◌<◌, ◌≤◌, ◌↔◌, true, false, [], ◌∷◌, MatchOption, MatchResult, Ok, Err, Contains, All, length, vec_capacity};
-ghost use Rattle.funnel_model.specs.declared.bit_list.Bit.{Bit};
+ghost use Rattle.std.specs.Prelude.{◌≡◌, ◌+◌, ◌<◌, ◌≤◌, true, [], ◌∷◌, MatchOption, MatchResult, Ok, Err, All, length, vec_capacity};
 ghost use Rattle.funnel_model.specs.declared.call.Call.TheVariants as call;
 ghost use Rattle.funnel_model.specs.declared.event.Event.TheVariants as event;
 ghost use Rattle.funnel_model.specs.History.{is_live, place};
-ghost use Rattle.funnel_model.specs.Legal.{IsIdle, IsInSlice, IsRefused, MayTake};
+ghost use Rattle.funnel_model.specs.Legal.{IsIdle, IsRefused, MayTake};
 ghost use Rattle.funnel_model.specs.Slices.{claimed};
-ghost use Rattle.row_layout.specs.DocumentBits.{AreDocumentBits};
-ghost use Rattle.slice_rule.specs.declared.view.Fact.TheVariants as fact;
-ghost use Rattle.slice_rule.specs.Numbers.{last_number};
 ghost use Rattle.slice_rule.specs.Seats.{HasNoneOutstanding, HoldsClaim, IsSeated};
-ghost use Rattle.commit_desk.specs.Answers.{AnswersCommit, AnswersTake, MayEnter, RefusesAdd, TakesCalls, events_of_commit, events_of_opened_take, events_of_take};
+ghost use Rattle.commit_desk.specs.Answers.{AnswersCommit, AnswersTake, MayAdd, MayEnter, RefusesAdd, TakesCalls};
+ghost use Rattle.commit_desk.specs.Answers.{events_of_commit, events_of_opened_take, events_of_take};
 ghost use Rattle.commit_desk.specs.Desks.{IsCaughtUp, IsUnwritten, Makes, NothingYet};
 ghost use Rattle.commit_desk.specs.Passes.{HasWritten, HoldsCleared};
 
@@ -150,8 +147,7 @@ impl Desk {
     ) -> Taken
         requires pool { pool.now ≡ self.old.pool }
         requires caught_up { IsCaughtUp self.old seat.old }
-        requires idle { IsIdle seat.old.number self.old.history }
-        requires may { MayEnter self.old.events_limit self.old.history doc.now.id }
+        requires may { MayAdd self.old.events_limit self.old.history seat.old.number doc.now.id }
         requires room { MatchOption room.old ⊥ (λ empty. (empty.items ≡ []) × (self.old.pool.limits.slices ≤ vec_capacity empty)) }
         ensures answer { AnswersTake self.old.events_limit self.old.pool.limits self.old.history seat.old.number doc.now.id result }
         ensures events { Makes (events_of_take seat.old.number doc.now.id doc.now.text result) self.old self.new seat.old seat.new }
@@ -220,12 +216,9 @@ impl Desk {
     ) -> u64
         requires pool { pool.now ≡ self.old.pool }
         requires caught_up { IsCaughtUp self.old seat.old }
-        requires claim { HoldsClaim seat.old claim }
-        requires may { AnswersCommit self.old.history doc.id (Ok (place self.old.history + 1)) }
-        requires bits { AreDocumentBits self.old.pool.config doc.words claim.slice claim.column bits.now.bits }
-        requires inside { All (λ b. IsInSlice self.old.pool.limits.slice_words claim.slice b.word) bits.now.bits }
+        requires written { HasWritten self.old.pool claim doc.words bits.now.bits seat.old }
         requires of_words { All (λ b. b.bit < 64) bits.now.bits }
-        requires set { (b : Bit) → Contains bits.now.bits b ↔ Contains seat.old.own (fact.BitSet (last_number seat.old.number seat.old.front) b) }
+        requires may { AnswersCommit self.old.history doc.id (Ok (place self.old.history + 1)) }
         ensures place { result ≡ place self.old.history + 1 }
         ensures made { Makes (event.Add seat.old.number doc.id doc.text claim.slice claim.column bits.now.bits ∷ []) self.old self.new seat.old seat.new }
         ensures none_outstanding { HasNoneOutstanding seat.new }

@@ -1,10 +1,9 @@
-ghost use Rattle.std.specs.Prelude.{◌≡◌, ◌+◌, ◌*◌, ◌≤◌, ◌^◌, [], ◌∷◌, ◌++◌, IfOk, IsTrue, ◌↔◌, length};
+ghost use Rattle.std.specs.Prelude.{◌≡◌, ◌+◌, ◌*◌, ◌≤◌, ◌^◌, [], IfOk, IsTrue, ◌↔◌, length};
 ghost use Rattle.funnel_model.specs.Configuration.{IsInRange};
 ghost use Rattle.funnel_model.specs.History.{MovesAreCaused, base, commits_after, live_place};
 ghost use Rattle.funnel_model.specs.Legal.{IsLegal};
 ghost use Rattle.row_layout.specs.Sound.{IsSound};
 ghost use Rattle.slice_rule.specs.Pools.{limits_of};
-ghost use Rattle.slice_rule.specs.Seats.{new_home_state};
 
 use crate::journal::Journal;
 use document_store::{Column, LiveList, Records};

@@ -1,13 +1,12 @@
-ghost use Rattle.std.specs.Prelude.{◌≡◌, ℕ, ◌+◌, ◌≤◌, List, [], ◌∷◌, ◌++◌, length, IfOk, Ok, Err};
-ghost use Rattle.std.specs.List.{slice_range};
+ghost use Rattle.std.specs.Prelude.{◌≡◌, ◌+◌, ◌≤◌, [], ◌∷◌, length, IfOk, Ok, Err};
 ghost use Rattle.funnel_model.specs.declared.event.Event.TheVariants as event;
 ghost use Rattle.funnel_model.specs.Legal.{IsIdle};
 ghost use Rattle.funnel_model.specs.Tokens.{HasToken};
+ghost use Rattle.funnel_model.specs.Words.{meets};
 ghost use Rattle.slice_rule.specs.Seats.{HasNoneOutstanding, HoldsToken, IsSeated};
 ghost use Rattle.commit_desk.specs.Answers.{AnswersFind, TakesCalls, events_of_find};
 ghost use Rattle.commit_desk.specs.Desks.{IsCaughtUp, Makes};
-ghost use Rattle.commit_desk.specs.Resolving.{AreGiven, GiveAll, IsRestOf, LooksUpTo};
-ghost use Rattle.commit_desk.specs.Scans.{WereScanned};
+ghost use Rattle.commit_desk.specs.Resolving.{FindsUpTo, IsVerifying};
 
 use crate::answers::Spent;
 use crate::desk::Desk;
@@ -57,24 +56,25 @@ impl Desk {
         out: &mut Found,
     ) -> usize
         requires pool { pool.now ≡ self.old.pool }
-        requires seat { IsSeated self.old.pool seat.old }
-        requires token { HoldsToken seat.old token.now }
-        requires rest { (begun : HasToken seat.old.front seat.old.number token.now.opened_at) → IsRestOf self.old.pool.config begun.query rest.now }
-        requires scanned { WereScanned self.old.pool.config seat.old token.now candidates.now }
+        requires verifying { IsVerifying self.old.pool token.now rest.now candidates.now seat.old }
         requires from { from ≤ length candidates.now }
         requires room { length candidates.now ≤ out.old.room + from }
-        ensures found { (begun : HasToken seat.old.front seat.old.number token.now.opened_at) → (more : List (ℕ × ℕ)) ×
-            AreGiven begun.earlier begun.query (slice_range candidates.now from result) more × (out.new.found ≡ out.old.found ++ more) }
-        ensures all { (begun : HasToken seat.old.front seat.old.number token.now.opened_at) → GiveAll begun.earlier begun.query candidates.now }
-        ensures turn { (begun : HasToken seat.old.front seat.old.number token.now.opened_at) → LooksUpTo begun.earlier rest.now candidates.now from result }
+        ensures found { (begun : HasToken seat.old.front seat.old.number token.now.opened_at) →
+            FindsUpTo begun.earlier (λ text. meets text begun.query) (length rest.now) candidates.now from result out.old.found out.new.found }
         ensures enough { length candidates.now ≤ out.new.room + result }
         ensures events { Makes [] self.old self.new seat.old seat.new }
-        ensures token { HoldsToken seat.new token.now }
-        ensures scanned { WereScanned self.new.pool.config seat.new token.now candidates.now }
-        ensures none_outstanding { HasNoneOutstanding seat.new }
+        ensures verifying { IsVerifying self.new.pool token.now rest.now candidates.now seat.new }
     {
         pool.catch_up(&mut self.home, seat);
-        resolve_part(&self.records, candidates, from, rest, token.opened_at, out)
+        resolve_part(
+            &self.records,
+            candidates,
+            from,
+            rest,
+            rest.len(),
+            token.opened_at,
+            out,
+        )
     }
 
     /// Ends a find, whatever it has found.
@@ -87,17 +87,6 @@ impl Desk {
     {
         pool.catch_up(&mut self.home, seat);
         self.make_end(pool, seat, token);
-    }
-
-    /// Ends a find that found no memory.
-    pub fn drop_find(&mut self, pool: &Pool, seat: &mut PassSeat, token: Token)
-        requires pool { pool.now ≡ self.old.pool }
-        requires seat { IsSeated self.old.pool seat.old }
-        requires token { HoldsToken seat.old token }
-        ensures events { Makes (event.End seat.old.number ∷ []) self.old self.new seat.old seat.new }
-        ensures none_outstanding { HasNoneOutstanding seat.new }
-    {
-        self.end_find(pool, seat, token);
     }
 
     // Makes the event that begins a find, and gives its token.

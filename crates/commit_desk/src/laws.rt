@@ -1,5 +1,6 @@
 //! What holds of what a desk keeps, whatever the history. Each is the contract of a function that does nothing.
-ghost use Rattle.commit_desk.specs.Laws.{AnswersAreByTests, CallsDoNothingElse, DesksHaveTheirCommits, MovesAreOne, MovesKeepTexts, NewDesksAreKept, ReadBitsTellWords, RefusedCallsKeepDocuments};
+ghost use Rattle.commit_desk.specs.Laws.{AnswersAreByTests, CallsDoNothingElse, DesksHaveTheirCommits, MovesAreOne, MovesKeepTexts, NewDesksAreKept};
+ghost use Rattle.commit_desk.specs.Laws.{ReadBitsTellWords, RefusedCallsKeepDocuments, TurnsJudgeFewDocuments};
 
 /// A desk that keeps nothing yet stands for the history without events, so what is kept of a history can be met.
 pub fn new_desks_are_kept()
@@ -44,4 +45,9 @@ pub fn answers_are_by_tests()
 /// began has the word. So a find looks for no exact word in a document.
 pub fn read_bits_tell_words()
     ensures { ReadBitsTellWords }
+{}
+
+/// A turn of a judge decides 32 documents at most, however few words it looks for in each.
+pub fn turns_judge_few_documents()
+    ensures { TurnsJudgeFewDocuments }
 {}

@@ -1,21 +1,19 @@
 //! Moves: documents go from the slice that holds the fewest to others, so that it retires.
-ghost use Rattle.std.specs.Prelude.{◌≡◌, ◌↔◌, ℕ, ◌<◌, ◌≤◌, [], ◌∷◌, All, Contains, IfOk, IfSome, IsTrue, false, true, MatchOption};
-ghost use Rattle.funnel_model.specs.declared.bit_list.Bit.{Bit};
+ghost use Rattle.std.specs.Prelude.{◌≡◌, ◌↔◌, ℕ, ◌<◌, [], ◌∷◌, All, IfOk, IfSome, IsTrue, false, true, MatchOption};
 ghost use Rattle.funnel_model.specs.History.{Document};
-ghost use Rattle.funnel_model.specs.Legal.{IsIdle, IsInSlice};
+ghost use Rattle.funnel_model.specs.Legal.{IsIdle};
 ghost use Rattle.funnel_model.specs.declared.event.Event.TheVariants as event;
 ghost use Rattle.funnel_model.specs.Events.{deletes_or_drops};
 ghost use Rattle.funnel_model.specs.Reserve.{HasReadyColumns, HasSpareColumns, IsSource};
 ghost use Rattle.funnel_model.specs.Slices.{IsInState, Live};
 ghost use Rattle.funnel_model.specs.Words.{AreWordsOf};
 ghost use Rattle.std.specs.List.{list_any};
-ghost use Rattle.row_layout.specs.DocumentBits.{AreDocumentBits};
-ghost use Rattle.slice_rule.specs.declared.view.Fact.TheVariants as fact;
-ghost use Rattle.slice_rule.specs.Numbers.{last_number};
 ghost use Rattle.slice_rule.specs.Seats.{HasNoneOutstanding, HoldsClaim, IsSeated};
 ghost use Rattle.commit_desk.specs.Desks.{IsCaughtUp, IsUnwritten, Makes};
 ghost use Rattle.commit_desk.specs.Passes.{HasWritten};
-ghost use Rattle.commit_desk.specs.Moving.{AnswersLook, AnswersTakeMove, HoldsLook, HasLive, HasOneToMove, IsLowestFree, IsLowestLiveOrNone, IsPartlyHeld, document_of, is_fewer, IsFreeToMove, IsNextToMove, IsThereStill, IsToBeEmptied, event_of_move, events_of_take_move, looks_after, looks_after_take, with_mark};
+ghost use Rattle.commit_desk.specs.Moving.{AnswersLook, AnswersTakeMove, HoldsLook, HasLive, HasOneToMove, IsLowestFree};
+ghost use Rattle.commit_desk.specs.Moving.{IsLowestLiveOrNone, IsPartlyHeld, IsFreeToMove, IsNextToMove, IsThereStill, IsToBeEmptied};
+ghost use Rattle.commit_desk.specs.Moving.{document_of, is_fewer, event_of_move, events_of_take_move, looks_after, looks_after_take, with_mark};
 
 use crate::desk::Desk;
 use crate::entries::Moves;
@@ -313,13 +311,10 @@ impl Desk {
     fn make_move(&mut self, pool: &Pool, seat: &mut PassSeat, claim: Claim, look: Look, bits: &Bits)
         requires pool { pool.now ≡ self.old.pool }
         requires caught_up { IsCaughtUp self.old seat.old }
-        requires claim { HoldsClaim seat.old claim }
+        requires written { HasWritten self.old.pool claim look.doc.words bits.now.bits seat.old }
+        requires of_words { All (λ b. b.bit < 64) bits.now.bits }
         requires look { HoldsLook seat.old look }
         requires there { IsThereStill self.old.history look }
-        requires bits { AreDocumentBits self.old.pool.config look.doc.words claim.slice claim.column bits.now.bits }
-        requires inside { All (λ b. IsInSlice self.old.pool.limits.slice_words claim.slice b.word) bits.now.bits }
-        requires of_words { All (λ b. b.bit < 64) bits.now.bits }
-        requires set { (b : Bit) → Contains bits.now.bits b ↔ Contains seat.old.own (fact.BitSet (last_number seat.old.number seat.old.front) b) }
         ensures made { Makes (event.Move seat.old.number look.doc.id claim.slice claim.column bits.now.bits ∷ []) self.old self.new seat.old seat.new }
         ensures none_outstanding { HasNoneOutstanding seat.new }
     {

@@ -1,5 +1,5 @@
 //! What the refusals for want of room say: they walk over the slices.
-ghost use Rattle.std.specs.Prelude.{◌≡◌, ℕ, ◌<◌, ◌≤◌, false, [], vec_capacity};
+ghost use Rattle.std.specs.Prelude.{◌≡◌, ◌<◌, ◌≤◌, false, [], vec_capacity};
 ghost use Rattle.funnel_model.specs.Blocks.{AreBlocks, IsBlock};
 ghost use Rattle.funnel_model.specs.Legal.{IsFull, NoneCanClear};
 ghost use Rattle.funnel_model.specs.Slices.{IsFilled, IsRetired, is_clearing};

@@ -1,8 +1,7 @@
 -- A find of no words has all columns of the slice as its candidates.
-use Rattle.std.proofs.Common.{◌≡◌, ℕ, ◌+◌, ◌<◌, List, [], ◌∷◌, ◌++◌, length, get_or, append-nil, inl, sym, ap, ◌∙◌, subst, arith, Contains}
+use Rattle.std.proofs.Common.{◌≡◌, ℕ, ◌+◌, ◌<◌, List, [], ◌∷◌, ◌++◌, length, get_or, inl, sym, ap, ◌∙◌, subst, arith, Contains}
 use Rattle.std.proofs.lemmas.List.FromFn.{get_or-map-range_with_len, length-map-range_with_len, map-range_with_len_more}
 use Rattle.caseless.proofs.Computing.{caseless}
-use Rattle.commit_desk.proofs.FindEnds.{begun_still}
 use Rattle.commit_desk.specs.Desks.{DeskState, Makes}
 use Rattle.commit_desk.specs.Passes.{IsFinding}
 use Rattle.commit_desk.specs.Resolving.{IsRestOf}
@@ -14,12 +13,12 @@ use Rattle.funnel_model.specs.declared.claim.Token.{Token}
 use Rattle.funnel_model.specs.declared.config.Config.{Config}
 use Rattle.funnel_model.specs.declared.event.Event.{Event}
 use Rattle.funnel_model.specs.declared.event.Event.TheVariants as event
-use Rattle.funnel_model.specs.History.{IsFrontOf}
 use Rattle.funnel_model.specs.Legal.{Limits}
-use Rattle.funnel_model.specs.Sizes.{columns_of_slice, words_of_slice}
+use Rattle.funnel_model.specs.Sizes.{columns_of_slice}
 use Rattle.funnel_model.specs.Tokens.{HasToken}
 use Rattle.funnel_model.specs.Words.{AreWordsOf}
 use Rattle.row_layout.specs.DocumentBits.{IsDocumentBit}
+use Rattle.row_layout.specs.Layouts.{LayoutId}
 use Rattle.slice_rule.specs.Pools.{PoolId}
 use Rattle.slice_rule.specs.Seats.{PassState}
 use Rattle.unicode_segmentation.proofs.Computing.{unicode_segmentation}
@@ -72,14 +71,14 @@ no_bit : (config : Config) (slice column : ℕ) (bit : Bit) → IsDocumentBit co
 no_bit config slice column bit sets = let low = sets.1.1 in absurd (omega arith)
 
 -- so all columns are the candidates of a find of no words, which reads nothing
-pub were_all_scanned : (layout : Config) (pool : PoolId) (token : Token) (seat : PassState) (end : ℕ) → IsLaidBy layout pool → columns_of_slice layout ≡ end → IsFinding pool token seat →
+pub were_all_scanned : (layout : LayoutId) (pool : PoolId) (token : Token) (seat : PassState) (end : ℕ) → IsLaidBy layout pool → columns_of_slice layout.config ≡ end → IsFinding pool token seat →
     ((begun : HasToken seat.front seat.number token.opened_at) → begun.query ≡ []) → Contains token.slices 0 → WereScanned pool.config seat token (columns_up_to end)
 were_all_scanned layout pool token seat end laid columns_are finding asked may_read begun =
     let same : seat.pool.limits ≡ pool.limits = ap (λ (p : PoolId). p.limits) finding.seated.same in
     let columns : seat.pool.limits.columns ≡ end = ap (λ (l : Limits). l.columns) (same ∙ laid.limits) ∙ columns_are in
     let slices : seat.pool.limits.slices ≡ 1 = ap (λ (l : Limits). l.slices) (same ∙ laid.limits) ∙ laid.one in
     let all = count end in
-    let rows = ap (λ (p : PoolId). p.limits.slice_words) finding.seated.same ∙ ap (λ (l : Limits). l.slice_words) laid.limits ∙ ap words_of_slice laid.config in (
+    let rows = ap (λ (p : PoolId). p.limits.slice_words) finding.seated.same ∙ ap (λ (l : Limits). l.slice_words) laid.limits ∙ ap (λ (l : LayoutId). l.room) laid.config in (
       [],
       no_words_of begun.query (asked begun),
       record {
@@ -101,11 +100,3 @@ were_all_scanned layout pool token seat end laid columns_are finding asked may_r
         laid = rows;
       },
     )
-
--- the rest is that of the query still, once the pass has seen more
-pub rest_later : (config : Config) (before now : DeskState) (seat next : PassState) (token : Token) (rest : List (List ℕ)) → Makes [] before now seat next →
-    HasToken seat.front seat.number token.opened_at → ((first : HasToken seat.front seat.number token.opened_at) → IsRestOf config first.query rest) →
-    (begun : HasToken next.front next.number token.opened_at) → IsRestOf config begun.query rest
-rest_later config before now seat next token rest made first is_rest begun =
-    let goes = subst (λ h. IsFrontOf seat.number seat.front h) (sym (made.front ∙ made.history ∙ append-nil before.history)) made.seen in
-    subst (λ q. IsRestOf config q rest) (sym (begun_still seat next token.opened_at made.number goes first begun).1) (is_rest first)

@@ -9,12 +9,9 @@ use Rattle.commit_desk_tests.specs.Tested.{IsSetting}
 use Rattle.funnel_model.specs.declared.bit_list.Bit.{Bit}
 use Rattle.funnel_model.specs.declared.claim.Claim.{Claim}
 use Rattle.funnel_model.specs.declared.claim.ClearJob.{ClearJob}
-use Rattle.funnel_model.specs.declared.config.Config.{Config}
 use Rattle.funnel_model.specs.Legal.{IsInSlice, Limits}
-use Rattle.funnel_model.specs.Sizes.{words_of_slice}
-use Rattle.row_layout.specs.declared.row.Row.{Row}
-use Rattle.row_layout.specs.DocumentBits.{AreDocumentBits}
-use Rattle.row_layout.specs.Orders.{HasRowsOf}
+use Rattle.row_layout.specs.DocumentBits.{AreDocumentBitsIn}
+use Rattle.row_layout.specs.Layouts.{LayoutId}
 use Rattle.slice_recycler.proofs.Recycles.{has_cleared}
 use Rattle.slice_recycler.specs.Cleared.{IsZeroOf}
 use Rattle.slice_rule.specs.declared.view.Fact.{Fact}
@@ -34,20 +31,20 @@ has_set number bits before own nothing has b = (
       ((has (fact.BitSet number b)).0 in_own),
 )
 
-module _ (name : PoolId) (layout : Config) (pool desk : PoolId) (is : IsSetting name layout pool desk) (seat next : PassState) (same : next ≡ record seat { own = next.own }) where
+module _ (name : PoolId) (layout : LayoutId) (pool desk : PoolId) (is : IsSetting name layout pool desk) (seat next : PassState) (same : next ≡ record seat { own = next.own }) where
   pub cleared : (job : ClearJob) → IsToClear name job seat →
       ((f : Fact) → Contains next.own f ↔ (Contains seat.own f ⊎ IsZeroOf pool.limits.slice_words job.slice (last_number seat.number seat.front) f)) → HasCleared desk job next
   cleared job start zeros =
       subst (λ (p : PoolId). HasCleared p job next) (is.of_name ∙ sym is.desk_of_name)
       (has_cleared pool job seat next (subst (λ (p : PoolId). IsToClear p job seat) (sym is.of_name) start) same zeros)
 
-  pub written : (claim : Claim) (set : List (List ℕ)) (rows : List Row) (bits : List Bit) → IsToWrite name claim seat →
-      ((f : Fact) → Contains next.own f ↔ (Contains seat.own f ⊎ IsBitOf (last_number seat.number seat.front) bits f)) → HasRowsOf name.config set rows →
-      (HasRowsOf layout set rows → AreDocumentBits layout set claim.slice claim.column bits) → All (λ b. IsInSlice (words_of_slice layout) claim.slice b.word) bits → HasWritten name claim set bits next
-  written claim set rows bits start has of_set document inside = record {
+  pub written : (claim : Claim) (set : List (List ℕ)) (bits : List Bit) → IsToWrite name claim seat →
+      ((f : Fact) → Contains next.own f ↔ (Contains seat.own f ⊎ IsBitOf (last_number seat.number seat.front) bits f)) →
+      AreDocumentBitsIn layout.room layout.config set claim.slice claim.column bits → All (λ b. IsInSlice layout.room claim.slice b.word) bits → HasWritten name claim set bits next
+  written claim set bits start has document inside = record {
     seated = seated_still name seat next same start.seated;
     holds = subst (λ (p : PassState). HoldsClaim p claim) (sym same) start.holds;
-    document = subst (λ (c : Config). AreDocumentBits c set claim.slice claim.column bits) is.laid.config (document (subst (λ (c : Config). HasRowsOf c set rows) (sym is.laid.config) of_set));
+    document = subst (λ (l : LayoutId). AreDocumentBitsIn l.room l.config set claim.slice claim.column bits) is.laid.config document;
     inside = subst (λ n. All (λ b. IsInSlice n claim.slice b.word) bits) (sym (ap (λ (l : Limits). l.slice_words) is.laid.limits)) inside;
     bits_set = λ b. subst (λ n. Contains bits b ↔ Contains next.own (fact.BitSet n b)) (sym (ap (λ (p : PassState). last_number p.number p.front) same))
         (has_set (last_number seat.number seat.front) bits seat.own next.own start.nothing has b);

@@ -1,37 +1,36 @@
 -- What the tests keep of a pool and of its passes.
-use Rattle.std.specs.Prelude.{◌≡◌, ℕ, ◌+◌, ◌≤◌, List, [], length, map}
+use Rattle.std.specs.Prelude.{◌≡◌, ℕ, ◌+◌, ◌*◌, ◌≤◌, List, [], length, map}
 use Rattle.std.specs.List.{range_with_len}
 use Rattle.commit_desk.specs.Passes.{IsFinding}
 use Rattle.commit_desk.specs.Resolving.{IsRestOf}
 use Rattle.commit_desk.specs.Scans.{WereScanned}
 use Rattle.document_store.specs.Finding.{FoundState}
 use Rattle.funnel_model.specs.declared.claim.Token.{Token}
-use Rattle.funnel_model.specs.declared.config.Config.{Config}
-use Rattle.funnel_model.specs.Sizes.{columns_of_slice, words_of_slice}
+use Rattle.funnel_model.specs.Sizes.{columns_of_slice}
 use Rattle.funnel_model.specs.Tokens.{HasToken}
-use Rattle.row_layout.specs.declared.row.Row.{Row}
-use Rattle.row_layout.specs.DocumentBits.{CanPlace}
-use Rattle.row_layout.specs.Orders.{HasRowsOf}
+use Rattle.row_layout.specs.declared.row.TheConstants.{MOST_ROWS}
+use Rattle.row_layout.specs.DocumentBits.{BitsState}
+use Rattle.row_layout.specs.Layouts.{LayoutId, own_layout}
 use Rattle.slice_rule.specs.Pools.{PoolId, limits_of}
 use Rattle.slice_rule.specs.Seats.{PassState}
 
 -- the pool has one slice, whose words are laid out by the configuration
-pub record IsLaidBy (layout : Config) (pool : PoolId) : Type 0 where
-  pub config : layout ≡ pool.config
-  pub limits : pool.limits ≡ limits_of layout (words_of_slice layout)
-  pub one : layout.slices ≡ 1
-  pub columns : 1 ≤ columns_of_slice layout
+pub record IsLaidBy (layout : LayoutId) (pool : PoolId) : Type 0 where
+  pub config : layout ≡ own_layout pool.config
+  pub limits : pool.limits ≡ limits_of layout.config layout.room
+  pub one : layout.config.slices ≡ 1
+  pub columns : 1 ≤ columns_of_slice layout.config
 
 -- the pool has this name, and so has that of the desk
-pub record IsSetting (name : PoolId) (layout : Config) (pool desk : PoolId) : Type 0 where
+pub record IsSetting (name : PoolId) (layout : LayoutId) (pool desk : PoolId) : Type 0 where
   pub of_name : pool ≡ name
   pub desk_of_name : desk ≡ name
   pub laid : IsLaidBy layout name
 
--- the rows of a document are those of its words, and have bits in each column
-pub record IsDraft (layout : Config) (words : List (List ℕ)) (rows : List Row) : Type 0 where
-  pub rows_of : HasRowsOf layout words rows
-  pub can_place : CanPlace layout rows
+-- there are no bits yet, and there is room for those of the words
+pub record IsDraft (words : List (List ℕ)) (bits : BitsState) : Type 0 where
+  pub no_bits : bits.bits ≡ []
+  pub room : MOST_ROWS * length words ≤ bits.room
 
 -- the pass has a find open, and its query is empty
 pub record IsFindingAll (pool : PoolId) (token : Token) (seat : PassState) : Type 0 where

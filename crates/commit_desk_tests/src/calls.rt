@@ -7,6 +7,7 @@ use commit_desk::{
     AddFault, ClearRefusal, CommitFault, DeleteFault, JournalFault, Spent, Taken, ToClear,
 };
 use funnel_model::Commits;
+use row_layout::fill_bits;
 use slice_recycler::clear_slice;
 use slice_rule::PoolName;
 
@@ -92,7 +93,13 @@ impl<N: PoolName> Setting<N> {
             cleared: _,
         } = claiming;
         let Draft { doc, mut bits, of } = draft;
-        bits.place(&self.layout, claim.slice, claim.column);
+        fill_bits(
+            &self.layout,
+            doc.words(),
+            claim.slice,
+            claim.column,
+            &mut bits,
+        );
         write_column(&self.pool, &mut seat, &claim, &bits);
         Written {
             seat,
@@ -130,7 +137,7 @@ impl<N: PoolName> Setting<N> {
             token,
             of,
         } = finding;
-        self.desk.drop_find(&self.pool, &mut seat, token);
+        self.desk.end_find(&self.pool, &mut seat, token);
         Caller { seat, of }
     }
 

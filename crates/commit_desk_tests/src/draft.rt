@@ -1,16 +1,16 @@
-//! Documents of one word, and their bits.
+//! Documents of one word, and room for their bits.
 ghost use Rattle.std.specs.Prelude.{◌≡◌, [], ◌∷◌};
 ghost use Rattle.funnel_model.specs.Words.{words};
 
 use crate::setting::Setting;
 use document_store::Doc;
 use funnel_model::{Memory, Text, WordSet};
-use row_layout::{Bits, bits_of};
+use row_layout::Bits;
 use slice_rule::PoolName;
 use std::alloc::Global;
 use std::marker::{Model, PhantomData};
 
-/// A document with its bits.
+/// A document with room for its bits.
 #[derive(Drop)]
 pub(crate) struct Draft<N: PoolName> {
     pub doc: Doc,
@@ -25,7 +25,7 @@ impl<N: PoolName> Model for Draft<N> {
 
     ghost view = { λ _. tt };
 
-    ghost invariant = { λ d. IsDraft N.pool.config d.doc.words d.bits.rows };
+    ghost invariant = { λ d. IsDraft d.doc.words d.bits };
 }
 
 /// A document whose text is one word.
@@ -40,7 +40,7 @@ impl<N: PoolName> Setting<N> {
     /// A document with this number.
     pub fn draft(&self, id: u64) -> Result<Draft<N>, Memory> {
         let doc = document(self.alloc, id, "cat")?;
-        let bits = bits_of(self.alloc, &self.layout, doc.words())?;
+        let bits = Bits::for_words(self.alloc, doc.words())?;
         let of = PhantomData;
         Ok(Draft { doc, bits, of })
     }

@@ -54,7 +54,7 @@ fn all_columns(alloc: Global, count: u32) -> Result<Candidates, Memory>
 /// No words to be looked for, all columns of the slice, and room for what they give.
 fn candidates(alloc: Global, layout: &Layout) -> Result<(WordSet, Candidates, Found), Fail>
     ensures rest { IfOk result (λ made. made.0 ≡ []) }
-    ensures columns { IfOk result (λ made. made.1 ≡ columns_up_to (columns_of_slice layout.now)) }
+    ensures columns { IfOk result (λ made. made.1 ≡ columns_up_to (columns_of_slice layout.now.config)) }
     ensures room { IfOk result (λ made. length made.1 ≤ made.2.room) }
 {
     let rest = WordSet::from_sorted(alloc, &[])?;

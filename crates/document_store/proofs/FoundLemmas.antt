@@ -1,15 +1,14 @@
--- What a find makes of a candidate: the pair by the test is that of the document found.
+-- What a find makes of a candidate: the pair by the test is that of the document kept.
 use Rattle.std.proofs.Common.{◌≡◌, ℕ, suc, ◌<◌, ◌≤◌, Bool, true, false, cond, ltb, List, [], ◌∷◌, length, Option, Some, None, refl, ap, ◌∙◌, subst, arith, filter_map}
 use Rattle.std.specs.List.{cons_option}
 use Rattle.std.specs.Option.{option_and_then, option_map_or}
 use Rattle.std.proofs.lemmas.Bool.{cond-true, ltb-true, lt-ltb, and_parts, and_from}
 use Rattle.std.proofs.lemmas.Option.{option_and_then_some}
-use Rattle.document_store.specs.Documents.{HasEvery, Parts}
-use Rattle.document_store.specs.Finding.{found_in, has_every, looked_for, place_if_live}
+use Rattle.document_store.specs.Documents.{Parts}
+use Rattle.document_store.specs.Finding.{kept_in, looked_in, place_if_live}
 use Rattle.document_store.specs.declared.column.Column.{Column}
 use Rattle.document_store.specs.declared.column.Column.TheVariants as column
 use Rattle.document_store.specs.declared.slots.Slot.{Slot}
-use Rattle.document_store.proofs.WordSets.{has_every-decides}
 
 -- the column's document was live in it as the event with this number came: an event before that put it there, and none took it off
 -- before
@@ -25,13 +24,12 @@ AddedAt (column.Over added since until) place = added ≡ place
 AddedAt _ place = ⊥
 
 -- by its parts, what the test gives of a column
-pub found_in-parts : (slot : Slot) (words : List (List ℕ)) (number place : ℕ) (doc : Parts) (b : Bool) → place_if_live slot.column number ≡ Some place →
-    slot.doc ≡ Some doc → has_every doc.words words ≡ b →
-    found_in slot words number ≡ cond b (Some (place, doc.id)) None
-found_in-parts slot words number place doc b live kept every =
-    ap (option_and_then (λ (p : ℕ). option_and_then (λ (d : Parts). cond (has_every d.words words) (Some (p, d.id)) None) slot.doc)) live
-    ∙ ap (option_and_then (λ (d : Parts). cond (has_every d.words words) (Some (place, d.id)) None)) kept
-    ∙ ap (λ t. cond t (Some (place, doc.id)) None) every
+pub kept_in-parts : (slot : Slot) (test : List ℕ → Bool) (number place : ℕ) (doc : Parts) (b : Bool) → place_if_live slot.column number ≡ Some place → slot.doc ≡ Some doc → test doc.text ≡ b →
+    kept_in slot test number ≡ cond b (Some (place, doc.id)) None
+kept_in-parts slot test number place doc b live kept keeps =
+    ap (option_and_then (λ (p : ℕ). option_and_then (λ (d : Parts). cond (test d.text) (Some (p, d.id)) None) slot.doc)) live
+    ∙ ap (option_and_then (λ (d : Parts). cond (test d.text) (Some (place, d.id)) None)) kept
+    ∙ ap (λ t. cond t (Some (place, doc.id)) None) keeps
 
 -- the place of the add is given exactly where the column was live
 pub place_if_live-gives : (x : Column) (number place : ℕ) → WasLiveAt x number → AddedAt x place → place_if_live x number ≡ Some place
@@ -57,13 +55,6 @@ place_if_live-tells column.Free number place e = cc
 place_if_live-tells (column.Pending pass) number place e = cc
 place_if_live-tells column.Dropped number place e = cc
 
--- all words are looked for where the column's document was live
-pub looked_where_live : (slot : Slot) (words : List (List ℕ)) (number place : ℕ) (doc : Parts) → WasLiveAt slot.column number → AddedAt slot.column place → slot.doc ≡ Some doc →
-    looked_for slot words number ≡ length words
-looked_where_live slot words number place doc live at kept =
-    ap (λ (p : Option ℕ). option_map_or (λ (_ : ℕ). option_map_or (λ (_ : Parts). length words) slot.doc 0) p 0) (place_if_live-gives slot.column number place live at)
-    ∙ ap (λ (d : Option Parts). option_map_or (λ (_ : Parts). length words) d 0) kept
-
 -- a column with a document that was live in it, as the find with this number began
 pub record HadLive (slot : Slot) (number : ℕ) : Type 0 where
   pub place : ℕ
@@ -72,10 +63,16 @@ pub record HadLive (slot : Slot) (number : ℕ) : Type 0 where
   pub added : AddedAt slot.column place
   pub kept : slot.doc ≡ Some doc
 
--- and where there is none, no word is
-pub looked_elsewhere : (slot : Slot) (words : List (List ℕ)) (number : ℕ) → (HadLive slot number → ⊥) → looked_for slot words number ≡ 0
-looked_elsewhere slot words number none =
-    looked_none (place_if_live slot.column number) slot.doc (length words)
+-- as many words are looked for in such a column as in each document
+pub looked_where_live : (slot : Slot) (cost number : ℕ) → HadLive slot number → looked_in slot cost number ≡ cost
+looked_where_live slot cost number had =
+    ap (λ (p : Option ℕ). option_map_or (λ (_ : ℕ). option_map_or (λ (_ : Parts). cost) slot.doc 0) p 0) (place_if_live-gives slot.column number had.place had.was_live had.added)
+    ∙ ap (λ (d : Option Parts). option_map_or (λ (_ : Parts). cost) d 0) had.kept
+
+-- and none in any other
+pub looked_elsewhere : (slot : Slot) (cost number : ℕ) → (HadLive slot number → ⊥) → looked_in slot cost number ≡ 0
+looked_elsewhere slot cost number none =
+    looked_none (place_if_live slot.column number) slot.doc cost
     (λ place doc live kept. let told = place_if_live-tells slot.column number place live in none (record { place = place; doc = doc; was_live = told.0; added = told.1; kept = kept }))
   where
     looked_none : (place : Option ℕ) (doc : Option Parts) (count : ℕ) → ((p : ℕ) (d : Parts) → place ≡ Some p → doc ≡ Some d → ⊥) →
@@ -84,23 +81,22 @@ looked_elsewhere slot words number none =
     looked_none (Some p) None count none = refl
     looked_none (Some p) (Some d) count none = absurd (none p d refl refl)
 
--- what a column gives: its document was live in it as the find with this number began, and has every word; the pair is the place of its add and
--- its number
-pub record IsGiven (slot : Slot) (words : List (List ℕ)) (number : ℕ) (found : ℕ × ℕ) : Type 0 where
+-- what a column gives: its document was live in it as the find with this number began, and its text passes the test; the pair is the place
+-- of its add and its number
+pub record IsKept (slot : Slot) (test : List ℕ → Bool) (number : ℕ) (found : ℕ × ℕ) : Type 0 where
   pub doc : Parts
   pub was_live : WasLiveAt slot.column number
   pub added : AddedAt slot.column found.0
   pub kept : slot.doc ≡ Some doc
   pub id_is : doc.id ≡ found.1
-  pub every : HasEvery doc.words words
+  pub passes : test doc.text ≡ true
 
-pub found_in-tells : (slot : Slot) (words : List (List ℕ)) (number : ℕ) (found : ℕ × ℕ) → found_in slot words number ≡ Some found →
-    IsGiven slot words number found
-found_in-tells slot words number found e =
-    option_and_then_some (λ (p : ℕ). option_and_then (λ (d : Parts). cond (has_every d.words words) (Some (p, d.id)) None) slot.doc) (place_if_live slot.column number) found e
-    (λ place live given. option_and_then_some (λ (d : Parts). cond (has_every d.words words) (Some (place, d.id)) None) slot.doc found given
+pub kept_in-tells : (slot : Slot) (test : List ℕ → Bool) (number : ℕ) (found : ℕ × ℕ) → kept_in slot test number ≡ Some found → IsKept slot test number found
+kept_in-tells slot test number found e =
+    option_and_then_some (λ (p : ℕ). option_and_then (λ (d : Parts). cond (test d.text) (Some (p, d.id)) None) slot.doc) (place_if_live slot.column number) found e
+    (λ place live given. option_and_then_some (λ (d : Parts). cond (test d.text) (Some (place, d.id)) None) slot.doc found given
     (λ doc kept chosen.
-    let parts = chosen_some (has_every doc.words words) (place, doc.id) found chosen in
+    let parts = chosen_some (test doc.text) (place, doc.id) found chosen in
     let told = place_if_live-tells slot.column number place live in
     record {
       doc = doc;
@@ -108,13 +104,13 @@ found_in-tells slot words number found e =
       added = subst (AddedAt slot.column) (ap (λ (p : ℕ × ℕ). p.0) parts.1) told.1;
       kept = kept;
       id_is = ap (λ (p : ℕ × ℕ). p.1) parts.1;
-      every = (has_every-decides doc.words words).1 parts.0;
+      passes = parts.0;
     }))
 
 -- and the test gives it
-pub found_in-gives : (slot : Slot) (words : List (List ℕ)) (number : ℕ) (found : ℕ × ℕ) → IsGiven slot words number found → found_in slot words number ≡ Some found
-found_in-gives slot words number found is =
-    found_in-parts slot words number found.0 is.doc true (place_if_live-gives slot.column number found.0 is.was_live is.added) is.kept ((has_every-decides is.doc.words words).0 is.every)
+pub kept_in-gives : (slot : Slot) (test : List ℕ → Bool) (number : ℕ) (found : ℕ × ℕ) → IsKept slot test number found → kept_in slot test number ≡ Some found
+kept_in-gives slot test number found is =
+    kept_in-parts slot test number found.0 is.doc true (place_if_live-gives slot.column number found.0 is.was_live is.added) is.kept is.passes
     ∙ ap (λ n. Some (found.0, n)) is.id_is
 
 -- each item gives at most one

@@ -11,5 +11,3 @@ pub mod TableLemmas
 pub mod HeldLemmas
 pub mod ChangeLemmas
 pub mod TurnLemmas
-pub mod JudgeLemmas
-pub mod JudgedTurns

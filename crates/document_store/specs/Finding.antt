@@ -1,15 +1,16 @@
 -- What a find makes of its candidates.
-use Rattle.std.specs.Prelude.{ℕ, ◌+◌, ◌<◌, ◌≤◌, Bool, ◌&&◌, nat_lt, if◌then◌else◌, List, length, sum_by, Option, Some, None}
-use Rattle.std.specs.List.{list_all, list_any, slice_range}
+use Rattle.std.specs.Prelude.{ℕ, ◌+◌, ◌<◌, ◌≤◌, Bool, ◌&&◌, nat_lt, if◌then◌else◌, List, length, max, sum_by, Option, Some, None}
+use Rattle.std.specs.List.{list_all, slice_range}
 use Rattle.std.specs.Option.{option_and_then, option_map_or}
 use Rattle.std.specs.Ordering.{nat_cmp, ordering_then}
-use Rattle.std.specs.Str.{bytes_eq}
 use Rattle.std.specs.declared.cmp.Ordering.{Ordering}
 use Rattle.document_store.specs.Documents.{Parts}
 use Rattle.document_store.specs.Slots.{Table, slot_at}
 use Rattle.document_store.specs.declared.column.Column.{Column}
 use Rattle.document_store.specs.declared.column.Column.TheVariants as column
 use Rattle.document_store.specs.declared.slots.Slot.{Slot}
+use Rattle.funnel_model.specs.Words.{has_word}
+use Rattle.document_store.specs.declared.judging.TheConstants.{LEAST_COST}
 use Rattle.document_store.specs.declared.resolving.TheConstants.{MOST_LOOK_UPS, MOST_LOOKED_FOR}
 
 -- the place of the add, and the document's number; and the room that is left for more
@@ -24,29 +25,32 @@ place_if_live (column.Live place since) number = if nat_lt since number then Som
 place_if_live (column.Over place since until) number = if nat_lt since number && nat_lt number until then Some place else None
 place_if_live _ number = None
 
--- each of the words is in the set
-abbrev pub has_every : List (List ℕ) → List (List ℕ) → Bool
-has_every set words = list_all (λ word. list_any (bytes_eq word) set) words
+-- the text has each of the words
+abbrev pub has_words : List (List ℕ) → List ℕ → Bool
+has_words words text = list_all (has_word text) words
 
--- the pair of a column's document, where it is found
-abbrev pub found_in : Slot → List (List ℕ) → ℕ → Option (ℕ × ℕ)
-found_in slot words number =
+-- the pair of a column's document, where it was live in it as the event with this number came, and its text passes the test
+abbrev pub kept_in : Slot → (List ℕ → Bool) → ℕ → Option (ℕ × ℕ)
+kept_in slot test number =
     option_and_then
-    (λ (place : ℕ). option_and_then (λ (doc : Parts). if has_every doc.words words then Some (place, doc.id) else None) slot.doc)
+    (λ (place : ℕ). option_and_then (λ (doc : Parts). if test doc.text then Some (place, doc.id) else None) slot.doc)
     (place_if_live slot.column number)
 
--- the pair of a candidate's document, where it is found
-abbrev pub found_at : Table → List (List ℕ) → ℕ → ℕ × ℕ → Option (ℕ × ℕ)
-found_at table words number candidate = found_in (slot_at table candidate.0 candidate.1) words number
+-- the pair of a candidate's document, where it is kept
+abbrev pub kept_at : Table → (List ℕ → Bool) → ℕ → ℕ × ℕ → Option (ℕ × ℕ)
+kept_at table test number candidate = kept_in (slot_at table candidate.0 candidate.1) test number
 
--- how many words are looked for in a column: all of them, where it has a document that was live in it as the find began
-abbrev pub looked_for : Slot → List (List ℕ) → ℕ → ℕ
-looked_for slot words number =
-    option_map_or (λ (place : ℕ). option_map_or (λ (doc : Parts). length words) slot.doc 0) (place_if_live slot.column number) 0
+-- how many words are looked for in a column: as many as in each document, where one was live in it as the event with this number came
+abbrev pub looked_in : Slot → ℕ → ℕ → ℕ
+looked_in slot cost number = option_map_or (λ (place : ℕ). option_map_or (λ (doc : Parts). cost) slot.doc 0) (place_if_live slot.column number) 0
 
 -- and in a candidate's
-abbrev pub looked_at : Table → List (List ℕ) → ℕ → ℕ × ℕ → ℕ
-looked_at table words number candidate = looked_for (slot_at table candidate.0 candidate.1) words number
+abbrev pub looked_at : Table → ℕ → ℕ → ℕ × ℕ → ℕ
+looked_at table cost number candidate = looked_in (slot_at table candidate.0 candidate.1) cost number
+
+-- a document that a judge decides counts as many words as the judge looks for in it, but never as few as none
+abbrev pub judged_cost : ℕ → ℕ
+judged_cost cost = max cost LEAST_COST
 
 -- A turn of a find, from the candidate with this number up to another, where so many words are looked for in each. It comes one further at
 -- least where there are more, and not past the last. It looks up no more than it may, and before its last candidate it hasn't looked for as

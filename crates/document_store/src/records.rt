@@ -1,7 +1,8 @@
 ghost use Rattle.std.specs.Prelude.{◌≡◌, ◌↔◌, ℕ, ◌*◌, ◌<◌, length, replicate, false, true, IfOk, IsSome};
 ghost use Rattle.std.specs.declared.option.Option.TheVariants.{Some, None};
 ghost use Rattle.std.specs.Option.{option_map};
-ghost use Rattle.document_store.specs.Slots.{FitsColumn, HasDocRightly, IsColumn, KeepsDoc, free_slot, is_out, is_over, is_over_in, slot_at, with_slice, with_slot, without_slice};
+ghost use Rattle.document_store.specs.Slots.{FitsColumn, HasDocRightly, IsColumn, KeepsDoc, free_slot, is_out, is_over, slot_at};
+ghost use Rattle.document_store.specs.Slots.{with_slice, with_slot, without_slice};
 ghost use Rattle.document_store.specs.declared.column.Column.TheVariants.{Dropped, Free, Live, Over, Pending};
 
 use crate::column::Column;

@@ -1,5 +1,5 @@
 -- The candidates of branches, slice by slice.
-use Rattle.std.proofs.Common.{◌≡◌, ◌↔◌, ◌⊎◌, ◌==◌, ⊎_elim, ℕ, ◌+◌, ◌<◌, ◌≤◌, List, [], ◌∷◌, ◌++◌, length, get_or, map, take, refl, sym, ap, ◌∙◌, subst, arith, All, AllPairs, Contains, inl, inr}
+use Rattle.std.proofs.Common.{◌≡◌, ◌⊎◌, ◌==◌, ⊎_elim, ℕ, ◌+◌, ◌<◌, ◌≤◌, List, [], ◌∷◌, ◌++◌, length, get_or, take, refl, sym, ap, ◌∙◌, subst, arith, All, AllPairs, Contains, inl, inr}
 use Rattle.std.specs.List.Sorted.{IsStrictlySortedBy}
 use Rattle.std.specs.Ordering.{nat_cmp}
 use Rattle.std.proofs.lemmas.Bool.{cases_lt, eq-eqb, eqb-true}
@@ -7,7 +7,7 @@ use Rattle.std.proofs.lemmas.List.{map-append, take_more}
 use Rattle.std.proofs.lemmas.List.Elements.{All-append, All-cons, All-nil, All-weaker, Contains-append_cases, Contains-append_left, Contains-append_right, Contains-push_cases}
 use Rattle.commit_desk.specs.Judging.{AreScannedForAny}
 use Rattle.commit_desk.specs.Scans.{AreScanned, HasAllCommitted, IsOfToken}
-use Rattle.engine.specs.Branches.{AddsEach, AddsScan, AreScannedForAnyBelow, IsPlanned, token_at, words_of_each}
+use Rattle.engine.specs.Branches.{AddsEach, AddsScan, AreScannedForAnyBelow, CanScanEach, IsPlanned, token_at, words_of_each}
 use Rattle.engine.specs.declared.branch_scans.Planned.{Planned}
 use Rattle.engine.specs.Scans.{AreScannedBelow, CanScan, token_below}
 use Rattle.engine.proofs.CandidateParts.{pairs-append}
@@ -274,6 +274,14 @@ can_scan pool before after branch kept same can_read planned = record {
   can_read = read_kept pool before after kept can_read;
   rows = planned.rows;
   laid = planned.laid;
+}
+
+-- and so may all branches
+pub scan_kept : (pool : PoolId) (before after : Shared) (branches : List Planned) → kept_of after ≡ kept_of before → CanScanEach pool before branches → CanScanEach pool after branches
+scan_kept pool before after branches kept can = record {
+  same = ap (λ (k : SharedKept). k.pool) kept ∙ can.same;
+  can_read = read_kept pool before after kept can.can_read;
+  planned = can.planned;
 }
 
 -- one more branch is planned

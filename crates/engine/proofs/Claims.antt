@@ -10,11 +10,8 @@ use Rattle.funnel_model.specs.declared.event.Event.{Event}
 use Rattle.funnel_model.specs.declared.event.Event.TheVariants as event
 use Rattle.funnel_model.specs.Legal.{IsInSlice, Limits}
 use Rattle.funnel_model.specs.Sizes.{words_of_slice}
-use Rattle.funnel_model.specs.Words.{AreWordsOf, words}
-use Rattle.row_layout.specs.declared.row.Row.{Row}
+use Rattle.funnel_model.specs.Words.{words}
 use Rattle.row_layout.specs.DocumentBits.{AreDocumentBits}
-use Rattle.row_layout.specs.Orders.{HasRowsOf}
-use Rattle.row_layout.proofs.BitLemmas.{rows-of_part}
 use Rattle.slice_rule.specs.declared.view.Fact.{Fact}
 use Rattle.slice_rule.specs.declared.view.Fact.TheVariants as fact
 use Rattle.slice_rule.specs.Numbers.{last_number}
@@ -29,13 +26,6 @@ use Rattle.commit_desk.proofs.CallEnds.{seated_still}
 use Rattle.slice_recycler.specs.Turns.{IsTurn}
 use Rattle.engine.specs.Adds.{ClaimTurns, ClearsFirst, CommitTurns, TakeTurn}
 use Rattle.engine.specs.Engines.{IsOfConfig}
-
--- the rows of a document's words are those of its text's words
-pub rows_of_text : (config : Config) (set : List (List ℕ)) (text : List ℕ) (rows : List Row) → AreWordsOf set text → HasRowsOf config set rows → HasRowsOf config (words text) rows
-rows_of_text config set text rows of_text has row = (
-  λ in_rows. rows-of_part config set (words text) (λ word. (of_text word).0) row ((has row).0 in_rows),
-  λ of_words. (has row).1 (rows-of_part config (words text) set (λ word. (of_text word).1) row of_words),
-)
 
 -- a pass that knew nothing under its claim has set exactly the bits that it wrote
 has_set : (number : ℕ) (bits : List Bit) (before own : List Fact) → All (λ f. number_under f < number) before → ((f : Fact) → Contains own f ↔ (Contains before f ⊎ IsBitOf number bits f)) → (b : Bit) →

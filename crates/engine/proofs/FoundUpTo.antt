@@ -17,8 +17,8 @@ use Rattle.slice_rule.specs.Pools.{PoolId}
 use Rattle.slice_rule.specs.Seats.{PassState}
 use Rattle.commit_desk.specs.Desks.{DeskState, Makes}
 use Rattle.commit_desk.specs.Passes.{IsFinding}
-use Rattle.commit_desk.specs.Resolving.{AreGiven, GiveAll, IsRestOf}
-use Rattle.commit_desk.specs.Scans.{AreScanned, WereScanned}
+use Rattle.commit_desk.specs.Resolving.{AreGiven, GiveAll, IsRestOf, IsVerifying}
+use Rattle.commit_desk.specs.Scans.{AreScanned}
 use Rattle.commit_desk.proofs.FindEnds.{begun_still, scanned_as}
 use Rattle.commit_desk.proofs.FindTurns.{begun_later}
 use Rattle.commit_desk.proofs.Given.{given_both, given_is_answer, numbers_are_answer, take_part}
@@ -70,12 +70,12 @@ module _ (pool : PoolId) (pass : PassState) (token : Token) (rest : List (List �
   all_found last all begun = (subst (λ cs. AreGiven begun.earlier begun.query cs after.found) (take_all to candidates last) (given_up_to begun), all begun)
 
   -- another comes
-  pub found_on : (next : PassState) (before now : DeskState) → Makes [] before now pass next → IsFinding pool token next → WereScanned pool.config next token candidates → to ≤ length candidates →
+  pub found_on : (next : PassState) (before now : DeskState) → Makes [] before now pass next → IsVerifying pool token rest candidates next → to ≤ length candidates →
       length candidates ≤ after.room + to → IsFoundUpTo pool next token rest candidates after to
-  found_on next before now made finding scanned within room = record {
-    finding = finding;
-    rest_of = λ begun. let once = same_find begun in subst (λ q. IsRestOf pool.config q rest) (sym once.1) (is.rest_of is.finding.holds.begun);
-    scanned = scanned;
+  found_on next before now made still within room = record {
+    finding = record { seated = still.seated; holds = still.holds };
+    rest_of = still.rest_of;
+    scanned = still.scanned;
     within = within;
     room = room;
     given = λ begun.

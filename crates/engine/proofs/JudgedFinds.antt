@@ -15,8 +15,9 @@ use Rattle.funnel_model.specs.Tokens.{HasToken}
 use Rattle.slice_rule.specs.Pools.{PoolId}
 use Rattle.slice_rule.specs.Seats.{PassState}
 use Rattle.commit_desk.specs.Desks.{DeskState, Makes}
-use Rattle.commit_desk.specs.Judging.{AreGivenWhere, AreScannedForAny, GiveAllWhere, HasSomeBranch, WereScannedForAny, answer_where}
+use Rattle.commit_desk.specs.Judging.{AreGivenWhere, AreScannedForAny, GiveAllWhere, HasSomeBranch, answer_where}
 use Rattle.commit_desk.specs.Passes.{IsFinding}
+use Rattle.commit_desk.specs.Resolving.{IsJudging}
 use Rattle.commit_desk.proofs.FindEnds.{begun_still}
 use Rattle.commit_desk.proofs.FindTurns.{begun_later}
 use Rattle.commit_desk.proofs.Given.{given_both, given_is_answer, numbers_are_answer, take_part}
@@ -61,11 +62,11 @@ module _ (pool : PoolId) (pass : PassState) (token : Token) (test : List ℕ →
   all_kept last all begun = (subst (λ cs. AreGivenWhere begun.earlier test cs after.found) (take_all to candidates last) (kept_up_to begun), all begun)
 
   -- another comes
-  pub judged_on : (next : PassState) (before now : DeskState) → Makes [] before now pass next → IsFinding pool token next → WereScannedForAny pool.config next token test candidates → to ≤ length candidates →
+  pub judged_on : (next : PassState) (before now : DeskState) → Makes [] before now pass next → IsJudging pool token test candidates next → to ≤ length candidates →
       length candidates ≤ after.room + to → IsJudgedUpTo pool next token test candidates after to
-  judged_on next before now made finding scanned within room = record {
-    finding = finding;
-    scanned = scanned;
+  judged_on next before now made still within room = record {
+    finding = record { seated = still.seated; holds = still.holds };
+    scanned = still.scanned;
     within = within;
     room = room;
     given = λ begun.

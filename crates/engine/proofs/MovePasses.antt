@@ -17,9 +17,7 @@ use Rattle.funnel_model.proofs.Claims.{take_within}
 use Rattle.funnel_model.proofs.Histories.{allowed_within, legal_before}
 use Rattle.funnel_model.proofs.Spans.{last_by-own}
 use Rattle.funnel_model.proofs.StepLemmas.{prefix_trans}
-use Rattle.row_layout.specs.declared.row.Row.{Row}
 use Rattle.row_layout.specs.DocumentBits.{AreDocumentBits}
-use Rattle.row_layout.specs.Orders.{HasRowsOf}
 use Rattle.slice_rule.specs.Pools.{PoolId}
 use Rattle.slice_rule.specs.Seats.{HasNoneOutstanding, PassState}
 use Rattle.commit_desk.specs.declared.look.Look.{Look}
@@ -123,9 +121,3 @@ module _ (config : Config) (limits : Limits) (pass id : ℕ) (before after : Lis
         (subst (λ (n : ℕ). IsTurn n took.front after (λ history. IsTrue moved ↔ IsThereStill history kept) (event_of_move n kept claim bits moved ∷ [])) (next ∙ number)
         (subst (λ (p : PassState). IsTurn p.number p.front after (λ history. IsTrue moved ↔ IsThereStill history kept) (event_of_move p.number kept claim bits moved ∷ [])) is ended));
   }
-
--- the rows of the words of a document that is moved, laid out as its pool's are
-pub rows_laid : (pool : PoolId) (layout config : Config) (given set : List (List ℕ)) (rows : List Row) → layout ≡ pool.config → pool.config ≡ config → given ≡ set → HasRowsOf layout given rows →
-    HasRowsOf config set rows
-rows_laid pool layout config given set rows laid same is has =
-    subst (λ (k : Config). HasRowsOf k set rows) (laid ∙ same) (subst (λ (ws : List (List ℕ)). HasRowsOf layout ws rows) is has)

@@ -1,12 +1,10 @@
 -- How the find of a judge answers a query.
-use Rattle.std.proofs.Common.{◌≡◌, ℕ, Bool, ◌≤◌, ◌⊎◌, List, [], ◌∷◌, ◌++◌, length, Result, Ok, Err, refl, sym, ap, ◌∙◌, subst, append_assoc, inl, inr}
-use Rattle.commit_desk.specs.Judging.{answer_where}
+use Rattle.std.proofs.Common.{◌≡◌, ℕ, Bool, ◌≤◌, ◌⊎◌, List, [], ◌∷◌, ◌++◌, length, Result, Ok, Err, refl, sym, ap, ◌∙◌, append_assoc, inl, inr}
 use Rattle.engine.specs.declared.finding.FindFault.{FindFault}
 use Rattle.engine.specs.declared.finding.FindFault.TheVariants as find
 use Rattle.engine.specs.declared.word_expr.WordExpr.{WordExpr}
 use Rattle.engine.specs.Finds.{EndedTurns}
 use Rattle.engine.specs.Judged.{JudgedTurns, KeptTurns, MakesFindOfAll}
-use Rattle.engine.specs.Passes.{MakesCall, PassView}
 use Rattle.engine.specs.Replies.{reply_of_find, reply_of_find_fault}
 use Rattle.engine.specs.WordExprs.{IsTestOf, test_of}
 use Rattle.engine.proofs.Finds.{begins_call, dropped_step, end_is_quiet, found_step, refused_step}
@@ -19,7 +17,7 @@ use Rattle.funnel_model.specs.declared.event.Event.TheVariants as event
 use Rattle.funnel_model.specs.declared.expr.Expr.{Expr}
 use Rattle.funnel_model.specs.declared.reply.Reply.{Reply}
 use Rattle.funnel_model.specs.declared.reply.Reply.TheVariants as reply
-use Rattle.funnel_model.specs.Expressions.{answer_by, tree_of}
+use Rattle.funnel_model.specs.Expressions.{tree_of}
 use Rattle.funnel_model.specs.History.{answer, own}
 use Rattle.funnel_model.specs.Legal.{IsIdle, IsLegal, Limits}
 use Rattle.funnel_model.specs.Steps.{AddsCall, IsJudged, IsMade, IsSpent, LacksMemory, Step}

@@ -20,6 +20,7 @@ use Rattle.rank_matcher.specs.Appended.{appended, candidates_of}
 use Rattle.funnel_model.specs.Legal.{Limits}
 use Rattle.row_layout.specs.declared.row.Row.{Row}
 use Rattle.row_layout.specs.DocumentBits.{IsDocumentBit, bit_of_row}
+use Rattle.row_layout.specs.Layouts.{own_layout}
 use Rattle.row_layout.specs.Orders.{HasRowsOf}
 use Rattle.row_read.specs.declared.shared.Shared.{Shared}
 use Rattle.row_read.specs.SharedRows.{CanRead, IsCommittedUnder, SharedKept, kept_of}
@@ -118,7 +119,7 @@ module _ (config : Config) (before after : PassState) (token : Token) (words : L
   every_new covered column low committed =
       candidate_of_column slice columns column
       (covered column (subst (λ n. column < n) width low)
-      (plan-bits (λ bit. (s : ℕ) × Contains token.slices s × IsCommitted before.front s bit) config words slice column
+      (plan-bits (λ bit. (s : ℕ) × Contains token.slices s × IsCommitted before.front s bit) (own_layout config) words slice column
       (λ bit of_document. (slice, readable, subst (λ (h : List Event). IsCommitted h slice bit) same_front (committed bit of_document))) plan rows))
 
   -- of each of them the bits of the words were seen

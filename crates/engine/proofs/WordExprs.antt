@@ -1,7 +1,6 @@
 -- The tests of expressions whose atoms are cut into words.
-use Rattle.std.proofs.Common.{◌≡◌, ◌&&◌, ◌||◌, ℕ, Bool, true, false, not, List, [], ◌∷◌, ◌++◌, map, Result, Ok, Err, refl, sym, ap, ap₂, ◌∙◌, subst, arith, Contains, inl, inr}
-use Rattle.std.specs.Prelude.{◌↔◌, Box, IsTrue, Vec}
-use Rattle.std.specs.Str.{bytes_eq}
+use Rattle.std.proofs.Common.{◌≡◌, ◌&&◌, ◌||◌, ℕ, Bool, true, false, not, List, [], ◌∷◌, ◌++◌, map, Result, Err, refl, sym, ap, ap₂, ◌∙◌, subst, arith, Contains, inl, inr}
+use Rattle.std.specs.Prelude.{Box, Vec}
 use Rattle.std.specs.declared.alloc.Global.{Global}
 use Rattle.std.specs.List.{list_all, list_any}
 use Rattle.std.proofs.lemmas.Bool.{true≢false, or_cases}
@@ -10,7 +9,6 @@ use Rattle.bool_query.specs.declared.fault.QueryFault.{QueryFault}
 use Rattle.bool_query.specs.declared.fault.QueryFault.TheVariants as fault
 use Rattle.bool_query.specs.Faults.{IfDeep, IfSyntax}
 use Rattle.commit_desk.specs.Judging.{HasSomeBranch, answer_where}
-use Rattle.document_store.proofs.WordSets.{has_every-decides}
 use Rattle.document_store.specs.Documents.{HasEvery}
 use Rattle.engine.specs.declared.word_expr.WordExpr.{WordExpr}
 use Rattle.engine.specs.declared.word_expr.WordExpr.TheVariants as variants
@@ -21,20 +19,14 @@ use Rattle.engine.specs.Replies.{reply_of_query_fault}
 use Rattle.engine.specs.WordExprs.{AreTestsOf, IsTestOf, test_of, test_step}
 use Rattle.funnel_model.proofs.AnswerLemmas.{Contains-cons}
 use Rattle.funnel_model.proofs.Kept.{kept-has}
-use Rattle.funnel_model.proofs.WordLemmas.{Contains-has, has-same, has_word-set, list_all-agree, list_all-same, one_test}
+use Rattle.funnel_model.proofs.WordLemmas.{Contains-has, has-same, list_all-same}
 use Rattle.funnel_model.specs.declared.event.Event.{Event}
 use Rattle.funnel_model.specs.declared.expr.Expr.{Expr}
-use Rattle.funnel_model.specs.Expressions.{AreMusts, AreMustsOfEach, Tree, Trees, all_keep, answer_by, atom, branches, contrary, every, keeps, must, no_trees, one_keeps, some, tree, trees_of}
+use Rattle.funnel_model.specs.Expressions.{AreMustsOfEach, Tree, Trees, all_keep, answer_by, atom, branches, contrary, every, keeps, no_trees, one_keeps, some, tree, trees_of}
 use Rattle.funnel_model.specs.History.{Document, live}
 use Rattle.funnel_model.specs.Queries.{IsMalformed, IsTooDeep}
 use Rattle.line_proto.specs.Services.{IsUnread}
 use Rattle.funnel_model.specs.Words.{AreWordsOf, has_word, words}
-
--- a document that has every word of a set passes its test, by the set of its own words
-pub words-test : (set words : List (List ℕ)) (text : List ℕ) (b : Bool) → AreWordsOf set text → IsTrue b ↔ HasEvery set words → b ≡ list_all (has_word text) words
-words-test set words text b of_text decides =
-    let same = list_all-agree (λ word. list_any (bytes_eq word) set) (has_word text) words (has_word-set text set of_text) in
-    one_test b (list_all (has_word text) words) (λ is. sym same ∙ (has_every-decides set words).0 (decides.0 is)) (λ all. decides.1 ((has_every-decides set words).1 (same ∙ all)))
 
 -- what each kind of expression keeps
 pub test-words : (set : List (List ℕ)) (text : List ℕ) → test_of (variants.Words set) text ≡ list_all (has_word text) set

@@ -1,12 +1,13 @@
 -- The turns of an add at the desk: those of its moves, and those for its own document.
-use Rattle.std.specs.Prelude.{◌≡◌, ℕ, ◌≤◌, ◌⊎◌, List, Result, Ok, Err}
+use Rattle.std.specs.Prelude.{◌≡◌, ℕ, ◌*◌, ◌≤◌, ◌⊎◌, List, [], length, Result, Ok, Err}
+use Rattle.document_store.specs.Documents.{Parts}
 use Rattle.funnel_model.specs.declared.bit_list.Bit.{Bit}
 use Rattle.funnel_model.specs.declared.call.TheConstants.{MOST_MOVES}
 use Rattle.funnel_model.specs.declared.claim.Claim.{Claim}
 use Rattle.funnel_model.specs.declared.config.Config.{Config}
 use Rattle.funnel_model.specs.declared.event.Event.{Event}
 use Rattle.funnel_model.specs.Legal.{Limits}
-use Rattle.funnel_model.specs.Words.{words}
+use Rattle.funnel_model.specs.Words.{AreWordsOf, words}
 use Rattle.commit_desk.specs.Answers.{AnswersCommit, AnswersTake, events_of_commit, events_of_opened_take, events_of_take}
 use Rattle.commit_desk.specs.declared.answers.AddFault.{AddFault}
 use Rattle.commit_desk.specs.declared.answers.AddFault.TheVariants as add
@@ -15,8 +16,15 @@ use Rattle.commit_desk.specs.declared.answers.CommitFault.TheVariants as commit
 use Rattle.commit_desk.specs.declared.answers.Taken.{Taken}
 use Rattle.commit_desk.specs.declared.answers.Taken.TheVariants as taken
 use Rattle.engine.specs.Moves.{SomeMoves}
-use Rattle.row_layout.specs.DocumentBits.{AreDocumentBits}
+use Rattle.row_layout.specs.declared.row.TheConstants.{MOST_ROWS}
+use Rattle.row_layout.specs.DocumentBits.{AreDocumentBits, BitsState}
 use Rattle.slice_recycler.specs.Turns.{IsTurn}
+
+-- a document that is to be added: its set of words is that of its text, and there is room for their bits, of which none is there yet
+pub record IsPrepared (doc : Parts) (bits : BitsState) : Type 0 where
+  pub of_text : AreWordsOf doc.words doc.text
+  pub no_bits : bits.bits ≡ []
+  pub room : MOST_ROWS * length doc.words ≤ bits.room
 
 -- the desk's answer to a document with this number, in the first turn of its add
 abbrev pub TakeTurn : Limits → ℕ → ℕ → List ℕ → List Event → List Event → Taken → Type 0

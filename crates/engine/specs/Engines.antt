@@ -3,11 +3,11 @@ use Rattle.std.specs.Prelude.{◌≡◌, ℕ, List, length, map}
 use Rattle.std.specs.List.{range_with_len}
 use Rattle.funnel_model.specs.Configuration.{IsValid}
 use Rattle.funnel_model.specs.declared.commit.Commit.{Commit}
-use Rattle.funnel_model.specs.declared.config.Config.{Config}
 use Rattle.funnel_model.specs.declared.event.Event.{Event}
 use Rattle.funnel_model.specs.History.{IsFrontOf, commits_after, own}
 use Rattle.funnel_model.specs.Sizes.{words_of_slice}
 use Rattle.engine.specs.Passes.{PassView}
+use Rattle.row_layout.specs.Layouts.{LayoutId, own_layout}
 use Rattle.slice_rule.specs.Pools.{PoolId, limits_of}
 use Rattle.slice_rule.specs.Seats.{HomeState, PassState, new_home_state, new_pass_state}
 
@@ -24,10 +24,10 @@ pub record IsBlank (pool : PoolId) (home : HomeState) (passes : List PassState) 
 
 -- the engine's pool is the one that its type names; its rows are laid out by the pool's configuration, and it has that one's slices and
 -- reserve
-pub record IsEngine (named pool : PoolId) (layout : Config) (slices reserve : ℕ) : Type 0 where
+pub record IsEngine (named pool : PoolId) (layout : LayoutId) (slices reserve : ℕ) : Type 0 where
   pub of_name : pool ≡ named
   pub of_config : IsOfConfig pool
-  pub laid_out : layout ≡ pool.config
+  pub laid_out : layout ≡ own_layout pool.config
   pub count : slices ≡ pool.config.slices
   pub kept_free : reserve ≡ pool.config.reserve
 

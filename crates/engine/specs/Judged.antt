@@ -1,12 +1,12 @@
 -- Finds whose documents a judge keeps: their turns at the desk.
-use Rattle.std.specs.Prelude.{◌≡◌, ℕ, ◌+◌, ◌≤◌, ◌⊎◌, Bool, List, [], length, take, Contains, Result, Ok, Err}
+use Rattle.std.specs.Prelude.{◌≡◌, ℕ, ◌+◌, ◌≤◌, ◌⊎◌, Bool, List, [], length, take, Result, Ok, Err}
 use Rattle.commit_desk.specs.Judging.{AreGivenWhere, GiveAllWhere, WereScannedForAny, answer_where}
 use Rattle.commit_desk.specs.Passes.{IsFinding}
 use Rattle.document_store.specs.Finding.{FoundState}
 use Rattle.engine.specs.declared.finding.FindFault.{FindFault}
 use Rattle.engine.specs.declared.finding.FindFault.TheVariants as find
-use Rattle.engine.specs.Finds.{EndedTurns, RefusedTurns}
-use Rattle.engine.specs.Passes.{MakesCall, PassView}
+use Rattle.engine.specs.Finds.{EndedTurns, HasJustBegun, IsBegunAt, RefusedTurns}
+use Rattle.engine.specs.Passes.{MakesCall, PassView, view_of}
 use Rattle.engine.specs.Replies.{reply_of_find_fault}
 use Rattle.funnel_model.specs.declared.call.Call.TheVariants as call
 use Rattle.funnel_model.specs.declared.reply.Reply.TheVariants as reply
@@ -16,6 +16,15 @@ use Rattle.funnel_model.specs.Legal.{Limits}
 use Rattle.funnel_model.specs.Tokens.{HasToken}
 use Rattle.slice_rule.specs.Pools.{PoolId}
 use Rattle.slice_rule.specs.Seats.{PassState}
+
+-- the pass has a find open, which the last event that it has seen began
+pub record IsJustFinding (pool : PoolId) (token : Token) (pass : PassState) : Type 0 where
+  pub finding : IsFinding pool token pass
+  pub begun : HasJustBegun pass
+
+-- these are the documents that pass the test, of those that were live before the find that the pass has just begun
+abbrev pub IsAnswerWhere : PassState → (List ℕ → Bool) → List ℕ → Type 0
+IsAnswerWhere pass test ids = (earlier : List Event) (query : List ℕ) → IsBegunAt (view_of pass) earlier query → ids ≡ answer_where earlier test
 
 -- A find between its turns, whose documents are to pass a test. Its candidates were scanned for branches, of which each text that passes
 -- has one; there is room for all that are left, and what those before this one give is found.

@@ -1,5 +1,5 @@
--- Boolean expressions whose atoms are cut into words, as tests of texts.
-use Rattle.std.specs.Prelude.{◌≡◌, ℕ, Bool, not, List, [], ◌∷◌}
+-- Boolean expressions whose atoms are cut into words: as tests of texts, and what a test costs.
+use Rattle.std.specs.Prelude.{◌≡◌, ℕ, Bool, not, List, [], ◌∷◌, length, max, sum}
 use Rattle.std.specs.List.{list_all, list_any}
 use Rattle.engine.specs.declared.word_expr.WordExpr.{WordExpr}
 use Rattle.engine.specs.declared.word_expr.WordExpr.TheOpen.{WordExpr-F, Words, And, Or, Not}
@@ -18,6 +18,18 @@ test_step (Not test) text = not (test.value text)
 -- whether a text passes the whole expression
 abbrev pub test_of : WordExpr → List ℕ → Bool
 test_of = fold-WordExpr (List ℕ → Bool) test_step
+
+-- what one level of an expression costs, with the cost of each part in its place: the words of an atom, or one where it has none, since it
+-- is looked at all the same; or what all parts cost
+abbrev pub cost_step : WordExpr-F ℕ → ℕ
+cost_step (Words words) = max (length words) 1
+cost_step (And costs) = sum costs.items
+cost_step (Or costs) = sum costs.items
+cost_step (Not cost) = cost.value
+
+-- how many words the whole expression looks for in a document at most
+abbrev pub cost_of : WordExpr → ℕ
+cost_of = fold-WordExpr ℕ cost_step
 
 -- those texts pass that the tree keeps
 abbrev pub IsTestOf : WordExpr → Tree → Type 0

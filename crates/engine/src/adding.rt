@@ -1,23 +1,21 @@
 //! Adds.
-ghost use Rattle.std.specs.Prelude.{◌≡◌, ℕ, List, ◌≤◌, [], IfOk, MatchResult, vec_capacity};
+ghost use Rattle.std.specs.Prelude.{◌≡◌, ◌*◌, ◌≤◌, [], IfOk, MatchResult, length, vec_capacity};
 ghost use Rattle.funnel_model.specs.declared.call.Call.TheVariants as call;
 ghost use Rattle.funnel_model.specs.Legal.{IsLegal};
-ghost use Rattle.funnel_model.specs.Words.{AreWordsOf};
 ghost use Rattle.commit_desk.specs.declared.answers.Taken.TheVariants as taken;
 ghost use Rattle.commit_desk.specs.Passes.{HasWritten, IsResting, IsToWrite};
-ghost use Rattle.engine.specs.Adds.{AddTurns, ClaimTurns, OwnTurns, TakeTurn, fault_of_drop};
+ghost use Rattle.engine.specs.Adds.{AddTurns, ClaimTurns, IsPrepared, OwnTurns, TakeTurn, fault_of_drop};
 ghost use Rattle.engine.specs.Passes.{MakesCall};
 ghost use Rattle.engine.specs.Replies.{reply_of_add};
-ghost use Rattle.row_layout.specs.DocumentBits.{CanPlace};
-ghost use Rattle.row_layout.specs.Orders.{HasRowsOf};
+ghost use Rattle.row_layout.specs.declared.row.TheConstants.{MOST_ROWS};
 
 use crate::engine::Engine;
 use crate::pass::Pass;
 use crate::work::{Direct, Work};
 use commit_desk::{AddFault, CommitFault, Taken, ToClear};
 use document_store::Doc;
-use funnel_model::{Block, Claim, Memory, Text};
-use row_layout::{Bits, bits_of};
+use funnel_model::{Block, Claim, Memory, Text, WordSet};
+use row_layout::{Bits, fill_bits};
 use slice_rule::{PassSeat, PoolName};
 use std::alloc::Global;
 use std::sync::Wait;
@@ -84,9 +82,7 @@ impl<N: PoolName> Engine<N> {
         work: &mut W,
     ) -> Result<u64, AddFault>
         requires rests { IsResting N.pool pass.old }
-        requires of_text { AreWordsOf doc.words doc.text }
-        requires rows { HasRowsOf N.pool.config doc.words bits.rows }
-        requires can_place { CanPlace N.pool.config bits.rows }
+        requires prepared { IsPrepared doc bits }
         requires empty { room.items ≡ [] }
         requires enough { N.pool.limits.slices ≤ vec_capacity room }
         ensures turns { OwnTurns N.pool.config N.pool.limits pass.old.number doc.id doc.text pass.old.front pass.new.front result }
@@ -95,27 +91,25 @@ impl<N: PoolName> Engine<N> {
         ensures number { pass.new.number ≡ pass.old.number }
     {
         let claim = self.claim(rt, pass, &doc, room, work)?;
-        self.write(pass, &claim, &mut bits, work);
+        self.write(pass, &claim, doc.words(), &mut bits, work);
         match self.commit(rt, pass, claim, doc, &bits) {
             Ok(place) => Ok(place),
             Err(fault) => Err(dropped(fault)),
         }
     }
 
-    // The document, its bits at some column, and room for what the answer `Full` tells.
+    // The document, room for its bits, and room for what the answer `Full` tells.
     fn prepare(&self, alloc: Global, id: u64, text: &str) -> Result<(Doc, Bits, Vec<Block>), Memory>
         ensures id { IfOk result (λ prepared. prepared.0.id ≡ id) }
         ensures text { IfOk result (λ prepared. prepared.0.text ≡ text.now) }
-        ensures of_text { IfOk result (λ prepared. AreWordsOf prepared.0.words text.now) }
-        ensures rows { IfOk result (λ prepared. HasRowsOf N.pool.config prepared.0.words prepared.1.rows) }
-        ensures can_place { IfOk result (λ prepared. CanPlace N.pool.config prepared.1.rows) }
+        ensures prepared { IfOk result (λ prepared. IsPrepared prepared.0 prepared.1) }
         ensures empty { IfOk result (λ prepared. prepared.2.items ≡ []) }
         ensures enough { IfOk result (λ prepared. N.pool.limits.slices ≤ vec_capacity prepared.2) }
     {
         let Ok(words) = words(alloc, text) else {
             return Err(Memory);
         };
-        let bits = bits_of(alloc, &self.layout, &words)?;
+        let bits = Bits::for_words(alloc, &words)?;
         let room = Vec::with_capacity(alloc, self.slices as usize)?;
         let text = Text::new(String::from_str(alloc, text)?);
         Ok((Doc::new(id, text, words), bits, room))
@@ -150,20 +144,22 @@ impl<N: PoolName> Engine<N> {
         }
     }
 
-    // Moves the bits to the column that was claimed, and sets them.
+    // Fills in the bits of these words at the column that was claimed, and sets them. There is room for them.
     pub(crate) fn write<W: Work>(
         &self,
         pass: &mut PassSeat,
         claim: &Claim,
+        words: &WordSet,
         bits: &mut Bits,
         work: &mut W,
     )
         requires claimed { IsToWrite N.pool claim.now pass.old }
-        requires can_place { CanPlace N.pool.config bits.old.rows }
-        ensures written { (words : List (List ℕ)) → HasRowsOf N.pool.config words bits.old.rows → HasWritten N.pool claim.now words bits.new.bits pass.new }
+        requires no_bits { bits.old.bits ≡ [] }
+        requires room { MOST_ROWS * length words.now ≤ bits.old.room }
+        ensures written { HasWritten N.pool claim.now words.now bits.new.bits pass.new }
         ensures seat { pass.new ≡ record pass.old { own = pass.new.own } }
     {
-        bits.place(&self.layout, claim.slice, claim.column);
+        fill_bits(&self.layout, words, claim.slice, claim.column, bits);
         work.write(&self.pool, pass, claim, bits);
     }
 }

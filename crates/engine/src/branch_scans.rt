@@ -1,10 +1,9 @@
 //! The scans of a find for several branches: each slice is scanned for all of them before the next.
-ghost use Rattle.std.specs.Prelude.{◌≡◌, ℕ, ◌+◌, ◌<◌, ◌≤◌, [], All, Contains, IfOk, length, vec_capacity};
-ghost use Rattle.std.specs.List.{AllPairs};
+ghost use Rattle.std.specs.Prelude.{◌≡◌, ◌+◌, ◌<◌, ◌≤◌, [], All, Contains, IfOk, length, vec_capacity};
 ghost use Rattle.commit_desk.specs.Judging.{AreScannedForAny};
 ghost use Rattle.commit_desk.specs.Passes.{IsFinding};
 ghost use Rattle.commit_desk.specs.Scans.{AreScanned};
-ghost use Rattle.engine.specs.Branches.{AddsEach, AddsScan, AreScannedForAnyBelow, IsPlanned, token_at, words_of_each};
+ghost use Rattle.engine.specs.Branches.{AddsEach, AddsScan, AreScannedForAnyBelow, CanScanEach, IsMerging, IsPlanned, token_at, words_of_each};
 ghost use Rattle.engine.specs.Scans.{CanScan};
 ghost use Rattle.funnel_model.specs.declared.bit_list.Bit.{Bit};
 ghost use Rattle.row_read.specs.SharedRows.{CanRead, WasReadSet, kept_of};
@@ -35,7 +34,7 @@ pub(crate) fn plan_each<'a>(
     branches: &'a Branches,
 ) -> Result<Vec<Planned<'a>>, Memory>
     ensures words { IfOk result (λ planned. words_of_each planned.items ≡ branches.now) }
-    ensures planned { IfOk result (λ planned. All (IsPlanned layout.now) planned.items) }
+    ensures planned { IfOk result (λ planned. All (IsPlanned layout.now.config) planned.items) }
 {
     let mut planned = Vec::with_capacity(alloc, branches.len())?;
     for words in branches.as_slice() {
@@ -124,9 +123,7 @@ impl<N: PoolName> Engine<N> {
         rows: &mut Shared<'_>,
         branches: &[Planned<'_>],
     ) -> Result<Candidates, Memory>
-        requires same { rows.old.pool.now ≡ N.pool }
-        requires can_read { CanRead N.pool rows.old.seat.now rows.old.token.now }
-        requires planned { All (IsPlanned N.pool.config) branches.now }
+        requires scan { CanScanEach N.pool rows.old branches.now }
         ensures scanned { IfOk result (λ found. AreScannedForAny N.pool.config rows.new.seat.now rows.new.token.now (words_of_each branches.now) found) }
         ensures kept { kept_of rows.new ≡ kept_of rows.old }
     {
@@ -147,15 +144,13 @@ impl<N: PoolName> Engine<N> {
         room: Candidates,
         merged: &mut Merged,
     ) -> Result<Candidates, Memory>
-        requires same { rows.old.pool.now ≡ N.pool }
-        requires can_read { CanRead N.pool rows.old.seat.now rows.old.token.now }
-        requires planned { All (IsPlanned N.pool.config) branches.now }
+        requires scan { CanScanEach N.pool rows.old branches.now }
         requires slice { slice < N.pool.limits.slices }
         requires columns { merged.old.columns ≡ N.pool.limits.columns }
         requires below { AreScannedForAnyBelow N.pool.config rows.old.seat.now rows.old.token.now (words_of_each branches.now) slice merged.old.list }
         ensures scanned { IfOk result (λ _. AreScannedForAnyBelow N.pool.config rows.new.seat.now rows.new.token.now (words_of_each branches.now) (slice + 1)
             merged.new.list) }
-        ensures same_columns { merged.new.columns ≡ merged.old.columns }
+        ensures columns { merged.new.columns ≡ N.pool.limits.columns }
         ensures kept { kept_of rows.new ≡ kept_of rows.old }
     {
         let _ = &self.pool;
@@ -177,17 +172,12 @@ impl<N: PoolName> Engine<N> {
         room: Candidates,
         merged: &mut Merged,
     ) -> Result<Candidates, Memory>
-        requires same { rows.old.pool.now ≡ N.pool }
-        requires can_read { CanRead N.pool rows.old.seat.now rows.old.token.now }
-        requires planned { All (IsPlanned N.pool.config) branches.now }
+        requires scan { CanScanEach N.pool rows.old branches.now }
         requires readable { Contains rows.old.token.now.slices slice }
-        requires begun { merged.old.slice ≡ slice }
-        requires once { AllPairs (λ (c other : ℕ × ℕ). c ≡ other → ⊥) merged.old.list }
-        requires columns { merged.old.columns ≡ N.pool.limits.columns }
+        requires merging { IsMerging N.pool.limits.columns slice merged.old }
         ensures added { IfOk result (λ _. AddsEach N.pool.config rows.new.seat.now rows.new.token.now slice (words_of_each branches.now)
             merged.old.list merged.new.list) }
-        ensures once { IfOk result (λ _. AllPairs (λ (c other : ℕ × ℕ). c ≡ other → ⊥) merged.new.list) }
-        ensures same_columns { merged.new.columns ≡ merged.old.columns }
+        ensures merging { IsMerging N.pool.limits.columns slice merged.new }
         ensures seen_stays { (bit : Bit) → WasReadSet rows.old bit → WasReadSet rows.new bit }
         ensures kept { kept_of rows.new ≡ kept_of rows.old }
     {
@@ -209,12 +199,10 @@ impl<N: PoolName> Engine<N> {
     ) -> Result<Candidates, Memory>
         requires scan { CanScan N.pool rows.old branch.now.words.now branch.now.plan }
         requires readable { Contains rows.old.token.now.slices slice }
-        requires begun { merged.old.slice ≡ slice }
-        requires columns { merged.old.columns ≡ N.pool.limits.columns }
-        ensures added { IfOk result (λ _. AddsScan N.pool.config rows.new.seat.now rows.new.token.now slice branch.now.words.now merged.old.list merged.new.list) }
-        ensures once { IfOk result (λ _. AllPairs (λ (c other : ℕ × ℕ). c ≡ other → ⊥) merged.new.list) }
-        ensures same_slice { merged.new.slice ≡ merged.old.slice }
-        ensures same_columns { merged.new.columns ≡ merged.old.columns }
+        requires merging { IsMerging N.pool.limits.columns slice merged.old }
+        ensures added { IfOk result (λ _. AddsScan N.pool.config rows.new.seat.now rows.new.token.now slice branch.now.words.now
+            merged.old.list merged.new.list) }
+        ensures merging { IsMerging N.pool.limits.columns slice merged.new }
         ensures seen_stays { (bit : Bit) → WasReadSet rows.old bit → WasReadSet rows.new bit }
         ensures kept { kept_of rows.new ≡ kept_of rows.old }
     {

@@ -9,7 +9,7 @@ ghost use Rattle.slice_recycler.specs.Recycles.{reply_of_recycle};
 use crate::engine::Engine;
 use crate::finding::FindFault;
 use crate::pass::Pass;
-use crate::word_expr::read_query;
+use crate::query_judge::read_query;
 use bool_query::QueryFault;
 use commit_desk::{AddFault, DeleteFault, JournalFault, Spent};
 use funnel_model::{Commits, Ids, Reply};

@@ -1,14 +1,14 @@
 //! Finds whose documents a judge keeps.
-ghost use Rattle.std.specs.Prelude.{◌≡◌, ℕ, List, All, IfOk, IfSome, None};
-ghost use Rattle.funnel_model.specs.declared.event.Event.{Event};
+ghost use Rattle.std.specs.Prelude.{◌≡◌, All, IfOk, IfSome, None};
 ghost use Rattle.funnel_model.specs.Legal.{IsLegal};
 ghost use Rattle.funnel_model.specs.Tokens.{HasToken};
-ghost use Rattle.commit_desk.specs.Judging.{HasSomeBranch, JudgesUpTo, answer_where};
-ghost use Rattle.commit_desk.specs.Passes.{IsFinding, IsResting};
+ghost use Rattle.commit_desk.specs.Judging.{HasSomeBranch};
+ghost use Rattle.commit_desk.specs.Passes.{IsResting};
+ghost use Rattle.commit_desk.specs.Resolving.{LooksUpTo};
+ghost use Rattle.document_store.specs.Finding.{judged_cost};
 ghost use Rattle.engine.specs.Branches.{IsPlanned, words_of_each};
-ghost use Rattle.engine.specs.Finds.{ComesTo, FindEnds, HasJustBegun, IsBegunAt, end_of_turn, events_of_turn};
-ghost use Rattle.engine.specs.Judged.{IsAllJudged, IsJudgedUpTo, JudgedTurns, MakesFindOfAll};
-ghost use Rattle.engine.specs.Passes.{view_of};
+ghost use Rattle.engine.specs.Finds.{ComesTo, FindEnds, end_of_turn, events_of_turn};
+ghost use Rattle.engine.specs.Judged.{IsAllJudged, IsAnswerWhere, IsJudgedUpTo, IsJustFinding, JudgedTurns, MakesFindOfAll};
 ghost use Rattle.slice_recycler.specs.Turns.{IsTurn};
 
 use crate::branch_scans::{Planned, plan_each};
@@ -27,7 +27,8 @@ impl<N: PoolName> Engine<N> {
     /// were added. It makes the events of a find of the empty query. Each slice is scanned once for the words of each branch,
     /// and the judge is asked once of each document that may have those of one; a branch without words has every document, and
     /// with no branches there is none. It waits for the lock to begin, unless it has no memory for the rows of the branches, and
-    /// then, unless the engine is spent, for each turn, in which 32 documents are judged at most.
+    /// then, unless the engine is spent, for each turn. One ends after 4,096 look-ups, or with the document at which the judge has
+    /// looked for 256 words, where each document counts as 8 words at least.
     pub fn find_any<R: Wait, J: Judge>(
         &self,
         rt: &R,
@@ -83,11 +84,10 @@ impl<N: PoolName> Engine<N> {
         branches: &[Planned<'_>],
         judge: &J,
     ) -> Result<Ids, Memory>
-        requires finding { IsFinding N.pool token pass.old }
-        requires begun { HasJustBegun pass.old }
+        requires begun { IsJustFinding N.pool token pass.old }
         requires planned { All (IsPlanned N.pool.config) branches.now }
         requires judge { HasSomeBranch (J.test judge.now) (words_of_each branches.now) }
-        ensures kept { IfOk result (λ ids. (earlier : List Event) (query : List ℕ) → IsBegunAt (view_of pass.old) earlier query → ids ≡ answer_where earlier (J.test judge.now)) }
+        ensures kept { IfOk result (IsAnswerWhere pass.old (J.test judge.now)) }
         ensures ended { FindEnds pass.old.number pass.old.front pass.new.front }
         ensures rests { IsResting N.pool pass.new }
         ensures legal { IsLegal N.pool.limits pass.new.front }
@@ -149,10 +149,10 @@ impl<N: PoolName> Engine<N> {
         requires so_far { IsJudgedUpTo N.pool pass.old token (J.test judge.now) candidates.now out.old from }
         ensures next { IfSome result (λ next. IsJudgedUpTo N.pool pass.new next.0 (J.test judge.now) candidates.now out.new next.1) }
         ensures onward { IfSome result (ComesTo token candidates.now from) }
-        ensures bounds { (begun : HasToken pass.old.front pass.old.number token.opened_at) → JudgesUpTo begun.earlier candidates.now from (end_of_turn candidates.now result) }
-        ensures found { result ≡ None → IsAllJudged pass.old token (J.test judge.now) candidates.now out.new.found }
+        ensures bounds { (begun : HasToken pass.old.front pass.old.number token.opened_at) →
+            LooksUpTo begun.earlier (judged_cost (J.cost judge.now)) candidates.now from (end_of_turn candidates.now result) }
+        ensures over { result ≡ None → IsAllJudged pass.old token (J.test judge.now) candidates.now out.new.found × IsResting N.pool pass.new }
         ensures turn { IsTurn pass.old.number pass.old.front pass.new.front (λ history. Unit {0}) (events_of_turn pass.old.number result) }
-        ensures rests { result ≡ None → IsResting N.pool pass.new }
         ensures number { pass.new.number ≡ pass.old.number }
         ensures legal { IsLegal N.pool.limits pass.new.front }
     {

@@ -9,8 +9,9 @@
 //! A program reads a valid configuration (`parse_config`), makes a `Blank` of it, and hands it to a function over a name of its
 //! pool, in which it opens the engine, uses it and closes it. The type of an engine, and of what it hands out, has that name: a
 //! pass is one of the engine with the same name, and rests whenever a caller has it. So `Blank::new` asks for a valid
-//! configuration, `open` for the one that its blank was made with and for the name of that blank's pool, and no other call of an
-//! engine asks for anything but the arguments that its types say.
+//! configuration, `open` for the one that its blank was made with and for the name of that blank's pool, and `find_any` for
+//! branches of which each text that its judge keeps has all words of one. No other call of an engine asks for anything but the
+//! arguments that its types say.
 //!
 //! ```text
 //! ghost use Rattle.std.specs.Prelude.{◌≡◌};
@@ -91,9 +92,9 @@
 //!   (`begin_find`, `finish_find`) has its pass, and may be ended on another thread than that which began it.
 //! - The calls that make events wait for the lock. No column is written, no slice is scanned and none is cleared under it. A find
 //!   verifies its candidates there in turns, each of which ends after 4,096 look-ups, or with the document at which it has looked
-//!   for 256 words, and that of a judge with the 32nd document; it sorts its answer afterwards. What else is done there takes the
-//!   longer the more there is of it: a journal copies its commits, an add that is refused as full looks through the slices, and
-//!   one that moves a document copies it. `Blank::new`, `open`, `note`, `meet` and `close` wait for nobody.
+//!   for 256 words; where a judge decides, each document counts as 8 words at least. It sorts its answer afterwards. What else is
+//!   done there takes the longer the more there is of it: a journal copies its commits, an add that is refused as full looks through
+//!   the slices, and one that moves a document copies it. `Blank::new`, `open`, `note`, `meet` and `close` wait for nobody.
 //! - `Blank::new`, `open`, `add`, `find`, `find_any`, `begin_find`, `finish_find` and `journal` take memory, and answer so where there
 //!   is none; the others take none.
 //! - A deleted document keeps its column until all columns of its slice are done with, and the slice is cleared. So one live
@@ -116,6 +117,7 @@ mod merged;
 mod moving;
 mod open_find;
 mod pass;
+mod query_judge;
 mod turns;
 mod word_expr;
 mod work;

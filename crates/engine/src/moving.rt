@@ -5,14 +5,13 @@ ghost use Rattle.commit_desk.specs.Passes.{HasWritten, IsResting, IsToWrite};
 ghost use Rattle.engine.specs.Moves.{MoveTurns, SomeMoves};
 ghost use Rattle.funnel_model.specs.declared.call.TheConstants.{MOST_MOVES};
 ghost use Rattle.funnel_model.specs.History.{IsFrontOf};
-ghost use Rattle.funnel_model.specs.Legal.{IsLegal};
 ghost use Rattle.slice_recycler.specs.Turns.{IsTurn};
 
 use crate::engine::Engine;
 use crate::work::Work;
 use commit_desk::Look;
 use funnel_model::{Claim, MOST_MOVES, Memory};
-use row_layout::{Bits, bits_of};
+use row_layout::Bits;
 use slice_rule::{PassSeat, PoolName};
 use std::alloc::Global;
 use std::sync::Wait;
@@ -60,14 +59,14 @@ impl<N: PoolName> Engine<N> {
         let Ok(Some(look)) = self.look(rt, alloc, pass, id) else {
             return false;
         };
-        let Ok(mut bits) = bits_of(alloc, &self.layout, look.doc.words()) else {
+        let Ok(mut bits) = Bits::for_words(alloc, look.doc.words()) else {
             self.drop_look(rt, look);
             return false;
         };
         let Some((claim, look)) = self.take_move(rt, pass, look) else {
             return false;
         };
-        self.write(pass, &claim, &mut bits, work);
+        self.write(pass, &claim, look.doc.words(), &mut bits, work);
         self.end_move(rt, pass, claim, look, &bits);
         true
     }

@@ -125,10 +125,10 @@ impl<N: PoolName> Engine<N> {
         requires so_far { IsFoundUpTo N.pool pass.old token rest.now candidates.now out.old from }
         ensures next { IfSome result (λ next. IsFoundUpTo N.pool pass.new next.0 rest.now candidates.now out.new next.1) }
         ensures onward { IfSome result (ComesTo token candidates.now from) }
-        ensures bounds { (begun : HasToken pass.old.front pass.old.number token.opened_at) → LooksUpTo begun.earlier rest.now candidates.now from (end_of_turn candidates.now result) }
-        ensures found { result ≡ None → IsAllFound pass.old token candidates.now out.new.found }
+        ensures bounds { (begun : HasToken pass.old.front pass.old.number token.opened_at) →
+            LooksUpTo begun.earlier (length rest.now) candidates.now from (end_of_turn candidates.now result) }
+        ensures over { result ≡ None → IsAllFound pass.old token candidates.now out.new.found × IsResting N.pool pass.new }
         ensures turn { IsTurn pass.old.number pass.old.front pass.new.front (λ history. Unit {0}) (events_of_turn pass.old.number result) }
-        ensures rests { result ≡ None → IsResting N.pool pass.new }
         ensures number { pass.new.number ≡ pass.old.number }
         ensures legal { IsLegal N.pool.limits pass.new.front }
     {
@@ -152,6 +152,6 @@ impl<N: PoolName> Engine<N> {
         ensures legal { IsLegal N.pool.limits pass.new.front }
     {
         let _ = &self.pool;
-        self.desk.lock(rt).desk.drop_find(&self.pool, pass, token)
+        self.desk.lock(rt).desk.end_find(&self.pool, pass, token)
     }
 }

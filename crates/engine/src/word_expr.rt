@@ -1,18 +1,12 @@
-//! Boolean expressions whose atoms are cut into words: they judge the documents of a find.
-ghost use Rattle.std.specs.Prelude.{◌≡◌, map, IfErr, IfOk};
+//! Boolean expressions whose atoms are cut into words.
+ghost use Rattle.std.specs.Prelude.{◌≡◌, ◌-◌, ◌^◌, map, min, sum, IfOk};
 ghost use Rattle.std.specs.List.{list_all, list_any};
-ghost use Rattle.commit_desk.specs.Judging.{HasSomeBranch};
-ghost use Rattle.engine.specs.Replies.{reply_of_query_fault};
-ghost use Rattle.engine.specs.WordExprs.{AreTestsOf, IsTestOf, test_of};
-ghost use Rattle.funnel_model.specs.declared.expr.Expr.{Expr};
+ghost use Rattle.engine.specs.WordExprs.{AreTestsOf, IsTestOf, test_of, cost_of};
 ghost use Rattle.funnel_model.specs.Expressions.{tree_of, trees_of};
-ghost use Rattle.funnel_model.specs.Queries.{IsQuery};
-ghost use Rattle.funnel_model.specs.Words.{AreWordsOf, has_word};
-ghost use Rattle.line_proto.specs.Services.{IsUnread};
+ghost use Rattle.funnel_model.specs.Words.{AreWordsOf};
 
-use bool_query::{QueryFault, branches, parse_query};
-use document_store::{Doc, Judge, verify};
-use funnel_model::{Branches, Expr, Memory, WordSet};
+use document_store::{Doc, Judge};
+use funnel_model::{Expr, Memory, WordSet};
 use std::alloc::Global;
 use word_cut::{WordFault, words};
 
@@ -26,38 +20,9 @@ pub(crate) enum WordExpr {
     Not(Box<WordExpr>),
 }
 
-impl Judge for WordExpr {
-    ghost use Rattle.engine.specs.WordExprs.{test_of};
-
-    ghost test = { test_of };
-
-    fn keeps(&self, doc: &Doc) -> bool {
-        is_kept(self, doc)
-    }
-}
-
-/// Reads a text as a boolean query, and gives what a find by its expression takes: the words of its branches, and its judge.
-pub(crate) fn read_query(alloc: Global, text: &str) -> Result<(Branches, WordExpr), QueryFault>
-    ensures read { IfOk result (λ found. (expr : Expr) × IsQuery text.now (tree_of expr) × IsTestOf found.1 (tree_of expr)) }
-    ensures branches { IfOk result (λ found. HasSomeBranch (test_of found.1) found.0) }
-    ensures refused { IfErr result (λ fault. IsUnread text.now (reply_of_query_fault fault)) }
-{
-    let expr = match parse_query(alloc, text) {
-        Ok(expr) => expr,
-        Err(fault) => return Err(fault),
-    };
-    let Ok(branches) = branches(alloc, &expr) else {
-        return Err(QueryFault::Memory);
-    };
-    let Ok(judge) = with_words(alloc, &expr) else {
-        return Err(QueryFault::Memory);
-    };
-    Ok((branches, judge))
-}
-
 /// The expression with the words of its atoms. It goes down as many levels as the expression has.
 #[cycle(with_words)]
-fn with_words(alloc: Global, expr: &Expr) -> Result<WordExpr, Memory>
+pub(crate) fn with_words(alloc: Global, expr: &Expr) -> Result<WordExpr, Memory>
     ensures { IfOk result (λ cut. IsTestOf cut (tree_of expr.now)) }
 {
     match expr {
@@ -92,11 +57,11 @@ fn words_of(alloc: Global, text: &str) -> Result<WordSet, Memory>
 
 /// Whether the expression keeps the document.
 #[cycle(is_kept)]
-fn is_kept(expr: &WordExpr, doc: &Doc) -> bool
+pub(crate) fn is_kept(expr: &WordExpr, doc: &Doc) -> bool
     ensures { result ≡ test_of expr.now doc.now.text }
 {
     match expr {
-        WordExpr::Words(words) => has_words(doc, words),
+        WordExpr::Words(words) => words.keeps(doc),
         WordExpr::And(factors) => is_kept_by_all(factors.as_slice(), doc),
         WordExpr::Or(terms) => is_kept_by_some(terms.as_slice(), doc),
         WordExpr::Not(factor) => !is_kept(factor, doc),
@@ -127,10 +92,27 @@ fn is_kept_by_some(terms: &[WordExpr], doc: &Doc) -> bool
     false
 }
 
-/// Whether the document has every word.
-fn has_words(doc: &Doc, words: &WordSet) -> bool
-    ensures { result ≡ list_all (has_word doc.now.text) words.now }
+/// What it costs to decide a document: so many words, or as many as a `usize` tells, where there are more.
+#[cycle(cost_of)]
+pub(crate) fn cost_of(expr: &WordExpr) -> usize
+    ensures { result ≡ min (cost_of expr.now) (2 ^ 64 - 1) }
 {
-    let _ = doc.words();
-    verify(doc, words)
+    match expr {
+        WordExpr::Words(words) => words.len().max(1),
+        WordExpr::And(factors) => cost_of_each(factors.as_slice()),
+        WordExpr::Or(terms) => cost_of_each(terms.as_slice()),
+        WordExpr::Not(factor) => cost_of(factor),
+    }
+}
+
+/// The same of several.
+#[cycle(cost_of)]
+fn cost_of_each(exprs: &[WordExpr]) -> usize
+    ensures { result ≡ min (sum (map cost_of exprs.now)) (2 ^ 64 - 1) }
+{
+    let mut cost: usize = 0;
+    for expr in exprs {
+        cost = cost.saturating_add(cost_of(expr));
+    }
+    cost
 }

@@ -2,7 +2,6 @@ ghost use Rattle.std.specs.Prelude.{◌≡◌, ℕ, ◌+◌, ◌<◌, ◌≤◌,
 ghost use Rattle.column_writer.specs.Written.{IsBitOf};
 ghost use Rattle.funnel_model.specs.declared.bit_list.Bit.{Bit};
 ghost use Rattle.funnel_model.specs.Legal.{IsInSlice};
-ghost use Rattle.funnel_model.specs.Sizes.{words_of_slice};
 ghost use Rattle.rank_matcher.specs.Appended.{AppendsColumns, FindsBits, appended};
 ghost use Rattle.rank_matcher.specs.Reads.{shown_reads, words_of_plan};
 ghost use Rattle.row_layout.specs.Rows.{IsRowOf};
@@ -43,9 +42,9 @@ pub trait Work: Clearer {
         slice: u32,
         out: &mut Candidates,
     ) -> Result<(), Memory>
-        requires slice { slice < layout.now.slices }
-        requires laid { All (IsRowOf layout.now) plan.now }
-        requires reach { (word : ℕ) → IsInSlice (words_of_slice layout.now) slice word → IsInReach rows.old word }
+        requires slice { slice < layout.now.config.slices }
+        requires laid { All (IsRowOf layout.now.config) plan.now }
+        requires reach { (word : ℕ) → IsInSlice layout.now.room slice word → IsInReach rows.old word }
         ensures appends { AppendsColumns layout.now slice out.old out.new }
         ensures bits { FindsBits (IsCommittedUnder rows.old) (WasReadSet rows.new) layout.now plan.now slice result (appended out.old out.new) }
         ensures seen_stays { (bit : Bit) → WasReadSet rows.old bit → WasReadSet rows.new bit }

@@ -1,11 +1,9 @@
 //! Answers of two passes on one thread: refusals, a note that is met, a document that is dropped, and what a find scans.
 use crate::caller::{Caller, Refused, is_range};
+use crate::hooked::{Hook, Hooked};
 use crate::setting::{Callers, Case, config, few_rows, run};
-use engine::{Clearer, DeleteFault, Direct, JournalFault, PoolName, Recycled, Work};
-use funnel_model::{Block, Candidates, Claim, ClearJob, Commit, Commits, Memory};
-use row_layout::{Bits, Layout, Plan};
-use row_read::Shared;
-use slice_rule::{PassSeat, Pool};
+use engine::{DeleteFault, JournalFault, PoolName, Recycled};
+use funnel_model::{Block, Commit, Commits};
 use std::sync::Wait;
 use std::test::*;
 
@@ -88,28 +86,16 @@ struct Overtaken<'e, N: PoolName, R: Wait> {
     added: Option<Added>,
 }
 
-impl<'e, N: PoolName, R: Wait> Clearer for Overtaken<'e, N, R> {
-    fn clear(&mut self, pool: &Pool, seat: &mut PassSeat, layout: &Layout, job: &ClearJob) {
-        Direct.clear(pool, seat, layout, job)
-    }
-}
+impl<'e, N: PoolName, R: Wait> Hook for Overtaken<'e, N, R> {
+    fn clears(&mut self) {}
 
-impl<'e, N: PoolName, R: Wait> Work for Overtaken<'e, N, R> {
-    fn write(&mut self, pool: &Pool, seat: &mut PassSeat, claim: &Claim, bits: &Bits) {
+    fn writes(&mut self) {
         self.added = Some(self.other.add(4, "y"));
-        Direct.write(pool, seat, claim, bits)
     }
 
-    fn scan(
-        &mut self,
-        rows: &mut Shared<'_>,
-        layout: &Layout,
-        plan: &Plan,
-        slice: u32,
-        out: &mut Candidates,
-    ) -> Result<(), Memory> {
-        Direct.scan(rows, layout, plan, slice, out)
-    }
+    fn scans(&mut self) {}
+
+    fn scanned(&mut self, _: &[(u32, u32)]) {}
 }
 
 /// Two passes add one number. The one that claims its column first commits last, and its document is dropped. Its column
@@ -161,9 +147,10 @@ fn add_overtaken<'e, N: PoolName, R: Wait>(
     caller: &mut Caller<'_, N, R>,
     other: Caller<'e, N, R>,
 ) -> (Caller<'e, N, R>, (Added, Option<Added>)) {
-    let mut work = Overtaken { other, added: None };
+    let hook = Overtaken { other, added: None };
+    let mut work = Hooked { hook };
     let late = caller.add_by(4, "x", &mut work);
-    let Overtaken { other, added } = work;
+    let Overtaken { other, added } = work.hook;
     (other, (late, added))
 }
 
@@ -173,28 +160,15 @@ struct Watched {
     both: bool,
 }
 
-impl Clearer for Watched {
-    fn clear(&mut self, pool: &Pool, seat: &mut PassSeat, layout: &Layout, job: &ClearJob) {
-        Direct.clear(pool, seat, layout, job)
-    }
-}
+impl Hook for Watched {
+    fn clears(&mut self) {}
 
-impl Work for Watched {
-    fn write(&mut self, pool: &Pool, seat: &mut PassSeat, claim: &Claim, bits: &Bits) {
-        Direct.write(pool, seat, claim, bits)
-    }
+    fn writes(&mut self) {}
 
-    fn scan(
-        &mut self,
-        rows: &mut Shared<'_>,
-        layout: &Layout,
-        plan: &Plan,
-        slice: u32,
-        out: &mut Candidates,
-    ) -> Result<(), Memory> {
-        Direct.scan(rows, layout, plan, slice, out)?;
-        self.both = out.as_slice() == [(0, 0), (0, 1)].as_slice();
-        Ok(())
+    fn scans(&mut self) {}
+
+    fn scanned(&mut self, candidates: &[(u32, u32)]) {
+        self.both = candidates == [(0, 0), (0, 1)].as_slice();
     }
 }
 
@@ -215,11 +189,12 @@ impl Case for FewRows {
     fn run<N: PoolName, R: Wait>(callers: Callers<'_, N, R>) -> Self::Seen {
         let Callers { mut first, .. } = callers;
         let adds = (first.add(1, "cat"), first.add(2, "dog"));
-        let mut work = Watched { both: false };
+        let hook = Watched { both: false };
+        let mut work = Hooked { hook };
         let found = match first.find_by("cat", &mut work) {
             Ok(ids) => is_range(&ids, (1, 2)),
             Err(_) => false,
         };
-        (adds, found, work.both)
+        (adds, found, work.hook.both)
     }
 }

@@ -3,12 +3,9 @@
 
 use crate::beside::{Task, work_beside};
 use crate::caller::{Caller, is_range};
+use crate::hooked::{Hook, Hooked};
 use crate::setting::config;
-use engine::{Clearer, Direct, PoolName, Recycled, Work};
-use funnel_model::{Candidates, Claim, ClearJob, Memory};
-use row_layout::{Bits, Layout, Plan};
-use row_read::Shared;
-use slice_rule::{PassSeat, Pool};
+use engine::{PoolName, Recycled};
 use std::sync::atomic::{AtomicU64, Ordering};
 use std::sync::{Mutex, Wait};
 use std::test::*;
@@ -72,33 +69,23 @@ impl<'a> Watched<'a> {
     }
 }
 
-impl<'a> Clearer for Watched<'a> {
-    fn clear(&mut self, pool: &Pool, seat: &mut PassSeat, layout: &Layout, job: &ClearJob) {
+impl<'a> Hook for Watched<'a> {
+    fn clears(&mut self) {
         self.wait();
         self.counts.clears = self.counts.clears.saturating_add(1);
-        Direct.clear(pool, seat, layout, job)
     }
-}
 
-impl<'a> Work for Watched<'a> {
-    fn write(&mut self, pool: &Pool, seat: &mut PassSeat, claim: &Claim, bits: &Bits) {
+    fn writes(&mut self) {
         self.wait();
         self.counts.writes = self.counts.writes.saturating_add(1);
-        Direct.write(pool, seat, claim, bits)
     }
 
-    fn scan(
-        &mut self,
-        rows: &mut Shared<'_>,
-        layout: &Layout,
-        plan: &Plan,
-        slice: u32,
-        out: &mut Candidates,
-    ) -> Result<(), Memory> {
+    fn scans(&mut self) {
         self.wait();
         self.counts.scans = self.counts.scans.saturating_add(1);
-        Direct.scan(rows, layout, plan, slice, out)
     }
+
+    fn scanned(&mut self, _: &[(u32, u32)]) {}
 }
 
 /// The first pass works through its jobs, and the second one is answered beside it.
@@ -131,7 +118,8 @@ fn work_through<N: PoolName, R: Wait>(
         clears: 0,
         in_vain: 0,
     };
-    let mut work = Watched { board, counts };
+    let hook = Watched { board, counts };
+    let mut work = Hooked { hook };
     let as_wanted = caller.add_all_by((1, 65), 0, &mut work)
         && has_all(caller, &mut work)
         && caller.delete_all((1, 65), 64)
@@ -139,11 +127,14 @@ fn work_through<N: PoolName, R: Wait>(
         && caller.add_all((1, 65), 128)
         && caller.delete_all((1, 65), 192)
         && caller.add_by(500, "y", &mut work) == Ok(257);
-    (as_wanted, work.counts)
+    (as_wanted, work.hook.counts)
 }
 
 /// Whether a find has the documents 1 to 64.
-fn has_all<N: PoolName, R: Wait>(caller: &mut Caller<'_, N, R>, work: &mut Watched<'_>) -> bool {
+fn has_all<N: PoolName, R: Wait>(
+    caller: &mut Caller<'_, N, R>,
+    work: &mut Hooked<Watched<'_>>,
+) -> bool {
     match caller.find_by("x", work) {
         Ok(ids) => is_range(&ids, (1, 65)),
         Err(_) => false,

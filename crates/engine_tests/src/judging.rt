@@ -20,8 +20,14 @@ impl Judge for Wanted {
 
     ghost test = { λ _ text. is_wanted text };
 
+    ghost cost = { λ _. 3 };
+
     fn keeps(&self, doc: &Doc) -> bool {
         (has(doc, b"cat") || has(doc, b"bird")) && !has(doc, b"dog")
+    }
+
+    fn cost(&self) -> usize {
+        3
     }
 }
 

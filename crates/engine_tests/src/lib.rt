@@ -18,6 +18,8 @@ mod free_lock;
 #[cfg(test)]
 mod guards;
 #[cfg(test)]
+mod hooked;
+#[cfg(test)]
 mod judging;
 #[cfg(test)]
 mod large;

@@ -3,12 +3,10 @@ ghost use Rattle.std.specs.Prelude.{◌≡◌, []};
 ghost use Rattle.funnel_model.specs.Configuration.{IsBetween, IsInRange};
 
 use crate::caller::{Caller, Finding, Refused};
+use crate::hooked::{Hook, Hooked};
 use crate::setting::{Callers, Case, config, run};
-use engine::{Clearer, DeleteFault, Direct, PoolName, Recycled, Work};
-use funnel_model::{Candidates, Claim, ClearJob, Config, Ids, Memory};
-use row_layout::{Bits, Layout, Plan};
-use row_read::Shared;
-use slice_rule::{PassSeat, Pool};
+use engine::{DeleteFault, PoolName, Recycled};
+use funnel_model::{Config, Ids, Memory};
 use std::alloc::Global;
 use std::sync::Wait;
 use std::test::*;
@@ -93,30 +91,18 @@ struct Interrupted<'e, N: PoolName, R: Wait, M: Meanwhile> {
     answer: Option<M::Answer>,
 }
 
-impl<'e, N: PoolName, R: Wait, M: Meanwhile> Clearer for Interrupted<'e, N, R, M> {
-    fn clear(&mut self, pool: &Pool, seat: &mut PassSeat, layout: &Layout, job: &ClearJob) {
-        Direct.clear(pool, seat, layout, job)
-    }
-}
+impl<'e, N: PoolName, R: Wait, M: Meanwhile> Hook for Interrupted<'e, N, R, M> {
+    fn clears(&mut self) {}
 
-impl<'e, N: PoolName, R: Wait, M: Meanwhile> Work for Interrupted<'e, N, R, M> {
-    fn write(&mut self, pool: &Pool, seat: &mut PassSeat, claim: &Claim, bits: &Bits) {
+    fn writes(&mut self) {
         if self.answer.is_none() {
             self.answer = Some(M::call(&mut self.other));
         }
-        Direct.write(pool, seat, claim, bits)
     }
 
-    fn scan(
-        &mut self,
-        rows: &mut Shared<'_>,
-        layout: &Layout,
-        plan: &Plan,
-        slice: u32,
-        out: &mut Candidates,
-    ) -> Result<(), Memory> {
-        Direct.scan(rows, layout, plan, slice, out)
-    }
+    fn scans(&mut self) {}
+
+    fn scanned(&mut self, _: &[(u32, u32)]) {}
 }
 
 /// Adds a document, while the other pass makes its calls. What both were answered.
@@ -125,12 +111,13 @@ fn add_meanwhile<'e, N: PoolName, R: Wait, M: Meanwhile>(
     id: u64,
     other: Caller<'e, N, R>,
 ) -> (Caller<'e, N, R>, Added, Option<M::Answer>) {
-    let mut work = Interrupted::<N, R, M> {
+    let hook = Interrupted::<N, R, M> {
         other,
         answer: None,
     };
+    let mut work = Hooked { hook };
     let added = caller.add_by(id, "y", &mut work);
-    let Interrupted { other, answer } = work;
+    let Interrupted { other, answer } = work.hook;
     (other, added, answer)
 }
 

@@ -2,12 +2,9 @@
 
 use crate::beside::{Task, work_beside};
 use crate::caller::Caller;
+use crate::hooked::{Hook, Hooked};
 use crate::setting::config;
-use engine::{Clearer, Direct, PoolName, Work};
-use funnel_model::{Candidates, Claim, ClearJob, Memory};
-use row_layout::{Bits, Layout, Plan};
-use row_read::Shared;
-use slice_rule::{PassSeat, Pool};
+use engine::PoolName;
 use std::hint::spin_loop;
 use std::sync::Wait;
 use std::sync::atomic::{AtomicU64, Ordering};
@@ -61,46 +58,38 @@ impl<'a> Meeting<'a> {
     }
 }
 
-impl<'a> Clearer for Meeting<'a> {
-    fn clear(&mut self, pool: &Pool, seat: &mut PassSeat, layout: &Layout, job: &ClearJob) {
-        Direct.clear(pool, seat, layout, job)
-    }
-}
+impl<'a> Hook for Meeting<'a> {
+    fn clears(&mut self) {}
 
-impl<'a> Work for Meeting<'a> {
-    fn write(&mut self, pool: &Pool, seat: &mut PassSeat, claim: &Claim, bits: &Bits) {
+    fn writes(&mut self) {
         self.meet();
-        Direct.write(pool, seat, claim, bits)
     }
 
-    fn scan(
-        &mut self,
-        rows: &mut Shared<'_>,
-        layout: &Layout,
-        plan: &Plan,
-        slice: u32,
-        out: &mut Candidates,
-    ) -> Result<(), Memory> {
-        Direct.scan(rows, layout, plan, slice, out)
-    }
+    fn scans(&mut self) {}
+
+    fn scanned(&mut self, _: &[(u32, u32)]) {}
 }
 
 impl Task for Pairs {
     fn work<N: PoolName, R: Wait>(&self, caller: &mut Caller<'_, N, R>) {
-        let mut work = Meeting {
+        let hook = Meeting {
             came: &self.came,
             met: 0,
             in_vain: false,
         };
+        let mut work = Hooked { hook };
         let added = add_each(caller, &mut work);
-        work.meet();
-        if added && has_all(caller) && !work.in_vain {
+        work.hook.meet();
+        if added && has_all(caller) && !work.hook.in_vain {
             self.right.fetch_add(1, Ordering::SeqCst);
         }
     }
 }
 
-fn add_each<N: PoolName, R: Wait>(caller: &mut Caller<'_, N, R>, work: &mut Meeting<'_>) -> bool {
+fn add_each<N: PoolName, R: Wait>(
+    caller: &mut Caller<'_, N, R>,
+    work: &mut Hooked<Meeting<'_>>,
+) -> bool {
     let first = 1024 * caller.number() as u64;
     let mut as_wanted = true;
     for i in 0..1024 {

@@ -1,6 +1,7 @@
 //! A fit as one call.
 
 ghost use Rattle.std.specs.Prelude.{◌≡◌, ◌≤◌, ◌^◌, ℕ, false, List, IfOk, IfErr, length, map, string_bytes};
+ghost use Rattle.funnel_io.specs.Beside.{StaysBeside};
 ghost use Rattle.funnel_model.specs.declared.config.TheConstants.{MOST_WORDS};
 ghost use Rattle.funnel_stats.specs.Configurations.{longest};
 ghost use Rattle.fit.specs.Chosen.{EndsInput, FitsInput, HasNoFit};
@@ -35,10 +36,8 @@ pub fn fit<S: Source, K: Sink>(
     requires some { 1 ≤ documents }
     requires few { documents ≤ 4194304 }
     requires limit { limit ≤ 2 ^ 40 }
-    ensures input_borrowed { S.borrowed input.new ≡ S.borrowed input.old }
-    ensures output_borrowed { K.borrowed output.new ≡ K.borrowed output.old }
-    ensures beside_input { S.beside_read input.new ≡ S.beside_read input.old }
-    ensures beside_output { K.beside_write output.new ≡ K.beside_write output.old }
+    ensures input_stays { StaysBeside S.borrowed S.beside_read input.old input.new }
+    ensures output_stays { StaysBeside K.borrowed K.beside_write output.old output.new }
 
     // What was taken and written, by how it ended: with `Done` the text of the configuration that is fitted to the texts of the
     // add lines, which is valid and is read as this configuration.
@@ -70,8 +69,7 @@ fn fit_input<S: Source>(
     requires some { 1 ≤ documents }
     requires few { documents ≤ 4194304 }
     requires limit { limit ≤ 2 ^ 40 }
-    ensures borrowed { S.borrowed input.new ≡ S.borrowed input.old }
-    ensures beside { S.beside_read input.new ≡ S.beside_read input.old }
+    ensures stays { StaysBeside S.borrowed S.beside_read input.old input.new }
     ensures fits { IfOk result (FitsInput documents limit (S.incoming input.old) (S.incoming input.new)) }
     ensures ends { IfErr result (EndsInput documents limit (S.incoming input.old) (S.incoming input.new)) }
 {

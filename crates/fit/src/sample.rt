@@ -1,6 +1,7 @@
 //! The texts of an input, counted line by line.
 
 ghost use Rattle.std.specs.Prelude.{◌≡◌, ◌+◌, ◌<◌, ◌≤◌, ◌^◌, List, [], ◌∷◌, ◌++◌, ℕ, IfOk, IfErr, OnOk, MatchBool, Ok, true, length};
+ghost use Rattle.funnel_io.specs.Beside.{StaysBeside};
 ghost use Rattle.funnel_io.specs.LineReading.{most_lines};
 ghost use Rattle.funnel_io.specs.Streams.{Incoming};
 ghost use Rattle.funnel_io.specs.declared.line_reader.TheConstants.{MAX_LINE_LEN};
@@ -21,8 +22,7 @@ pub(crate) fn read_sample<S: Source>(
     limit: u64,
 ) -> Result<Tally, FitEnd>
     requires few { limit ≤ 2 ^ 40 }
-    ensures borrowed { S.borrowed input.new ≡ S.borrowed input.old }
-    ensures beside { S.beside_read input.new ≡ S.beside_read input.old }
+    ensures stays { StaysBeside S.borrowed S.beside_read input.old input.new }
     ensures sampled { IfOk result (λ tally.
         IsSampled limit (S.incoming input.old) (S.incoming input.new) (entries_of tally.counts.entries) tally.documents tally.words) }
     ensures ends { IfErr result (EndsSample limit (S.incoming input.old) (S.incoming input.new)) }
@@ -60,8 +60,7 @@ impl Sampler {
     ) -> Result<bool, FitEnd>
         requires room { self.old.tally.documents + (most_lines self.old.reader.held self.old.reader.long + self.old.left) ≤ 2 ^ 40 }
         requires sums { AddsUp (entries_of self.old.tally.counts.entries) self.old.tally.documents self.old.tally.words }
-        ensures borrowed { S.borrowed input.new ≡ S.borrowed input.old }
-        ensures beside { S.beside_read input.new ≡ S.beside_read input.old }
+        ensures stays { StaysBeside S.borrowed S.beside_read input.old input.new }
         ensures goes_on { (before : Incoming) →
             HasSampled limit self.old.left self.old.reader (entries_of self.old.tally.counts.entries) self.old.tally.documents self.old.tally.words
             before (S.incoming input.old) →

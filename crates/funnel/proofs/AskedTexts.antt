@@ -1,5 +1,5 @@
 -- Words that ask for a text are none that `clap` takes.
-use Rattle.std.proofs.Common.{◌≡◌, ◌≢◌, ◌||◌, ℕ, Bool, codes, true, false, refl, sym, ap, subst, length, List, [], ◌∷◌, Some, None, IsSome, if◌then◌else◌}
+use Rattle.std.proofs.Common.{◌≡◌, ◌≢◌, ◌||◌, ℕ, Bool, codes, true, false, refl, sym, subst, length, List, [], ◌∷◌, Some, None, IsSome, if◌then◌else◌}
 use Rattle.std.proofs.lemmas.Slice.Eq.{bytes_eq-Decides}
 use Rattle.std.specs.Str.{bytes_eq}
 use Rattle.clap.proofs.OnLiterals.{clap_on_literals}

@@ -3,7 +3,7 @@ use Rattle.std.proofs.Common.{◌≡◌, ℕ, true, false, List, length, map, Op
 use Rattle.std.proofs.lemmas.Bool.{false≢true}
 use Rattle.std.specs.List.{AllZip}
 use Rattle.std.specs.Option.{is_some}
-use Rattle.std.specs.Prelude.{IfSome}
+use Rattle.std.specs.Prelude.{IfNone, IfSome}
 use Rattle.engine.specs.Engines.{ClosedState}
 use Rattle.funnel_io.specs.Calls.{Read, Write}
 use Rattle.funnel_io.specs.Streams.{Incoming, Outgoing}
@@ -24,7 +24,7 @@ use Rattle.funnel.specs.declared.ended.Why.{Why}
 use Rattle.funnel.specs.declared.ended.Why.TheVariants as why_of
 use Rattle.funnel.specs.Misfits.{misfit_of}
 use Rattle.funnel.specs.Programs.{Ends, IsConfigured, Streams}
-use Rattle.funnel.specs.Runs.{KeepsLast, limits_by}
+use Rattle.funnel.specs.Runs.{KeepsLast, RanOrNot, limits_by}
 use Rattle.funnel.specs.Served.{EndsServe, OneDidNotOpen}
 use Rattle.funnel.specs.Turns.{AreOpened, AreOpenedUntilOneFails, EndsInTurns, OpenGatesGoInTurns, ServeGoesInTurns}
 use Rattle.funnel.specs.Workers.{EndsOpenServeInTurns, EndsServeInTurns}
@@ -33,6 +33,12 @@ use Rattle.funnel.specs.Workers.{EndsOpenServeInTurns, EndsServeInTurns}
 pub keeps_last : (pool : PoolId) (config : Config) (closed : ClosedState) → pool.limits ≡ limits_by config →
     closed.base ≡ base pool.limits.commits closed.history → KeepsLast config closed
 keeps_last pool config closed limits_are base_is = base_is ∙ ap (λ (l : Limits). base l.commits closed.history) limits_are
+
+-- a run that left nothing of an engine had no memory to open it, and what holds then holds
+pub without_memory : {P : Type 0} (config : Config) (incoming later_incoming : Incoming) (outgoing later_outgoing : Outgoing) (why : Why) (closed : Option ClosedState) →
+    RanOrNot config incoming later_incoming outgoing later_outgoing why closed → (why ≡ why_of.Memory → P) → IfNone closed P
+without_memory config incoming later_incoming outgoing later_outgoing why None ran holds = holds ran
+without_memory config incoming later_incoming outgoing later_outgoing why (Some closed) ran holds = tt
 
 -- words that are another command are no fit
 no_fit_is : (asked : Command) → ((fit : FitCommand) → asked ≡ command.Fit fit → ⊥) → is_fit (Some asked) ≡ false

@@ -30,7 +30,7 @@ use Rattle.funnel.specs.LoadRuns.{EndsLoad}
 use Rattle.funnel.specs.Programs.{Ends, Streams}
 use Rattle.funnel.specs.Runs.{RanOrNot, limits_by}
 use Rattle.funnel.specs.Served.{AllWork, EndsServe, OneDidNotOpen, new_workers}
-use Rattle.funnel.specs.Turns.{AreOpened, AreOpenedInVain, AreOpenedUntilOneFails, EndsInTurns, GatesGoInTurns, ServeGoesInTurns}
+use Rattle.funnel.specs.Turns.{AreOpened, AreOpenedUntilOneFails, EndsInTurns, GatesGoInTurns, ServeGoesInTurns}
 
 -- other ends are told otherwise
 not_config : (fault : ConfigFault) → why_of_config fault ≡ why_of.GateFault → ⊥

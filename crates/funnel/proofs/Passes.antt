@@ -3,7 +3,7 @@ use Rattle.std.proofs.Common.{◌≡◌, ℕ, zero, suc, ◌+◌, ◌-◌, ◌<�
 use Rattle.std.proofs.lemmas.List.{map-append}
 use Rattle.std.proofs.lemmas.Bool.{cases_eq, cases_lt}
 use Rattle.std.proofs.lemmas.List.Elements.{All-cons, All-nil, All-push, Contains-append_left, Contains-push}
-use Rattle.std.specs.List.{All, Contains, list_any, range_with_len}
+use Rattle.std.specs.List.{All, Contains, list_any}
 use Rattle.std.specs.Prelude.{◌==◌}
 use Rattle.engine.specs.Passes.{PassView, new_pass}
 use Rattle.funnel_model.proofs.Invariants.{passes_in_range}

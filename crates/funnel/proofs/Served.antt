@@ -1,9 +1,9 @@
 -- The workers of a serve, from their gates and passes to these again.
-use Rattle.std.proofs.Common.{◌≡◌, ℕ, suc, ◌+◌, ◌-◌, ◌<◌, ◌≤◌, ◌⊎◌, false, List, [], ◌∷◌, ◌++◌, length, map, Some, sym, refl, ap, ◌∙◌, subst, inl, inr, rules, arith, append_assoc, append-nil, length-append, slice_index_or}
+use Rattle.std.proofs.Common.{◌≡◌, ℕ, suc, ◌+◌, ◌-◌, ◌<◌, ◌≤◌, false, List, [], ◌∷◌, ◌++◌, length, map, Some, sym, refl, ap, ◌∙◌, subst, rules, arith, append_assoc, append-nil, length-append, slice_index_or}
 use Rattle.std.proofs.lemmas.List.{length-map, map-append}
 use Rattle.std.proofs.lemmas.List.Elements.{All-cons, All-contains, All-head, All-nil, All-tail, Contains-append_left, Contains-append_right}
 use Rattle.std.proofs.lemmas.List.FromFn.{get_or-map-range_with_len, length-map-range_with_len}
-use Rattle.std.specs.List.{All, Contains, list_any, range_with_len, remove}
+use Rattle.std.specs.List.{All, Contains, list_any, remove}
 use Rattle.std.specs.Prelude.{◌==◌, ◌||◌, Bool}
 use Rattle.engine.specs.Clients.{caller_of}
 use Rattle.engine.specs.Engines.{ClosedState, EndsIn}

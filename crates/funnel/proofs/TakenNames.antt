@@ -5,7 +5,7 @@ use Rattle.std.specs.Prelude.{find, option_and_then, option_map}
 use Rattle.std.specs.List.{AllByRecursion, fold, list_all}
 use Rattle.std.specs.Str.{bytes_eq}
 use Rattle.clap.specs.Lexer.{long_of, short_of}
-use Rattle.clap.specs.Walk.{Held, Names, Outcome, Rule, Step, Text, Waiting, Walk, after_flag, after_step, answers_to, arg_by_index, bundle, finished, long_met, arg_by_long, long_or_other, nothing_held, plain_word, short_or_plain, subcommand_met, subcommand_or_other, to_positional, walk, walk_from, walked, walked_from, word_met}
+use Rattle.clap.specs.Walk.{Held, Names, Outcome, Rule, Step, Text, Waiting, Walk, after_flag, after_step, answers_to, arg_by_index, bundle, long_met, arg_by_long, long_or_other, nothing_held, plain_word, short_or_plain, subcommand_met, subcommand_or_other, to_positional, walk, walk_from, walked, walked_from, word_met}
 use Rattle.clap.specs.Walk as walk_words
 use Rattle.clap.specs.Simple.{Shape, argument_words, built, built_leaf, entered, help_shape, is_simple, label_of, names_of, rows_at, subcommand_of}
 use Rattle.clap.specs.Takes.{default_passes, entered_passes, other_passes, settle_passes, step_passes, takes, turn_passes, walk_passes, word_passes}

@@ -14,11 +14,18 @@ use Rattle.load_gen.specs.Jobs.{jobs}
 use Rattle.load_gen.specs.Summary.{summary}
 use Rattle.load_laws.specs.Workers.{Fronts, HaveMet, IsAnsweredAsTold, IsLoaded}
 use Rattle.row_layout.specs.Sound.{IsSound}
+use Rattle.funnel.specs.Commands.{IsLoadInRange}
+use Rattle.funnel.specs.Misfits.{misfit_of_load}
 use Rattle.funnel.specs.declared.command.LoadCommand.{LoadCommand}
 use Rattle.funnel.specs.declared.ended.Why.{Why}
 use Rattle.funnel.specs.declared.ended.Why.TheVariants as why_of
 use Rattle.funnel.specs.Runs.{limits_by}
 use Rattle.funnel.specs.Texts.{IsWritten}
+
+-- the numbers of the load lie in their ranges and fit the configuration
+pub record IsLoadThatFits (config : Config) (load : LoadCommand) : Type 0 where
+  pub in_range : IsLoadInRange load
+  pub fits : misfit_of_load load config ≡ None
 
 -- the text is written, or there was no memory and nothing is written
 abbrev pub Tells : List ℕ → Outgoing → Outgoing → Why → Type 0

@@ -1,9 +1,11 @@
 -- A run: one session over a new engine, by its first pass.
 use Rattle.std.specs.Prelude.{◌≡◌, [], Option, MatchOption, All}
 use Rattle.engine.specs.Engines.{ClosedState}
+use Rattle.funnel_io.specs.Borrowed.{Borrowed}
 use Rattle.funnel_io.specs.Streams.{Incoming, Outgoing}
 use Rattle.funnel_io.specs.declared.end.End.{End}
 use Rattle.funnel_model.specs.declared.config.Config.{Config}
+use Rattle.funnel_model.specs.Configuration.{IsValid}
 use Rattle.funnel_model.specs.Events.{pass_of}
 use Rattle.funnel_model.specs.History.{MovesAreCaused, base}
 use Rattle.funnel_model.specs.Legal.{IsLegal, Limits}
@@ -11,7 +13,7 @@ use Rattle.funnel_model.specs.Sizes.{words_of_slice}
 use Rattle.line_proto.specs.Services.{Caller}
 use Rattle.row_layout.specs.Sound.{IsSound}
 use Rattle.session.specs.Ends.{Serves}
-use Rattle.slice_rule.specs.Pools.{limits_of}
+use Rattle.slice_rule.specs.Pools.{PoolId, limits_of}
 use Rattle.funnel.specs.Ends.{why_of_end}
 use Rattle.funnel.specs.declared.ended.Why.{Why}
 use Rattle.funnel.specs.declared.ended.Why.TheVariants as why_of
@@ -20,6 +22,18 @@ use Rattle.session.specs.declared.serving.TheConstants.{MOST_BYTES}
 -- the limits of an engine with this configuration
 abbrev pub limits_by : Config → Limits
 limits_by config = limits_of config (words_of_slice config)
+
+-- the blank is of the pool that the engine's type names, for this configuration, which is valid
+pub record IsBlankFor (config : Config) (pool blank : PoolId) : Type 0 where
+  pub valid : IsValid config
+  pub made_with : blank.config ≡ config
+  pub limits : blank.limits ≡ limits_by config
+  pub named : blank ≡ pool
+
+-- the input and the output hold the references that they held before
+pub record HoldTheSame {S K : Type 0} (input_borrowed : S → Borrowed) (output_borrowed : K → Borrowed) (before after : S × K) : Type 0 where
+  pub input : input_borrowed after.0 ≡ input_borrowed before.0
+  pub output : output_borrowed after.1 ≡ output_borrowed before.1
 
 -- the closed engine tells the last commits of its history, as many as the configuration says, and how many came before these
 abbrev pub KeepsLast : Config → ClosedState → Type 0

@@ -1,7 +1,8 @@
 -- How the gates and the passes go to the workers of a serve and come back, for the clauses of functions that are not public.
-use Rattle.std.specs.Prelude.{◌≡◌, ℕ, ◌+◌, ◌-◌, List, ◌++◌, length, map, All, Option}
+use Rattle.std.specs.Prelude.{◌≡◌, ℕ, ◌+◌, ◌-◌, List, [], ◌++◌, length, map, All, Option}
 use Rattle.engine.specs.Engines.{ClosedState}
 use Rattle.engine.specs.Passes.{PassView}
+use Rattle.funnel_io.specs.Answers.{MatchOpening}
 use Rattle.funnel_io.specs.Calls.{Read, Write}
 use Rattle.funnel_io.specs.Streams.{Incoming, Outgoing}
 use Rattle.funnel_io.specs.declared.end.End.{End}
@@ -12,7 +13,7 @@ use Rattle.funnel_model.specs.declared.event.Event.{Event}
 use Rattle.funnel_server.specs.Gates.{GateState}
 use Rattle.funnel_server.specs.Workers.{WorkerState, WorkerWithGate}
 use Rattle.slice_rule.specs.Pools.{PoolId}
-use Rattle.funnel.specs.Served.{AllWork, EndsServe, new_workers, why_of_workers}
+use Rattle.funnel.specs.Served.{AllWork, EndsServe, OneDidNotOpen, new_workers, why_of_workers}
 use Rattle.funnel.specs.Serving.{new_passes}
 use Rattle.funnel.specs.Turns.{GatesGoInTurns, OpenGatesGoInTurns, ServeGoesInTurns}
 use Rattle.funnel.specs.declared.command.ServeCommand.{ServeCommand}
@@ -29,6 +30,19 @@ states_of workers = map (λ worker. worker.state) workers
 -- and their gates
 abbrev pub gates_of : {G : Type 0} → List (WorkerWithGate G) → List G
 gates_of workers = map (λ worker. worker.gate) workers
+
+-- the gates tell what they told before
+abbrev pub TellTheSame : {G : Type 0} → (G → GateState) → List G → List G → Type 0
+TellTheSame state gates laters = map state laters ≡ map state gates
+
+-- so do gates that were opened; or one of them failed as it was opened
+abbrev pub TellOfOpening : {G : Type 0} → (G → GateState) → Opening → List G → List G → Type 0
+TellOfOpening state answer gates laters = MatchOpening answer (TellTheSame state gates laters) (OneDidNotOpen (map state gates) (map state laters))
+
+-- each gate went to the worker of its place, and none is left
+pub record ArePassedOn {G : Type 0} (gates left : List G) (workers : List (WorkerWithGate G)) : Type 0 where
+  pub theirs : gates_of workers ≡ gates
+  pub none_left : left ≡ []
 
 -- some of the gates and passes of a new engine have a worker, the first ones of each, and these are left
 pub record AreEquipped (pool : PoolId) (serve : ServeCommand) (all left : List GateState) (passes : List PassView) (workers : List WorkerState) : Type 0 where

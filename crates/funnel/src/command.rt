@@ -3,8 +3,11 @@
 ghost use Rattle.std.specs.Prelude.{◌≡◌, ◌↔◌, ℕ, List, [], ◌∷◌, map, option_and_then, IfOk, IfSome, IsErrOf, IsSome, Some, None, false, true};
 ghost use Rattle.clap.specs.Words.{app_of, found_of, kind_of, rows_of, rule_of, subcommand_rows_of, takes};
 ghost use Rattle.clap.specs.declared.builder.command.Command.TheViews.{out-Command as fields_of};
-ghost use Rattle.funnel.specs.Commands.{HasFitNumbers, HasLoadNumbers, HasNumbers, HasNumbersInRange, HasServeNumbers, IsFitInRange, IsLoadInRange, IsServeInRange, call_words, command_of, fault_by};
-ghost use Rattle.funnel.specs.Commands.{connections_option, docs_option, documents_option, fit_form, fit_of, funnel_app, http_option, idle_option, load_form, load_of, load_workers_option, number_option, one_port_option, port_option, run_form, seed_option, serve_form, serve_of, subcommand_as, words_option, workers_option};
+ghost use Rattle.funnel.specs.Commands.{HasFitNumbers, HasLoadNumbers, HasNumbers, HasNumbersInRange, HasServeNumbers};
+ghost use Rattle.funnel.specs.Commands.{IsFitInRange, IsLoadInRange, IsServeInRange, call_words, command_of, fault_by};
+ghost use Rattle.funnel.specs.Commands.{connections_option, docs_option, documents_option, http_option, idle_option, load_workers_option};
+ghost use Rattle.funnel.specs.Commands.{number_option, one_port_option, port_option, seed_option, words_option, workers_option};
+ghost use Rattle.funnel.specs.Commands.{fit_form, fit_of, funnel_app, load_form, load_of, serve_form, serve_of, subcommand_as};
 ghost use Rattle.funnel.specs.declared.command.CommandFault.TheVariants.{Memory};
 
 use clap::builder::ValueParser;
@@ -142,35 +145,28 @@ pub(crate) fn call_words<'a>(alloc: Global, words: &[&'a str]) -> Result<Vec<&'a
 pub(crate) fn funnel_app<'a>(alloc: Global) -> Result<clap::Command<'a>, AllocError>
     ensures { IfOk result (λ app. app_of app ≡ funnel_app) }
 {
+    let serve = serve_app(alloc)?;
     let load = load_app(alloc)?;
     let fit = fit_app(alloc)?;
-    with_first_two(alloc)?.subcommand(load)?.subcommand(fit)
-}
-
-// `funnel` with its first two subcommands.
-fn with_first_two<'a>(alloc: Global) -> Result<clap::Command<'a>, AllocError>
-    ensures app { IfOk result (λ app. app_of app ≡ record funnel_app { subs = run_form ∷ serve_form ∷ [] }) }
-    ensures local { IfOk result (λ app. (fields_of app).has_globals ≡ false) }
-{
-    let serve = serve_app(alloc)?;
-    let run = clap::Command::new(alloc, "run");
+    let subcommands = vec![in alloc; clap::Command::new(alloc, "run"), serve, load, fit]?;
     clap::Command::new(alloc, "funnel")
         .subcommand_required(true)
-        .subcommand(run)?
-        .subcommand(serve)
+        .subcommands(subcommands)
 }
 
 fn serve_app<'a>(alloc: Global) -> Result<clap::Command<'a>, AllocError>
     ensures app { IfOk result (λ app. (app_of app ≡ record { top = serve_form; subs = [] })) }
     ensures local { IfOk result (λ app. (fields_of app).has_globals ≡ false) }
 {
-    clap::Command::new(alloc, "serve")
-        .arg(port_option(alloc))?
-        .arg(workers_option(alloc))?
-        .arg(connections_option(alloc))?
-        .arg(idle_option(alloc))?
-        .arg(one_port_option(alloc))?
-        .arg(http_option(alloc))
+    let options = vec![in alloc;
+        port_option(alloc),
+        workers_option(alloc),
+        connections_option(alloc),
+        idle_option(alloc),
+        one_port_option(alloc),
+        http_option(alloc),
+    ]?;
+    clap::Command::new(alloc, "serve").args(options)
 }
 
 fn port_option<'a>(alloc: Global) -> Arg<'a>
@@ -227,11 +223,13 @@ fn load_app<'a>(alloc: Global) -> Result<clap::Command<'a>, AllocError>
     ensures app { IfOk result (λ app. (app_of app ≡ record { top = load_form; subs = [] })) }
     ensures local { IfOk result (λ app. (fields_of app).has_globals ≡ false) }
 {
-    clap::Command::new(alloc, "load")
-        .arg(docs_option(alloc))?
-        .arg(load_workers_option(alloc))?
-        .arg(words_option(alloc))?
-        .arg(seed_option(alloc))
+    let options = vec![in alloc;
+        docs_option(alloc),
+        load_workers_option(alloc),
+        words_option(alloc),
+        seed_option(alloc),
+    ]?;
+    clap::Command::new(alloc, "load").args(options)
 }
 
 fn docs_option<'a>(alloc: Global) -> Arg<'a>

@@ -14,8 +14,8 @@ ghost use Rattle.funnel.specs.declared.command.LoadCommand.{LoadCommand};
 ghost use Rattle.funnel.specs.declared.command.ServeCommand.{ServeCommand};
 ghost use Rattle.funnel.specs.declared.ended.Why.{Why};
 ghost use Rattle.funnel.specs.Commands.{command_of};
-ghost use Rattle.funnel.specs.Laws.{AllCallsAreOfSessions, AnswersInput, AreDue, CompletesFit, CompletesLoad, CompletesRun, CompletesServe, EndsWell, GateIsServed};
-ghost use Rattle.funnel.specs.Laws.{IsAccepted, IsServedUnlessFailed, KeepsNoFault, NoStreamFailed, OneFailed, RepliesAreDue, TellsFew};
+ghost use Rattle.funnel.specs.Laws.{AllCallsAreOfSessions, AnswersInput, AreDue, CompletesFit, CompletesLoad, CompletesRun, CompletesServe};
+ghost use Rattle.funnel.specs.Laws.{EndsWell, GateIsServed, IsAccepted, IsServedUnlessFailed, KeepsNoFault, NoStreamFailed, OneFailed, RepliesAreDue, TellsFew};
 ghost use Rattle.funnel.specs.Programs.{Ends, Streams};
 ghost use Rattle.funnel.specs.Runs.{Ran, first_caller, limits_by};
 ghost use Rattle.funnel.specs.Served.{HaveAllServed, OneDidNotOpen, new_workers};
@@ -52,7 +52,8 @@ pub fn runs_take_every_call()
     ensures any { (config : Config) (incoming later_incoming : Incoming) (outgoing later_outgoing : Outgoing) (why : Why) (closed : ClosedState)
         (ran : Ran config incoming later_incoming outgoing later_outgoing why closed) →
         RepliesAreDue (first_caller (limits_by config)) [] closed.history ran.serves.taken ran.serves.written ran.end ran.serves.session }
-    ensures whole { (config : Config) (bytes : List ℕ) (before after : Outgoing) (closed : ClosedState) (answers : AnswersInput config bytes before after closed) →
+    ensures whole { (config : Config) (bytes : List ℕ) (before after : Outgoing) (closed : ClosedState)
+        (answers : AnswersInput config bytes before after closed) →
         length bytes < MOST_BYTES → AreDue (items bytes true) answers.replies }
 {}
 

@@ -20,9 +20,9 @@ use std::sync::Wait;
 use std::thread::Threads;
 
 /// Runs the command that the words are, by an engine with the configuration. `run` answers the lines of `input` on `output`.
-/// `serve` opens the gates, and answers the lines of the connections of each, or with `--http` their requests, by a pass and a thread of its own. `load` makes its documents, has its workers
-/// add, delete and find them, each by a pass and a thread of its own, and writes its summary on `output`. These two read
-/// nothing from `input`. `fit` reads lines of `input`, and writes the configuration that is fitted to the add lines among them on
+/// `serve` opens the gates, and answers the lines of the connections of each, or with `--http` their requests, by a pass and a
+/// thread of its own. `load` makes its documents, has its workers add, delete and find them, each by a pass and a thread of its
+/// own, and writes its summary on `output`. These two read nothing from `input`. `fit` reads lines of `input`, and writes the configuration that is fitted to the add lines among them on
 /// `output`; it needs no configuration and no engine. `gates` come back in their order.
 ///
 /// The words are judged first, then, unless they are a fit, the configuration, then whether the command's numbers fit it and the

@@ -1,8 +1,8 @@
 //! One session over a new engine, by its first pass.
-ghost use Rattle.std.specs.Prelude.{◌≡◌, ◌≤◌, [], IfNone, IfSome};
+ghost use Rattle.std.specs.Prelude.{◌≡◌, ◌≤◌, [], IfSome};
 ghost use Rattle.engine.specs.Engines.{IsClosed};
 ghost use Rattle.funnel_model.specs.Configuration.{IsValid};
-ghost use Rattle.funnel.specs.Runs.{KeepsLast, RanOrNot, first_caller, limits_by};
+ghost use Rattle.funnel.specs.Runs.{HoldTheSame, IsBlankFor, KeepsLast, RanOrNot, first_caller};
 ghost use Rattle.funnel.specs.Serving.{FirstDid, new_passes};
 ghost use Rattle.funnel.specs.Turns.{RunsInTurns};
 ghost use Rattle.session.specs.declared.serving.TheConstants.{MOST_BYTES};
@@ -32,11 +32,8 @@ pub(crate) fn run_command<R: Wait, S: Source, K: Sink>(
     ensures in_turns { RunsInTurns S.read_gives K.write_gives (result.0 ≡ Why.Done) (input.old, output.old) (input.new, output.new) }
     ensures closed { IfSome result.1 IsClosed }
     ensures kept { IfSome result.1 (KeepsLast config.now) }
-    ensures input_untouched { IfNone result.1 (input.new ≡ input.old) }
-    ensures output_untouched { IfNone result.1 (output.new ≡ output.old) }
-    ensures without_memory { result.0 ≡ Why.Memory → (input.new ≡ input.old) × (output.new ≡ output.old) }
-    ensures source_borrowed { S.borrowed input.new ≡ S.borrowed input.old }
-    ensures sink_borrowed { K.borrowed output.new ≡ K.borrowed output.old }
+    ensures untouched { result.0 ≡ Why.Memory → (input.new ≡ input.old) × (output.new ≡ output.old) }
+    ensures borrowed { HoldTheSame S.borrowed K.borrowed (input.old, output.old) (input.new, output.new) }
 {
     let Ok(blank) = Blank::new(alloc, config) else {
         return (Why::Memory, None);
@@ -54,19 +51,13 @@ fn run<N: PoolName, R: Wait, S: Source, K: Sink>(
     input: &mut S,
     output: &mut K,
 ) -> (Why, Option<Closed>)
-    requires valid { IsValid config.now }
-    requires made_with { blank.config ≡ config.now }
-    requires limits { blank.limits ≡ limits_by config.now }
-    requires named { blank ≡ N.pool }
+    requires blank { IsBlankFor config.now N.pool blank }
     ensures ran { RanOrNot config.now (S.incoming input.old) (S.incoming input.new) (K.outgoing output.old) (K.outgoing output.new) result.0 result.1 }
     ensures in_turns { RunsInTurns S.read_gives K.write_gives (result.0 ≡ Why.Done) (input.old, output.old) (input.new, output.new) }
     ensures closed { IfSome result.1 IsClosed }
     ensures kept { IfSome result.1 (KeepsLast config.now) }
-    ensures input_untouched { IfNone result.1 (input.new ≡ input.old) }
-    ensures output_untouched { IfNone result.1 (output.new ≡ output.old) }
-    ensures without_memory { result.0 ≡ Why.Memory → (input.new ≡ input.old) × (output.new ≡ output.old) }
-    ensures source_borrowed { S.borrowed input.new ≡ S.borrowed input.old }
-    ensures sink_borrowed { K.borrowed output.new ≡ K.borrowed output.old }
+    ensures untouched { result.0 ≡ Why.Memory → (input.new ≡ input.old) × (output.new ≡ output.old) }
+    ensures borrowed { HoldTheSame S.borrowed K.borrowed (input.old, output.old) (input.new, output.new) }
 {
     let Ok((engine, passes)) = Engine::<N>::open(alloc, config, blank) else {
         return (Why::Memory, None);
@@ -92,9 +83,8 @@ fn serve<N: PoolName, R: Wait, S: Source, K: Sink>(
         record { front = front; incoming = S.incoming input.new; outgoing = K.outgoing output.new }
         result.0) }
     ensures in_turns { RunsInTurns S.read_gives K.write_gives (result.0 ≡ End.Done) (input.old, output.old) (input.new, output.new) }
-    ensures without_memory { result.0 ≡ End.Memory → (input.new ≡ input.old) × (output.new ≡ output.old) }
-    ensures source_borrowed { S.borrowed input.new ≡ S.borrowed input.old }
-    ensures sink_borrowed { K.borrowed output.new ≡ K.borrowed output.old }
+    ensures untouched { result.0 ≡ End.Memory → (input.new ≡ input.old) × (output.new ≡ output.old) }
+    ensures borrowed { HoldTheSame S.borrowed K.borrowed (input.old, output.old) (input.new, output.new) }
 {
     let (mut client, others) = first_client(rt, alloc, engine, passes);
     let mut conn = Pair {

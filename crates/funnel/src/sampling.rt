@@ -1,7 +1,7 @@
 //! A fit: a configuration that is fitted to a sample of documents.
-ghost use Rattle.std.specs.Prelude.{◌≡◌};
 ghost use Rattle.funnel.specs.Commands.{IsFitInRange};
 ghost use Rattle.funnel.specs.FitRuns.{EndsFit};
+ghost use Rattle.funnel.specs.Runs.{HoldTheSame};
 
 use crate::command::FitCommand;
 use crate::ended::Why;
@@ -20,8 +20,7 @@ pub(crate) fn fit_command<S: Source, K: Sink>(
 ) -> Why
     requires { IsFitInRange command }
     ensures ends { EndsFit command (S.incoming input.old) (S.incoming input.new) (K.outgoing output.old) (K.outgoing output.new) result }
-    ensures input_borrowed { S.borrowed input.new ≡ S.borrowed input.old }
-    ensures output_borrowed { K.borrowed output.new ≡ K.borrowed output.old }
+    ensures borrowed { HoldTheSame S.borrowed K.borrowed (input.old, output.old) (input.new, output.new) }
 {
     let documents = command.documents;
     Why::from(fit(alloc, documents, MOST_BYTES, input, output))

@@ -5,11 +5,12 @@ ghost use Rattle.engine.specs.Engines.{IsClosed};
 ghost use Rattle.funnel_model.specs.Configuration.{IsValid};
 ghost use Rattle.funnel_io.specs.Answers.{MatchOpening};
 ghost use Rattle.funnel_server.specs.Gates.{gate_state};
-ghost use Rattle.funnel.specs.Runs.{KeepsLast, limits_by};
-ghost use Rattle.funnel.specs.Served.{OneDidNotOpen, new_workers};
+ghost use Rattle.funnel.specs.Runs.{IsBlankFor, KeepsLast};
+ghost use Rattle.funnel.specs.Served.{new_workers};
 ghost use Rattle.funnel.specs.Serving.{new_passes};
 ghost use Rattle.funnel.specs.Turns.{AreOpened, AreOpenedInVain, AreOpenedUntilOneFails};
-ghost use Rattle.funnel.specs.Workers.{EndsOpenServeInTurns, EndsServeInTurns, HaveWorkedInTurns, gates_of, pass_of_worker, states_of};
+ghost use Rattle.funnel.specs.Workers.{gates_of, pass_of_worker, states_of};
+ghost use Rattle.funnel.specs.Workers.{ArePassedOn, EndsOpenServeInTurns, EndsServeInTurns, HaveWorkedInTurns, TellOfOpening, TellTheSame};
 
 use crate::command::ServeCommand;
 use crate::ended::{Ended, Why};
@@ -62,9 +63,8 @@ fn open_all<G: Gate>(gates: &mut [G]) -> Opening
     ensures opened { MatchOpening result
         (AreOpened G.open_gives gates.old gates.new)
         (AreOpenedUntilOneFails G.open_gives gates.old gates.new) }
-    ensures told { MatchOpening result
-        (map (gate_state G.is_closed G.gate_faults G.waiting G.Conn.incoming G.Conn.outgoing G.served) gates.new ≡ map (gate_state G.is_closed G.gate_faults G.waiting G.Conn.incoming G.Conn.outgoing G.served) gates.old)
-        (OneDidNotOpen (map (gate_state G.is_closed G.gate_faults G.waiting G.Conn.incoming G.Conn.outgoing G.served) gates.old) (map (gate_state G.is_closed G.gate_faults G.waiting G.Conn.incoming G.Conn.outgoing G.served) gates.new)) }
+    ensures told { TellOfOpening (gate_state G.is_closed G.gate_faults G.waiting G.Conn.incoming G.Conn.outgoing G.served)
+        result gates.old gates.new }
     ensures count { length gates.new ≡ length gates.old }
 {
     let Some((gate, others)) = gates.split_first_mut() else {
@@ -79,7 +79,7 @@ fn open_all<G: Gate>(gates: &mut [G]) -> Opening
 /// Ends each gate.
 fn end_all<G: Gate>(gates: &mut [G])
     ensures ended { AllZip G.end_gives gates.old gates.new }
-    ensures told { map (gate_state G.is_closed G.gate_faults G.waiting G.Conn.incoming G.Conn.outgoing G.served) gates.new ≡ map (gate_state G.is_closed G.gate_faults G.waiting G.Conn.incoming G.Conn.outgoing G.served) gates.old }
+    ensures told { TellTheSame (gate_state G.is_closed G.gate_faults G.waiting G.Conn.incoming G.Conn.outgoing G.served) gates.old gates.new }
     ensures count { length gates.new ≡ length gates.old }
 {
     if let Some((gate, others)) = gates.split_first_mut() {
@@ -127,10 +127,7 @@ fn serve_gates<N: PoolName + Send + Sync, R: Threads + Wait + Sync, G: Gate + Se
 ) -> Ended<G>
 where
     G::Conn: Send,
-    requires valid { IsValid config.now }
-    requires made_with { blank.config ≡ config.now }
-    requires limits { blank.limits ≡ limits_by config.now }
-    requires named { blank ≡ N.pool }
+    requires blank { IsBlankFor config.now N.pool blank }
     requires enough { length gates.items ≤ config.now.passes }
     ensures ends { EndsOpenServeInTurns G.next_gives G.done_gives G.end_gives G.Conn.read_gives G.Conn.write_gives G.Conn.incoming G.Conn.outgoing
         (gate_state G.is_closed G.gate_faults G.waiting G.Conn.incoming G.Conn.outgoing G.served)
@@ -206,12 +203,10 @@ fn equip<'a, N: PoolName, R: Wait, G: Gate + Drop>(
     requires room { length gates.old.items ≤ vec_capacity workers.old }
     ensures workers { states_of workers.new.items ≡ new_workers N.pool.limits serve 0
         (map (gate_state G.is_closed G.gate_faults G.waiting G.Conn.incoming G.Conn.outgoing G.served) gates.old.items) }
-    ensures theirs { gates_of workers.new.items ≡ gates.old.items }
-    ensures gates { gates.new.items ≡ [] }
+    ensures gates { ArePassedOn gates.old.items gates.new.items workers.new.items }
     ensures passes { passes.new.items ≡ new_passes (length gates.old.items)
         (N.pool.config.passes - length gates.old.items) }
-    ensures room_of_gates { vec_capacity gates.new ≡ vec_capacity gates.old }
-    ensures room_of_passes { vec_capacity passes.new ≡ vec_capacity passes.old }
+    ensures room { (vec_capacity gates.new ≡ vec_capacity gates.old) × (vec_capacity passes.new ≡ vec_capacity passes.old) }
 {
     while !gates.is_empty() {
         let gate = gates.remove(0);

@@ -21,7 +21,7 @@ pub const VERSION: &str = "funnel 0.1.0\n";
 
 /// The text of [`Text::Help`].
 pub const HELP: &str = "\
-funnel: indexes documents in memory, and finds those that have every word of a query
+funnel: indexes documents in memory, and finds those that have every word of a query, or that a boolean query keeps
 
 Commands:
   run        answers the lines of standard input on standard output
@@ -58,6 +58,7 @@ Keys of funnel.json, a file with one JSON object in the folder where the program
 
 Examples:
   printf 'add 7 The cat sat\\nfind CAT\\n' | funnel run
+  printf 'add 7 The cat sat\\nquery (cat | dog) -bird\\n' | funnel run
   funnel serve --port 7000 --workers 2
   sed 's/^/add 1 /' sample.txt | funnel fit --documents 20000 >funnel.json
 ";

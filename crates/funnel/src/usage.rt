@@ -59,6 +59,18 @@ fn refusal(kind: ErrorKind, text: String) -> UsageFault {
     }
 }
 
+/// The options that take numbers, each with the least and the greatest of them.
+static NUMBERS: [(&str, u64, u64); 8] = [
+    ("port", 1, MOST_PORT as u64),
+    ("workers", 1, MOST_PASSES as u64),
+    ("connections", 1, MOST_CONNECTIONS),
+    ("idle", 0, MOST_IDLE as u64),
+    ("docs", 1, MOST_DOCS as u64),
+    ("words", 0, MOST_WORDS as u64),
+    ("seed", 0, u64::MAX),
+    ("documents", 1, MOST_FITTED as u64),
+];
+
 // The numbers that the option of a refused value takes, unless the text tells them behind its name.
 fn numbers_untold(text: &str) -> Option<(u64, u64)> {
     let (_, told) = text.rsplit_once(" for '--")?;
@@ -66,17 +78,12 @@ fn numbers_untold(text: &str) -> Option<(u64, u64)> {
     if cause.contains(" is not in ") {
         return None;
     }
-    match name {
-        "port" => Some((1, u64::from(MOST_PORT))),
-        "workers" => Some((1, u64::from(MOST_PASSES))),
-        "connections" => Some((1, MOST_CONNECTIONS)),
-        "idle" => Some((0, u64::from(MOST_IDLE))),
-        "docs" => Some((1, u64::from(MOST_DOCS))),
-        "words" => Some((0, u64::from(MOST_WORDS))),
-        "seed" => Some((0, u64::MAX)),
-        "documents" => Some((1, u64::from(MOST_FITTED))),
-        _ => None,
+    for (option, least, greatest) in &NUMBERS {
+        if *option == name {
+            return Some((*least, *greatest));
+        }
     }
+    None
 }
 
 impl fmt::Display for UsageFault {

@@ -1,12 +1,10 @@
 //! A load over a new engine, and its summary.
-ghost use Rattle.std.specs.Prelude.{◌≡◌, ◌≤◌, None, IfSome, length};
+ghost use Rattle.std.specs.Prelude.{◌≡◌, None, IfSome, length};
 ghost use Rattle.engine.specs.Engines.{IsClosed};
 ghost use Rattle.funnel_model.specs.Configuration.{IsValid};
-ghost use Rattle.load_gen.specs.declared.limits.TheConstants.{MOST_DOCS, MOST_WORDS};
 ghost use Rattle.load_gen.specs.Summary.{summary_text};
-ghost use Rattle.funnel.specs.LoadRuns.{EndsLoad, Tells};
-ghost use Rattle.funnel.specs.Misfits.{misfit_of_load};
-ghost use Rattle.funnel.specs.Runs.{KeepsLast, limits_by};
+ghost use Rattle.funnel.specs.LoadRuns.{EndsLoad, IsLoadThatFits, Tells};
+ghost use Rattle.funnel.specs.Runs.{IsBlankFor, KeepsLast};
 
 use crate::command::LoadCommand;
 use crate::ended::Why;
@@ -29,11 +27,7 @@ pub(crate) fn load_command<R: Threads + Wait + Sync, K: Sink>(
     output: &mut K,
 ) -> (Why, Option<Closed>)
     requires valid { IsValid config.now }
-    requires some { 1 ≤ command.docs }
-    requires docs { command.docs ≤ MOST_DOCS }
-    requires workers { 1 ≤ command.workers }
-    requires words { command.words ≤ MOST_WORDS }
-    requires fits { misfit_of_load command config.now ≡ None }
+    requires load { IsLoadThatFits config.now command }
     ensures ends { EndsLoad config.now command (K.outgoing output.old) (K.outgoing output.new) result.0 result.1 }
     ensures closed { IfSome result.1 IsClosed }
     ensures kept { IfSome result.1 (KeepsLast config.now) }
@@ -57,15 +51,8 @@ fn make_load<N: PoolName + Send + Sync, R: Threads + Wait + Sync, K: Sink>(
     command: LoadCommand,
     output: &mut K,
 ) -> (Why, Option<Closed>)
-    requires valid { IsValid config.now }
-    requires made_with { blank.config ≡ config.now }
-    requires limits { blank.limits ≡ limits_by config.now }
-    requires named { blank ≡ N.pool }
-    requires some { 1 ≤ command.docs }
-    requires docs { command.docs ≤ MOST_DOCS }
-    requires workers { 1 ≤ command.workers }
-    requires words { command.words ≤ MOST_WORDS }
-    requires fits { misfit_of_load command config.now ≡ None }
+    requires blank { IsBlankFor config.now N.pool blank }
+    requires load { IsLoadThatFits config.now command }
     ensures ends { EndsLoad config.now command (K.outgoing output.old) (K.outgoing output.new) result.0 result.1 }
     ensures closed { IfSome result.1 IsClosed }
     ensures kept { IfSome result.1 (KeepsLast config.now) }

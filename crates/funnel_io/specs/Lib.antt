@@ -1,5 +1,6 @@
 pub mod Counts
 pub mod Borrowed
+pub mod Beside
 pub mod Streams
 pub mod Std
 pub mod Answers

@@ -56,6 +56,11 @@ Gives answer.Finished taken given now = (lines taken true ≡ given) × (now.end
 Gives answer.Failed taken given now = (lines taken false ≡ given) × HasGiven now taken given
 Gives answer.Limit taken given now = (lines taken false ≡ given) × HasGiven now taken given
 
+-- the bytes held decide no answer: no newline is among them, and the source may go on
+pub record IsUndecided (reader : ReaderState) : Type 0 where
+  pub clean : HasNoNewline reader.held
+  pub not_ended : reader.ended ≡ false
+
 -- so much room is enough for a read: for 64 bytes, or for all bytes that may be taken where these are fewer
 abbrev pub IsRoomFor : ℕ → ℕ → Type 0
 IsRoomFor room may = (64 ≤ room) ⊎ (room ≡ may)
@@ -99,6 +104,13 @@ IsDecided reader may = Contains reader.held 10 ⊎ (reader.ended ≡ true) ⊎ (
 -- where the reader is at the end, nothing is left in the source, and it was found by a read that was allowed
 abbrev pub KnowsEnd : ReaderState → Incoming → ℕ → Type 0
 KnowsEnd reader incoming may = reader.ended ≡ true → IsAtEnd incoming.left × (0 < may)
+
+-- the answer keeps to the limits: a line that is whole is not too long, no byte may be taken any more at the limit, and some may where a
+-- read failed
+pub record KeepsToLimits (given : Line) (now : ReaderState) (may : ℕ) : Type 0 where
+  pub short : given ≡ answer.Whole → length now.line ≤ MAX_LINE_LEN
+  pub at_limit : given ≡ answer.Limit → may ≡ 0
+  pub below_limit : given ≡ answer.Failed → 0 < may
 
 -- an answer that says that a line ended
 abbrev pub IsLine : Line → Type 0

@@ -1,7 +1,6 @@
 ghost use Rattle.std.specs.Prelude.{◌≡◌, ◌<◌, ◌≤◌, ◌+◌, [], ◌∷◌, ◌++◌, IfOk, MatchBool, length, ⊤};
-ghost use Rattle.std.specs.Io.KnownBytes.{IsAtEnd};
-ghost use Rattle.funnel_io.specs.Answers.{MatchGot, read_failed};
-ghost use Rattle.funnel_io.specs.Counts.{counted};
+ghost use Rattle.funnel_io.specs.Beside.{StaysBeside};
+ghost use Rattle.funnel_io.specs.BufferReads.{TellsRead};
 ghost use Rattle.funnel_io.specs.Lines.{HasNoNewline};
 ghost use Rattle.funnel_io.specs.LineBuffers.{ReadsOnce};
 
@@ -141,12 +140,9 @@ impl LineBuffer {
         requires clean { HasNoNewline self.old.bytes }
         requires room { LEAST_ROOM ≤ self.old.room }
         requires some { 0 < left.old }
-        ensures borrowed { C.borrowed conn.new ≡ C.borrowed conn.old }
-        ensures beside { C.beside_read conn.new ≡ C.beside_read conn.old }
+        ensures stays { StaysBeside C.borrowed C.beside_read conn.old conn.new }
         ensures once { ReadsOnce C.incoming C.read_gives conn.old conn.new self.old.bytes self.new.bytes result left.old left.new }
-        ensures left { MatchGot result (λ _. left.new < left.old) (left.new ≡ left.old) (left.new ≡ left.old) }
-        ensures end { MatchGot result (λ _. ⊤) (IsAtEnd (C.incoming conn.new).left) ⊤ }
-        ensures faults { (C.incoming conn.new).faults ≡ counted (read_failed result) (C.incoming conn.old).faults }
+        ensures told { TellsRead C.incoming result conn.old conn.new left.old left.new }
     {
         read_behind(conn, &mut self.buffer, &mut self.end, left)
     }

@@ -1,9 +1,10 @@
 ghost use Rattle.std.specs.Prelude.{◌≡◌, ◌<◌, ◌≤◌, ◌+◌, ℕ, List, [], true, false, nat_lt, ◌||◌, if◌then◌else◌, IfOk, MatchOption, length, ⊤};
-ghost use Rattle.std.specs.Io.KnownBytes.{IsAtEnd};
-ghost use Rattle.funnel_io.specs.Answers.{MatchGot, read_failed};
+ghost use Rattle.funnel_io.specs.Answers.{MatchGot};
+ghost use Rattle.funnel_io.specs.Beside.{StaysBeside};
+ghost use Rattle.funnel_io.specs.BufferReads.{TellsRead};
 ghost use Rattle.funnel_io.specs.Counts.{counted};
 ghost use Rattle.funnel_io.specs.Lines.{HasNoNewline};
-ghost use Rattle.funnel_io.specs.LineReading.{unused, HasGiven, Gives, NextLine, IsDecided, KnowsEnd, line_failed, IsLine, most_lines};
+ghost use Rattle.funnel_io.specs.LineReading.{unused, HasGiven, Gives, NextLine, IsDecided, IsUndecided, KeepsToLimits, KnowsEnd, line_failed, IsLine, most_lines};
 ghost use Rattle.funnel_io.specs.LineSteps.{ReadsNext, KeepsEnd, IsOfBytes};
 
 use crate::line_buffer::{LEAST_ROOM, LineBuffer};
@@ -75,16 +76,13 @@ impl LineReader {
     /// Gives the next line, and takes at most `left` bytes for it, which it counts down. It takes
     /// no memory. A read that fails ends the call, and nothing is lost by it.
     pub fn next_line<C: Source>(&mut self, conn: &mut C, left: &mut u64) -> Line
-        ensures borrowed { C.borrowed conn.new ≡ C.borrowed conn.old }
-        ensures beside { C.beside_read conn.new ≡ C.beside_read conn.old }
+        ensures stays { StaysBeside C.borrowed C.beside_read conn.old conn.new }
         ensures faults { (C.incoming conn.new).faults ≡ counted (line_failed result) (C.incoming conn.old).faults }
 
         // It reads only where the bytes that it holds decide no answer, into room for 64 bytes or for
         // all that may be taken, and never after a read that gave none.
         ensures next { NextLine C.incoming C.read_gives self.old self.new result conn.old conn.new left.old left.new }
-        ensures fits { result ≡ Line.Whole → length self.new.line ≤ MAX_LINE_LEN }
-        ensures limit { result ≡ Line.Limit → left.new ≡ 0 }
-        ensures failed_below_limit { result ≡ Line.Failed → 0 < left.new }
+        ensures limits { KeepsToLimits result self.new left.new }
         ensures at_end { KnowsEnd self.old (C.incoming conn.old) left.old → KnowsEnd self.new (C.incoming conn.new) left.new }
 
         // Where nothing has to be read or nothing may be, the source is not touched.
@@ -113,7 +111,7 @@ impl LineReader {
     fn held_line(&mut self) -> Option<Line>
         ensures line { MatchOption result (self.new ≡ self.old)
             (λ line. (taken : List ℕ) (given : List (List ℕ)) → HasGiven self.old taken given → Gives line taken given self.new) }
-        ensures undecided { MatchOption result (HasNoNewline self.new.held × (self.new.ended ≡ false)) (λ _. ⊤) }
+        ensures undecided { MatchOption result (IsUndecided self.new) (λ _. ⊤) }
         ensures ended { self.new.ended ≡ self.old.ended }
         ensures no_read { MatchOption result ⊤ IsOfBytes }
         ensures fits { MatchOption result ⊤ (λ line. line ≡ Line.Whole → length self.new.line ≤ MAX_LINE_LEN) }
@@ -152,19 +150,15 @@ impl LineReader {
 
     // Reads once, into room that it makes where there is too little.
     fn read_more<C: Source>(&mut self, conn: &mut C, left: &mut u64) -> Got
-        requires not_at_end { self.old.ended ≡ false }
-        requires clean { HasNoNewline self.old.held }
+        requires undecided { IsUndecided self.old }
         requires some { 0 < left.old }
-        ensures borrowed { C.borrowed conn.new ≡ C.borrowed conn.old }
-        ensures beside { C.beside_read conn.new ≡ C.beside_read conn.old }
+        ensures stays { StaysBeside C.borrowed C.beside_read conn.old conn.new }
         ensures next { ReadsNext C.incoming C.read_gives conn.old conn.new self.old self.new result left.old left.new }
         ensures no_more { most_lines self.new.held self.new.long + left.new
             ≤ most_lines self.old.held self.old.long + left.old }
-        ensures left { MatchGot result (λ _. left.new < left.old) (left.new ≡ left.old) (left.new ≡ left.old) }
+        ensures told { TellsRead C.incoming result conn.old conn.new left.old left.new }
         ensures clean { MatchGot result (λ _. ⊤) (HasNoNewline self.new.held) (HasNoNewline self.new.held) }
         ensures ended { MatchGot result (λ _. self.new.ended ≡ false) (self.new.ended ≡ true) (self.new.ended ≡ false) }
-        ensures end { MatchGot result (λ _. ⊤) (IsAtEnd (C.incoming conn.new).left) ⊤ }
-        ensures faults { (C.incoming conn.new).faults ≡ counted (read_failed result) (C.incoming conn.old).faults }
     {
         self.long = make_room(&mut self.held, self.long);
         match self.held.read(conn, left) {

@@ -2,7 +2,8 @@ ghost use Rattle.std.specs.Prelude.{◌≡◌, ◌<◌, ◌≤◌, ◌+◌, ◌-
 ghost use Rattle.std.specs.Io.KnownBytes.{IsAtEnd};
 ghost use Rattle.funnel_io.specs.Answers.{MatchGot, bytes_got, read_failed};
 ghost use Rattle.funnel_io.specs.Counts.{counted};
-ghost use Rattle.funnel_io.specs.BufferReads.{ReadsBehind};
+ghost use Rattle.funnel_io.specs.Beside.{StaysBeside};
+ghost use Rattle.funnel_io.specs.BufferReads.{FillsFrom, ReadsBehind, TellsRead};
 ghost use Rattle.funnel_io.specs.Streams.{Takes};
 
 use crate::source::{Got, Source};
@@ -17,13 +18,10 @@ pub fn read_behind<C: Source>(
 ) -> Got
     requires room { end.old < length buffer.old.items }
     requires some { 0 < left.old }
-    ensures borrowed { C.borrowed conn.new ≡ C.borrowed conn.old }
-    ensures beside { C.beside_read conn.new ≡ C.beside_read conn.old }
+    ensures stays { StaysBeside C.borrowed C.beside_read conn.old conn.new }
     ensures reads { ReadsBehind C.incoming C.read_gives result conn.old conn.new
         buffer.old.items end.old buffer.new.items end.new left.old left.new }
-    ensures left { MatchGot result (λ _. left.new < left.old) (left.new ≡ left.old) (left.new ≡ left.old) }
-    ensures at_end { MatchGot result (λ _. ⊤) (IsAtEnd (C.incoming conn.new).left) ⊤ }
-    ensures faults { (C.incoming conn.new).faults ≡ counted (read_failed result) (C.incoming conn.old).faults }
+    ensures told { TellsRead C.incoming result conn.old conn.new left.old left.new }
 {
     match read_from(conn, buffer, *end, *left) {
         Got::Bytes(n) => {
@@ -40,10 +38,8 @@ pub fn read_behind<C: Source>(
 fn read_from<C: Source>(conn: &mut C, buffer: &mut [u8], end: usize, left: u64) -> Got
     requires room { end < length buffer.old }
     requires some { 0 < left }
-    ensures borrowed { C.borrowed conn.new ≡ C.borrowed conn.old }
-    ensures beside { C.beside_read conn.new ≡ C.beside_read conn.old }
-    ensures kept { take end buffer.new ≡ take end buffer.old }
-    ensures count { MatchGot result (λ n. (1 ≤ n) × (n ≤ left) × (end + n ≤ length buffer.new)) ⊤ ⊤ }
+    ensures stays { StaysBeside C.borrowed C.beside_read conn.old conn.new }
+    ensures fills { FillsFrom end left result buffer.old buffer.new }
     ensures takes { Takes (bytes_got result (drop end buffer.new)) (C.incoming conn.old) (C.incoming conn.new) }
     ensures gives { C.read_gives conn.old
         (record { room = min left (length buffer.old - end); answer = result; bytes = bytes_got result (drop end buffer.new) })

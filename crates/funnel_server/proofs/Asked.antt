@@ -9,10 +9,11 @@ use Rattle.funnel_model.specs.declared.reply.Reply.TheVariants as reply
 use Rattle.funnel_model.proofs.StepCauses.{memory_cause}
 use Rattle.funnel_model.proofs.StepLemmas.{prefix_refl}
 use Rattle.funnel_model.specs.Steps.{Step}
+use Rattle.line_proto.specs.Forms.{Calls}
 use Rattle.line_proto.specs.Services.{AnswersCall, Caller}
 use Rattle.funnel_server.proofs.JoinedCalls.{linear-append}
 use Rattle.funnel_server.specs.Loads.{AreAsked}
-use Rattle.funnel_server.specs.Shares.{EndsEarly, IsDone}
+use Rattle.funnel_server.specs.Shares.{EndsEarly, FindsMemory, IsDone}
 
 -- what holds anyhow holds where there is an error
 pub on_err : {T E P : Type 0} (result : Result T E) → P → OnErr result P
@@ -103,6 +104,14 @@ stopped-one caller before after asked answers = record {
   later = [];
   calls_are = refl;
   stops = record { middle = before; replies = []; answered = asked-none caller before; ends = answers.step };
+}
+
+-- a call that finds memory is asked
+pub asked-one : (caller : Caller) (before after : List Event) (asked : Call) (given : Reply) → FindsMemory caller before after (Calls asked) given →
+    AreAsked caller before after (asked ∷ []) (given ∷ [])
+asked-one caller before after asked given finds = record {
+  run = (after, finds.answers.step, refl);
+  memory = All-cons (λ r. r ≢ reply.Memory) given [] finds.found (All-nil (λ r. r ≢ reply.Memory));
 }
 
 -- a delete is asked, and its reply is no want of memory

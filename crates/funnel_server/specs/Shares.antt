@@ -1,13 +1,20 @@
 -- One part of a worker's share of a load, for the clauses of functions that are not public.
-use Rattle.std.specs.Prelude.{ℕ, ◌≡◌, List, ◌∷◌, ◌++◌, length, map}
+use Rattle.std.specs.Prelude.{ℕ, ◌≡◌, ◌≢◌, List, ◌∷◌, ◌++◌, length, map}
 use Rattle.funnel_model.specs.declared.call.Call.{Call}
 use Rattle.funnel_model.specs.declared.event.Event.{Event}
 use Rattle.funnel_model.specs.declared.reply.Reply.{Reply}
-use Rattle.line_proto.specs.Services.{Caller}
+use Rattle.funnel_model.specs.declared.reply.Reply.TheVariants as reply
+use Rattle.line_proto.specs.Forms.{Asked}
+use Rattle.line_proto.specs.Services.{AnswersAsked, Caller}
 use Rattle.load_gen.specs.Jobs.{queries_of, share}
 use Rattle.load_gen.specs.Queries.{queries}
 use Rattle.load_laws.specs.Replies.{result_in}
 use Rattle.funnel_server.specs.Loads.{AreAsked, StopsAfter}
+
+-- what is asked is answered so, and not by a want of memory
+pub record FindsMemory (caller : Caller) (before after : List Event) (asked : Asked) (given : Reply) : Type 0 where
+  pub answers : AnswersAsked caller before after asked given
+  pub found : given ≢ reply.Memory
 
 -- the calls were asked, and memory was found for each; they have some replies
 abbrev pub IsDone : Caller → List Event → List Event → List Call → Type 0

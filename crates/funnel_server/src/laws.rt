@@ -10,7 +10,8 @@ ghost use Rattle.funnel_server.specs.Gates.{Sides};
 ghost use Rattle.funnel_server.specs.GateTurns.{TakesTurn, WorksInTurns, none_by};
 ghost use Rattle.funnel_server.specs.Laws.{AsksShare, SessionEndsWell, GoesOnByCalls, HasCause, HasFewBytes, VisitHasNoFault};
 ghost use Rattle.funnel_server.specs.Loads.{AreAsked, ComesToQueries, Course};
-ghost use Rattle.funnel_server.specs.Workers.{GivesNoMore, HasServedVisits, IsVisit, Visit, WorkerState, WorkerWithGate, Works, served_by, sides_after, sides_before};
+ghost use Rattle.funnel_server.specs.Workers.{GivesNoMore, HasServedVisits, IsVisit, Visit, WorkerState, WorkerWithGate, Works};
+ghost use Rattle.funnel_server.specs.Workers.{served_by, sides_after, sides_before};
 
 use funnel_io::{End, Gate, Next};
 

@@ -1,15 +1,12 @@
 ghost use Rattle.std.specs.Prelude.{◌≡◌, ◌<◌, ◌%◌, ◌^◌, ◌∷◌, [], string_bytes, map, filter, sum, IfOk, OnOk, OnErr};
-ghost use Rattle.funnel_model.specs.declared.call.Call.{Call};
 ghost use Rattle.funnel_model.specs.declared.call.Call.TheVariants as call;
 ghost use Rattle.funnel_model.specs.declared.reply.Reply.TheVariants as reply;
-ghost use Rattle.line_proto.specs.Forms.{Calls};
 ghost use Rattle.line_proto.specs.Requests.{requested};
-ghost use Rattle.line_proto.specs.Services.{AnswersCall};
+ghost use Rattle.line_proto.specs.Services.{AnswersAsked};
 ghost use Rattle.load_gen.specs.Documents.{name_of_document};
 ghost use Rattle.load_gen.specs.Jobs.{add_and_check, adds_of, deletes_of, is_deleted, queries_of};
 ghost use Rattle.load_laws.specs.Replies.{result_in};
-ghost use Rattle.funnel_server.specs.Loads.{AreAsked};
-ghost use Rattle.funnel_server.specs.Shares.{EndsEarly, HasResults, IsDone};
+ghost use Rattle.funnel_server.specs.Shares.{EndsEarly, FindsMemory, HasResults, IsDone};
 
 use funnel_model::{Memory, Reply};
 use itoa::Buffer;
@@ -130,13 +127,11 @@ pub(crate) fn find_share<S: Service>(
     Ok(())
 }
 
-/// Makes the call of a request, which is no query. Where it is answered by want of memory, that is the error.
+/// Has a request answered, whatever it asks. Where the answer is want of memory, that is the error.
 fn ask<S: Service>(service: &mut S, request: &Request<'_>) -> Result<Reply, Memory>
     ensures caller { S.caller service.new ≡ S.caller service.old }
-    ensures answered { IfOk result (λ given. (asked : Call) → requested request.now ≡ Calls asked →
-        AreAsked (S.caller service.old) (S.front service.old) (S.front service.new) (asked ∷ []) (given ∷ [])) }
-    ensures refused { OnErr result ((asked : Call) → requested request.now ≡ Calls asked →
-        AnswersCall (S.caller service.old) (S.front service.old) (S.front service.new) asked reply.Memory) }
+    ensures answered { IfOk result (FindsMemory (S.caller service.old) (S.front service.old) (S.front service.new) (requested request.now)) }
+    ensures refused { OnErr result (AnswersAsked (S.caller service.old) (S.front service.old) (S.front service.new) (requested request.now) reply.Memory) }
 {
     match service.call(request) {
         Reply::Memory => Err(Memory),

@@ -2,6 +2,7 @@
 use Rattle.std.specs.Prelude.{◌≡◌, ◌+◌, ◌<◌, ⊤, ℕ, true, false, List, [], ◌∷◌, ◌++◌, length}
 use Rattle.std.specs.List.{list_any}
 use Rattle.funnel_io.specs.Calls.{Read, Write, Leads, GaveBytes, bytes_read, found_end}
+use Rattle.funnel_io.specs.Streams.{Incoming}
 use Rattle.funnel_io.specs.declared.end.End.{End}
 use Rattle.funnel_io.specs.declared.end.End.TheVariants as end_of
 use Rattle.funnel_io.specs.declared.source.Got.{Got}
@@ -9,6 +10,7 @@ use Rattle.session.specs.Turns.{answers_of, reads_of}
 use Rattle.session.specs.TurnSteps.{HasTakenTurns}
 use Rattle.http_front.specs.Entries.{BeginsWith, is_last}
 use Rattle.http_front.specs.Sessions.{entries_of}
+use Rattle.http_front.specs.Steps.{HasRead, StopsUndecided}
 use Rattle.http_front.specs.Turns.{request_by_request}
 
 -- one read was made, and its bytes stand behind those that were held
@@ -42,6 +44,19 @@ pub record ReadsAsNeeded {S : Type 0} (Undecided : List ℕ → Type 0) (Last : 
 -- with Done the last of the reads found the end
 abbrev pub FindsEndAs : End → List Read → Type 0
 FindsEndAs end reads = end ≡ end_of.Done → found_end reads ≡ true
+
+-- bytes were read, by reads that had to be made, of which each gave bytes and none failed
+pub record ReadsOn {S : Type 0} (Undecided : List ℕ → Type 0) (incoming : S → Incoming) (read_gives : S → Read → S → Type 0) (before after : S)
+    (old new : List ℕ) (may may' : ℕ) : Type 0 where
+  pub read : HasRead (incoming before) (incoming after) old new may may'
+  pub calls : ReadsAsNeeded Undecided GaveBytes read_gives before after old new may may'
+  pub faults : (incoming after).faults ≡ (incoming before).faults
+
+-- bytes were read, by reads that had to be made, and the connection ends before those that are held decide what begins them
+pub record EndsUndecided {S : Type 0} (Undecided : List ℕ → Type 0) (limit : ℕ) (end : End) (incoming : S → Incoming) (read_gives : S → Read → S → Type 0)
+    (before after : S) (old new : List ℕ) (may may' : ℕ) : Type 0 where
+  pub stops : StopsUndecided Undecided limit end (incoming before) (incoming after) old new may may'
+  pub calls : ReadsAsNeeded Undecided (FindsEndAs end) read_gives before after old new may may'
 
 -- every request before the bytes that are held had its turn, every response was written whole, none closes, and no call failed
 pub record HasHadTurns {S : Type 0} (read_gives : S → Read → S → Type 0) (write_gives : S → Write → S → Type 0) (limit may : ℕ) (held : List ℕ) (before now : S) : Type 0 where

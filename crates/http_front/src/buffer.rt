@@ -1,7 +1,6 @@
-ghost use Rattle.std.specs.Prelude.{◌≡◌, ◌<◌, ◌≤◌, ◌+◌, [], IfOk, length, drop, ⊤};
-ghost use Rattle.std.specs.Io.KnownBytes.{IsAtEnd};
-ghost use Rattle.funnel_io.specs.Answers.{MatchGot, read_failed};
-ghost use Rattle.funnel_io.specs.Counts.{counted};
+ghost use Rattle.std.specs.Prelude.{◌≡◌, ◌<◌, ◌≤◌, ◌+◌, [], IfOk, length, drop};
+ghost use Rattle.funnel_io.specs.Beside.{StaysBeside};
+ghost use Rattle.funnel_io.specs.BufferReads.{TellsRead};
 ghost use Rattle.http_front.specs.Steps.{HasRead};
 ghost use Rattle.http_front.specs.TurnSteps.{ReadsOnce};
 
@@ -76,13 +75,10 @@ impl Buffer {
     pub(crate) fn read<C: Source>(&mut self, conn: &mut C, left: &mut u64) -> Got
         requires few { length self.old.bytes < CAPACITY }
         requires some { 0 < left.old }
-        ensures borrowed { C.borrowed conn.new ≡ C.borrowed conn.old }
-        ensures beside { C.beside_read conn.new ≡ C.beside_read conn.old }
+        ensures stays { StaysBeside C.borrowed C.beside_read conn.old conn.new }
         ensures read { HasRead (C.incoming conn.old) (C.incoming conn.new) self.old.bytes self.new.bytes left.old left.new }
         ensures once { ReadsOnce C.read_gives result conn.old conn.new self.old.bytes self.new.bytes left.old left.new }
-        ensures left { MatchGot result (λ _. left.new < left.old) (left.new ≡ left.old) (left.new ≡ left.old) }
-        ensures end { MatchGot result (λ _. ⊤) (IsAtEnd (C.incoming conn.new).left) ⊤ }
-        ensures faults { (C.incoming conn.new).faults ≡ counted (read_failed result) (C.incoming conn.old).faults }
+        ensures told { TellsRead C.incoming result conn.old conn.new left.old left.new }
     {
         self.make_room();
         self.read_on(conn, left)
@@ -103,13 +99,10 @@ impl Buffer {
     fn read_on<C: Source>(&mut self, conn: &mut C, left: &mut u64) -> Got
         requires room { 0 < self.old.room }
         requires some { 0 < left.old }
-        ensures borrowed { C.borrowed conn.new ≡ C.borrowed conn.old }
-        ensures beside { C.beside_read conn.new ≡ C.beside_read conn.old }
+        ensures stays { StaysBeside C.borrowed C.beside_read conn.old conn.new }
         ensures read { HasRead (C.incoming conn.old) (C.incoming conn.new) self.old.bytes self.new.bytes left.old left.new }
         ensures once { ReadsOnce C.read_gives result conn.old conn.new self.old.bytes self.new.bytes left.old left.new }
-        ensures left { MatchGot result (λ _. left.new < left.old) (left.new ≡ left.old) (left.new ≡ left.old) }
-        ensures end { MatchGot result (λ _. ⊤) (IsAtEnd (C.incoming conn.new).left) ⊤ }
-        ensures faults { (C.incoming conn.new).faults ≡ counted (read_failed result) (C.incoming conn.old).faults }
+        ensures told { TellsRead C.incoming result conn.old conn.new left.old left.new }
     {
         read_behind(conn, &mut self.room, &mut self.end, left)
     }

@@ -1,6 +1,7 @@
 ghost use Rattle.std.specs.Prelude.{◌≡◌, ◌+◌, ◌≤◌, ◌<◌, ◌++◌, ◌∷◌, false, length, decimal, map, OnOk, OnErr, IsOk, vec_len, vec_capacity};
 ghost use Rattle.line_proto.specs.Texts.{is_list};
-ghost use Rattle.http_front.specs.Responses.{after_commas, body_of, body_of_reply, end_of_head, error_body, ids_body, is_long, joined, place_body, response, start_of_head, status_of, status_of_cause, status_of_reply, text_of, word_of_cause};
+ghost use Rattle.http_front.specs.Responses.{after_commas, body_of, body_of_reply, end_of_head, error_body, ids_body, is_long, joined};
+ghost use Rattle.http_front.specs.Responses.{place_body, response, start_of_head, status_of, status_of_cause, status_of_reply, text_of, word_of_cause};
 ghost use Rattle.http_front.specs.Steps.{IsRendered};
 
 use crate::cause::Cause;

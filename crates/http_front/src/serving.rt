@@ -1,14 +1,14 @@
 ghost use Rattle.std.specs.Prelude.{◌≡◌, ◌<◌, ◌≤◌, ◌+◌, length, [], false, IfNone, IfOk, IfErr, OnOk, MatchOption, Some};
-ghost use Rattle.funnel_io.specs.Calls.{GaveBytes};
+ghost use Rattle.funnel_io.specs.Beside.{StaysBeside};
 ghost use Rattle.session.specs.Ends.{Stand};
 ghost use Rattle.session.specs.Turns.{StopsReading};
 ghost use Rattle.session.specs.declared.serving.TheConstants.{MOST_BYTES};
 ghost use Rattle.http_front.specs.Ends.{ServesRequests};
 ghost use Rattle.http_front.specs.Entries.{HasNoEntry};
-ghost use Rattle.http_front.specs.Steps.{AnswersFront, HasRead, HasServed, IsFront, StopsUndecided};
+ghost use Rattle.http_front.specs.Steps.{AnswersFront, HasServed, IsFront};
 ghost use Rattle.http_front.specs.Ready.{IsReady};
 ghost use Rattle.http_front.specs.Turns.{request_by_request};
-ghost use Rattle.http_front.specs.TurnSteps.{FindsEndAs, HasHadTurns, ReadsAsNeeded};
+ghost use Rattle.http_front.specs.TurnSteps.{EndsUndecided, HasHadTurns, ReadsOn};
 
 use crate::answering::{Decoding, answer};
 use crate::buffer::{Buffer, CAPACITY};
@@ -164,17 +164,11 @@ impl Server {
     fn next_front<C: Connection>(&mut self, conn: &mut C, limit: u64) -> Result<Front, End>
         requires { IsReady self.old }
         ensures ready { IsReady self.new }
-        ensures borrowed { C.borrowed conn.new ≡ C.borrowed conn.old }
-        ensures beside { C.beside_read conn.new ≡ C.beside_read conn.old }
-        ensures read { OnOk result (HasRead (C.incoming conn.old) (C.incoming conn.new)
-            self.old.buffer.bytes self.new.buffer.bytes self.old.left self.new.left) }
-        ensures faults { OnOk result ((C.incoming conn.new).faults ≡ (C.incoming conn.old).faults) }
+        ensures stays { StaysBeside C.borrowed C.beside_read conn.old conn.new }
         ensures front { IfOk result (IsFront self.new.buffer.bytes) }
-        ensures stops { IfErr result (λ end. StopsUndecided HasNoEntry limit end
-            (C.incoming conn.old) (C.incoming conn.new) self.old.buffer.bytes self.new.buffer.bytes self.old.left self.new.left) }
-        ensures going_on { OnOk result (ReadsAsNeeded HasNoEntry GaveBytes C.read_gives conn.old conn.new
+        ensures reads { OnOk result (ReadsOn HasNoEntry C.incoming C.read_gives conn.old conn.new
             self.old.buffer.bytes self.new.buffer.bytes self.old.left self.new.left) }
-        ensures last { IfErr result (λ end. ReadsAsNeeded HasNoEntry (FindsEndAs end) C.read_gives conn.old conn.new
+        ensures ends { IfErr result (λ end. EndsUndecided HasNoEntry limit end C.incoming C.read_gives conn.old conn.new
             self.old.buffer.bytes self.new.buffer.bytes self.old.left self.new.left) }
     {
         loop {
@@ -196,17 +190,11 @@ impl Server {
         requires more { length self.old.buffer.bytes < least }
         requires fits { least ≤ CAPACITY }
         ensures ready { IsReady self.new }
-        ensures borrowed { C.borrowed conn.new ≡ C.borrowed conn.old }
-        ensures beside { C.beside_read conn.new ≡ C.beside_read conn.old }
-        ensures read { OnOk result (HasRead (C.incoming conn.old) (C.incoming conn.new)
+        ensures stays { StaysBeside C.borrowed C.beside_read conn.old conn.new }
+        ensures reads { OnOk result (ReadsOn (λ bytes. length bytes < least) C.incoming C.read_gives conn.old conn.new
             self.old.buffer.bytes self.new.buffer.bytes self.old.left self.new.left) }
-        ensures faults { OnOk result ((C.incoming conn.new).faults ≡ (C.incoming conn.old).faults) }
         ensures fewer { OnOk result (self.new.left < self.old.left) }
-        ensures stops { IfErr result (λ end. StopsUndecided (λ bytes. length bytes < least) limit end
-            (C.incoming conn.old) (C.incoming conn.new) self.old.buffer.bytes self.new.buffer.bytes self.old.left self.new.left) }
-        ensures going_on { OnOk result (ReadsAsNeeded (λ bytes. length bytes < least) GaveBytes C.read_gives conn.old conn.new
-            self.old.buffer.bytes self.new.buffer.bytes self.old.left self.new.left) }
-        ensures last { IfErr result (λ end. ReadsAsNeeded (λ bytes. length bytes < least) (FindsEndAs end) C.read_gives conn.old conn.new
+        ensures ends { IfErr result (λ end. EndsUndecided (λ bytes. length bytes < least) limit end C.incoming C.read_gives conn.old conn.new
             self.old.buffer.bytes self.new.buffer.bytes self.old.left self.new.left) }
     {
         while self.buffer.len() < least {

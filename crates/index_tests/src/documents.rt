@@ -2,7 +2,7 @@
 ghost use Rattle.std.specs.Prelude.{◌≡◌, ◌<◌, ◌≤◌, [], ◌∷◌, IfOk, length};
 
 use document_store::{Column, Doc, Found, Records, resolve_part, verify};
-use funnel_model::{Candidates, Ids, Text, WordSet};
+use funnel_model::{Candidates, Ids, Memory, Text, WordSet};
 use std::alloc::{AllocError, Global};
 use std::marker::Model;
 use std::test::Fail;
@@ -30,31 +30,40 @@ fn parts(doc: &Doc, text: &str) -> (u64, bool, usize) {
     (doc.id(), doc.text() == text, doc.words().len())
 }
 
-/// The parts of a document, and whether it has the words `cat` and `dog`.
-fn described(alloc: Global, text: &str) -> Result<((u64, bool, usize), bool, bool), Fail> {
+/// Whether a document has the words of each of these queries.
+fn has_each(alloc: Global, doc: &Doc, queries: [&str; 3]) -> Result<[bool; 3], WordFault> {
+    let [first, second, third] = queries;
+    let has_first = has_words(alloc, doc, first)?;
+    let has_second = has_words(alloc, doc, second)?;
+    Ok([has_first, has_second, has_words(alloc, doc, third)?])
+}
+
+/// The parts of a document, and whether it has the words `cat`, `dog`, and both.
+fn described(alloc: Global, text: &str) -> Result<((u64, bool, usize), [bool; 3]), WordFault> {
     let doc = document(alloc, 7, text)?;
-    let parts = parts(&doc, text);
-    let cat = has_words(alloc, &doc, "cat")?;
-    Ok((parts, cat, has_words(alloc, &doc, "dog")?))
+    let has = has_each(alloc, &doc, ["cat", "dog", "cat dog"])?;
+    Ok((parts(&doc, text), has))
 }
 
 #[test]
 fn a_document_has_its_words(rt: HostRuntime) -> Result<(), Fail> {
-    assert_eq!(rt; described(rt.alloc(), "cat")?, ((7, true, 1), true, false));
+    assert!(rt; described(rt.alloc(), "cat")? == ((7, true, 1), [true, false, false]));
     Ok(())
 }
 
 /// Whether a document of five words has three of them, two of them and another, and all of them and another.
-fn compared(alloc: Global) -> Result<(bool, bool, bool), WordFault> {
+fn compared(alloc: Global) -> Result<[bool; 3], WordFault> {
     let doc = document(alloc, 7, "the cat sat on the mat")?;
-    let some = has_words(alloc, &doc, "mat sat the")?;
-    let other = has_words(alloc, &doc, "cat dog mat")?;
-    Ok((some, other, has_words(alloc, &doc, "on the mat a cat sat")?))
+    has_each(
+        alloc,
+        &doc,
+        ["mat sat the", "cat dog mat", "on the mat a cat sat"],
+    )
 }
 
 #[test]
 fn many_words_are_compared_with_those_of_a_document(rt: HostRuntime) -> Result<(), Fail> {
-    assert_eq!(rt; compared(rt.alloc())?, (true, false, false));
+    assert!(rt; compared(rt.alloc())? == [true, false, false]);
     Ok(())
 }
 
@@ -167,26 +176,27 @@ fn states(alloc: Global) -> Result<[(Column, bool); 8], Fail> {
     Ok(columns.lead(doc))
 }
 
+static STATES: [(Column, bool); 8] = [
+    (Column::Free, false),
+    (Column::Pending(2), false),
+    (Column::Live { place: 3, since: 8 }, true),
+    (
+        Column::Over {
+            place: 3,
+            since: 8,
+            until: 11,
+        },
+        true,
+    ),
+    (Column::Dropped, false),
+    (Column::Free, false),
+    (Column::Free, false),
+    (Column::Dropped, false),
+];
+
 #[test]
 fn a_column_goes_through_its_states(rt: HostRuntime) -> Result<(), Fail> {
-    let wanted = [
-        (Column::Free, false),
-        (Column::Pending(2), false),
-        (Column::Live { place: 3, since: 8 }, true),
-        (
-            Column::Over {
-                place: 3,
-                since: 8,
-                until: 11,
-            },
-            true,
-        ),
-        (Column::Dropped, false),
-        (Column::Free, false),
-        (Column::Free, false),
-        (Column::Dropped, false),
-    ];
-    assert!(rt; states(rt.alloc())? == wanted);
+    assert!(rt; states(rt.alloc())? == STATES);
     Ok(())
 }
 
@@ -200,8 +210,8 @@ static ADDED: [(u32, u32, u64, &str, u64, u64); 5] = [
     (1, 2, 8, "cat", 5, 10),
 ];
 
-/// Puts each document into its column. Event 11 deletes number 4, one column is dropped, and event 14 moves number 7.
-fn fill(alloc: Global, columns: &mut Columns) -> Result<(), WordFault> {
+/// Puts each document into its column.
+fn add_each(alloc: Global, columns: &mut Columns) -> Result<(), WordFault> {
     for (slice, column, id, text, place, since) in &ADDED {
         let (slice, column) = (*slice, *column);
         if slice < 2 && column < 4 {
@@ -209,13 +219,17 @@ fn fill(alloc: Global, columns: &mut Columns) -> Result<(), WordFault> {
             columns.put(slice, column, document(alloc, *id, text)?, *place, *since);
         }
     }
+    Ok(())
+}
+
+/// Event 11 deletes number 4, one column is dropped, and event 14 moves number 7, which this document has.
+fn delete_and_move(columns: &mut Columns, moved: Doc) {
     columns.delete(1, 0, 11);
     columns.claim(1, 1);
     columns.refuse(1, 1);
     columns.claim(1, 3);
-    columns.put(1, 3, document(alloc, 7, "cat")?, 3, 14);
+    columns.put(1, 3, moved, 3, 14);
     columns.delete(0, 0, 14);
-    Ok(())
 }
 
 /// Every column as a candidate.
@@ -246,29 +260,64 @@ fn found_at(
 {
     let candidates = every_column(alloc)?;
     let mut out = Found::with_room(alloc, 8)?;
-    resolve_part(&columns.records, &candidates, 0, words, opened_at, &mut out);
+    let cost = words.len();
+    resolve_part(
+        &columns.records,
+        &candidates,
+        0,
+        words,
+        cost,
+        opened_at,
+        &mut out,
+    );
     out.sort();
     Ok(out)
 }
 
-/// The places of the adds and the numbers of the documents with the word `cat` that the find with a number finds.
-fn pairs_at(alloc: Global, columns: &Columns, opened_at: u64) -> Result<Vec<(u64, u64)>, Fail> {
-    let found = found_at(alloc, columns, &words(alloc, "cat")?, opened_at)?;
-    Ok(found.as_slice().to_vec(alloc)?)
+/// Whether the find of these words with a number finds documents whose adds have these places and that have these numbers.
+fn finds_at_places(
+    alloc: Global,
+    columns: &Columns,
+    words: &WordSet,
+    opened_at: u64,
+    wanted: &[(u64, u64)],
+) -> Result<bool, WordFault> {
+    let found = found_at(alloc, columns, words, opened_at)?;
+    Ok(found.as_slice() == wanted)
 }
 
-/// Their numbers.
-fn numbers_at(alloc: Global, columns: &Columns, opened_at: u64) -> Result<Ids, Fail> {
-    let found = found_at(alloc, columns, &words(alloc, "cat")?, opened_at)?;
-    Ok(found.into_ids(Vec::with_capacity(alloc, 8)?))
+/// The numbers of the documents that the find of these words with a number finds.
+fn numbers_at(
+    alloc: Global,
+    columns: &Columns,
+    words: &WordSet,
+    opened_at: u64,
+) -> Result<Ids, WordFault> {
+    let room = Vec::with_capacity(alloc, 8)?;
+    let found = found_at(alloc, columns, words, opened_at)?;
+    Ok(found.into_ids(room))
 }
 
-/// Whether the find with a number finds these documents in this order.
-fn finds(alloc: Global, columns: &Columns, opened_at: u64, wanted: &[u64]) -> Result<bool, Fail> {
-    let numbers = numbers_at(alloc, columns, opened_at)?;
+/// Whether it finds these documents in this order.
+fn finds(
+    alloc: Global,
+    columns: &Columns,
+    words: &WordSet,
+    opened_at: u64,
+    wanted: &[u64],
+) -> Result<bool, WordFault> {
+    let numbers = numbers_at(alloc, columns, words, opened_at)?;
     Ok(numbers.as_slice() == wanted)
 }
 
+fn fill(alloc: Global, columns: &mut Columns) -> Result<(), WordFault> {
+    add_each(alloc, columns)?;
+    let moved = document(alloc, 7, "cat")?;
+    delete_and_move(columns, moved);
+    Ok(())
+}
+
+/// The columns with each document, where number 7 has moved.
 fn filled(alloc: Global) -> Result<Columns, WordFault> {
     let mut columns = Columns::new(alloc)?;
     fill(alloc, &mut columns)?;
@@ -285,29 +334,119 @@ static FOUND: [(u64, &[u64]); 6] = [
     (15, &[9, 7, 8]),
 ];
 
+/// The first of these finds of some words that finds others.
+fn wrong_find(alloc: Global, columns: &Columns, words: &WordSet) -> Result<Option<u64>, WordFault> {
+    for (opened_at, wanted) in &FOUND {
+        if !finds(alloc, columns, words, *opened_at, wanted)? {
+            return Ok(Some(*opened_at));
+        }
+    }
+    Ok(None)
+}
+
+/// That find of the word `cat`, and whether the last find has the places of the adds too.
+fn found_in_order(alloc: Global, columns: &Columns) -> Result<(Option<u64>, bool), WordFault> {
+    let words = words(alloc, "cat")?;
+    let wrong = wrong_find(alloc, columns, &words)?;
+    let placed = finds_at_places(alloc, columns, &words, 15, &[(1, 9), (3, 7), (5, 8)])?;
+    Ok((wrong, placed))
+}
+
+fn fill_and_find(alloc: Global) -> Result<(Option<u64>, bool), WordFault> {
+    let columns = filled(alloc)?;
+    found_in_order(alloc, &columns)
+}
+
 #[test]
 fn documents_are_found_in_the_order_of_their_adds(rt: HostRuntime) -> Result<(), Fail> {
-    let columns = filled(rt.alloc())?;
-    for (opened_at, wanted) in &FOUND {
-        assert!(rt;
-            finds(rt.alloc(), &columns, *opened_at, wanted)?,
-            "found by {opened_at}"
-        );
-    }
-    let pairs = pairs_at(rt.alloc(), &columns, 15)?;
-    assert_eq!(rt; pairs.as_slice(), [(1, 9), (3, 7), (5, 8)].as_slice());
+    assert!(rt; fill_and_find(rt.alloc())? == (None, true));
     Ok(())
 }
 
-/// The state of the last column of many, and how many documents were found beside them.
-fn many_columns(alloc: Global) -> Result<(Column, usize), Fail> {
+/// Where the turn of a find of these words ends that begins with this candidate, where each document counts as so many words.
+fn end_of_turn(
+    alloc: Global,
+    columns: &Columns,
+    words: &WordSet,
+    from: usize,
+    cost: usize,
+) -> Result<usize, WordFault>
+    requires from { from ≤ 8 }
+{
+    let candidates = every_column(alloc)?;
+    let mut out = Found::with_room(alloc, 8)?;
+    Ok(resolve_part(
+        &columns.records,
+        &candidates,
+        from,
+        words,
+        cost,
+        12,
+        &mut out,
+    ))
+}
+
+/// The first candidate of a turn, what a document costs, and where the turn ends. Of the eight columns, the first three and the
+/// last but one had a document as the find began.
+static TURNS: [(usize, usize, usize); 7] = [
+    (0, 256, 1),
+    (1, 300, 2),
+    (3, 256, 7),
+    (7, 256, 8),
+    (0, 100, 3),
+    (2, 100, 8),
+    (0, 0, 8),
+];
+
+/// The first of these turns that ends elsewhere: its first candidate, what a document costs, and where it ends.
+fn wrong_turn(
+    alloc: Global,
+    columns: &Columns,
+    words: &WordSet,
+) -> Result<Option<(usize, usize, usize)>, WordFault> {
+    for (from, cost, end) in &TURNS {
+        let reached = end_of_turn(alloc, columns, words, (*from).min(8), *cost)?;
+        if reached != *end {
+            return Ok(Some((*from, *cost, reached)));
+        }
+    }
+    Ok(None)
+}
+
+fn wrong_turn_of_cats(
+    alloc: Global,
+    columns: &Columns,
+) -> Result<Option<(usize, usize, usize)>, WordFault> {
+    let words = words(alloc, "cat")?;
+    wrong_turn(alloc, columns, &words)
+}
+
+fn fill_and_turn(alloc: Global) -> Result<Option<(usize, usize, usize)>, WordFault> {
+    let columns = filled(alloc)?;
+    wrong_turn_of_cats(alloc, &columns)
+}
+
+#[test]
+fn a_turn_ends_with_the_document_that_costs_too_much(rt: HostRuntime) -> Result<(), Fail> {
+    assert!(rt; fill_and_turn(rt.alloc())? == None);
+    Ok(())
+}
+
+/// The state of the last column of many.
+fn last_of_many(alloc: Global) -> Result<Column, Memory> {
     let records = Records::new(alloc, 3, 2_000)?;
-    let state = records.state(2, 1_999);
-    Ok((state, Found::with_room(alloc, 6_000)?.len()))
+    Ok(records.state(2, 1_999))
+}
+
+/// How many documents were found where there is room for many.
+fn none_of_many(alloc: Global) -> Result<usize, Memory> {
+    let found = Found::with_room(alloc, 6_000)?;
+    Ok(found.len())
 }
 
 #[test]
 fn thousands_of_columns_find_memory(rt: HostRuntime) -> Result<(), Fail> {
-    assert_eq!(rt; many_columns(rt.alloc())?, (Column::Free, 0));
+    assert!(rt; last_of_many(rt.alloc())? == Column::Free);
+    assert!(rt; none_of_many(rt.alloc())? == 0);
     Ok(())
 }

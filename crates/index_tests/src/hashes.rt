@@ -23,11 +23,19 @@ static ROWS: [(&str, u8, u32, u32); 3] = [
     ("fooba", 114, 600, 97),
 ];
 
-#[test]
-fn a_row_is_the_remainder_of_the_mixed_hash(rt: HostRuntime) {
+/// How many of these rows have that number.
+fn right_rows() -> usize {
+    let mut right: usize = 0;
     for (word, j, rows, row) in &ROWS {
         let rows = *rows;
-        assert!(rt; 1 <= rows);
-        assert_eq!(rt; row_of(word.as_bytes(), *j, rows), *row);
+        if 1 <= rows && row_of(word.as_bytes(), *j, rows) == *row {
+            right = right.saturating_add(1);
+        }
     }
+    right
+}
+
+#[test]
+fn a_row_is_the_remainder_of_the_mixed_hash(rt: HostRuntime) {
+    assert_eq!(rt; right_rows(), ROWS.len());
 }

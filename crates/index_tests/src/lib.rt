@@ -1,16 +1,16 @@
-//! Tests of crates below the engine that stand by themselves: lists and sets, the words of texts and their hashes, the tables
-//! of classes and sizes, the rows of words and their bits, the plans of queries, scans of words, documents in their columns and
-//! live numbers, how far slices are, the tokens of finds, and queries as they are read.
+//! Tests of crates below the engine that stand by themselves: the words of texts and their hashes, the tables of classes and
+//! sizes, the rows of words and their bits, the plans of queries, scans of words, documents in their columns and live numbers,
+//! how far slices are, the tokens of finds, and queries as they are read.
 #![tactic(auto)]
 
 #[cfg(test)]
 mod documents;
 #[cfg(test)]
+mod faults;
+#[cfg(test)]
 mod hashes;
 #[cfg(test)]
 mod layouts;
-#[cfg(test)]
-mod lists;
 #[cfg(test)]
 mod live_numbers;
 #[cfg(test)]

@@ -86,23 +86,25 @@ fn two_removals(alloc: Global) -> Result<Columns, Memory> {
     Ok(remove_twice(&mut live))
 }
 
+static FILLINGS: [Columns; 5] = [
+    [Some((0, 1)), Some((1, 0)), Some((0, 0)), Some((1, 1))],
+    [Some((0, 0)), Some((0, 1)), Some((1, 1)), Some((1, 0))],
+    [None, None, None, None],
+    [Some((0, 1)), Some((1, 0)), Some((0, 0)), Some((1, 1))],
+    [None, None, None, None],
+];
+
 #[test]
 fn live_numbers_have_their_columns(rt: HostRuntime) -> Result<(), Fail> {
-    let wanted = [
-        [Some((0, 1)), Some((1, 0)), Some((0, 0)), Some((1, 1))],
-        [Some((0, 0)), Some((0, 1)), Some((1, 1)), Some((1, 0))],
-        [None, None, None, None],
-        [Some((0, 1)), Some((1, 0)), Some((0, 0)), Some((1, 1))],
-        [None, None, None, None],
-    ];
-    assert!(rt; two_fillings(rt.alloc())? == wanted);
+    assert!(rt; two_fillings(rt.alloc())? == FILLINGS);
     Ok(())
 }
 
+static REMOVALS: Columns = [Some((0, 0)), None, None, Some((1, 1))];
+
 #[test]
 fn a_number_that_is_not_there_is_not_removed(rt: HostRuntime) -> Result<(), Fail> {
-    let wanted = [Some((0, 0)), None, None, Some((1, 1))];
-    assert!(rt; two_removals(rt.alloc())? == wanted);
+    assert!(rt; two_removals(rt.alloc())? == REMOVALS);
     Ok(())
 }
 
@@ -113,6 +115,6 @@ fn many_numbers(alloc: Global) -> Result<Option<(u32, u32)>, Memory> {
 
 #[test]
 fn thousands_of_numbers_find_memory(rt: HostRuntime) -> Result<(), Fail> {
-    assert_eq!(rt; many_numbers(rt.alloc())?, None);
+    assert!(rt; many_numbers(rt.alloc())? == None);
     Ok(())
 }

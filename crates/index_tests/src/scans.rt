@@ -1,6 +1,7 @@
 //! Scans of slices whose row words are written out, and the reads that they take.
 ghost use Rattle.std.specs.Prelude.{◌≡◌, ◌<◌, ◌≤◌, length, All, IfOk};
 ghost use Rattle.funnel_model.specs.Configuration.{IsBetween};
+ghost use Rattle.row_layout.specs.Rows.{IsRowOf};
 
 use crate::setting::{config, layout_of};
 use funnel_model::{Candidates, Listed, Memory};
@@ -26,7 +27,7 @@ fn otter(alloc: Global) -> Result<Listed, AllocError>
 fn layout(alloc: Global, blocks: u32, max_rank: u8) -> Result<Layout, Memory>
     requires blocks { IsBetween 1 2 blocks }
     requires max_rank { max_rank ≤ 6 }
-    ensures { IfOk result (λ layout. layout.slices ≡ 2) }
+    ensures { IfOk result (λ layout. layout.config.slices ≡ 2) }
 {
     let mut config = config(max_rank, 10, 10, 1000, 0, otter(alloc)?);
     config.blocks = blocks;
@@ -48,17 +49,26 @@ impl Model for Planned {
 
     ghost view = { λ _. tt };
 
-    ghost invariant = { λ p. (p.layout.slices ≡ 2) × All (IsRowOf p.layout) p.plan };
+    ghost invariant = { λ p. (p.layout.config.slices ≡ 2) × All (IsRowOf p.layout.config) p.plan };
 }
 
-/// The plan of a query, in so many blocks and with rows up to this rank.
+/// The plan of a query.
+fn plan_in(alloc: Global, layout: &Layout, query: &str) -> Result<Plan, Fail>
+    ensures { IfOk result (λ plan. All (IsRowOf layout.now.config) plan) }
+{
+    let words = words(alloc, query)?;
+    let planned = plan(alloc, layout, &words)?;
+    let (plan, _) = planned;
+    Ok(plan)
+}
+
+/// That in so many blocks and with rows up to this rank.
 fn plan_of(alloc: Global, blocks: u32, max_rank: u8, query: &str) -> Result<Planned, Fail>
     requires blocks { IsBetween 1 2 blocks }
     requires max_rank { max_rank ≤ 6 }
 {
     let layout = layout(alloc, blocks, max_rank)?;
-    let planned = plan(alloc, &layout, &words(alloc, query)?)?;
-    let (plan, _) = planned;
+    let plan = plan_in(alloc, &layout, query)?;
     Ok(Planned { layout, plan })
 }
 
@@ -135,24 +145,41 @@ static SMALL: [(u32, &[u64], &[(u32, u32)], u64); 4] = [
     ),
 ];
 
+/// How many of these slices are scanned as they should be.
+fn right_scans(alloc: Global, planned: &Planned) -> Result<usize, Fail> {
+    let mut right: usize = 0;
+    for (slice, words, wanted, reads) in &SMALL {
+        if finds(alloc, planned, *slice, words, wanted, *reads)? {
+            right = right.saturating_add(1);
+        }
+    }
+    Ok(right)
+}
+
+fn scan_small(alloc: Global) -> Result<usize, Fail> {
+    let planned = plan_of(alloc, 1, 1, "otter")?;
+    right_scans(alloc, &planned)
+}
+
 #[test]
 fn columns_with_a_bit_in_every_row_are_found(rt: HostRuntime) -> Result<(), Fail> {
-    let planned = plan_of(rt.alloc(), 1, 1, "otter")?;
-    for (slice, words, wanted, reads) in &SMALL {
-        assert!(rt; finds(rt.alloc(), &planned, *slice, words, wanted, *reads)?);
-    }
+    assert!(rt; scan_small(rt.alloc())? == SMALL.len());
     Ok(())
 }
 
 static OF_TWO_BLOCKS: [u64; 12] = [3, 3, 3, 3, 3, 3, 3, 3, 1, 2, ONES, ONES];
 
+fn finds_in_two_blocks(alloc: Global) -> Result<bool, Fail> {
+    let planned = plan_of(alloc, 2, 1, "otter")?;
+    let wanted = [(0, 0), (0, 64), (0, 129), (0, 193)];
+    finds(alloc, &planned, 0, &OF_TWO_BLOCKS, &wanted, 10)
+}
+
 #[test]
 fn a_word_of_a_higher_rank_covers_the_words_that_follow_one_another(
     rt: HostRuntime,
 ) -> Result<(), Fail> {
-    let planned = plan_of(rt.alloc(), 2, 1, "otter")?;
-    let wanted = [(0, 0), (0, 64), (0, 129), (0, 193)];
-    assert!(rt; finds(rt.alloc(), &planned, 0, &OF_TWO_BLOCKS, &wanted, 10)?);
+    assert!(rt; finds_in_two_blocks(rt.alloc())?);
     Ok(())
 }
 
@@ -183,12 +210,16 @@ fn many_words(alloc: Global) -> Result<Vec<u64>, AllocError> {
     Ok(words)
 }
 
+fn finds_in_many_words(alloc: Global) -> Result<bool, Fail> {
+    let planned = plan_of(alloc, 2, 6, "otter")?;
+    let words = many_words(alloc)?;
+    let wanted = [(1, 0), (1, 1100), (1, 1164), (1, 8191)];
+    finds(alloc, &planned, 1, words.as_slice(), &wanted, 76)
+}
+
 #[test]
 fn a_slice_of_many_words_is_searched(rt: HostRuntime) -> Result<(), Fail> {
-    let planned = plan_of(rt.alloc(), 2, 6, "otter")?;
-    let words = many_words(rt.alloc())?;
-    let wanted = [(1, 0), (1, 1100), (1, 1164), (1, 8191)];
-    assert!(rt; finds(rt.alloc(), &planned, 1, words.as_slice(), &wanted, 76)?);
+    assert!(rt; finds_in_many_words(rt.alloc())?);
     Ok(())
 }
 
@@ -201,11 +232,15 @@ fn every_column(alloc: Global) -> Result<Vec<(u32, u32)>, AllocError> {
     Ok(columns)
 }
 
+fn finds_every_column(alloc: Global) -> Result<bool, Fail> {
+    let planned = plan_of(alloc, 1, 1, "")?;
+    let wanted = every_column(alloc)?;
+    finds(alloc, &planned, 0, &[0; 6], wanted.as_slice(), 0)
+}
+
 #[test]
 fn a_plan_without_rows_finds_every_column(rt: HostRuntime) -> Result<(), Fail> {
-    let planned = plan_of(rt.alloc(), 1, 1, "")?;
-    let wanted = every_column(rt.alloc())?;
-    assert!(rt; finds(rt.alloc(), &planned, 0, &[0; 6], wanted.as_slice(), 0)?);
+    assert!(rt; finds_every_column(rt.alloc())?);
     Ok(())
 }
 
@@ -263,23 +298,40 @@ fn scan_changing(alloc: Global, planned: &Planned, words: &[u64]) -> Result<Scan
     Ok((candidates.into_inner(), rows.reads()))
 }
 
+/// Whether that finds these columns beside it by so many reads.
+fn finds_changing(
+    alloc: Global,
+    planned: &Planned,
+    words: &[u64],
+    wanted: &[(u32, u32)],
+    wanted_reads: u64,
+) -> Result<bool, Fail> {
+    let (columns, reads) = scan_changing(alloc, planned, words)?;
+    Ok(columns.as_slice() == wanted && reads == wanted_reads)
+}
+
+fn finds_what_changes(alloc: Global) -> Result<bool, Fail> {
+    let planned = plan_of(alloc, 1, 1, "otter")?;
+    let wanted = [(7, 7), (0, 0), (0, 63), (0, 127)];
+    finds_changing(alloc, &planned, &[1, 4, 1, 3, 5, 0], &wanted, 5)
+}
+
 #[test]
 fn bits_that_other_threads_set_are_found_too(rt: HostRuntime) -> Result<(), Fail> {
-    let planned = plan_of(rt.alloc(), 1, 1, "otter")?;
-    let (columns, reads) = scan_changing(rt.alloc(), &planned, &[1, 4, 1, 3, 5, 0])?;
-    let wanted = [(7, 7), (0, 0), (0, 63), (0, 127)];
-    assert!(rt; columns.as_slice() == wanted.as_slice());
-    assert_eq!(rt; reads, 5);
+    assert!(rt; finds_what_changes(rt.alloc())?);
     Ok(())
+}
+
+/// The count of reads, three words that are read, one of them twice, and the count then.
+fn read_three() -> (u64, [u64; 3], u64) {
+    let words = [5, 0, u64::MAX];
+    let mut image = Image::new(&words);
+    let before = image.reads();
+    let read = [image.read(2), image.read(0), image.read(0)];
+    (before, read, image.reads())
 }
 
 #[test]
 fn reads_are_counted(rt: HostRuntime) {
-    let words = [5, 0, u64::MAX];
-    let mut image = Image::new(&words);
-    assert_eq!(rt; image.reads(), 0);
-    assert_eq!(rt; image.read(2), u64::MAX);
-    assert_eq!(rt; image.read(0), 5);
-    assert_eq!(rt; image.read(0), 5);
-    assert_eq!(rt; image.reads(), 3);
+    assert!(rt; read_three() == (0, [u64::MAX, 5, 5], 3));
 }

@@ -4,7 +4,7 @@ ghost use Rattle.funnel_model.specs.Configuration.{IsBetween, IsInRange};
 ghost use Rattle.funnel_model.specs.Sizes.{columns_of_slice};
 
 use funnel_model::{Config, Listed, Memory};
-use row_layout::Layout;
+use row_layout::{Layout, LayoutFault};
 use std::alloc::{AllocError, Global};
 use treatment::sizes;
 
@@ -65,8 +65,8 @@ pub(crate) fn three_words(alloc: Global) -> Result<Listed, AllocError>
 /// The layout of a configuration, if its rows are not too many.
 pub(crate) fn layout_of(alloc: Global, config: &Config) -> Result<Layout, Memory>
     requires { IsInRange config.now }
-    ensures slices { IfOk result (λ layout. layout.slices ≡ config.now.slices) }
-    ensures columns { IfOk result (λ layout. columns_of_slice layout ≡ columns_of_slice config.now) }
+    ensures slices { IfOk result (λ layout. layout.config.slices ≡ config.now.slices) }
+    ensures columns { IfOk result (λ layout. columns_of_slice layout.config ≡ columns_of_slice config.now) }
 {
     if sizes(config).pool_words > 33_554_432 {
         return Err(Memory);
@@ -76,8 +76,20 @@ pub(crate) fn layout_of(alloc: Global, config: &Config) -> Result<Layout, Memory
 
 /// A layout with the three words and ranks up to 6.
 pub(crate) fn ranked_layout(alloc: Global) -> Result<Layout, Memory>
-    ensures slices { IfOk result (λ layout. layout.slices ≡ 2) }
-    ensures columns { IfOk result (λ layout. columns_of_slice layout ≡ 4096) }
+    ensures slices { IfOk result (λ layout. layout.config.slices ≡ 2) }
+    ensures columns { IfOk result (λ layout. columns_of_slice layout.config ≡ 4096) }
 {
     layout_of(alloc, &config(6, 10, 10, 1000, 0, three_words(alloc)?))
+}
+
+/// That layout in slices that have room for so many words.
+pub(crate) fn ranked_within(alloc: Global, room: u32) -> Result<Layout, LayoutFault>
+    requires { room ≤ 1000 }
+    ensures slices { IfOk result (λ layout. layout.config.slices ≡ 2) }
+    ensures columns { IfOk result (λ layout. columns_of_slice layout.config ≡ 4096) }
+{
+    let Ok(words) = three_words(alloc) else {
+        return Err(LayoutFault::Memory);
+    };
+    Layout::within(alloc, &config(6, 10, 10, 1000, 0, words), room)
 }

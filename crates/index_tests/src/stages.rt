@@ -104,18 +104,19 @@ fn retire_one(alloc: Global) -> Result<(u32, Stage), Memory> {
     Ok(retire(&mut stages))
 }
 
+static TOLD: [Told; 6] = [
+    (Some(0), None, true),
+    (Some(1), None, true),
+    (Some(1), None, false),
+    (Some(1), Some(0), false),
+    (Some(1), None, false),
+    (Some(0), None, true),
+];
+
 #[test]
 fn slices_are_filled_retired_cleared_and_opened(rt: HostRuntime) -> Result<(), Fail> {
-    let wanted = [
-        (Some(0), None, true),
-        (Some(1), None, true),
-        (Some(1), None, false),
-        (Some(1), Some(0), false),
-        (Some(1), None, false),
-        (Some(0), None, true),
-    ];
-    assert!(rt; lead_two(rt.alloc())? == wanted);
-    assert_eq!(rt; retire_one(rt.alloc())?, (0, Stage::Retired { at: 2 }));
+    assert!(rt; lead_two(rt.alloc())? == TOLD);
+    assert!(rt; retire_one(rt.alloc())? == (0, Stage::Retired { at: 2 }));
     Ok(())
 }
 
@@ -127,6 +128,6 @@ fn many_slices(alloc: Global) -> Result<(Option<u32>, bool), Memory> {
 
 #[test]
 fn hundreds_of_slices_find_memory(rt: HostRuntime) -> Result<(), Fail> {
-    assert_eq!(rt; many_slices(rt.alloc())?, (Some(0), true));
+    assert!(rt; many_slices(rt.alloc())? == (Some(0), true));
     Ok(())
 }

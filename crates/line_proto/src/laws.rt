@@ -9,8 +9,8 @@ pub fn lines_are_read_by_the_grammar()
     ensures { (line : List ℕ) → IsReadByForms line }
 {}
 
-/// Lines of each form, and lines of none.
-pub fn example_lines()
+/// Lines of the forms of calls.
+pub fn example_calls()
     ensures add { form_of (codes "add 007 a b\r") ≡ Some (Calls (Add 7 (codes "a b"))) }
     ensures no_text { form_of (codes "add 7") ≡ Some (Calls (Add 7 [])) }
     ensures delete { form_of (codes "del 18446744073709551615") ≡ Some (Calls (Delete 18446744073709551615)) }
@@ -18,6 +18,10 @@ pub fn example_lines()
     ensures place { form_of (codes "place") ≡ Some (Calls Place) }
     ensures journal { form_of (codes "journal 0") ≡ Some (Calls (Journal 0)) }
     ensures recycle { form_of (codes "recycle\r") ≡ Some (Calls Recycle) }
+{}
+
+/// Lines of the form of queries, and lines of no form.
+pub fn example_queries()
     ensures query { form_of (codes "query -a | b") ≡ Some (Queries (codes "-a | b")) }
     ensures no_query_text { form_of (codes "query ") ≡ Some (Queries []) }
     ensures query_alone { form_of (codes "query") ≡ None }

@@ -1,5 +1,6 @@
 ghost use Rattle.std.specs.Prelude.{◌≡◌, MatchOption, Some, None};
-ghost use Rattle.line_proto.specs.Forms.{without_return, word_of, after_space, number_of, add_of, delete_of, journal_of, query_of, asked_of_word, asked_of_text, form_of};
+ghost use Rattle.line_proto.specs.Forms.{without_return, word_of, after_space, number_of};
+ghost use Rattle.line_proto.specs.Forms.{add_of, delete_of, journal_of, query_of, asked_of_word, asked_of_text, form_of};
 ghost use Rattle.line_proto.specs.Requests.{requested};
 
 use crate::request::Request;

@@ -7,7 +7,8 @@ ghost use Rattle.load_gen.specs.Jobs.{FallsTo, adds_of, count_all, deletes_of, j
 /// Workers share the documents: to each one falls what its share says, so that no document falls to two. Their shares
 /// have all documents, and together they delete as many as the summary tells.
 pub fn workers_share_the_documents()
-    ensures falls { (texts : List (List ℕ)) (workers worker i : ℕ) (text : List ℕ) → Contains (share texts workers worker) (i, text) ↔ FallsTo texts workers worker i text }
+    ensures falls { (texts : List (List ℕ)) (workers worker i : ℕ) (text : List ℕ)
+        → Contains (share texts workers worker) (i, text) ↔ FallsTo texts workers worker i text }
     ensures all { (texts : List (List ℕ)) (workers : ℕ) → 0 < workers → count_all workers (share texts workers) ≡ length texts }
     ensures deleted { (texts : List (List ℕ)) (workers : ℕ) → 0 < workers → count_all workers (deletes_of texts workers) ≡ length texts / DELETED_ONE_IN }
 {}

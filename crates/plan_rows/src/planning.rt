@@ -13,10 +13,10 @@ use std::cmp::Ord;
 /// Plans a query: exactly the rows of its words, by falling rank and within a rank by rising start, each once. A query
 /// without words has an empty plan. Beside the plan stands the rest of the words, those that aren't exact.
 pub fn plan(alloc: Global, layout: &Layout, words: &WordSet) -> Result<(Plan, Rest), Memory>
-    ensures rows { IfOk result (λ planned. HasRowsOf layout.now words.now planned.0) }
+    ensures rows { IfOk result (λ planned. HasRowsOf layout.now.config words.now planned.0) }
     ensures in_order { IfOk result (λ planned. IsInPlanOrder planned.0) }
-    ensures laid { IfOk result (λ planned. All (IsRowOf layout.now) planned.0) }
-    ensures rest { IfOk result (λ planned. words_of_rest words.now planned.1 ≡ filter (λ word. not (is_exact layout.now word)) words.now) }
+    ensures laid { IfOk result (λ planned. All (IsRowOf layout.now.config) planned.0) }
+    ensures rest { IfOk result (λ planned. words_of_rest words.now planned.1 ≡ filter (λ word. not (is_exact layout.now.config word)) words.now) }
 {
     let both = layout.rows_and_rest(alloc, words)?;
     let (mut rows, rest) = both;

@@ -4,7 +4,7 @@ ghost use Rattle.column_writer.specs.Written.{IsBitOf};
 ghost use Rattle.funnel_model.specs.declared.bit_list.Bit.{Bit};
 ghost use Rattle.funnel_model.specs.declared.event.Event.TheVariants as event;
 ghost use Rattle.funnel_model.specs.Legal.{IsInSlice};
-ghost use Rattle.funnel_model.specs.Sizes.{columns_of_slice, words_of_slice};
+ghost use Rattle.funnel_model.specs.Sizes.{columns_of_slice};
 ghost use Rattle.pool_tests.specs.Sizes.{sizes_of};
 ghost use Rattle.slice_rule.specs.declared.view.Fact.{Fact};
 ghost use Rattle.slice_rule.specs.Numbers.{last_number};
@@ -13,7 +13,7 @@ ghost use Rattle.slice_rule.specs.Seats.{HasNoneOutstanding, HoldsClaim, HoldsTo
 use crate::setting::{Opened, config, open_two};
 use column_writer::write_column;
 use funnel_model::{Bit, Claim, Event, MOST_ROW_WORDS, SliceSet, Text, Token};
-use row_layout::{Bits, Layout, bits_of};
+use row_layout::{Bits, Layout, fill_bits};
 use row_read::{Rows, Shared};
 use slice_rule::{Entry, Home, PassSeat, Pool};
 use std::alloc::Global;
@@ -241,8 +241,8 @@ fn written_as(pool: &Pool, mut seat: PassSeat, column: u32, bits: &Bits) -> Pass
 
 /// The layout of the pool of one slice, if its rows are not too many.
 fn layout(alloc: Global) -> Result<Layout, Fail>
-    ensures slices { IfOk result (λ layout. layout.slices ≡ 1) }
-    ensures columns { IfOk result (λ layout. columns_of_slice layout ≡ 64) }
+    ensures slices { IfOk result (λ layout. layout.config.slices ≡ 1) }
+    ensures columns { IfOk result (λ layout. columns_of_slice layout.config ≡ 64) }
 {
     let config = config(alloc, 2, 1);
     if sizes(&config).pool_words > MOST_ROW_WORDS {
@@ -253,13 +253,14 @@ fn layout(alloc: Global) -> Result<Layout, Fail>
 
 /// The bits of a document at a column.
 fn bits_at(alloc: Global, layout: &Layout, column: u32) -> Result<Bits, Fail>
-    requires slices { layout.now.slices ≡ 1 }
-    requires column { column < columns_of_slice layout.now }
-    ensures inside { IfOk result (λ bits. All (λ b. IsInSlice (words_of_slice layout.now) 0 b.word) bits.bits) }
+    requires slices { layout.now.config.slices ≡ 1 }
+    requires column { column < columns_of_slice layout.now.config }
+    ensures inside { IfOk result (λ bits. All (λ b. IsInSlice layout.now.room 0 b.word) bits.bits) }
     ensures in_word { IfOk result (λ bits. All (λ b. b.bit < 64) bits.bits) }
 {
-    let mut bits = bits_of(alloc, layout, &words(alloc, "a black cat")?)?;
-    bits.place(layout, 0, column);
+    let words = words(alloc, "a black cat")?;
+    let mut bits = Bits::for_words(alloc, &words)?;
+    fill_bits(layout, &words, 0, column, &mut bits);
     Ok(bits)
 }
 

@@ -46,60 +46,106 @@ fn help_tells_the_numbers_of_each_key(rt: HostRuntime) -> Result<(), Fail> {
     Ok(())
 }
 
-/// How the lines of the options of `serve` begin.
-fn serve_lines(alloc: Global) -> Result<[String; 4], Fail> {
+/// Expects the help to tell the greatest number of an option, and its default where it has one.
+fn expect_number<R: Abort>(
+    rt: &R,
+    alloc: Global,
+    start: &str,
+    most: u64,
+    default: Option<u64>,
+) -> Result<(), Fail> {
+    let line = match default {
+        Some(default) => format!(in alloc; "{start}{most}, default {default}: ")?,
+        None => format!(in alloc; "{start}{most}: ")?,
+    };
+    expect_told(rt, line.as_str());
+    Ok(())
+}
+
+fn expect_serve<R: Abort>(rt: &R, alloc: Global) -> Result<(), Fail> {
     let Ok(Command::Serve(serve)) = read_command(alloc, &["serve", "--port", "1", "--workers", "1"])
     else {
         return Err(Fail::new("no serve"));
     };
-    Ok([
-        format!(in alloc; "--port P         1 to {MOST_PORT}: ")?,
-        format!(in alloc; "--workers W      1 to {MOST_PASSES}: ")?,
-        format!(in alloc;
-            "--connections C  1 to {MOST_CONNECTIONS}, default {}: ",
-            serve.connections
-        )?,
-        format!(in alloc;
-            "--idle S         0 to {MOST_IDLE}, default {}: ",
-            serve.idle
-        )?,
-    ])
+    let connections = Some(serve.connections);
+    let idle = Some(u64::from(serve.idle));
+    expect_number(
+        rt,
+        alloc,
+        "--port P         1 to ",
+        u64::from(MOST_PORT),
+        None,
+    )?;
+    expect_number(
+        rt,
+        alloc,
+        "--workers W      1 to ",
+        u64::from(MOST_PASSES),
+        None,
+    )?;
+    expect_number(
+        rt,
+        alloc,
+        "--connections C  1 to ",
+        MOST_CONNECTIONS,
+        connections,
+    )?;
+    expect_number(
+        rt,
+        alloc,
+        "--idle S         0 to ",
+        u64::from(MOST_IDLE),
+        idle,
+    )
 }
 
-/// How the lines of the options of `load` begin.
-fn load_lines(alloc: Global) -> Result<[String; 4], Fail> {
+fn expect_load<R: Abort>(rt: &R, alloc: Global) -> Result<(), Fail> {
     let Ok(Command::Load(load)) = read_command(alloc, &["load", "--docs", "1"]) else {
         return Err(Fail::new("no load"));
     };
-    Ok([
-        format!(in alloc; "--docs D         1 to {MOST_DOCS}: ")?,
-        format!(in alloc;
-            "--workers W      1 to {MOST_PASSES}, default {}: ",
-            load.workers
-        )?,
-        format!(in alloc;
-            "--words L        0 to {MOST_WORDS}, default {}: ",
-            load.words
-        )?,
-        format!(in alloc;
-            "--seed X         0 to {}, default {}: ",
-            u64::MAX,
-            load.seed
-        )?,
-    ])
+    let workers = Some(u64::from(load.workers));
+    let words = Some(u64::from(load.words));
+    expect_number(
+        rt,
+        alloc,
+        "--docs D         1 to ",
+        u64::from(MOST_DOCS),
+        None,
+    )?;
+    expect_number(
+        rt,
+        alloc,
+        "--workers W      1 to ",
+        u64::from(MOST_PASSES),
+        workers,
+    )?;
+    expect_number(
+        rt,
+        alloc,
+        "--words L        0 to ",
+        u64::from(MOST_WORDS),
+        words,
+    )?;
+    expect_number(
+        rt,
+        alloc,
+        "--seed X         0 to ",
+        u64::MAX,
+        Some(load.seed),
+    )
 }
 
 #[test]
 fn help_tells_the_numbers_of_each_option(rt: HostRuntime) -> Result<(), Fail> {
-    for line in &serve_lines(rt.alloc())? {
-        expect_told(&rt, line.as_str());
-    }
-    for line in &load_lines(rt.alloc())? {
-        expect_told(&rt, line.as_str());
-    }
-    let line = format!(in rt.alloc(); "--documents N    1 to {MOST_FITTED}: ")?;
-    expect_told(&rt, line.as_str());
-    Ok(())
+    expect_serve(&rt, rt.alloc())?;
+    expect_load(&rt, rt.alloc())?;
+    expect_number(
+        &rt,
+        rt.alloc(),
+        "--documents N    1 to ",
+        u64::from(MOST_FITTED),
+        None,
+    )
 }
 
 /// Words alone, and the text that they ask for.

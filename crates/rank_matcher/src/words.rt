@@ -1,7 +1,7 @@
 //! Candidates of words, each of which stands for 64 columns.
 
 ghost use Rattle.std.specs.Prelude.{◌≡◌, ℕ, ◌+◌, ◌*◌, ◌<◌, ◌≤◌, ◌^◌, ◌++◌, map, List, OnOk};
-ghost use Rattle.rank_matcher.specs.Appended.{IsBeginning, candidates_of};
+ghost use Rattle.rank_matcher.specs.Appended.{AppendsBeginning, IsBeginning, candidates_of};
 ghost use Rattle.rank_matcher.specs.SetBits.{set_bits};
 ghost use Rattle.rank_matcher.specs.Walk.{has_column, passing};
 
@@ -18,7 +18,7 @@ pub(crate) fn push_words(
     requires span { from ≤ to }
     requires few { 64 * to < 2 ^ 32 }
     ensures all { OnOk result (out.new ≡ out.old ++ candidates_of slice (passing (has_column running) (64 * from) (64 * to))) }
-    ensures part { (front : List ℕ) × IsBeginning front (passing (has_column running) (64 * from) (64 * to)) × (out.new ≡ out.old ++ candidates_of slice front) }
+    ensures part { AppendsBeginning slice (passing (has_column running) (64 * from) (64 * to)) out.old out.new }
 {
     for word in from..to {
         push_columns(out, slice, 64 * word, running)?;

@@ -1,9 +1,7 @@
 -- Bits in rising order, each once, are those that were there.
-use Rattle.std.proofs.Common.{◌≡◌, ◌⊎◌, ⊎_elim, ◌↔◌, ℕ, List, [], ◌∷◌, get_or, Contains, refl, sym, ap, ap₂, ◌∙◌, subst, arith, inl, inr}
+use Rattle.std.proofs.Common.{◌≡◌, ◌⊎◌, ⊎_elim, ◌↔◌, ℕ, List, [], ◌∷◌, Contains, refl, sym, ap, ap₂, ◌∙◌, subst, arith, inl, inr}
 use Rattle.std.proofs.lemmas.Cmp.{ranked}
-use Rattle.std.proofs.lemmas.List.{get_or_default}
-use Rattle.std.proofs.lemmas.List.Elements.{All-contains}
-use Rattle.std.specs.List.{All, AllByRecursion}
+use Rattle.std.specs.List.{AllByRecursion}
 use Rattle.std.specs.List.Sorted.{IsStrictlySortedBy}
 use Rattle.std.specs.Ordering.{match_ordering, nat_cmp, ordering_reverse, ordering_then}
 use Rattle.std.specs.declared.cmp.Ordering.{Ordering}
@@ -110,8 +108,10 @@ in_order-has (first ∷ rest) bit = (
   λ has. with_has (in_order rest) first bit (⊎_elim (λ same. inl same) (λ later. inr ((in_order-has rest bit).1 later)) (first_or_rest first rest bit has)),
 )
 
--- so what holds of each holds of each in order
-pub in_order-all : (P : Bit → Type 0) (bits : List Bit) → All P bits → All P (in_order bits)
-in_order-all P bits all k none within =
-    let there : Contains (in_order bits) (get_or (in_order bits) k none) = (k, within, get_or_default (in_order bits) k (get_or (in_order bits) k none) none within) in
-    All-contains P bits (get_or (in_order bits) k none) all ((in_order-has bits (get_or (in_order bits) k none)).0 there)
+-- so where there is none in order, there is none
+pub none_in_order : (bits : List Bit) → in_order bits ≡ [] → bits ≡ []
+none_in_order [] none = refl
+none_in_order (bit ∷ bits) none =
+    let has = subst (λ (bs : List Bit). Contains bs bit) none ((in_order-has (bit ∷ bits) bit).1 (first_is bit bits)) in
+    let within = has.1 in
+    absurd (omega arith)

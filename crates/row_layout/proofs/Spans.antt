@@ -6,9 +6,9 @@ use Rattle.std.proofs.lemmas.Bool.Decides.{nat_tests}
 use Rattle.std.proofs.lemmas.List.FromFn.{get_or-map-range_with_len}
 use Rattle.std.proofs.lemmas.Nat.{mul-le, pow-add, div_below, pow_pos}
 use Rattle.funnel_model.specs.Configuration.{IsInRange}
-use Rattle.funnel_model.specs.Sizes.{private_words, shared_rows, width_of_rank, base_of_rank, row_table, words_of_slice, words_of_pool, columns_of_slice}
+use Rattle.funnel_model.specs.Sizes.{private_words, shared_rows, width_of_rank, base_of_rank, row_table, words_of_slice, columns_of_slice}
 use Rattle.funnel_model.specs.declared.config.Config.{Config}
-use Rattle.funnel_model.proofs.SizesLemmas.{base_of_rank-zero, base_of_rank-more, base_of_rank-rises, slice_within_pool}
+use Rattle.funnel_model.proofs.SizesLemmas.{base_of_rank-zero, base_of_rank-more, base_of_rank-rises}
 use Rattle.row_layout.specs.Rows.{private_row, shared_row, IsPrivateRow, IsSharedRow, IsRowOf}
 use Rattle.row_layout.specs.declared.row.Row.{Row}
 
@@ -162,20 +162,19 @@ offset-below config r column low few =
     regroup p b q m e = let h : p * b * (64 * q) ≡ 64 * (p * q) * b = omega arith in h ∙ ap (λ n. 64 * n * b) e
 
 -- the words of a slice are few, and so is every place in it
-pub slice-small : (config : Config) → IsInRange config → words_of_pool config ≤ 33554432 → words_of_slice config ≤ 33554432
-slice-small config range small = omega (arith, slice_within_pool config range.slices.0)
+pub room-small : (config : Config) (room : ℕ) → IsInRange config → config.slices * room ≤ 33554432 → room ≤ 33554432
+room-small config room range small = omega (arith, mul-le 1 room config.slices room range.slices.0 (omega arith))
 
-pub private-fits : (config : Config) → IsInRange config → words_of_pool config ≤ 33554432 → (i : ℕ) → i < length (private_words config) → i * width_of_rank config 0 < 2 ^ 32
-private-fits config range small i few =
-    omega (arith, private-ends config i few, base-below config 0 (config.max_rank + 1) (omega arith), slice-small config range small)
+pub slice-small : (config : Config) (room : ℕ) → IsInRange config → words_of_slice config ≤ room → config.slices * room ≤ 33554432 → words_of_slice config ≤ 33554432
+slice-small config room range fits small = omega (arith, fits, room-small config room range small)
 
-pub shared-fits : (config : Config) → IsInRange config → words_of_pool config ≤ 33554432 → (r x : ℕ) → r ≤ config.max_rank → x < shared_rows config r → base_of_rank config r + x * width_of_rank config r < 2 ^ 32
-shared-fits config range small r x low few =
-    omega (arith, shared-ends config r x few, base-below config (r + 1) (config.max_rank + 1) (omega arith), slice-small config range small)
+pub private-fits : (config : Config) → words_of_slice config ≤ 33554432 → (i : ℕ) → i < length (private_words config) → i * width_of_rank config 0 < 2 ^ 32
+private-fits config small i few =
+    omega (arith, private-ends config i few, base-below config 0 (config.max_rank + 1) (omega arith), small)
 
--- the words of a slice end within the pool
-pub slice-within : (config : Config) (slice : ℕ) → slice < config.slices → slice * words_of_slice config + words_of_slice config ≤ words_of_pool config
-slice-within config slice in_pool = rows_more slice config.slices (words_of_slice config) in_pool
+pub shared-fits : (config : Config) → words_of_slice config ≤ 33554432 → (r x : ℕ) → r ≤ config.max_rank → x < shared_rows config r → base_of_rank config r + x * width_of_rank config r < 2 ^ 32
+shared-fits config small r x low few =
+    omega (arith, shared-ends config r x few, base-below config (r + 1) (config.max_rank + 1) (omega arith), small)
 
 -- the table of sizes has the shared rows of each rank
 pub row_table-at : (config : Config) → IsInRange config → (rank : ℕ) → rank ≤ config.max_rank → get_or (row_table config) rank 0 ≡ shared_rows config rank

@@ -8,7 +8,7 @@ use Rattle.std.specs.Prelude.{◌==◌, ◌&&◌, ◌⊎◌}
 use Rattle.funnel_model.proofs.Clears.{not_clearing-push, not_filled_clearing}
 use Rattle.funnel_model.proofs.Histories.{holds_of_legal}
 use Rattle.funnel_model.proofs.LastEvents.{last_is_clearing, opens_is}
-use Rattle.funnel_model.proofs.Spans.{in_span-push, none-push, none_of_push, not_empty, split_at_end}
+use Rattle.funnel_model.proofs.Spans.{in_span-push, none_of_push, not_empty, split_at_end}
 use Rattle.funnel_model.specs.Events.{clears, fills, opens, pass_of, put_on}
 use Rattle.funnel_model.specs.Legal.{IsAllowed, IsLegal, Limits}
 use Rattle.funnel_model.specs.Slices.{IsPending, is_clearing, span}

@@ -1,12 +1,12 @@
 -- The bits that a document sets: one for each of its words and each row of that word, at the document's column.
-use Rattle.std.specs.Prelude.{◌≡◌, ℕ, ◌+◌, ◌*◌, ◌/◌, ◌%◌, ◌^◌, ◌↔◌, List, [], ◌∷◌, Contains, All}
+use Rattle.std.specs.Prelude.{◌≡◌, ℕ, ◌+◌, ◌*◌, ◌/◌, ◌%◌, ◌^◌, ◌↔◌, List, [], ◌∷◌, Contains, map}
 use Rattle.std.specs.List.Sorted.{IsStrictlySortedBy}
 use Rattle.std.specs.Ordering.{match_ordering, nat_cmp, ordering_then}
 use Rattle.std.specs.declared.cmp.Ordering.{Ordering}
 use Rattle.funnel_model.specs.Sizes.{words_of_slice}
 use Rattle.funnel_model.specs.declared.bit_list.Bit.{Bit}
 use Rattle.funnel_model.specs.declared.config.Config.{Config}
-use Rattle.row_layout.specs.Rows.{IsRowOf, rows_of_words}
+use Rattle.row_layout.specs.Rows.{rows_of_word, rows_of_words}
 use Rattle.row_layout.specs.declared.row.Row.{Row}
 
 -- the first word of a slice in the pool, where each slice has this many words
@@ -54,11 +54,11 @@ unfoldable pub in_order : List Bit → List Bit
 in_order [] = []
 in_order (bit ∷ bits) = with_bit (in_order bits) bit
 
--- What `Bits` is seen as: rows of which it has the bits, and those bits in rising order, each once.
-pub record RowBits : Type 0 where
-  pub rows : List Row
-  pub bits : List Bit
+-- the bits of a word, row by row, at a column of the slice that begins at this word of the pool
+abbrev pub bits_of_word : Config → ℕ → ℕ → List ℕ → List Bit
+bits_of_word config first column word = map (bit_from first column) (rows_of_word config word)
 
--- the rows are rows of the configuration, so that their bits can be put at any column
-abbrev pub CanPlace : Config → List Row → Type 0
-CanPlace config rows = All (IsRowOf config) rows
+-- What `Bits` is seen as: bits in rising order, each once, and for how many more there is room.
+pub record BitsState : Type 0 where
+  pub bits : List Bit
+  pub room : ℕ

@@ -1,6 +1,6 @@
--- What a layout keeps beside its configuration.
-use Rattle.std.specs.Prelude.{◌≡◌, ℕ, ◌<◌, ◌≤◌, nat_lt, List, [], map, slice_index, slice_index_or, if◌then◌else◌}
-use Rattle.funnel_model.specs.Sizes.{class_of_word, shared_rows, base_of_rank, words_of_slice, words_of_pool}
+-- What a layout is, and what it keeps beside its configuration.
+use Rattle.std.specs.Prelude.{◌≡◌, ℕ, ◌*◌, ◌<◌, ◌≤◌, nat_lt, List, [], map, slice_index, slice_index_or, if◌then◌else◌}
+use Rattle.funnel_model.specs.Sizes.{class_of_word, shared_rows, base_of_rank, words_of_slice}
 use Rattle.funnel_model.specs.Configuration.{IsInRange}
 use Rattle.funnel_model.specs.declared.config.TheConstants.{MOST_ROW_WORDS}
 use Rattle.funnel_model.specs.declared.config.Config.{Config}
@@ -11,6 +11,15 @@ use Rattle.row_layout.specs.declared.word_rows.WordRows.{WordRows}
 use Rattle.row_layout.specs.declared.word_rows.WordRows.TheVariants.{Private, Shared}
 use Rattle.row_layout.specs.declared.word_table.WordTable.{WordTable}
 use Rattle.row_layout.specs.WordTables.{IsWordTable}
+
+-- What a layout is seen as: its configuration, and for how many words each slice has room.
+pub record LayoutId : Type 0 where
+  pub config : Config
+  pub room : ℕ
+
+-- the layout of a configuration whose slices have room for its own rows, and no more
+abbrev pub own_layout : Config → LayoutId
+own_layout config = record { config = config; room = words_of_slice config }
 
 -- the rows that a word has: its private row, or those of its class
 unfoldable pub word_rows : Config → List ℕ → WordRows
@@ -25,15 +34,15 @@ pub record IsClassTable (config : Config) (table : ClassTable) : Type 0 where
   pub ranks_low : (class j : ℕ) → 3 ≤ class → class ≤ 15 → j < row_count_of_class config.one_in config.snr class →
       slice_index (slice_index_or table.ranks class []) j ≤ config.max_rank
 
--- the pool is small enough, and beside the configuration stand the shared rows of each rank, the start of each rank, the
--- words of a slice, the rows of each class, the rows of each listed word, and a table that finds these words
-pub record IsLaidOut (config : Config) (rows bases : List ℕ) (slice_words : ℕ) (classes : ClassTable) (listed : List WordRows) (table : WordTable) :
+-- the rows have room in a slice, and the pool is small enough; beside the configuration and the room stand the shared rows of each
+-- rank, the start of each rank, the rows of each class, the rows of each listed word, and a table that finds these words
+pub record IsLaidOut (config : Config) (room : ℕ) (rows bases : List ℕ) (classes : ClassTable) (listed : List WordRows) (table : WordTable) :
     Type 0 where
   pub in_range : IsInRange config
-  pub small_pool : words_of_pool config ≤ MOST_ROW_WORDS
+  pub fits : words_of_slice config ≤ room
+  pub small_pool : config.slices * room ≤ MOST_ROW_WORDS
   pub rows_are : (rank : ℕ) → rank ≤ config.max_rank → slice_index rows rank ≡ shared_rows config rank
   pub bases_are : (rank : ℕ) → rank ≤ config.max_rank → slice_index bases rank ≡ base_of_rank config rank
-  pub slice_words_are : slice_words ≡ words_of_slice config
   pub classes_are : IsClassTable config classes
   pub listed_are : listed ≡ map (λ entry. word_rows config entry.0) config.words
   pub table_is : IsWordTable config.words table

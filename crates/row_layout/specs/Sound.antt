@@ -1,5 +1,5 @@
 -- Histories whose documents have set their own bits. The configuration is the one with which the engine was opened.
-use Rattle.std.specs.Prelude.{◌≡◌, List, ◌∷◌, ◌++◌, Contains}
+use Rattle.std.specs.Prelude.{◌≡◌, ℕ, List, ◌∷◌, ◌++◌, Contains}
 use Rattle.funnel_model.specs.History.{Document, live}
 use Rattle.funnel_model.specs.Sizes.{words_of_slice}
 use Rattle.funnel_model.specs.Tunings.{treat}
@@ -8,6 +8,11 @@ use Rattle.funnel_model.specs.declared.config.Config.{Config}
 use Rattle.funnel_model.specs.declared.event.Event.{Event}
 use Rattle.funnel_model.specs.declared.event.Event.TheVariants as event
 use Rattle.row_layout.specs.DocumentBits.{AreDocumentBitsIn}
+use Rattle.row_layout.specs.Layouts.{LayoutId}
+
+-- the layout of a slice after these events: its treatment, in the room that the opening gave each slice
+abbrev pub slice_layout : Config → ℕ → List Event → LayoutId
+slice_layout opening slice history = record { config = treat opening slice history; room = words_of_slice opening }
 
 -- after these events an add has exactly the bits of its own text at its own column, under the treatment of its slice, and a move those
 -- of the text of the live document with its number; no other event has bits. Each slice has the room that the opening gave it

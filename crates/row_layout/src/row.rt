@@ -2,6 +2,9 @@ ghost use Rattle.std.specs.Prelude.{◌≡◌, ◌+◌, ◌*◌, ◌/◌, ◌%�
 
 use funnel_model::Bit;
 
+/// The most rows of a word.
+pub const MOST_ROWS: usize = 26;
+
 /// A row of a slice: its bits stand in the `width` words from the slice's word `start` on, each for 2^`rank` columns.
 ///
 /// With its fields in this order it takes 8 bytes, so that std sorts short runs of rows without branches.

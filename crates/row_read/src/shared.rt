@@ -1,6 +1,5 @@
 ghost use Rattle.std.specs.Prelude.{◌≡◌};
 ghost use Rattle.row_read.specs.SharedRows.{CanRead};
-ghost use Rattle.slice_rule.specs.Seats.{HasNoneOutstanding, HoldsToken};
 
 use crate::rows::Rows;
 use funnel_model::Token;
@@ -19,9 +18,7 @@ pub struct Shared<'a> {
 impl<'a> Shared<'a> {
     /// The rows that a find may read, of which none was read under this name.
     pub fn new(pool: &'a Pool, seat: &'a mut PassSeat, token: &'a Token) -> Shared<'a>
-        requires pool { seat.old.pool ≡ pool.now }
-        requires token { HoldsToken seat.old token.now }
-        requires none_outstanding { HasNoneOutstanding seat.old }
+        requires can_read { CanRead pool.now seat.old token.now }
         ensures can_read { CanRead result.pool.now result.seat.now result.token.now }
         ensures pool { result.pool.now ≡ pool.now }
         ensures seat { result.seat.now ≡ seat.old }

@@ -1,4 +1,5 @@
 ghost use Rattle.std.specs.Prelude.{◌≡◌, ◌<◌, ◌≤◌, ◌+◌, OnOk, IfOk, IfErr, MatchOption, MatchResult, IfNone, is_ok, vec_capacity};
+ghost use Rattle.funnel_io.specs.Beside.{StaysBeside};
 ghost use Rattle.funnel_io.specs.LineReading.{most_lines, unused};
 ghost use Rattle.session.specs.Ends.{Serves, Stand, is_read_fault, is_write_fault};
 ghost use Rattle.session.specs.Steps.{AnswersNext, EndsNext, HasGone, HasServedLines, ReadsOn};
@@ -111,9 +112,8 @@ impl Server {
         limit: u64,
     ) -> Result<Reply, End>
         ensures caller { S.caller service.new ≡ S.caller service.old }
-        ensures borrowed { C.borrowed conn.new ≡ C.borrowed conn.old }
+        ensures stays { StaysBeside C.borrowed C.outgoing conn.old conn.new }
         ensures text { self.new.text ≡ self.old.text }
-        ensures outgoing { C.outgoing conn.new ≡ C.outgoing conn.old }
         ensures answers { IfOk result (AnswersNext (S.caller service.old) self.old.reader self.new.reader
             (C.incoming conn.old) (C.incoming conn.new) self.old.left self.new.left (S.front service.old) (S.front service.new)) }
         ensures ends { IfErr result (EndsNext limit self.old.reader self.new.reader

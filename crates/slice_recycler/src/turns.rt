@@ -3,7 +3,7 @@ ghost use Rattle.std.specs.Prelude.{◌≡◌, [], ◌∷◌, true};
 ghost use Rattle.funnel_model.specs.declared.event.Event.TheVariants as event;
 ghost use Rattle.funnel_model.specs.Legal.{IsLegal};
 ghost use Rattle.commit_desk.specs.Answers.{AnswersClear, events_of_clear};
-ghost use Rattle.commit_desk.specs.Passes.{HasCleared, IsResting, IsToClear};
+ghost use Rattle.commit_desk.specs.Passes.{HasCleared, IsResting};
 ghost use Rattle.slice_recycler.specs.Turns.{ClearsOrRests, IsTurn};
 
 use commit_desk::{ClearRefusal, Named, ToClear};

@@ -55,8 +55,7 @@ pub fn adds_out_of_place()
 {}
 
 /// Not legal are a move of a document that isn't live, or not any more, one without a take, after the take of another pass or of
-/// another column, one with bits outside its new slice or past the 64 of a word, and a void without a take. A move and a void have
-/// no reply.
+/// another column, one with bits outside its new slice or past the 64 of a word, and a void without a take.
 pub fn moves_out_of_place()
     ensures absent { IsLegal paired (event.Take 0 0 0 ∷ event.Move 0 9 0 0 [] ∷ []) → ⊥ }
     ensures deleted { IsLegal paired (first_added ++ event.Del 0 9 ∷ event.Take 0 1 0 ∷ event.Move 0 9 1 0 [] ∷ []) → ⊥ }
@@ -66,7 +65,11 @@ pub fn moves_out_of_place()
     ensures below { IsLegal paired (first_added ++ event.Take 0 1 0 ∷ event.Move 0 9 1 0 (record { word = 3; bit = 0 } ∷ []) ∷ []) → ⊥ }
     ensures wide { IsLegal paired (first_added ++ event.Take 0 1 0 ∷ event.Move 0 9 1 0 (record { word = 4; bit = 64 } ∷ []) ∷ []) → ⊥ }
     ensures void { IsLegal paired (first_added ++ event.Void 0 1 0 ∷ []) → ⊥ }
-    ensures no_reply { (limits : Limits) (history : List Event) (pass id slice column : ℕ) (bits : List Bit) (given : Reply) →
+{}
+
+/// A move and a void have no reply.
+pub fn moves_have_no_reply()
+    ensures { (limits : Limits) (history : List Event) (pass id slice column : ℕ) (bits : List Bit) (given : Reply) →
         IsReply limits history (event.Move pass id slice column bits) given
         ⊎ IsReply limits history (event.Void pass slice column) given → ⊥ }
 {}
@@ -120,9 +123,7 @@ pub fn steps_answer_their_call()
 {}
 
 /// A step is made between calls of the pass. Only a history with so many events is answered Spent, and then the call isn't made;
-/// and only an add and a tuning, which aren't made then, a find, a query and a journal are answered by want of memory. No step is
-/// answered as a malformed or a too long line, as a tuning that has a fault or is too wide, or as a text that is no query, and no place
-/// that is read by Spent. The second add of a number is not answered by the reply to the first, and no step makes both adds.
+/// and only an add and a tuning, which aren't made then, a find, a query and a journal are answered by want of memory.
 pub fn steps_have_their_cause()
     ensures spent { (limits : Limits) (pass : ℕ) (before after : List Event) (asked : Call) →
         Step limits pass before after asked reply.Spent → (limits.events ≤ length after) × AddsNone pass before after }
@@ -139,6 +140,12 @@ pub fn steps_have_their_cause()
     ensures place { (limits : Limits) (pass : ℕ) (before after : List Event) → Step limits pass before after call.Place reply.Memory → ⊥ }
     ensures recycle { (limits : Limits) (pass : ℕ) (before after : List Event) →
         Step limits pass before after call.Recycle reply.Memory → ⊥ }
+{}
+
+/// No step is answered as a malformed or a too long line, as a tuning that has a fault or is too wide, or as a text that is no
+/// query, and no place that is read by Spent. The second add of a number is not answered by the reply to the first, and no step
+/// makes both adds.
+pub fn steps_are_of_one_call()
     ensures unread { (limits : Limits) (pass : ℕ) (before after : List Event) (asked : Call) →
         Step limits pass before after asked reply.Line ⊎ Step limits pass before after asked reply.Long → ⊥ }
     ensures untuned { (limits : Limits) (pass fault needed room : ℕ) (before after : List Event) (asked : Call) →

@@ -100,15 +100,19 @@ pub fn deleted_bits_stay_committed()
 
 /// There is a legal history in which a document moves under an open find, moves again after its number was deleted and added anew,
 /// and a column is left void between; moves and voids have no replies. The find still sees the document in the column that it had,
-/// and not in the new one, and may read both slices; a find that begins later sees it in the new column alone. The old slice retires
-/// by the move, and the find guards it; it retires by the void too. Once its number is deleted, the document has left the column
-/// to which it moved; and the new document has left its first column at the end.
+/// and not in the new one, and may read both slices; a find that begins later sees it in the new column alone.
 pub fn move_example()
     ensures legal { IsLegal paired moved_again }
     ensures replies { AreReplies paired moved_again moved_again_replies }
     ensures old { IsInState moved 0 0 (Deleted cat 2 5) × (seen_by 3 (Deleted cat 2 5) ≡ Some cat) × (seen_by 8 (Deleted cat 2 5) ≡ None) }
     ensures new { IsInState moved 1 0 (Live cat 5) × (seen_by 3 (Live cat 5) ≡ None) × (seen_by 8 (Live cat 5) ≡ Some cat) }
     ensures read { MayRead paired.columns moved 1 0 × MayRead paired.columns moved 1 1 }
+{}
+
+/// In the same history the old slice retires by the move, and the find guards it; it retires by the void too. Once its number is
+/// deleted, the document has left the column to which it moved; and the new document has left its first column at the end. What
+/// moved has its bits in both slices.
+pub fn moves_retire_their_slice()
     ensures retired { IsRetiredAt paired.columns 0 moved 5 × Guards paired.columns moved 0 1 3 }
     ensures gone { IsInState added_again 1 0 (Deleted cat 5 16) }
     ensures voided { IsInState voided 0 0 Dropped × IsRetiredAt paired.columns 0 voided 13 }

@@ -100,23 +100,10 @@ pub fn finds_guard_what_retires_after_them()
         IsLowestGuarded limits history slice pass → lower < pass → Guards limits.columns history slice lower number → ⊥ }
 {}
 
-/// In a legal history in which nothing is awaited, each call of an idle pass can begin: its add takes a column, clears a slice or
-/// is refused, its delete commits or is refused, its recycle clears a slice or is refused, its find begins, a place or a journal
-/// is read, and a tuning is taken. Each call that began can go on: after a take the pass adds its document, with any bits of the
-/// slice, or drops it, and it may void the column or move a live document there, after a clear it opens the slice for an add or by
-/// itself, and after a find it ends. The take that an opening awaits can follow, where slices have columns.
+/// In a legal history in which nothing is awaited each call that began can go on: after a take the pass adds its document, with any
+/// bits of the slice, or drops it, and it may void the column or move a live document there, after a clear it opens the slice for
+/// an add or by itself, and after a find it ends. The take that an opening awaits can follow, where slices have columns.
 pub fn calls_can_go_on()
-    ensures add { (limits : Limits) (history : List Event) (pass id : ℕ) (text : List ℕ) → IsLegal limits history →
-        pass < limits.passes → awaited history ≡ None → IsIdle pass history →
-        ((slice : ℕ) × (column : ℕ) × IsAllowed limits history (event.Take pass slice column))
-        ⊎ ((slice : ℕ) × IsAllowed limits history (event.Clear pass slice))
-        ⊎ IsAllowed limits history (event.No pass (call.Add id text)) }
-    ensures delete { (limits : Limits) (history : List Event) (pass id : ℕ) → IsLegal limits history →
-        pass < limits.passes → awaited history ≡ None → IsIdle pass history →
-        IsAllowed limits history (event.Del pass id) ⊎ IsAllowed limits history (event.No pass (call.Delete id)) }
-    ensures recycle { (limits : Limits) (history : List Event) (pass : ℕ) → IsLegal limits history →
-        pass < limits.passes → awaited history ≡ None → IsIdle pass history →
-        ((slice : ℕ) × IsAllowed limits history (event.Clear pass slice)) ⊎ IsAllowed limits history (event.No pass call.Recycle) }
     ensures taken { (limits : Limits) (history : List Event) (pass slice column id : ℕ) (text : List ℕ) (bits : List Bit) →
         IsLegal limits history → pass < limits.passes → awaited history ≡ None →
         last_by pass history ≡ Some (event.Take pass slice column) → All (λ b. IsInSlice limits.slice_words slice b.word) bits →
@@ -129,12 +116,6 @@ pub fn calls_can_go_on()
         awaited history ≡ None → last_by pass history ≡ Some (event.Take pass slice column) → is_live id history ≡ true →
         All (λ b. IsInSlice limits.slice_words slice b.word) bits → All (λ (b : Bit). b.bit < 64) bits →
         IsAllowed limits history (event.Move pass id slice column bits) }
-    ensures find { (limits : Limits) (history : List Event) (pass : ℕ) (query : List ℕ) → pass < limits.passes → awaited history ≡ None →
-        IsIdle pass history → IsAllowed limits history (event.Find pass query) }
-    ensures read { (limits : Limits) (history : List Event) (pass : ℕ) (asked : Call) → pass < limits.passes → awaited history ≡ None →
-        IsIdle pass history → OnlyReads asked → IsAllowed limits history (event.Read pass asked) }
-    ensures tuned { (limits : Limits) (history : List Event) (pass : ℕ) (config : Config) → pass < limits.passes → awaited history ≡ None →
-        IsIdle pass history → IsAllowed limits history (event.Tune pass config) }
     ensures cleared { (limits : Limits) (history : List Event) (pass slice : ℕ) (alone : Bool) → pass < limits.passes →
         awaited history ≡ None → last_by pass history ≡ Some (event.Clear pass slice) →
         IsAllowed limits history (event.Opened pass slice alone) }
@@ -142,4 +123,27 @@ pub fn calls_can_go_on()
         IsAllowed limits (history ++ event.Opened pass slice false ∷ []) (event.Take pass slice 0) }
     ensures found { (limits : Limits) (history : List Event) (pass : ℕ) (query : List ℕ) → pass < limits.passes → awaited history ≡ None →
         last_by pass history ≡ Some (event.Find pass query) → IsAllowed limits history (event.End pass) }
+{}
+
+/// In a legal history in which nothing is awaited, each call of an idle pass can begin: its add takes a column, clears a slice or
+/// is refused, its delete commits or is refused, its recycle clears a slice or is refused, its find begins, a place or a journal is
+/// read, and a tuning is taken.
+pub fn calls_can_begin()
+    ensures add { (limits : Limits) (history : List Event) (pass id : ℕ) (text : List ℕ) → IsLegal limits history →
+        pass < limits.passes → awaited history ≡ None → IsIdle pass history →
+        ((slice : ℕ) × (column : ℕ) × IsAllowed limits history (event.Take pass slice column))
+        ⊎ ((slice : ℕ) × IsAllowed limits history (event.Clear pass slice))
+        ⊎ IsAllowed limits history (event.No pass (call.Add id text)) }
+    ensures delete { (limits : Limits) (history : List Event) (pass id : ℕ) → IsLegal limits history →
+        pass < limits.passes → awaited history ≡ None → IsIdle pass history →
+        IsAllowed limits history (event.Del pass id) ⊎ IsAllowed limits history (event.No pass (call.Delete id)) }
+    ensures recycle { (limits : Limits) (history : List Event) (pass : ℕ) → IsLegal limits history →
+        pass < limits.passes → awaited history ≡ None → IsIdle pass history →
+        ((slice : ℕ) × IsAllowed limits history (event.Clear pass slice)) ⊎ IsAllowed limits history (event.No pass call.Recycle) }
+    ensures find { (limits : Limits) (history : List Event) (pass : ℕ) (query : List ℕ) → pass < limits.passes → awaited history ≡ None →
+        IsIdle pass history → IsAllowed limits history (event.Find pass query) }
+    ensures read { (limits : Limits) (history : List Event) (pass : ℕ) (asked : Call) → pass < limits.passes → awaited history ≡ None →
+        IsIdle pass history → OnlyReads asked → IsAllowed limits history (event.Read pass asked) }
+    ensures tuned { (limits : Limits) (history : List Event) (pass : ℕ) (config : Config) → pass < limits.passes → awaited history ≡ None →
+        IsIdle pass history → IsAllowed limits history (event.Tune pass config) }
 {}

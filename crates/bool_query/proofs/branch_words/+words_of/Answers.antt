@@ -3,7 +3,7 @@ use Rattle.std.proofs.Math.Seq.{take-suc}
 use Rattle.std.proofs.lemmas.List.{map-append}
 use Rattle.std.proofs.lemmas.Result.{IfOk-weaker}
 use Rattle.funnel_model.specs.declared.expr.Expr.{Expr}
-use Rattle.funnel_model.specs.Expressions.{Tree, Trees, atom, every, some, AreMusts, AreMustsOfEach, tree_of, trees_of, trees}
+use Rattle.funnel_model.specs.Expressions.{Tree, atom, every, some, AreMusts, AreMustsOfEach, tree_of, trees_of, trees}
 use Rattle.bool_query.specs.WordLists.{in_all, in_some}
 use Rattle.bool_query.proofs.Trees.{size, sizes, size-at, tree-and, tree-or, tree-atom}
 use Rattle.bool_query.proofs.WordListLemmas.{has-musts, atom-musts, some-musts, common-musts, musts-push}

@@ -1,5 +1,5 @@
-use Rattle.std.proofs.Common.{◌≡◌, map, IfOk, ℕ, ◌+◌, ◌-◌, ◌*◌, ◌<◌, ◌≤◌, length, take}
-use Rattle.funnel_model.specs.Expressions.{AreMusts, AreMustsOfEach, tree_of, trees_of}
+use Rattle.std.proofs.Common.{map, take}
+use Rattle.funnel_model.specs.Expressions.{AreMustsOfEach, tree_of, trees_of}
 use Rattle.bool_query.proofs.Trees.{size, sizes}
 use Rattle.bool_query.proofs.branch_words.+words_of.Given as goal
 

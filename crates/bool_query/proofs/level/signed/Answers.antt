@@ -1,4 +1,4 @@
-use Rattle.std.proofs.Common.{rules, ◌≡◌, ◌+◌, ◌-◌, ◌<◌, ℕ, zero, suc, refl, sym, ap, ◌∙◌, arith}
+use Rattle.std.proofs.Common.{◌≡◌, ◌+◌, ◌-◌, ◌<◌, ℕ, zero, suc, ap, ◌∙◌, arith}
 use Rattle.funnel_model.specs.declared.expr.Expr.{Expr}
 use Rattle.funnel_model.specs.declared.expr.Expr.TheVariants as variants
 use Rattle.funnel_model.specs.Expressions.{Tree, contrary, tree_of}

@@ -1,4 +1,4 @@
-use Rattle.std.proofs.Common.{◌≡◌, ◌∙◌, sym, arith}
+use Rattle.std.proofs.Common.{◌∙◌, sym, arith}
 use Rattle.bool_query.proofs.Lexing.{left-at_end, left-ended, left-longer}
 use Rattle.bool_query.proofs.parse.atom_end.Goals as goal
 

@@ -1,4 +1,4 @@
-use Rattle.std.proofs.Common.{rules, false, ◌≡◌, ◌∙◌, ◌<◌, ◌+◌, ℕ, List, ap, drop, sym, subst, refl, length, get_or, arith}
+use Rattle.std.proofs.Common.{rules, false, ◌≡◌, ◌∙◌, ◌+◌, ℕ, List, ap, drop, sym, subst, refl, length, get_or, arith}
 use Rattle.std.proofs.lemmas.Result.{err_from_is_err_and}
 use Rattle.std.proofs.lemmas.Str.{IsCharBoundary-after_ascii}
 use Rattle.std.specs.List.{slice_range}
@@ -8,7 +8,7 @@ use Rattle.std.specs.Str.{IsCharBoundary}
 use Rattle.bool_query.specs.Progress.{HasRead}
 use Rattle.funnel_model.specs.Queries.{bar, left, right, minus, word, IsMalformed, IsTooDeep, atom_bytes, ends_atom}
 use Rattle.bool_query.proofs.FaultLemmas.{syntax-weaker, deep-weaker}
-use Rattle.bool_query.proofs.Lexing.{here-space, here-bar, here-left, here-right, here-minus, here-word, begins-atom, end_of, atom-boundary, atom-within}
+use Rattle.bool_query.proofs.Lexing.{here-space, here-bar, here-left, here-right, here-minus, here-word, end_of, atom-boundary, atom-within}
 use Rattle.bool_query.proofs.Progress.{read-deep, read-stuck, read-token, read-space}
 use Rattle.bool_query.proofs.parse.take_next.Goals as goal
 

@@ -1,4 +1,4 @@
-use Rattle.std.proofs.Common.{◌≡◌, ◌∙◌, ap, map, rules, tests}
+use Rattle.std.proofs.Common.{◌∙◌, ap, map, rules, tests}
 use Rattle.std.proofs.lemmas.Fn.{filter_same}
 use Rattle.bool_query.specs.WordLists.{has}
 use Rattle.bool_query.proofs.WordListLemmas.{map-filter}

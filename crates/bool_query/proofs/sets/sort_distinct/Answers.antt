@@ -1,5 +1,5 @@
 -- The sorted words, made distinct.
-use Rattle.std.proofs.Common.{◌≡◌, ◌↔◌, ℕ, List, Bor, map, ap, sym, ◌∙◌, subst}
+use Rattle.std.proofs.Common.{◌↔◌, ℕ, List, Bor, map, ap, sym, ◌∙◌, subst}
 use Rattle.std.proofs.lemmas.List.Filters.{dedup_is}
 use Rattle.std.proofs.lemmas.List.Sorted.{IsPermutation-map}
 use Rattle.std.specs.List.{Contains}

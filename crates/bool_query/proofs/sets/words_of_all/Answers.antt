@@ -1,4 +1,4 @@
-use Rattle.std.proofs.Common.{◌≡◌, ◌∙◌, ℕ, List, ap, map}
+use Rattle.std.proofs.Common.{◌∙◌, ℕ, List, ap, map}
 use Rattle.std.proofs.lemmas.Result.{IfOk-weaker}
 use Rattle.funnel_model.proofs.WordLemmas.{has-same}
 use Rattle.bool_query.specs.WordLists.{has}

@@ -5,8 +5,7 @@ use Rattle.std.proofs.lemmas.Iterator.Search.{all_from_yields_List}
 use Rattle.std.specs.List.{list_any}
 use Rattle.std.specs.Map.Iter.{deref}
 use Rattle.std.specs.Str.{bytes_eq}
-use Rattle.document_store.specs.Finding.{has_every}
-use Rattle.document_store.proofs.WordSets.{has_every-decides}
+use Rattle.document_store.proofs.WordSets.{has_every, has_every-decides}
 use Rattle.document_store.proofs.doc.has_each.Goals as goal
 
 pub returns : goal.returns

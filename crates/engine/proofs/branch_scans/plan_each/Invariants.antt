@@ -6,5 +6,5 @@ use Rattle.engine.proofs.branch_scans.plan_each.Given as goal
 abbrev pub invariant-loop-words : goal.invariant-loop-words
 invariant-loop-words l = record {
   words : words_of_each l.planned.items ≡ take l.words-index l.words-items;
-  planned : All (IsPlanned l.layout) l.planned.items;
+  planned : All (IsPlanned l.layout.config) l.planned.items;
 }

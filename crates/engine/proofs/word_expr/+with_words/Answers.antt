@@ -1,13 +1,13 @@
 use Rattle.std.proofs.Common.{rules, ◌≡◌, ◌∙◌, ◌<◌, ◌+◌, ◌++◌, ◌∷◌, [], ℕ, List, map, sym, ap, arith, subst, take, get_or, add-one}
 use Rattle.std.proofs.Math.Seq.{take-suc}
 use Rattle.std.proofs.lemmas.List.{map-append}
-use Rattle.bool_query.proofs.Trees.{size, sizes, size-at, tree-and, tree-atom, tree-not, tree-or}
+use Rattle.bool_query.proofs.Trees.{size, sizes, size-at, tree-and, tree-atom, tree-or}
 use Rattle.engine.proofs.WordExprs.{is-atom, is-every, is-some, tests-push}
 use Rattle.engine.specs.declared.word_expr.WordExpr.{WordExpr}
 use Rattle.engine.specs.declared.word_expr.WordExpr.TheVariants as variants
 use Rattle.engine.specs.WordExprs.{AreTestsOf, IsTestOf}
 use Rattle.funnel_model.specs.declared.expr.Expr.{Expr}
-use Rattle.funnel_model.specs.Expressions.{Tree, Trees, atom, contrary, every, some, tree_of, trees, trees_of}
+use Rattle.funnel_model.specs.Expressions.{Tree, atom, every, some, tree_of, trees, trees_of}
 use Rattle.engine.proofs.word_expr.+with_words.Goals as goal
 
 pub with_words-returns-in_ok-words_of-in-Atom : goal.with_words-returns-in_ok-words_of-in-Atom

@@ -1,4 +1,5 @@
-use Rattle.std.proofs.Common.{◌≡◌, ◌+◌}
+use Rattle.std.proofs.Common.{◌+◌}
+use Rattle.funnel_io.specs.Beside.{StaysBeside}
 use Rattle.funnel_io.specs.LineReading.{most_lines}
 use Rattle.fit.specs.Samples.{HasSampled}
 use Rattle.fit.specs.Steps.{entries_of}
@@ -6,8 +7,7 @@ use Rattle.fit.proofs.sample.read_sample.Given as goal
 
 abbrev pub invariant-loop-sampler : goal.invariant-loop-sampler
 invariant-loop-sampler g l = record {
-  borrowed : g.S.Borrower.borrowed l.input ≡ g.S.Borrower.borrowed l.fn.input;
-  beside : g.S.Source.beside_read l.input ≡ g.S.Source.beside_read l.fn.input;
+  stays : StaysBeside g.S.Borrower.borrowed g.S.Source.beside_read l.fn.input l.input;
   sampled : HasSampled l.fn.limit l.sampler.left l.sampler.reader (entries_of l.sampler.tally.counts.entries) l.sampler.tally.documents l.sampler.tally.words
       (g.S.Source.incoming l.fn.input) (g.S.Source.incoming l.input);
 }

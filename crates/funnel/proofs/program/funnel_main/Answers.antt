@@ -7,7 +7,7 @@ use Rattle.funnel.specs.Misfits.{misfit_of}
 use Rattle.funnel.specs.Programs.{Streams}
 use Rattle.funnel.specs.declared.command.Command.TheVariants as command
 use Rattle.funnel.specs.declared.ended.Why.TheVariants as why_of
-use Rattle.funnel.proofs.Endings.{are_no_fit, serve_in_turns}
+use Rattle.funnel.proofs.Endings.{are_no_fit, serve_in_turns, without_memory}
 use Rattle.funnel.proofs.Turns.{refused_not_done, runs_nowhere}
 use Rattle.funnel.proofs.program.funnel_main.Goals as goal
 
@@ -73,3 +73,11 @@ returns-in-Load-clause-ends g c =
     let words_are : command_of words ≡ Some (command.Load c.in-Load.load) = search rules in
     let no_fit : is_fit (command_of words) ≡ false = ap is_fit words_are in
     search (rules, no_fit)
+
+pub returns-in-Run-clause-input_untouched : goal.returns-in-Run-clause-input_untouched
+returns-in-Run-clause-input_untouched g c no_fit =
+    without_memory _ _ _ _ _ _ _ c.run_command-why.ensures.ran (λ memory. (c.run_command-why.ensures.untouched memory).0)
+
+pub returns-in-Run-clause-output_untouched : goal.returns-in-Run-clause-output_untouched
+returns-in-Run-clause-output_untouched g c no_fit =
+    without_memory _ _ _ _ _ _ _ c.run_command-why.ensures.ran (λ memory. (c.run_command-why.ensures.untouched memory).1)

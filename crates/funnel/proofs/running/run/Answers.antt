@@ -15,8 +15,8 @@ returns-clause-in_turns g c = runs_by g.S.Source.read_gives g.K.Sink.write_gives
 pub returns-clause-ran : goal.returns-clause-ran
 returns-clause-ran g c =
     let pool = g.N.PoolName.pool in
-    let limits_are = opened_limits pool c.args.blank c.args.config.now (sym c.requires.named) c.requires.limits in
-    let config_is = opened_config pool c.args.blank c.args.config.now (sym c.requires.named) c.requires.made_with in
+    let limits_are = opened_limits pool c.args.blank c.args.config.now (sym c.requires.blank.named) c.requires.blank.limits in
+    let config_is = opened_config pool c.args.blank c.args.config.now (sym c.requires.blank.named) c.requires.blank.made_with in
     let some : 1 ≤ pool.limits.passes = search rules in
     have_run pool c.args.config.now c.serve-end.result.1.items _ _ _ _ c.serve-end.result.0 c.from.result c.close.result
     limits_are config_is some c.serve-end.ensures.served c.from.ensures c.close.ensures.legal c.close.ensures.caused c.close.ensures.sound c.close.ensures.passes
@@ -24,5 +24,5 @@ returns-clause-ran g c =
 pub returns-clause-kept : goal.returns-clause-kept
 returns-clause-kept g c =
     let pool = g.N.PoolName.pool in
-    let limits_are = opened_limits pool c.args.blank c.args.config.now (sym c.requires.named) c.requires.limits in
+    let limits_are = opened_limits pool c.args.blank c.args.config.now (sym c.requires.blank.named) c.requires.blank.limits in
     keeps_last pool c.args.config.now c.close.result limits_are c.close.ensures.base

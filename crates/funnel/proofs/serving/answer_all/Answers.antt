@@ -19,7 +19,7 @@ pub take_back-requires-clause-room_of_gates : goal.take_back-requires-clause-roo
 take_back-requires-clause-room_of_gates g c =
     let fits : length c.args.gates.items ≤ vec_capacity c.args.gates = search rules in
     let count = workers_count (gate_state g.G.Gate.is_closed g.G.Gate.gate_faults g.G.Gate.waiting g.G.Conn.Source.incoming g.G.Conn.Sink.outgoing g.G.Gate.served) g.N.PoolName.pool.limits c.args.serve c.args.gates.items (states_of c.equip.new.workers.items) (states_of c.run_workers-workers.result.items) c.equip.ensures.workers (as_many c.equip.new.workers.items c.run_workers-workers.result.items c.run_workers-workers.ensures.all) in
-    omega (arith, fits, count, length-map c.run_workers-workers.result.items (λ (worker : WorkerWithGate _). worker.state), ap length c.equip.ensures.gates, c.equip.ensures.room_of_gates)
+    omega (arith, fits, count, length-map c.run_workers-workers.result.items (λ (worker : WorkerWithGate _). worker.state), ap length c.equip.ensures.gates.none_left, c.equip.ensures.room.0)
 
 pub take_back-requires-clause-room_of_passes : goal.take_back-requires-clause-room_of_passes
 take_back-requires-clause-room_of_passes g c =
@@ -28,7 +28,7 @@ take_back-requires-clause-room_of_passes g c =
     let all = ap length c.requires.new ∙ length-map-range_with_len new_pass 0 passes in
     let left = ap length c.equip.ensures.passes ∙ length-map-range_with_len new_pass (length c.args.gates.items) (passes - length c.args.gates.items) in
     let count = workers_count (gate_state g.G.Gate.is_closed g.G.Gate.gate_faults g.G.Gate.waiting g.G.Conn.Source.incoming g.G.Conn.Sink.outgoing g.G.Gate.served) g.N.PoolName.pool.limits c.args.serve c.args.gates.items (states_of c.equip.new.workers.items) (states_of c.run_workers-workers.result.items) c.equip.ensures.workers (as_many c.equip.new.workers.items c.run_workers-workers.result.items c.run_workers-workers.ensures.all) in
-    omega (arith, fits, count, length-map c.run_workers-workers.result.items (λ (worker : WorkerWithGate _). worker.state), all, left, c.requires.enough, c.equip.ensures.room_of_passes)
+    omega (arith, fits, count, length-map c.run_workers-workers.result.items (λ (worker : WorkerWithGate _). worker.state), all, left, c.requires.enough, c.equip.ensures.room.1)
 
 pub returns : goal.returns
 returns g c =
@@ -41,6 +41,6 @@ returns g c =
     have_worked g.G.Gate.next_gives g.G.Gate.done_gives g.G.Gate.end_gives g.G.Conn.Source.read_gives g.G.Conn.Sink.write_gives g.G.Conn.Source.incoming g.G.Conn.Sink.outgoing
     (gate_state g.G.Gate.is_closed g.G.Gate.gate_faults g.G.Gate.waiting g.G.Conn.Source.incoming g.G.Conn.Sink.outgoing g.G.Gate.served) g.N.PoolName.pool c.args.serve
     c.args.gates.items c.equip.new.gates.items c.take_back.new.gates.items c.why_of_workers-why.result c.equip.new.passes.items c.take_back.new.passes.items
-    c.equip.new.workers.items c.run_workers-workers.result.items c.equip.ensures.workers c.equip.ensures.theirs c.equip.ensures.gates
+    c.equip.new.workers.items c.run_workers-workers.result.items c.equip.ensures.workers c.equip.ensures.gates.theirs c.equip.ensures.gates.none_left
     c.equip.ensures.passes c.run_workers-workers.ensures.all c.run_workers-workers.ensures.work c.take_back.ensures.told c.take_back.ensures.gates cause
     c.take_back.ensures.passes

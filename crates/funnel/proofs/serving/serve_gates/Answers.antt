@@ -1,4 +1,4 @@
-use Rattle.std.proofs.Common.{◌≤◌, length, map, arith, sym, ◌∙◌, subst}
+use Rattle.std.proofs.Common.{◌≤◌, length, arith, sym, ◌∙◌, subst}
 use Rattle.std.proofs.lemmas.List.{length-map}
 use Rattle.funnel_model.specs.declared.config.Config.{Config}
 use Rattle.funnel_server.specs.Gates.{gate_state}
@@ -10,10 +10,10 @@ use Rattle.funnel.proofs.serving.serve_gates.Goals as goal
 pub returns-clause-ends : goal.returns-clause-ends
 returns-clause-ends g c =
     let pool = g.N.PoolName.pool in
-    let limits_are = opened_limits pool c.args.blank c.args.config.now (sym c.requires.named) c.requires.limits in
-    let config_is = opened_config pool c.args.blank c.args.config.now (sym c.requires.named) c.requires.made_with in
-    let counted = opened_counted pool c.args.blank c.args.config.now (sym c.requires.named) c.requires.made_with c.requires.limits in
-    let enough = subst (λ (k : Config). length c.args.gates.items ≤ k.passes) (sym (opened_config pool c.args.blank c.args.config.now (sym c.requires.named) c.requires.made_with)) c.requires.enough in
+    let limits_are = opened_limits pool c.args.blank c.args.config.now (sym c.requires.blank.named) c.requires.blank.limits in
+    let config_is = opened_config pool c.args.blank c.args.config.now (sym c.requires.blank.named) c.requires.blank.made_with in
+    let counted = opened_counted pool c.args.blank c.args.config.now (sym c.requires.blank.named) c.requires.blank.made_with c.requires.blank.limits in
+    let enough = subst (λ (k : Config). length c.args.gates.items ≤ k.passes) (sym (opened_config pool c.args.blank c.args.config.now (sym c.requires.blank.named) c.requires.blank.made_with)) c.requires.enough in
     has_served g.G.Gate.next_gives g.G.Gate.done_gives g.G.Gate.end_gives g.G.Conn.Source.read_gives g.G.Conn.Sink.write_gives g.G.Conn.Source.incoming g.G.Conn.Sink.outgoing
     (gate_state g.G.Gate.is_closed g.G.Gate.gate_faults g.G.Gate.waiting g.G.Conn.Source.incoming g.G.Conn.Sink.outgoing g.G.Gate.served)
     pool c.args.config.now c.args.serve c.args.gates.items c.answer_all-why.result.1.items c.answer_all-why.result.0 c.answer_all-why.result.2.items
@@ -24,7 +24,7 @@ returns-clause-ends g c =
 pub returns-clause-kept : goal.returns-clause-kept
 returns-clause-kept g c =
     let pool = g.N.PoolName.pool in
-    let limits_are = opened_limits pool c.args.blank c.args.config.now (sym c.requires.named) c.requires.limits in
+    let limits_are = opened_limits pool c.args.blank c.args.config.now (sym c.requires.blank.named) c.requires.blank.limits in
     keeps_last pool c.args.config.now c.close.result limits_are c.close.ensures.base
 
 pub returns-clause-count : goal.returns-clause-count

@@ -1,4 +1,4 @@
-use Rattle.std.proofs.Common.{[], length, refl, subst, inl, arith, sym, ap, ◌∙◌}
+use Rattle.std.proofs.Common.{[], length, refl, inl, arith, sym, ap, ◌∙◌}
 use Rattle.std.proofs.lemmas.List.FromFn.{length-map-range_with_len}
 use Rattle.std.specs.List.{range_with_len}
 use Rattle.std.specs.Prelude.{map}
@@ -17,16 +17,16 @@ use Rattle.funnel.proofs.workload.make_load.Goals as goal
 pub run_load-passes-requires-clause-enough : goal.run_load-passes-requires-clause-enough
 run_load-passes-requires-clause-enough g c κs within =
     let pool = g.N.PoolName.pool in
-    let new = opened_passes pool c.args.blank c.args.config.now (sym c.requires.named) c.requires.made_with c.in-Ok-open.passes.items c.in-Ok-open.ensures.passes in
-    let config_is = opened_config pool c.args.blank c.args.config.now (sym c.requires.named) c.requires.made_with in
-    let fits = load_fits c.args.command c.args.config.now c.requires.fits in
+    let new = opened_passes pool c.args.blank c.args.config.now (sym c.requires.blank.named) c.requires.blank.made_with c.in-Ok-open.passes.items c.in-Ok-open.ensures.passes in
+    let config_is = opened_config pool c.args.blank c.args.config.now (sym c.requires.blank.named) c.requires.blank.made_with in
+    let fits = load_fits c.args.command c.args.config.now c.requires.load.fits in
     let count = ap length new ∙ length-map-range_with_len new_pass 0 pool.config.passes in
     omega (arith, fits.passes, count, ap (λ k. k.passes) config_is)
 
 pub run_load-passes-requires-clause-numbers : goal.run_load-passes-requires-clause-numbers
 run_load-passes-requires-clause-numbers g c κs within =
     let pool = g.N.PoolName.pool in
-    let new = opened_passes pool c.args.blank c.args.config.now (sym c.requires.named) c.requires.made_with c.in-Ok-open.passes.items c.in-Ok-open.ensures.passes in
+    let new = opened_passes pool c.args.blank c.args.config.now (sym c.requires.blank.named) c.requires.blank.made_with c.in-Ok-open.passes.items c.in-Ok-open.ensures.passes in
     ap (map number_of) new ∙ new_numbers 0 pool.config.passes
     ∙ ap (range_with_len 0) (sym (ap length new ∙ length-map-range_with_len new_pass 0 pool.config.passes))
 
@@ -38,18 +38,18 @@ returns-in-Ok-results-clause-ends g c =
     let after = c.run_load-passes.result.0.items in
     let config = c.args.config.now in
     let texts = documents c.args.command.docs c.args.command.words c.args.command.seed in
-    let new = opened_passes pool c.args.blank c.args.config.now (sym c.requires.named) c.requires.made_with c.in-Ok-open.passes.items c.in-Ok-open.ensures.passes in
-    let counted = opened_counted pool c.args.blank c.args.config.now (sym c.requires.named) c.requires.made_with c.requires.limits in
-    let limits_are = opened_limits pool c.args.blank c.args.config.now (sym c.requires.named) c.requires.limits in
-    let config_is = opened_config pool c.args.blank c.args.config.now (sym c.requires.named) c.requires.made_with in
+    let new = opened_passes pool c.args.blank c.args.config.now (sym c.requires.blank.named) c.requires.blank.made_with c.in-Ok-open.passes.items c.in-Ok-open.ensures.passes in
+    let counted = opened_counted pool c.args.blank c.args.config.now (sym c.requires.blank.named) c.requires.blank.made_with c.requires.blank.limits in
+    let limits_are = opened_limits pool c.args.blank c.args.config.now (sym c.requires.blank.named) c.requires.blank.limits in
+    let config_is = opened_config pool c.args.blank c.args.config.now (sym c.requires.blank.named) c.requires.blank.made_with in
     let used : AreUsedBy pool c.args.command.workers c.in-Ok-open.passes.items c.run_load-passes.result.0.items =
     record { counted = counted; new = new; numbers = c.run_load-passes.ensures.numbers; others = c.run_load-passes.ensures.others } in
     let ended : HasClosed pool c.args.config.now c.args.command c.in-Ok-open.passes.items c.run_load-passes.result.0.items c.close-closed.result = record {
       limits = limits_are;
       config_is = config_is;
-      some = c.requires.workers;
-      few = c.requires.docs;
-      fits = c.requires.fits;
+      some = c.requires.load.in_range.some_workers;
+      few = c.requires.load.in_range.few_docs;
+      fits = c.requires.load.fits;
       used = used;
       legal = c.close-closed.ensures.legal;
       caused = c.close-closed.ensures.caused;
@@ -71,18 +71,18 @@ returns-clause-ends g c =
     let after = c.run_load-passes.result.0.items in
     let config = c.args.config.now in
     let texts = documents c.args.command.docs c.args.command.words c.args.command.seed in
-    let new = opened_passes pool c.args.blank c.args.config.now (sym c.requires.named) c.requires.made_with c.in-Ok-open.passes.items c.in-Ok-open.ensures.passes in
-    let counted = opened_counted pool c.args.blank c.args.config.now (sym c.requires.named) c.requires.made_with c.requires.limits in
-    let limits_are = opened_limits pool c.args.blank c.args.config.now (sym c.requires.named) c.requires.limits in
-    let config_is = opened_config pool c.args.blank c.args.config.now (sym c.requires.named) c.requires.made_with in
+    let new = opened_passes pool c.args.blank c.args.config.now (sym c.requires.blank.named) c.requires.blank.made_with c.in-Ok-open.passes.items c.in-Ok-open.ensures.passes in
+    let counted = opened_counted pool c.args.blank c.args.config.now (sym c.requires.blank.named) c.requires.blank.made_with c.requires.blank.limits in
+    let limits_are = opened_limits pool c.args.blank c.args.config.now (sym c.requires.blank.named) c.requires.blank.limits in
+    let config_is = opened_config pool c.args.blank c.args.config.now (sym c.requires.blank.named) c.requires.blank.made_with in
     let used : AreUsedBy pool c.args.command.workers c.in-Ok-open.passes.items c.run_load-passes.result.0.items =
     record { counted = counted; new = new; numbers = c.run_load-passes.ensures.numbers; others = c.run_load-passes.ensures.others } in
     let ended : HasClosed pool c.args.config.now c.args.command c.in-Ok-open.passes.items c.run_load-passes.result.0.items c.close-closed.result = record {
       limits = limits_are;
       config_is = config_is;
-      some = c.requires.workers;
-      few = c.requires.docs;
-      fits = c.requires.fits;
+      some = c.requires.load.in_range.some_workers;
+      few = c.requires.load.in_range.few_docs;
+      fits = c.requires.load.fits;
       used = used;
       legal = c.close-closed.ensures.legal;
       caused = c.close-closed.ensures.caused;
@@ -98,11 +98,11 @@ returns-clause-ends g c =
 pub returns-in-Ok-results-clause-kept : goal.returns-in-Ok-results-clause-kept
 returns-in-Ok-results-clause-kept g c =
     let pool = g.N.PoolName.pool in
-    let limits_are = opened_limits pool c.args.blank c.args.config.now (sym c.requires.named) c.requires.limits in
+    let limits_are = opened_limits pool c.args.blank c.args.config.now (sym c.requires.blank.named) c.requires.blank.limits in
     keeps_last pool c.args.config.now c.close-closed.result limits_are c.close-closed.ensures.base
 
 pub returns-clause-kept : goal.returns-clause-kept
 returns-clause-kept g c =
     let pool = g.N.PoolName.pool in
-    let limits_are = opened_limits pool c.args.blank c.args.config.now (sym c.requires.named) c.requires.limits in
+    let limits_are = opened_limits pool c.args.blank c.args.config.now (sym c.requires.blank.named) c.requires.blank.limits in
     keeps_last pool c.args.config.now c.close-closed.result limits_are c.close-closed.ensures.base

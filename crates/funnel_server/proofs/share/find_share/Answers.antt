@@ -1,7 +1,7 @@
 -- The walk begins at the worker's first place, goes on by one query, and ends behind the list.
 use Rattle.std.proofs.Common.{◌+◌, ◌≤◌, refl, ◌∙◌, arith}
 use Rattle.std.proofs.Math.Nat.{add-mod_right, mod-eq_of_lt}
-use Rattle.funnel_server.proofs.Asked.{on_err, stopped-one, under_way-stop}
+use Rattle.funnel_server.proofs.Asked.{asked-one, on_err, stopped-one, under_way-stop}
 use Rattle.funnel_server.proofs.ShareCalls.{queries_left-next}
 use Rattle.funnel_server.proofs.ShareResults.{found-begin, found-end, found-next}
 use Rattle.funnel_server.proofs.share.find_share.Goals as goal
@@ -18,7 +18,7 @@ returns-in_err-reply-clause-stopped g c =
     on_err c.from_residual.result
     (under_way-stop _ _ _ _ _ _ _ _ _ _ c.loop-j.invariant.caller c.loop-j.invariant.found.so_far
     (queries_left-next c.args.workers c.args.worker c.loop-j.j c.query-query.result.now c.requires.one_of_them c.loop-j.invariant.falls c.query-query.ensures)
-    (stopped-one _ _ _ _ (c.in_err-reply.ensures.refused _ refl)))
+    (stopped-one _ _ _ _ (c.in_err-reply.ensures.refused)))
 
 pub loop-j-preserved : goal.loop-j-preserved
 loop-j-preserved g c = record {
@@ -26,7 +26,7 @@ loop-j-preserved g c = record {
   falls = add-mod_right c.loop-j.j c.args.workers ∙ c.loop-j.invariant.falls;
   found =
       found-next _ _ _ _ _ _ _ _ _ _ _ _ c.loop-j.invariant.caller c.requires.one_of_them c.loop-j.invariant.falls c.query-query.ensures c.loop-j-test.true
-      c.loop-j.invariant.found (c.in_ok-reply.ensures.answered _ refl) c.query_result.ensures;
+      c.loop-j.invariant.found (asked-one _ _ _ _ _ c.in_ok-reply.ensures.answered) c.query_result.ensures;
 }
 
 pub returns-clause-found : goal.returns-clause-found
@@ -39,4 +39,4 @@ returns-in_ok-reply-clause-found g c =
     let behind : 8 ≤ c.loop-j.j + c.args.workers = omega arith in
     found-end _ _ _ _ _ _ _ behind
     (found-next _ _ _ _ _ _ _ _ _ _ _ _ c.loop-j.invariant.caller c.requires.one_of_them c.loop-j.invariant.falls c.query-query.ensures c.loop-j-test.true
-    c.loop-j.invariant.found (c.in_ok-reply.ensures.answered _ refl) c.query_result.ensures)
+    c.loop-j.invariant.found (asked-one _ _ _ _ _ c.in_ok-reply.ensures.answered) c.query_result.ensures)

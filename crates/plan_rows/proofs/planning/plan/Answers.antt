@@ -16,7 +16,7 @@ use Rattle.plan_rows.proofs.planning.plan.Goals as goal
 
 pub new-requires : goal.new-requires
 new-requires c =
-    let config = c.args.layout.now in
+    let config = c.args.layout.now.config in
     let sorted : List Row = c.sort_unstable_by.new.self.items in
     let kept : c.dedup.new.self.items ≡ dedup row_eq sorted = dedup_is _ _ _ c.dedup.ensures.filtered in
     let in_order =
@@ -28,7 +28,7 @@ new-requires c =
 
 pub returns-clause-rows : goal.returns-clause-rows
 returns-clause-rows c row =
-    let config = c.args.layout.now in
+    let config = c.args.layout.now.config in
     let words = c.args.words.now in
     let sorted : List Row = c.sort_unstable_by.new.self.items in
     let kept : c.new.result ≡ dedup row_eq sorted = c.new.ensures ∙ dedup_is _ _ _ c.dedup.ensures.filtered in
@@ -38,7 +38,7 @@ returns-clause-rows c row =
 
 pub returns-clause-laid : goal.returns-clause-laid
 returns-clause-laid c =
-    let config = c.args.layout.now in
+    let config = c.args.layout.now.config in
     let sorted : List Row = c.sort_unstable_by.new.self.items in
     let kept : c.new.result ≡ dedup row_eq sorted = c.new.ensures ∙ dedup_is _ _ _ c.dedup.ensures.filtered in
     subst (All (IsRowOf config)) (sym kept)
@@ -46,7 +46,7 @@ returns-clause-laid c =
 
 pub of-requires : goal.of-requires
 of-requires c =
-    let config = c.args.layout.now in
+    let config = c.args.layout.now.config in
     record {
       rising =
           subst (λ (words : List (Bor (List ℕ))). IsRising (map (λ word. word.now) words)) (sym c.deref.ensures.value)

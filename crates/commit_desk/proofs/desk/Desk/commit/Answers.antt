@@ -1,14 +1,19 @@
-use Rattle.std.proofs.Common.{◌≡◌, true, subst}
+use Rattle.std.proofs.Common.{◌≡◌, true, sym, ap, ◌∙◌, subst}
 use Rattle.funnel_model.specs.History.{is_live}
+use Rattle.slice_rule.specs.Pools.{PoolId}
+use Rattle.commit_desk.specs.Desks.{DeskState}
+use Rattle.commit_desk.specs.Passes.{HasWritten}
 use Rattle.commit_desk.proofs.Checks.{dropped_is_live}
-use Rattle.commit_desk.proofs.HeldClaims.{bits_held, claim_held, of_words}
+use Rattle.commit_desk.proofs.HeldClaims.{claim_held, of_words, written_held}
 use Rattle.commit_desk.proofs.desk.Desk.commit.Goals as goal
 
-pub make_add-requires-clause-claim : goal.make_add-requires-clause-claim
-make_add-requires-clause-claim c = let up = c.catch_up.ensures in claim_held c.args.seat.now c.catch_up.new.seat up.seat up.none_since c.args.claim c.requires.written.holds
-
-pub make_add-requires-clause-set : goal.make_add-requires-clause-set
-make_add-requires-clause-set c = let up = c.catch_up.ensures in bits_held c.args.seat.now c.catch_up.new.seat up.seat up.none_since c.args.bits.now.bits c.requires.written.bits_set
+pub make_add-requires-clause-written : goal.make_add-requires-clause-written
+make_add-requires-clause-written c =
+    let up = c.catch_up.ensures in
+    let home = c.catch_up.new.home in
+    let pool : c.args.self.now.pool ≡ home.pool = sym (up.home.pool ∙ ap (λ (d : DeskState). d.pool) c.self.view_is) in
+    subst (λ (p : PoolId). HasWritten p c.args.claim c.args.doc.words c.args.bits.now.bits c.catch_up.new.seat) pool
+    (written_held c.args.seat.now c.catch_up.new.seat up.seat up.none_since c.args.self.now.pool c.args.claim c.args.doc.words c.args.bits.now.bits up.none_outstanding c.requires.written)
 
 pub make_add-requires-clause-of_words : goal.make_add-requires-clause-of_words
 make_add-requires-clause-of_words c = of_words c.requires.written.document

@@ -27,7 +27,7 @@ use Rattle.commit_desk.proofs.desk.Desk.make_add.Goals as goal
 pub make_event-number-requires-clause-ready : goal.make_event-number-requires-clause-ready
 make_event-number-requires-clause-ready c =
     subst (λ n. (b : Bit) → Contains c.args.bits.now.bits b ↔ Contains c.args.seat.now.own (fact.BitSet (last_number n c.args.seat.now.front) b)) (sym c.number-pass.ensures.number)
-    c.requires.set
+    c.requires.written.bits_set
 
 abbrev books : goal.After-live-arg-1 → Books
 books c =
@@ -48,7 +48,7 @@ taken_now c =
     let history = c.self.inside.home.history in
     let front : c.args.seat.now.front ≡ history = c.requires.caught_up.front ∙ sym (ap (λ (d : DeskState). d.history) c.self.view_is) in
     subst (λ n. last_by n history ≡ Some (event.Take n c.args.claim.slice c.args.claim.column)) (sym c.number-pass.ensures.number)
-    (subst (λ (h : List Event). last_by c.args.seat.now.number h ≡ Some (event.Take c.args.seat.now.number c.args.claim.slice c.args.claim.column)) front c.requires.claim)
+    (subst (λ (h : List Event). last_by c.args.seat.now.number h ≡ Some (event.Take c.args.seat.now.number c.args.claim.slice c.args.claim.column)) front c.requires.written.holds)
 
 column_now : (c : goal.After-live-arg-1) → IsColumn c.self.inside.records c.args.claim.slice c.args.claim.column
 column_now c =
@@ -98,7 +98,7 @@ allowed_now c =
     (record {
       taken = taken_now c;
       absent = absent_now c;
-      inside = subst (λ (d : DeskState). All (λ (b : Bit). IsInSlice d.pool.limits.slice_words c.args.claim.slice b.word) c.args.bits.now.bits) (sym c.self.view_is) c.requires.inside;
+      inside = subst (λ (d : DeskState). All (λ (b : Bit). IsInSlice d.pool.limits.slice_words c.args.claim.slice b.word) c.args.bits.now.bits) (sym c.self.view_is) c.requires.written.inside;
       in_word = c.requires.of_words;
     })
 
@@ -145,7 +145,7 @@ invariant_of-self c =
     })
     c.make_event-number.result c.push.new.self c.live.new.self c.add.new.self i.stages
     (desk-add i.home.pool i.events_limit i.home.history (books earlier) c.self.invariant pass s k doc bits c.add.new.self (allowed_now earlier) c.words.ensures.of_text
-    (subst (λ (d : DeskState). AreDocumentBits d.pool.config doc.words s k bits) (sym c.self.view_is) c.requires.bits)
+    (subst (λ (d : DeskState). AreDocumentBits d.pool.config doc.words s k bits) (sym c.self.view_is) c.requires.written.document)
     (λ other. c.add.ensures.columns other ∙ ap (λ n. cond (other == n) (Some (s, k)) (column_of i.live other)) id)
     c.add.ensures.slices c.add.ensures.slice_columns)
     made.home.pool made.home.history

@@ -27,43 +27,43 @@ pub make_event-number-requires-clause-allowed : goal.make_event-number-requires-
 make_event-number-requires-clause-allowed c =
     let i = c.self.inside in
     let same : i.home.pool ≡ c.args.pool.now = ap (λ (d : DeskState). d.pool) c.self.view_is ∙ sym c.requires.pool in
-    let allowed = allowed_now c.args.self.now i.home i.events_limit (books_of i) c.self.invariant c.self.view_is c.args.seat.now c.requires.caught_up c.number-pass.result c.number-pass.ensures.number c.args.claim c.requires.claim c.args.look c.requires.look c.requires.there c.args.bits.now.bits c.requires.inside c.requires.of_words in
+    let allowed = allowed_now c.args.self.now i.home i.events_limit (books_of i) c.self.invariant c.self.view_is c.args.seat.now c.requires.caught_up c.number-pass.result c.number-pass.ensures.number c.args.claim c.requires.written.holds c.args.look c.requires.look c.requires.there c.args.bits.now.bits c.requires.written.inside c.requires.of_words in
     subst (λ (p : PoolId). IsAllowed p.limits i.home.history (event.Move c.number-pass.result c.id-id.result c.args.claim.slice c.args.claim.column c.args.bits.now.bits)) same
     (subst (λ n. IsAllowed i.home.pool.limits i.home.history (event.Move c.number-pass.result n c.args.claim.slice c.args.claim.column c.args.bits.now.bits)) (sym c.id-id.ensures) allowed)
 
 pub make_event-number-requires-clause-ready : goal.make_event-number-requires-clause-ready
 make_event-number-requires-clause-ready c =
     subst (λ n. (b : Bit) → Contains c.args.bits.now.bits b ↔ Contains c.args.seat.now.own (fact.BitSet (last_number n c.args.seat.now.front) b)) (sym c.number-pass.ensures.number)
-    c.requires.set
+    c.requires.written.bits_set
 
 pub delete-requires-clause-in_range : goal.delete-requires-clause-in_range
-delete-requires-clause-in_range c = let i = c.self.inside in (from_now c.args.self.now i.home i.events_limit (books_of i) c.self.invariant c.self.view_is c.args.seat.now c.requires.caught_up c.number-pass.result c.number-pass.ensures.number c.args.claim c.requires.claim c.args.look c.requires.look c.requires.there).from
+delete-requires-clause-in_range c = let i = c.self.inside in (from_now c.args.self.now i.home i.events_limit (books_of i) c.self.invariant c.self.view_is c.args.seat.now c.requires.caught_up c.number-pass.result c.number-pass.ensures.number c.args.claim c.requires.written.holds c.args.look c.requires.look c.requires.there).from
 
 pub delete-requires-clause-live : goal.delete-requires-clause-live
-delete-requires-clause-live c = let i = c.self.inside in let lives = (from_now c.args.self.now i.home i.events_limit (books_of i) c.self.invariant c.self.view_is c.args.seat.now c.requires.caught_up c.number-pass.result c.number-pass.ensures.number c.args.claim c.requires.claim c.args.look c.requires.look c.requires.there).lives in (lives.added, lives.since, lives.column)
+delete-requires-clause-live c = let i = c.self.inside in let lives = (from_now c.args.self.now i.home i.events_limit (books_of i) c.self.invariant c.self.view_is c.args.seat.now c.requires.caught_up c.number-pass.result c.number-pass.ensures.number c.args.claim c.requires.written.holds c.args.look c.requires.look c.requires.there).lives in (lives.added, lives.since, lives.column)
 
 pub live-requires-clause-in_range : goal.live-requires-clause-in_range
 live-requires-clause-in_range c =
     let i = c.self.inside in
-    let lives = (from_now c.args.self.now i.home i.events_limit (books_of i) c.self.invariant c.self.view_is c.args.seat.now c.requires.caught_up c.number-pass.result c.number-pass.ensures.number c.args.claim c.requires.claim c.args.look c.requires.look c.requires.there).lives in
-    column_then c.args.self.now i.home i.events_limit (books_of i) c.self.invariant c.self.view_is c.args.seat.now c.requires.caught_up c.number-pass.result c.number-pass.ensures.number c.args.claim c.requires.claim c.args.look c.requires.look c.requires.there c.delete.new.self _ (c.delete.ensures lives.added lives.since lives.column)
+    let lives = (from_now c.args.self.now i.home i.events_limit (books_of i) c.self.invariant c.self.view_is c.args.seat.now c.requires.caught_up c.number-pass.result c.number-pass.ensures.number c.args.claim c.requires.written.holds c.args.look c.requires.look c.requires.there).lives in
+    column_then c.args.self.now i.home i.events_limit (books_of i) c.self.invariant c.self.view_is c.args.seat.now c.requires.caught_up c.number-pass.result c.number-pass.ensures.number c.args.claim c.requires.written.holds c.args.look c.requires.look c.requires.there c.delete.new.self _ (c.delete.ensures lives.added lives.since lives.column)
 
 pub live-requires-clause-pending : goal.live-requires-clause-pending
 live-requires-clause-pending c =
     let i = c.self.inside in
-    let lives = (from_now c.args.self.now i.home i.events_limit (books_of i) c.self.invariant c.self.view_is c.args.seat.now c.requires.caught_up c.number-pass.result c.number-pass.ensures.number c.args.claim c.requires.claim c.args.look c.requires.look c.requires.there).lives in
-    (c.number-pass.result, pending_then c.args.self.now i.home i.events_limit (books_of i) c.self.invariant c.self.view_is c.args.seat.now c.requires.caught_up c.number-pass.result c.number-pass.ensures.number c.args.claim c.requires.claim c.args.look c.requires.look c.requires.there c.delete.new.self _ (c.delete.ensures lives.added lives.since lives.column))
+    let lives = (from_now c.args.self.now i.home i.events_limit (books_of i) c.self.invariant c.self.view_is c.args.seat.now c.requires.caught_up c.number-pass.result c.number-pass.ensures.number c.args.claim c.requires.written.holds c.args.look c.requires.look c.requires.there).lives in
+    (c.number-pass.result, pending_then c.args.self.now i.home i.events_limit (books_of i) c.self.invariant c.self.view_is c.args.seat.now c.requires.caught_up c.number-pass.result c.number-pass.ensures.number c.args.claim c.requires.written.holds c.args.look c.requires.look c.requires.there c.delete.new.self _ (c.delete.ensures lives.added lives.since lives.column))
 
 pub add-requires-clause-slice : goal.add-requires-clause-slice
 add-requires-clause-slice c =
     let i = c.self.inside in
-    let here = (to_now c.args.self.now i.home i.events_limit (books_of i) c.self.invariant c.self.view_is c.args.seat.now c.requires.caught_up c.number-pass.result c.number-pass.ensures.number c.args.claim c.requires.claim c.args.look c.requires.look c.requires.there).slice_in_range in
+    let here = (to_now c.args.self.now i.home i.events_limit (books_of i) c.self.invariant c.self.view_is c.args.seat.now c.requires.caught_up c.number-pass.result c.number-pass.ensures.number c.args.claim c.requires.written.holds c.args.look c.requires.look c.requires.there).slice_in_range in
     omega (arith, here, c.self.invariant.kept.listed.slices_are, c.remove.ensures.slices)
 
 pub add-requires-clause-column : goal.add-requires-clause-column
 add-requires-clause-column c =
     let i = c.self.inside in
-    let here = (to_now c.args.self.now i.home i.events_limit (books_of i) c.self.invariant c.self.view_is c.args.seat.now c.requires.caught_up c.number-pass.result c.number-pass.ensures.number c.args.claim c.requires.claim c.args.look c.requires.look c.requires.there).column_in_range in
+    let here = (to_now c.args.self.now i.home i.events_limit (books_of i) c.self.invariant c.self.view_is c.args.seat.now c.requires.caught_up c.number-pass.result c.number-pass.ensures.number c.args.claim c.requires.written.holds c.args.look c.requires.look c.requires.there).column_in_range in
     omega (arith, here, c.self.invariant.kept.listed.columns_are, c.remove.ensures.slice_columns)
 
 none_some : (x : ℕ × ℕ) → (let o : Option (ℕ × ℕ) = None in o ≡ Some x) → ⊥
@@ -77,7 +77,7 @@ add-requires-clause-free c other found =
     (λ apart.
     let entry = c.self.invariant.kept.listed.listed other c.args.claim.slice c.args.claim.column
     (sym (c.remove.ensures.columns other ∙ cond-false (other == c.id-id.result) None (column_of i.live other) apart.0) ∙ found) in
-    none_there c.args.self.now i.home i.events_limit (books_of i) c.self.invariant c.self.view_is c.args.seat.now c.requires.caught_up c.number-pass.result c.number-pass.ensures.number c.args.claim c.requires.claim c.args.look c.requires.look c.requires.there entry.doc entry.live)
+    none_there c.args.self.now i.home i.events_limit (books_of i) c.self.invariant c.self.view_is c.args.seat.now c.requires.caught_up c.number-pass.result c.number-pass.ensures.number c.args.claim c.requires.written.holds c.args.look c.requires.look c.requires.there entry.doc entry.live)
     (eqb_tells other c.id-id.result)
 
 pub add-requires-clause-absent : goal.add-requires-clause-absent
@@ -88,11 +88,11 @@ pub end_column-requires-clause-in_range : goal.end_column-requires-clause-in_ran
 end_column-requires-clause-in_range c =
     let i = c.self.inside in
     let kept = c.self.invariant.kept in
-    let here = (from_now c.args.self.now i.home i.events_limit (books_of i) c.self.invariant c.self.view_is c.args.seat.now c.requires.caught_up c.number-pass.result c.number-pass.ensures.number c.args.claim c.requires.claim c.args.look c.requires.look c.requires.there).from.slice_in_range in
+    let here = (from_now c.args.self.now i.home i.events_limit (books_of i) c.self.invariant c.self.view_is c.args.seat.now c.requires.caught_up c.number-pass.result c.number-pass.ensures.number c.args.claim c.requires.written.holds c.args.look c.requires.look c.requires.there).from.slice_in_range in
     omega (arith, here, kept.recorded.slices_are, kept.staged.count)
 
 pub end_column-requires-clause-used : goal.end_column-requires-clause-used
-end_column-requires-clause-used c = let i = c.self.inside in subst IsUsed (sym (stage_now c.args.self.now i.home i.events_limit (books_of i) c.self.invariant c.self.view_is c.args.seat.now c.requires.caught_up c.number-pass.result c.number-pass.ensures.number c.args.claim c.requires.claim c.args.look c.requires.look c.requires.there).2) tt
+end_column-requires-clause-used c = let i = c.self.inside in subst IsUsed (sym (stage_now c.args.self.now i.home i.events_limit (books_of i) c.self.invariant c.self.view_is c.args.seat.now c.requires.caught_up c.number-pass.result c.number-pass.ensures.number c.args.claim c.requires.written.holds c.args.look c.requires.look c.requires.there).2) tt
 
 pub end_column-requires-clause-last : goal.end_column-requires-clause-last
 end_column-requires-clause-last c =
@@ -111,18 +111,18 @@ invariant_of-self c =
     let s = c.args.claim.slice in
     let k = c.args.claim.column in
     let bits = c.args.bits.now.bits in
-    let at = from_now c.args.self.now i.home i.events_limit (books_of i) c.self.invariant c.self.view_is c.args.seat.now c.requires.caught_up c.number-pass.result c.number-pass.ensures.number c.args.claim c.requires.claim c.args.look c.requires.look c.requires.there in
-    let st = stage_now c.args.self.now i.home i.events_limit (books_of i) c.self.invariant c.self.view_is c.args.seat.now c.requires.caught_up c.number-pass.result c.number-pass.ensures.number c.args.claim c.requires.claim c.args.look c.requires.look c.requires.there in
-    let same_id : look.doc.id ≡ at.doc.id = id_now c.args.self.now i.home i.events_limit (books_of i) c.self.invariant c.self.view_is c.args.seat.now c.requires.caught_up c.number-pass.result c.number-pass.ensures.number c.args.claim c.requires.claim c.args.look c.requires.look c.requires.there in
+    let at = from_now c.args.self.now i.home i.events_limit (books_of i) c.self.invariant c.self.view_is c.args.seat.now c.requires.caught_up c.number-pass.result c.number-pass.ensures.number c.args.claim c.requires.written.holds c.args.look c.requires.look c.requires.there in
+    let st = stage_now c.args.self.now i.home i.events_limit (books_of i) c.self.invariant c.self.view_is c.args.seat.now c.requires.caught_up c.number-pass.result c.number-pass.ensures.number c.args.claim c.requires.written.holds c.args.look c.requires.look c.requires.there in
+    let same_id : look.doc.id ≡ at.doc.id = id_now c.args.self.now i.home i.events_limit (books_of i) c.self.invariant c.self.view_is c.args.seat.now c.requires.caught_up c.number-pass.result c.number-pass.ensures.number c.args.claim c.requires.written.holds c.args.look c.requires.look c.requires.there in
     let number : c.make_event-number.result ≡ length i.home.history + 1 =
     made.number ∙ ap length made.home.history ∙ length-append i.home.history (event.Move pass c.id-id.result s k c.args.bits.now.bits ∷ []) in
     let last = length i.home.history + 1 in
     let table = moved_table i.records look.slice look.column (over_slot (slot_at i.records look.slice look.column) at.doc at.lives last) s k (moved_slot look.place look.doc last) in
     let stages = with_stage i.stages look.slice (after_end i.home.pool.limits.columns last st.0 st.1) in
-    let allowed = subst (λ n. IsAllowed i.home.pool.limits i.home.history (event.Move pass n s k bits)) same_id (allowed_now c.args.self.now i.home i.events_limit (books_of i) c.self.invariant c.self.view_is c.args.seat.now c.requires.caught_up c.number-pass.result c.number-pass.ensures.number c.args.claim c.requires.claim c.args.look c.requires.look c.requires.there bits c.requires.inside c.requires.of_words) in
+    let allowed = subst (λ n. IsAllowed i.home.pool.limits i.home.history (event.Move pass n s k bits)) same_id (allowed_now c.args.self.now i.home i.events_limit (books_of i) c.self.invariant c.self.view_is c.args.seat.now c.requires.caught_up c.number-pass.result c.number-pass.ensures.number c.args.claim c.requires.written.holds c.args.look c.requires.look c.requires.there bits c.requires.written.inside c.requires.of_words) in
     let moved = desk-move i.home.pool i.events_limit i.home.history (books_of i) c.self.invariant pass s k look.slice look.column st.0 st.1 look.place at.doc look.doc bits at.lives c.remove.new.self c.add.new.self
-    allowed (cause_now c.args.self.now i.home i.events_limit (books_of i) c.self.invariant c.self.view_is c.args.seat.now c.requires.caught_up c.number-pass.result c.number-pass.ensures.number c.args.claim c.requires.claim c.args.look c.requires.look c.requires.there) at.from (same_now c.args.self.now i.home i.events_limit (books_of i) c.self.invariant c.self.view_is c.args.seat.now c.requires.caught_up c.number-pass.result c.number-pass.ensures.number c.args.claim c.requires.claim c.args.look c.requires.look c.requires.there) c.requires.look.of_text
-    (subst (λ (d : DeskState). AreDocumentBits d.pool.config look.doc.words s k bits) (sym c.self.view_is) c.requires.bits)
+    allowed (cause_now c.args.self.now i.home i.events_limit (books_of i) c.self.invariant c.self.view_is c.args.seat.now c.requires.caught_up c.number-pass.result c.number-pass.ensures.number c.args.claim c.requires.written.holds c.args.look c.requires.look c.requires.there) at.from (same_now c.args.self.now i.home i.events_limit (books_of i) c.self.invariant c.self.view_is c.args.seat.now c.requires.caught_up c.number-pass.result c.number-pass.ensures.number c.args.claim c.requires.written.holds c.args.look c.requires.look c.requires.there) c.requires.look.of_text
+    (subst (λ (d : DeskState). AreDocumentBits d.pool.config look.doc.words s k bits) (sym c.self.view_is) c.requires.written.document)
     (λ other. c.remove.ensures.columns other ∙ ap (λ n. cond (other == n) None (column_of i.live other)) (c.id-id.ensures ∙ same_id)) c.remove.ensures.slices c.remove.ensures.slice_columns
     (λ other. c.add.ensures.columns other ∙ ap (λ n. cond (other == n) (Some (s, k)) (column_of c.remove.new.self other)) c.id-id.ensures) c.add.ensures.slices c.add.ensures.slice_columns st.2 in
     let gone = c.delete.ensures at.lives.added at.lives.since at.lives.column in

@@ -16,7 +16,7 @@ may_now c =
     let slice = c.in-Some.slice in
     let pass = c.args.seat.now.number in
     let lowest : IsLowest (HasLeft i.home.pool.limits.columns) i.stages slice = subst (λ n. IsLowest (HasLeft n) i.stages slice) kept.staged.columns_are c.in-Some.ensures in
-    let idle = subst (λ (d : DeskState). IsIdle pass d.history) (sym c.self.view_is) c.requires.idle in
+    let idle = subst (λ (d : DeskState). IsIdle pass d.history) (sym c.self.view_is) c.requires.may.idle in
     subst (λ (d : DeskState). MayTake d.pool.limits d.history pass slice (length (claimed slice d.history))) c.self.view_is
     (may_take i.home.pool.limits i.home.history i.records kept.legal kept.recorded i.stages kept.staged.each kept.staged.count pass slice idle lowest)
 
@@ -27,7 +27,7 @@ pub returns-in-Some-clause-answer : goal.returns-in-Some-clause-answer
 returns-in-Some-clause-answer c =
     let pass = c.args.seat.now.number in
     let claim = c.claim.ensures in (
-      c.requires.may,
+      c.requires.may.enters,
       subst (λ (k : Claim). MayTake c.args.self.now.pool.limits c.args.self.now.history pass k.slice k.column) (sym claim.claim) (may_now c.before.before.before),
     )
 
@@ -42,7 +42,7 @@ no_room c =
     (none_has_room i.home.pool.limits i.home.history i.records kept.legal kept.recorded i.stages kept.staged.each kept.staged.count (none_left c))
 
 pub returns-in-Some-begin_clear-clause-answer : goal.returns-in-Some-begin_clear-clause-answer
-returns-in-Some-begin_clear-clause-answer c = (c.requires.may, no_room c.before.before.before.before, c.in-Some-begin_clear.ensures.may, c.in-Some-begin_clear.ensures.slots)
+returns-in-Some-begin_clear-clause-answer c = (c.requires.may.enters, no_room c.before.before.before.before, c.in-Some-begin_clear.ensures.may, c.in-Some-begin_clear.ensures.slots)
 
 full_now : (c : In_default-begin_clear) → IsFull c.args.self.now.pool.limits c.args.self.now.history
 full_now c =
@@ -62,7 +62,7 @@ refuse_add-requires-clause-refused c =
 
 pub returns-clause-answer : goal.returns-clause-answer
 returns-clause-answer c = (
-  c.requires.may,
+  c.requires.may.enters,
   full_now c.before.before.before.before.before.before.before,
   subst (λ (d : DeskState). AreBlocks d.pool.limits d.history c.blocks-blocks.result) c.in_default-begin_clear.ensures.made.0 c.blocks-blocks.ensures,
 )

@@ -1,8 +1,6 @@
-use Rattle.std.proofs.Common.{ℕ, List, refl, subst}
+use Rattle.std.proofs.Common.{◌*◌, ◌≤◌, ℕ, List, length, refl, subst}
 use Rattle.caseless.proofs.Computing.{caseless}
 use Rattle.unicode_segmentation.proofs.Computing.{unicode_segmentation}
-use Rattle.commit_desk_tests.specs.Tested.{IsDraft}
-use Rattle.funnel_model.specs.declared.config.Config.{Config}
 use Rattle.commit_desk_tests.proofs.setting.Setting.draft.Goals as goal
 
 pub document-requires : goal.document-requires
@@ -10,8 +8,7 @@ unfolding caseless unicode_segmentation
 document-requires g c = refl
 
 pub invariant_of-result : goal.invariant_of-result
-invariant_of-result g c =
-    let bits = c.in_ok-bits.ensures in
-    let rows = c.in_ok-bits.bits.rows in
-    subst (λ (layout : Config). IsDraft layout c.in_ok-doc.doc.words rows) c.self.invariant.laid.config
-    (subst (λ (set : List (List ℕ)). IsDraft c.self.inside.layout set rows) c.words.ensures.words (record { rows_of = bits.rows; can_place = bits.can_place }))
+invariant_of-result g c = record {
+  no_bits = c.in_ok-bits.ensures.empty;
+  room = subst (λ (set : List (List ℕ)). 26 * length set ≤ c.in_ok-bits.bits.room) c.words.ensures.words c.in_ok-bits.ensures.room;
+}

@@ -1,4 +1,4 @@
-use Rattle.std.proofs.Common.{[], ◌∷◌, refl}
+use Rattle.std.proofs.Common.{refl}
 use Rattle.funnel_model.specs.declared.event.Event.TheVariants as event
 use Rattle.commit_desk.proofs.CallEnds.{rests_one}
 use Rattle.commit_desk_tests.proofs.setting.Setting.end.Goals as goal

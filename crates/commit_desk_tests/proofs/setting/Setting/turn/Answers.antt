@@ -1,30 +1,27 @@
 use Rattle.std.proofs.Common.{sym, subst, ◌∙◌}
-use Rattle.commit_desk.specs.Resolving.{IsRestOf}
-use Rattle.commit_desk.specs.Scans.{WereScanned}
-use Rattle.commit_desk_tests.proofs.Scans.{rest_later}
+use Rattle.commit_desk.specs.Resolving.{IsVerifying}
 use Rattle.slice_rule.specs.Pools.{PoolId}
 use Rattle.commit_desk_tests.proofs.setting.Setting.turn.Goals as goal
 
-pub resolve_part-from-requires-clause-scanned : goal.resolve_part-from-requires-clause-scanned
-resolve_part-from-requires-clause-scanned g c =
+pub resolve_part-from-requires-clause-verifying : goal.resolve_part-from-requires-clause-verifying
+resolve_part-from-requires-clause-verifying g c =
     let at = c.looking.inside in
-    subst (λ (p : PoolId). WereScanned p.config at.seat at.token at.columns) (sym c.self.invariant.desk_of_name) c.looking.invariant.scanned
-
-pub resolve_part-from-requires-clause-rest : goal.resolve_part-from-requires-clause-rest
-resolve_part-from-requires-clause-rest g c begun =
-    let at = c.looking.inside in
-    subst (λ (p : PoolId). IsRestOf p.config begun.query at.rest) (sym c.self.invariant.desk_of_name) (c.looking.invariant.rest_of begun)
+    let is = c.looking.invariant in
+    let still : IsVerifying g.N.PoolName.pool at.token at.rest at.columns at.seat =
+    record { seated = is.finding.seated; holds = is.finding.holds; rest_of = is.rest_of; scanned = is.scanned } in
+    subst (λ (p : PoolId). IsVerifying p at.token at.rest at.columns at.seat) (sym c.self.invariant.desk_of_name) still
 
 pub invariant_of-next : goal.invariant_of-next
 invariant_of-next g c =
     let at = c.looking.inside in
-    let is = c.looking.invariant in
     let did = c.resolve_part-from.ensures in
     let next = c.resolve_part-from.new.seat in
+    let still : IsVerifying g.N.PoolName.pool at.token at.rest at.columns next =
+    subst (λ (p : PoolId). IsVerifying p at.token at.rest at.columns next) (did.events.pool ∙ c.self.invariant.desk_of_name) did.verifying in
     record {
-      finding = record { seated = record { same = did.events.same ∙ is.finding.seated.same; none_outstanding = did.none_outstanding }; holds = did.token };
-      rest_of = rest_later g.N.PoolName.pool.config c.self.inside.desk c.resolve_part-from.new.self at.seat next at.token at.rest did.events is.finding.holds.begun is.rest_of;
-      scanned = subst (λ (p : PoolId). WereScanned p.config next at.token at.columns) (did.events.pool ∙ c.self.invariant.desk_of_name) did.scanned;
-      within = (did.turn is.finding.holds.begun).2.within;
+      finding = record { seated = still.seated; holds = still.holds };
+      rest_of = still.rest_of;
+      scanned = still.scanned;
+      within = (did.found c.looking.invariant.finding.holds.begun).turn.2.within;
       room = did.enough;
     }

@@ -17,7 +17,7 @@ returns-in-Ok-clause-answers g c =
       reads = read.1;
       answers =
           subst (λ (given : Reply). AnswersCall (record { limits = limits; pass = pass.number }) pass.front next.front (call.Query read.0) given) (sym c.reply_to_find.ensures)
-          (answers limits pass.number read.0 c.in-Ok.judge read.2 pass.front next.front next.number c.find_any.result c.find_any.ensures.call c.find_any.ensures.turns);
+          (answers limits pass.number read.0 c.in-Ok.judge.expr read.2 pass.front next.front next.number c.find_any.result c.find_any.ensures.call c.find_any.ensures.turns);
     }))
 
 pub returns-in-Err-clause-answers : goal.returns-in-Err-clause-answers

@@ -1,13 +1,9 @@
-use Rattle.std.proofs.Common.{ℕ, List, sym, subst, ◌∙◌}
+use Rattle.std.proofs.Common.{ℕ, List, subst, ◌∙◌}
 use Rattle.funnel_model.specs.Legal.{IsIdle}
-use Rattle.funnel_model.specs.Words.{AreWordsOf}
 use Rattle.engine.specs.Adds.{OwnTurns}
 use Rattle.engine.proofs.AddSteps.{moved_step, moved_turns}
 use Rattle.engine.proofs.engine.Engine.add_by.Given.{Over}
 use Rattle.engine.proofs.engine.Engine.add_by.Goals as goal
-
-pub add_prepared-requires-clause-of_text : goal.add_prepared-requires-clause-of_text
-add_prepared-requires-clause-of_text g c = subst (AreWordsOf c.in-Ok.prepared.0.words) (sym c.in-Ok.ensures.text) c.in-Ok.ensures.of_text
 
 -- the turns after the moves are those of this add
 own_turns : (g : Over) (c : goal.After-add_prepared g) →

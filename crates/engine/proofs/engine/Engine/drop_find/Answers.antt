@@ -6,5 +6,5 @@ use Rattle.engine.proofs.engine.Engine.drop_find.Goals as goal
 pub returns-clause-rests : goal.returns-clause-rests
 returns-clause-rests g c =
     let seat = c.args.pass.now in
-    rests_one g.N.PoolName.pool c.deref_mut.result.now.desk c.drop_find.new.self seat c.drop_find.new.seat c.requires.finding.seated.same c.drop_find.ensures.none_outstanding
-    (event.End seat.number) refl refl c.drop_find.ensures.events
+    rests_one g.N.PoolName.pool c.deref_mut.result.now.desk c.end_find.new.self seat c.end_find.new.seat c.requires.finding.seated.same c.end_find.ensures.none_outstanding
+    (event.End seat.number) refl refl c.end_find.ensures.events

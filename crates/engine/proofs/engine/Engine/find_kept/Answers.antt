@@ -4,6 +4,7 @@ use Rattle.engine.proofs.JudgedFinds.{kept_turns}
 use Rattle.engine.specs.Branches.{IsPlanned, words_of_each}
 use Rattle.funnel_model.specs.declared.config.Config.{Config}
 use Rattle.funnel_model.specs.Legal.{IsLegal}
+use Rattle.row_layout.specs.Layouts.{LayoutId}
 use Rattle.slice_rule.specs.Pools.{PoolId}
 use Rattle.engine.proofs.engine.Engine.find_kept.Goals as goal
 
@@ -12,7 +13,7 @@ returns-in_default-clause-legal g c = subst (λ (p : PoolId). IsLegal p.limits c
 
 pub finish_kept-requires-clause-planned : goal.finish_kept-requires-clause-planned
 finish_kept-requires-clause-planned g c =
-    let laid_out : c.self.inside.layout ≡ g.N.PoolName.pool.config = c.self.invariant.laid_out ∙ ap (λ (p : PoolId). p.config) c.self.invariant.of_name in
+    let laid_out : c.self.inside.layout.config ≡ g.N.PoolName.pool.config = ap (λ (l : LayoutId). l.config) c.self.invariant.laid_out ∙ ap (λ (p : PoolId). p.config) c.self.invariant.of_name in
     subst (All (IsPlanned g.N.PoolName.pool.config)) (sym c.as_slice.ensures.value) (subst (λ (config : Config). All (IsPlanned config) c.in-Ok.planned.items) laid_out c.in-Ok.ensures.planned)
 
 pub finish_kept-requires-clause-judge : goal.finish_kept-requires-clause-judge

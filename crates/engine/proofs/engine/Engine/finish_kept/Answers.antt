@@ -21,19 +21,19 @@ judge_each-requires g c =
     let seat = c.scan_any.ensures.seat in
     record {
       so_far = judged_none g.N.PoolName.pool next c.args.token (g.J.Judge.test c.args.judge.now) (words_of_each c.args.branches.now) c.in-Ok.candidates c.in-Ok.found
-          (finding_still g.N.PoolName.pool c.args.token pass next seat c.requires.finding) (begun_still pass next seat c.requires.begun) c.requires.judge c.in-Ok.ensures.scanned c.in-Ok.ensures.none c.in-Ok.ensures.room;
+          (finding_still g.N.PoolName.pool c.args.token pass next seat c.requires.begun.finding) (begun_still pass next seat c.requires.begun.begun) c.requires.judge c.in-Ok.ensures.scanned c.in-Ok.ensures.none c.in-Ok.ensures.room;
     }
 
 pub into_ids-requires-clause-room : goal.into_ids-requires-clause-room
 into_ids-requires-clause-room g c =
-    let finding = finding_still g.N.PoolName.pool c.args.token c.args.pass.now c.scan_any.new.pass c.scan_any.ensures.seat c.requires.finding in
+    let finding = finding_still g.N.PoolName.pool c.args.token c.args.pass.now c.scan_any.new.pass c.scan_any.ensures.seat c.requires.begun.finding in
     let begun = finding.holds.begun in
     let few = given_few begun.earlier (g.J.Judge.test c.args.judge.now) c.in-Ok.candidates c.judge_each.new.out.found (c.judge_each.ensures.found begun).0 in
     let same = length_permutation c.judge_each.new.out.found c.sort.new.self.found c.sort.ensures.same in
     omega (arith, few, same, c.in-Ok.ensures.enough)
 
 pub drop_find-requires : goal.drop_find-requires
-drop_find-requires g c = record { finding = finding_still g.N.PoolName.pool c.args.token c.args.pass.now c.scan_any.new.pass c.scan_any.ensures.seat c.requires.finding }
+drop_find-requires g c = record { finding = finding_still g.N.PoolName.pool c.args.token c.args.pass.now c.scan_any.new.pass c.scan_any.ensures.seat c.requires.begun.finding }
 
 pub returns-in-Ok-clause-kept : goal.returns-in-Ok-clause-kept
 returns-in-Ok-clause-kept g c earlier query at =
@@ -41,7 +41,7 @@ returns-in-Ok-clause-kept g c earlier query at =
     let seat = c.scan_any.ensures.seat in
     let token = c.args.token in
     let test = g.J.Judge.test c.args.judge.now in
-    let finding = finding_still g.N.PoolName.pool token c.args.pass.now next seat c.requires.finding in
+    let finding = finding_still g.N.PoolName.pool token c.args.pass.now next seat c.requires.begun.finding in
     let begun = finding.holds.begun in
     let after = c.judge_each.new.pass.front in
     let same = begun_last next token.opened_at earlier query (subst (λ (s : PassState). IsBegunAt (view_of s) earlier query) (sym seat) at) begun in

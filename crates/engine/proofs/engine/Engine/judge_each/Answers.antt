@@ -27,7 +27,7 @@ pub returns-clause-found : goal.returns-clause-found
 returns-clause-found g c =
     let inv = c.loop-open.invariant in
     all_judged_later c.args.pass.now c.loop-open.pass c.args.token c.loop-open.token (g.J.Judge.test c.args.judge.now) c.args.candidates.now c.judge_turn.new.out.found inv.same inv.number inv.seen
-    (c.judge_turn.ensures.found c.in_default.is)
+    (c.judge_turn.ensures.over c.in_default.is).0
 
 pub returns-clause-ended : goal.returns-clause-ended
 returns-clause-ended g c =
@@ -35,4 +35,4 @@ returns-clause-ended g c =
     ends_from c.args.pass.now c.loop-open.pass c.judge_turn.new.pass.front c.judge_turn.result inv.number inv.seen c.in_default.is c.judge_turn.ensures.turn
 
 pub returns-clause-rests : goal.returns-clause-rests
-returns-clause-rests g c = c.judge_turn.ensures.rests c.in_default.is
+returns-clause-rests g c = (c.judge_turn.ensures.over c.in_default.is).1

@@ -1,7 +1,5 @@
-use Rattle.std.proofs.Common.{◌≡◌, ◌<◌, ◌+◌, ◌++◌, ◌∷◌, [], ℕ, List, length, get_or, take, refl, sym, ap, ◌∙◌, subst, arith}
-use Rattle.std.proofs.lemmas.List.{take_all}
+use Rattle.std.proofs.Common.{◌++◌, ◌∷◌, [], ℕ, List, take, refl, sym, ap, ◌∙◌, subst}
 use Rattle.engine.proofs.BranchScans.{adds_more, adds_none, can_scan, words_more}
-use Rattle.engine.proofs.Scans.{token_kept}
 use Rattle.engine.specs.declared.branch_scans.Planned.{Planned}
 use Rattle.engine.specs.Branches.{AddsEach, IsPlanned, words_of_each}
 use Rattle.engine.proofs.engine.Engine.merge_each.Goals as goal
@@ -11,9 +9,7 @@ loop-branch-init g c =
     let rows = c.args.rows.now in
     record {
       added = adds_none g.N.PoolName.pool.config rows.seat.now rows.token.now c.args.slice c.args.merged.now.list;
-      once = c.requires.once;
-      begun = c.requires.begun;
-      columns = refl;
+      merging = c.requires.merging;
       seen = λ bit was. was;
       kept = refl;
     }
@@ -22,8 +18,8 @@ pub merge_branch-requires-clause-scan : goal.merge_branch-requires-clause-scan
 merge_branch-requires-clause-scan g c =
     let pool = g.N.PoolName.pool in
     let one = c.branch-item.result in
-    let planned = subst (IsPlanned pool.config) (sym c.branch-item.is) (c.requires.planned c.loop-branch.branch-index one c.loop-branch-test.true) in
-    can_scan pool c.args.rows.now c.loop-branch.rows one c.loop-branch.invariant.kept c.requires.same c.requires.can_read planned
+    let planned = subst (IsPlanned pool.config) (sym c.branch-item.is) (c.requires.scan.planned c.loop-branch.branch-index one c.loop-branch-test.true) in
+    can_scan pool c.args.rows.now c.loop-branch.rows one c.loop-branch.invariant.kept c.requires.scan.same c.requires.scan.can_read planned
 
 pub loop-branch-preserved : goal.loop-branch-preserved
 loop-branch-preserved g c =
@@ -42,9 +38,7 @@ loop-branch-preserved g c =
           subst (λ (bs : List (List (List ℕ))). AddsEach config next.seat.now next.token.now c.args.slice bs start new)
           (sym (words_more branches at one c.loop-branch-test.true ∙ ap (λ (b : Planned). words_of_each (take at branches) ++ b.words.now ∷ []) (sym c.branch-item.is)))
           (adds_more config rows next did.kept did.seen_stays c.args.slice (words_of_each (take at branches)) one.words.now start c.loop-branch.merged.list new inv.added did.added);
-      once = did.once;
-      begun = did.same_slice ∙ inv.begun;
-      columns = did.same_columns ∙ inv.columns;
+      merging = did.merging;
       seen = λ bit was. did.seen_stays bit (inv.seen bit was);
       kept = did.kept ∙ inv.kept;
     }

@@ -1,5 +1,5 @@
-use Rattle.std.proofs.Common.{◌≡◌, ℕ, take, AllPairs}
-use Rattle.engine.specs.Branches.{AddsEach, words_of_each}
+use Rattle.std.proofs.Common.{◌≡◌, take}
+use Rattle.engine.specs.Branches.{AddsEach, IsMerging, words_of_each}
 use Rattle.funnel_model.specs.declared.bit_list.Bit.{Bit}
 use Rattle.row_read.specs.SharedRows.{WasReadSet, kept_of}
 use Rattle.engine.proofs.engine.Engine.merge_each.Given as goal
@@ -8,9 +8,7 @@ use Rattle.engine.proofs.engine.Engine.merge_each.Given as goal
 abbrev pub invariant-loop-branch : goal.invariant-loop-branch
 invariant-loop-branch g l = record {
   added : AddsEach g.N.PoolName.pool.config l.rows.seat.now l.rows.token.now l.slice (words_of_each (take l.branch-index l.branches)) l.fn.merged.list l.merged.list;
-  once : AllPairs (λ (c other : ℕ × ℕ). c ≡ other → ⊥) l.merged.list;
-  begun : l.merged.slice ≡ l.slice;
-  columns : l.merged.columns ≡ l.fn.merged.columns;
+  merging : IsMerging g.N.PoolName.pool.limits.columns l.slice l.merged;
   seen : (bit : Bit) → WasReadSet l.fn.rows bit → WasReadSet l.rows bit;
   kept : kept_of l.rows ≡ kept_of l.fn.rows;
 }

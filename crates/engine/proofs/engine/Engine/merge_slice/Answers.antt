@@ -1,4 +1,4 @@
-use Rattle.std.proofs.Common.{◌≡◌, ap, subst, sym, refl, ◌∙◌, true≢false, arith}
+use Rattle.std.proofs.Common.{ap, subst, sym, refl, ◌∙◌, true≢false, arith}
 use Rattle.engine.proofs.BranchScans.{any_more, any_without, none_of_slice}
 use Rattle.engine.specs.Branches.{AddsEach, MergedState, words_of_each}
 use Rattle.engine.specs.Engines.{IsOfConfig}
@@ -18,6 +18,13 @@ begin-requires g c = record {
   none = none_of_slice g.N.PoolName.pool.config c.args.rows.now.seat.now c.args.rows.now.token.now (words_of_each c.args.branches.now) c.args.slice c.args.merged.now.list c.requires.below;
 }
 
+pub merge_each-requires-clause-merging : goal.merge_each-requires-clause-merging
+merge_each-requires-clause-merging g c = record {
+  at = ap (λ (m : MergedState). m.slice) c.begin.ensures.begun;
+  columns_are = ap (λ (m : MergedState). m.columns) c.begin.ensures.begun ∙ c.requires.columns;
+  once = c.begin.ensures.once;
+}
+
 pub returns-in_ok-room-clause-scanned : goal.returns-in_ok-room-clause-scanned
 returns-in_ok-room-clause-scanned g c =
     let config = g.N.PoolName.pool.config in
@@ -28,7 +35,7 @@ returns-in_ok-room-clause-scanned g c =
     let new = c.merge_each.new.merged.list in
     let did = c.in_ok-room.ensures in
     any_more config rows next did.kept did.seen_stays branches slice c.args.merged.now.list new (c.if-has.ensures.0 refl) c.requires.below
-    (subst (λ (m : MergedState). AddsEach config next.seat.now next.token.now slice branches m.list new) c.begin.ensures.begun did.added) did.once
+    (subst (λ (m : MergedState). AddsEach config next.seat.now next.token.now slice branches m.list new) c.begin.ensures.begun did.added) did.merging.once
 
 pub returns-else-has-clause-scanned : goal.returns-else-has-clause-scanned
 returns-else-has-clause-scanned g c =

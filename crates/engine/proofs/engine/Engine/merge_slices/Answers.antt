@@ -1,16 +1,18 @@
 use Rattle.std.proofs.Common.{◌≡◌, ap, refl, subst, sym, ◌∙◌, arith}
-use Rattle.engine.proofs.BranchScans.{any_all, any_none}
+use Rattle.engine.proofs.BranchScans.{any_all, any_none, scan_kept}
 use Rattle.engine.proofs.Scans.{read_kept}
 use Rattle.commit_desk.specs.Judging.{AreScannedForAny}
 use Rattle.engine.specs.Branches.{AreScannedForAnyBelow, MergedState, words_of_each}
 use Rattle.engine.specs.Engines.{IsOfConfig}
 use Rattle.funnel_model.specs.Legal.{Limits}
 use Rattle.funnel_model.specs.Sizes.{columns_of_slice}
+use Rattle.row_layout.specs.Layouts.{LayoutId}
 use Rattle.slice_rule.specs.Pools.{PoolId}
 use Rattle.engine.proofs.engine.Engine.merge_slices.Goals as goal
 
-pub merge_slice-requires-clause-can_read : goal.merge_slice-requires-clause-can_read
-merge_slice-requires-clause-can_read g c = read_kept g.N.PoolName.pool c.args.rows.now c.loop-slice.rows c.loop-slice.invariant.kept c.requires.can_read
+pub merge_slice-requires-clause-scan : goal.merge_slice-requires-clause-scan
+merge_slice-requires-clause-scan g c =
+    scan_kept g.N.PoolName.pool c.args.rows.now c.loop-slice.rows c.args.branches.now c.loop-slice.invariant.kept c.requires.scan
 
 pub loop-slice-init : goal.loop-slice-init
 loop-slice-init g c =
@@ -18,8 +20,8 @@ loop-slice-init g c =
     let rows = c.args.rows.now in
     let branches = words_of_each c.args.branches.now in
     let of_config = subst IsOfConfig c.self.invariant.of_name c.self.invariant.of_config in
-    let laid_out : c.self.inside.layout ≡ pool.config = c.self.invariant.laid_out ∙ ap (λ (p : PoolId). p.config) c.self.invariant.of_name in
-    let laid = ap (λ (p : PoolId). p.limits.slice_words) c.requires.can_read.same ∙ ap (λ (l : Limits). l.slice_words) of_config.limits in
+    let laid_out : c.self.inside.layout.config ≡ pool.config = ap (λ (l : LayoutId). l.config) c.self.invariant.laid_out ∙ ap (λ (p : PoolId). p.config) c.self.invariant.of_name in
+    let laid = ap (λ (p : PoolId). p.limits.slice_words) c.requires.scan.can_read.same ∙ ap (λ (l : Limits). l.slice_words) of_config.limits in
     record {
       scanned =
           subst (λ (m : MergedState). AreScannedForAnyBelow pool.config rows.seat.now rows.token.now branches 0 m.list) (sym c.in_ok-merged.ensures)
@@ -34,7 +36,7 @@ returns-clause-scanned g c =
     let pool = g.N.PoolName.pool in
     let rows = c.loop-slice.rows in
     let branches = words_of_each c.args.branches.now in
-    let can_read = read_kept pool c.args.rows.now rows c.loop-slice.invariant.kept c.requires.can_read in
+    let can_read = read_kept pool c.args.rows.now rows c.loop-slice.invariant.kept c.requires.scan.can_read in
     let of_config = subst IsOfConfig c.self.invariant.of_name c.self.invariant.of_config in
     let count : c.self.inside.slices ≡ pool.config.slices = c.self.invariant.count ∙ ap (λ (p : PoolId). p.config.slices) c.self.invariant.of_name in
     let over = c.loop-slice-test.false in

@@ -1,31 +1,25 @@
-use Rattle.std.proofs.Common.{◌≡◌, ◌∙◌, [], ◌∷◌, List, Ok, Option, Some, IfSome, sym, ap, subst}
+use Rattle.std.proofs.Common.{◌≡◌, ◌∙◌, ◌*◌, ◌≤◌, [], ◌∷◌, ℕ, List, Ok, Option, Some, IfSome, length, sym, ap, subst}
+use Rattle.commit_desk.proofs.DocumentEvents.{bits_of_text}
 use Rattle.commit_desk.specs.declared.look.Look.{Look}
 use Rattle.commit_desk.specs.Moving.{AnswersLook, AnswersTakeMove, HoldsLook, LooksState}
 use Rattle.commit_desk.specs.Passes.{HasWritten}
-use Rattle.funnel_model.specs.declared.config.Config.{Config}
 use Rattle.funnel_model.specs.declared.event.Event.{Event}
 use Rattle.funnel_model.specs.declared.event.Event.TheVariants as event
-use Rattle.funnel_model.specs.Words.{words}
-use Rattle.row_layout.specs.DocumentBits.{CanPlace}
 use Rattle.slice_recycler.specs.Turns.{IsTurn}
 use Rattle.slice_recycler.proofs.Steps.{turn_grows}
-use Rattle.slice_rule.specs.Pools.{PoolId}
-use Rattle.engine.proofs.Claims.{rows_of_text}
-use Rattle.engine.proofs.MovePasses.{holds_by_own, holds_on, move_turns, rows_laid}
+use Rattle.engine.proofs.MovePasses.{holds_by_own, holds_on, move_turns}
 use Rattle.engine.proofs.engine.Engine.move_one.Goals as goal
 
-pub write-requires-clause-can_place : goal.write-requires-clause-can_place
-write-requires-clause-can_place g c =
-    let laid : c.self.inside.layout ≡ g.N.PoolName.pool.config = c.self.invariant.laid_out ∙ ap (λ (p : PoolId). p.config) c.self.invariant.of_name in
-    subst (λ (k : Config). CanPlace k c.in-Ok.bits.rows) laid c.in-Ok.ensures.can_place
+pub write-requires-clause-room : goal.write-requires-clause-room
+write-requires-clause-room g c =
+    let look = c.in-Ok-Some.look in
+    let same : c.in-Some.look ≡ look = c.in-Some.ensures.turn.answer.3 in
+    let has : c.words-2.result.now ≡ c.words.result.now = c.words-2.ensures.words ∙ ap (λ (l : Look). l.doc.words) same ∙ sym c.words.ensures.words in
+    subst (λ (set : List (List ℕ)). 26 * length set ≤ c.in-Ok.bits.room) (sym has) c.in-Ok.ensures.room
 
 pub end_move-requires-clause-written : goal.end_move-requires-clause-written
 end_move-requires-clause-written g c =
-    let look = c.in-Ok-Some.look in
-    let config = g.N.PoolName.pool.config in
-    let rows = rows_laid c.self.inside.pool c.self.inside.layout config c.words.result.now look.doc.words c.in-Ok.bits.rows c.self.invariant.laid_out (ap (λ (p : PoolId). p.config) c.self.invariant.of_name) c.words.ensures.words c.in-Ok.ensures.rows in
-    subst (λ (k : Look). HasWritten g.N.PoolName.pool c.in-Some.claim k.doc.words c.write.new.bits.bits c.write.new.pass) (sym c.in-Some.ensures.turn.answer.3)
-    (c.write.ensures.written look.doc.words rows)
+    subst (λ (set : List (List ℕ)). HasWritten g.N.PoolName.pool c.in-Some.claim set c.write.new.bits.bits c.write.new.pass) c.words-2.ensures.words c.write.ensures.written
 
 pub end_move-requires-clause-look : goal.end_move-requires-clause-look
 end_move-requires-clause-look g c =
@@ -51,7 +45,9 @@ returns-clause-moved g c =
     let looked = subst (λ (o : Option Look). IsTurn pass.number pass.front seen.front (λ history. (looks : LooksState) × AnswersLook config.reserve pool.limits.events pool.limits looks history c.args.id (Ok o)) [])
     c.in-Ok-Some.field-0-is c.in-Ok-Some.ensures.turn in
     let held : HoldsLook seen look = subst (λ (o : Option Look). IfSome o (HoldsLook seen)) c.in-Ok-Some.field-0-is c.in-Ok-Some.ensures.look in
-    let rows = rows_laid c.self.inside.pool c.self.inside.layout config c.words.result.now look.doc.words c.in-Ok.bits.rows c.self.invariant.laid_out (ap (λ (p : PoolId). p.config) c.self.invariant.of_name) c.words.ensures.words c.in-Ok.ensures.rows in
+    let written : HasWritten pool c.in-Some.claim c.in-Some.look.doc.words c.write.new.bits.bits c.write.new.pass =
+    subst (λ (set : List (List ℕ)). HasWritten pool c.in-Some.claim set c.write.new.bits.bits c.write.new.pass) c.words-2.ensures.words c.write.ensures.written in
+    let of_words = subst (λ (k : Look). HasWritten pool c.in-Some.claim k.doc.words c.write.new.bits.bits c.write.new.pass) c.in-Some.ensures.turn.answer.3 written in
     move_turns config pool.limits pass.number c.args.id pass.front c.end_move.new.pass.front look c.in-Some.look c.in-Some.claim c.write.new.bits.bits c.end_move.result seen c.take_move.new.pass
     c.write.new.pass looked c.look.ensures.number c.in-Some.ensures.turn c.in-Some.ensures.turn.answer.3 c.take_move.ensures.number c.write.ensures.seat
-    (c.write.ensures.written (words text) (rows_of_text config look.doc.words text c.in-Ok.bits.rows held.of_text rows)).document c.end_move.ensures.turn
+    (bits_of_text config look.doc.words text c.in-Some.claim.slice c.in-Some.claim.column c.write.new.bits.bits held.of_text of_words.document) c.end_move.ensures.turn

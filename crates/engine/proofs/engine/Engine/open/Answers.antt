@@ -1,6 +1,7 @@
 use Rattle.std.proofs.Common.{◌≡◌, ◌*◌, false, length, map, sym, ap, ap₂, ◌∙◌}
 use Rattle.std.proofs.lemmas.List.{length-replicate}
 use Rattle.std.specs.List.{range_with_len}
+use Rattle.row_layout.specs.Layouts.{LayoutId, own_layout}
 use Rattle.slice_rule.specs.Pools.{PoolId, limits_of}
 use Rattle.slice_rule.specs.Seats.{HomeState}
 use Rattle.commit_desk.specs.Desks.{DeskState}
@@ -21,7 +22,7 @@ invariant_of-new g c =
     ap (λ (p : PoolId). p.limits) of ∙ blank.of_config.limits in
     let config : c.args.config.now ≡ c.blank.inside.pool.config = sym (ap (λ (p : PoolId). p.config) c.blank.view_is ∙ c.requires.made_with) in
     let columns : c.columns.result ≡ c.in_ok-desk.desk.pool.limits.columns =
-    c.columns.ensures.value ∙ ap columns_of_slice (c.in_ok-layout.ensures ∙ config) ∙ sym (ap (λ (l : Limits). l.columns) limits) in
+    c.columns.ensures.value ∙ ap (λ (l : LayoutId). columns_of_slice l.config) (c.in_ok-layout.ensures ∙ ap own_layout config) ∙ sym (ap (λ (l : Limits). l.columns) limits) in
     let slices : c.args.config.now.slices ≡ c.in_ok-desk.desk.pool.limits.slices = ap (λ (k : Config). k.slices) config ∙ sym (ap (λ (l : Limits). l.slices) limits) in
     record {
       of_pool = of ∙ c.blank.view_is ∙ c.requires.named;
@@ -51,7 +52,7 @@ invariant_of-engine g c =
     record {
       of_name = c.blank.view_is ∙ c.requires.named;
       of_config = of_config;
-      laid_out = c.in_ok-layout.ensures ∙ config_is;
+      laid_out = c.in_ok-layout.ensures ∙ ap own_layout config_is;
       count = ap (λ (k : Config). k.slices) config_is;
       kept_free = ap (λ (k : Config). k.reserve) config_is;
     }

@@ -26,7 +26,7 @@ pub returns-clause-found : goal.returns-clause-found
 returns-clause-found g c =
     let inv = c.loop-open.invariant in
     all_found_later c.args.pass.now c.loop-open.pass c.args.token c.loop-open.token c.args.candidates.now c.resolve_turn.new.out.found inv.same inv.number inv.seen
-    (c.resolve_turn.ensures.found c.in_default.is)
+    (c.resolve_turn.ensures.over c.in_default.is).0
 
 pub returns-clause-ended : goal.returns-clause-ended
 returns-clause-ended g c =
@@ -34,4 +34,4 @@ returns-clause-ended g c =
     ends_from c.args.pass.now c.loop-open.pass c.resolve_turn.new.pass.front c.resolve_turn.result inv.number inv.seen c.in_default.is c.resolve_turn.ensures.turn
 
 pub returns-clause-rests : goal.returns-clause-rests
-returns-clause-rests g c = c.resolve_turn.ensures.rests c.in_default.is
+returns-clause-rests g c = (c.resolve_turn.ensures.over c.in_default.is).1

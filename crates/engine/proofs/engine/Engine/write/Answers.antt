@@ -1,10 +1,8 @@
-use Rattle.std.proofs.Common.{◌≡◌, sym, ap, ◌∙◌, subst}
+use Rattle.std.proofs.Common.{◌≡◌, ap, ◌∙◌, subst}
 use Rattle.std.specs.List.{All}
-use Rattle.funnel_model.specs.declared.config.Config.{Config}
 use Rattle.funnel_model.specs.Legal.{IsInSlice, Limits}
-use Rattle.funnel_model.specs.Sizes.{words_of_slice}
-use Rattle.row_layout.specs.DocumentBits.{AreDocumentBits, CanPlace}
-use Rattle.row_layout.specs.Orders.{HasRowsOf}
+use Rattle.row_layout.specs.DocumentBits.{AreDocumentBitsIn}
+use Rattle.row_layout.specs.Layouts.{LayoutId, own_layout}
 use Rattle.slice_rule.specs.Pools.{PoolId}
 use Rattle.engine.specs.Engines.{IsOfConfig}
 use Rattle.row_layout.specs.Owners.{IsOwnedOnlyAt}
@@ -12,29 +10,25 @@ use Rattle.commit_desk.proofs.CallEnds.{keep_to_column}
 use Rattle.engine.proofs.Claims.{has_written}
 use Rattle.engine.proofs.engine.Engine.write.Goals as goal
 
-pub place-requires-clause-rows : goal.place-requires-clause-rows
-place-requires-clause-rows g c =
-    let laid : c.self.inside.layout ≡ g.N.PoolName.pool.config = c.self.invariant.laid_out ∙ ap (λ (p : PoolId). p.config) c.self.invariant.of_name in
-    subst (λ (k : Config). CanPlace k c.args.bits.now.rows) (sym laid) c.requires.can_place
-
 pub write-requires-clause-owners : goal.write-requires-clause-owners
 write-requires-clause-owners g c =
     let pool = g.N.PoolName.pool in
     let claim = c.args.claim.now in
+    let bits = c.fill_bits.new.bits.bits in
     let view : c.self.inside.pool ≡ pool = c.self.invariant.of_name in
-    let laid : c.self.inside.layout ≡ pool.config = c.self.invariant.laid_out ∙ ap (λ (p : PoolId). p.config) view in
+    let laid : c.self.inside.layout ≡ own_layout pool.config = c.self.invariant.laid_out ∙ ap (λ (p : PoolId). own_layout p.config) view in
     let of_config = subst IsOfConfig view c.self.invariant.of_config in
-    keep_to_column pool claim c.place.new.self.bits c.args.pass.now (ap (λ (l : Limits). l.slice_words) of_config.limits) c.requires.claimed
-    (subst (λ (k : Config). All (IsOwnedOnlyAt (words_of_slice k) k claim.slice claim.column) c.place.new.self.bits) laid c.place.ensures.own)
+    keep_to_column pool claim bits c.args.pass.now (ap (λ (l : Limits). l.slice_words) of_config.limits) c.requires.claimed
+    (subst (λ (l : LayoutId). All (IsOwnedOnlyAt l.room l.config claim.slice claim.column) bits) laid c.fill_bits.ensures.own)
 
 pub returns-clause-written : goal.returns-clause-written
-returns-clause-written g c set rows =
+returns-clause-written g c =
     let pool = g.N.PoolName.pool in
     let claim = c.args.claim.now in
-    let bits = c.place.new.self.bits in
+    let set = c.args.words.now in
+    let bits = c.fill_bits.new.bits.bits in
     let view : c.self.inside.pool ≡ pool = c.self.invariant.of_name in
-    let laid : c.self.inside.layout ≡ pool.config = c.self.invariant.laid_out ∙ ap (λ (p : PoolId). p.config) view in
+    let laid : c.self.inside.layout ≡ own_layout pool.config = c.self.invariant.laid_out ∙ ap (λ (p : PoolId). own_layout p.config) view in
     has_written pool claim set bits c.args.pass.now c.write.new.seat (subst IsOfConfig view c.self.invariant.of_config) c.requires.claimed c.write.ensures.seat c.write.ensures.bits
-    (subst (λ (k : Config). AreDocumentBits k set claim.slice claim.column bits) laid
-    (c.place.ensures.document_bits set (subst (λ (k : Config). HasRowsOf k set c.args.bits.now.rows) (sym laid) rows)))
-    (subst (λ (k : Config). All (λ b. IsInSlice (words_of_slice k) claim.slice b.word) bits) laid c.place.ensures.inside)
+    (subst (λ (l : LayoutId). AreDocumentBitsIn l.room l.config set claim.slice claim.column bits) laid c.fill_bits.ensures.document_bits)
+    (subst (λ (l : LayoutId). All (λ b. IsInSlice l.room claim.slice b.word) bits) laid c.fill_bits.ensures.inside)

@@ -1,4 +1,4 @@
-use Rattle.std.proofs.Common.{ℕ, Bool, List, subst, sym, Contains}
+use Rattle.std.proofs.Common.{Bool, List, subst, sym, Contains}
 use Rattle.engine.proofs.MergedColumns.{marked_none}
 use Rattle.engine.specs.Branches.{MergedState}
 use Rattle.engine.specs.Marks.{AreMarked}

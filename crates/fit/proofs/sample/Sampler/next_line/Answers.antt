@@ -50,13 +50,13 @@ returns-in-Finished-clause-goes_on g c before p =
 pub returns-in-Failed-clause-ends : goal.returns-in-Failed-clause-ends
 returns-in-Failed-clause-ends g c before p =
     let e = c.in-Failed.ensures in
-    let below = e.failed_below_limit refl in
+    let below = e.limits.below_limit refl in
     stops c.args.limit c.args.self.now.left c.next_line.new.left c.args.self.now.reader _ _ _ before (g.S.Source.incoming c.args.input.now) (g.S.Source.incoming c.next_line.new.conn) p
     (bytes_read e.next.reads) e.next.takes e.next.count end_of.ReadFault (λ all. (omega arith, e.faults ∙ rw p.reads_stay refl))
 
 pub returns-in-Limit-clause-ends : goal.returns-in-Limit-clause-ends
 returns-in-Limit-clause-ends g c before p =
     let e = c.in-Limit.ensures in
-    let none = e.limit refl in
+    let none = e.limits.at_limit refl in
     stops c.args.limit c.args.self.now.left c.next_line.new.left c.args.self.now.reader _ _ _ before (g.S.Source.incoming c.args.input.now) (g.S.Source.incoming c.next_line.new.conn) p
     (bytes_read e.next.reads) e.next.takes e.next.count (end_of.ByteLimit c.args.limit) (λ all. (refl, omega arith, e.faults ∙ p.reads_stay))

@@ -1,4 +1,4 @@
-use Rattle.std.proofs.Common.{◌<◌, [], ◌∷◌, ◌++◌, ⊎_elim, refl, arith}
+use Rattle.std.proofs.Common.{◌<◌, [], ◌∷◌, ◌++◌, refl, arith}
 use Rattle.std.proofs.lemmas.Bool.{both_ways}
 use Rattle.std.proofs.lemmas.List.Elements.{All-head}
 use Rattle.funnel_model.specs.declared.bit_list.Bit.{Bit}
@@ -61,6 +61,3 @@ returns-clause-void c legal =
     let before = first_added in
     let e = event.Void 0 1 0 in
     let other = (allowed_within paired (before ++ e ∷ []) before e [] legal refl).rule.taken in cc
-
-pub returns-clause-no_reply : goal.returns-clause-no_reply
-returns-clause-no_reply c limits history pass id slice column bits given is = ⊎_elim (λ none. none) (λ none. none) is

@@ -1,12 +1,10 @@
-use Rattle.std.proofs.Common.{ℕ, [], ◌∷◌, codes, refl, arith, inl, inr}
+use Rattle.std.proofs.Common.{ℕ, refl, arith, inl, inr}
 use Rattle.caseless.proofs.Computing.{caseless}
 use Rattle.unicode_segmentation.proofs.Computing.{unicode_segmentation}
-use Rattle.funnel_model.specs.declared.event.Event.TheVariants as event
 use Rattle.funnel_model.specs.MoveExample.{moved}
-use Rattle.funnel_model.specs.RecycleExample.{high_bit, low_bit}
 use Rattle.funnel_model.specs.Slices.{IsInUse}
 use Rattle.funnel_model.specs.Tokens.{MayRead}
-use Rattle.funnel_model.proofs.MoveFacts.{gone_again, left_old, move_guarded, moved_again_is_legal, moved_new, new_column, old_column, open_find, retired_by_move, retired_by_void}
+use Rattle.funnel_model.proofs.MoveFacts.{move_guarded, moved_again_is_legal, new_column, old_column, open_find}
 use Rattle.funnel_model.proofs.PairLemmas.{lowest_guarded}
 use Rattle.funnel_model.proofs.SpareLemmas.{not_retired}
 use Rattle.funnel_model.proofs.laws.examples.move_example.Goals as goal
@@ -32,36 +30,4 @@ pub returns-clause-read : goal.returns-clause-read
 returns-clause-read c = (
   may_read 0 (record { not_retired = not_retired 1 0 0 _ (omega arith) refl refl; not_clearing = refl }),
   may_read 1 (record { not_retired = not_retired 1 1 0 _ (omega arith) refl refl; not_clearing = refl }),
-)
-
-pub returns-clause-retired : goal.returns-clause-retired
-returns-clause-retired c = (retired_by_move, move_guarded)
-
-pub returns-clause-gone : goal.returns-clause-gone
-returns-clause-gone c = gone_again
-
-pub returns-clause-voided : goal.returns-clause-voided
-returns-clause-voided c = (refl, retired_by_void)
-
-pub returns-clause-again : goal.returns-clause-again
-returns-clause-again c = (moved_new, left_old)
-
-pub returns-clause-committed : goal.returns-clause-committed
-returns-clause-committed c = (
-  record {
-    earlier = event.Take 0 0 0 ∷ [];
-    event = event.Add 0 9 (codes "a cat") 0 0 (low_bit ∷ []);
-    later = event.Find 1 (codes "A") ∷ event.Take 0 1 0 ∷ event.Move 0 9 1 0 (high_bit ∷ []) ∷ [];
-    whole = refl;
-    added = (0, omega arith, refl);
-    stays = refl;
-  },
-  record {
-    earlier = event.Take 0 0 0 ∷ event.Add 0 9 (codes "a cat") 0 0 (low_bit ∷ []) ∷ event.Find 1 (codes "A") ∷ event.Take 0 1 0 ∷ [];
-    event = event.Move 0 9 1 0 (high_bit ∷ []);
-    later = [];
-    whole = refl;
-    added = (0, omega arith, refl);
-    stays = refl;
-  },
 )

@@ -11,11 +11,12 @@ use Rattle.http_front.proofs.serving.Server.read_until.Goals as goal
 pub loop-least-init : goal.loop-least-init
 loop-least-init g c = record {
   ready = c.requires.ready;
-  borrowed = refl;
-  beside = refl;
-  read = read_none (g.C.Source.incoming c.args.conn.now) c.args.self.now.buffer.bytes c.args.self.now.left;
-  calls = reads_none g.C.Source.read_gives (λ bytes. length bytes < c.args.least) c.args.conn.now c.args.self.now.buffer.bytes c.args.self.now.left;
-  faults = refl;
+  stays = record { references = refl; other_half = refl };
+  reads = record {
+    read = read_none (g.C.Source.incoming c.args.conn.now) c.args.self.now.buffer.bytes c.args.self.now.left;
+    calls = reads_none g.C.Source.read_gives (λ bytes. length bytes < c.args.least) c.args.conn.now c.args.self.now.buffer.bytes c.args.self.now.left;
+    faults = refl;
+  };
 }
 
 pub loop-least-preserved : goal.loop-least-preserved
@@ -26,57 +27,59 @@ loop-least-preserved g c = record {
     body = c.loop-least.invariant.ready.body;
     text = c.loop-least.invariant.ready.text;
   };
-  borrowed = c.in-Bytes.ensures.borrowed ∙ c.loop-least.invariant.borrowed;
-  beside = c.in-Bytes.ensures.beside ∙ c.loop-least.invariant.beside;
-  read = read_more (g.C.Source.incoming c.args.conn.now) (g.C.Source.incoming c.loop-least.conn) (g.C.Source.incoming c.read.new.conn)
-      c.args.self.now.buffer.bytes c.loop-least.self.buffer.bytes c.read.new.self.bytes c.args.self.now.left c.loop-least.self.left c.read.new.left
-      c.loop-least.invariant.read c.in-Bytes.ensures.read;
-  calls = reads_next g.C.Source.read_gives (λ bytes. length bytes < c.args.least) GaveBytes c.args.conn.now c.loop-least.conn c.read.new.conn
-      c.args.self.now.buffer.bytes c.loop-least.self.buffer.bytes c.read.new.self.bytes c.args.self.now.left c.loop-least.self.left c.read.new.left
-      (got.Bytes c.in-Bytes.field-0) c.loop-least.invariant.calls (omega (arith, c.loop-least-test.true, c.len.ensures)) (omega (arith, c.if-self-eq0.false)) c.in-Bytes.ensures.once (gave_some c.in-Bytes.field-0);
-  faults = c.in-Bytes.ensures.faults ∙ c.loop-least.invariant.faults;
+  stays = record {
+    references = c.in-Bytes.ensures.stays.references ∙ c.loop-least.invariant.stays.references;
+    other_half = c.in-Bytes.ensures.stays.other_half ∙ c.loop-least.invariant.stays.other_half;
+  };
+  reads = record {
+    read = read_more (g.C.Source.incoming c.args.conn.now) (g.C.Source.incoming c.loop-least.conn) (g.C.Source.incoming c.read.new.conn)
+        c.args.self.now.buffer.bytes c.loop-least.self.buffer.bytes c.read.new.self.bytes c.args.self.now.left c.loop-least.self.left c.read.new.left
+        c.loop-least.invariant.reads.read c.in-Bytes.ensures.read;
+    calls = reads_next g.C.Source.read_gives (λ bytes. length bytes < c.args.least) GaveBytes c.args.conn.now c.loop-least.conn c.read.new.conn
+        c.args.self.now.buffer.bytes c.loop-least.self.buffer.bytes c.read.new.self.bytes c.args.self.now.left c.loop-least.self.left c.read.new.left
+        (got.Bytes c.in-Bytes.field-0) c.loop-least.invariant.reads.calls (omega (arith, c.loop-least-test.true, c.len.ensures)) (omega (arith, c.if-self-eq0.false)) c.in-Bytes.ensures.once (gave_some c.in-Bytes.field-0);
+    faults = c.in-Bytes.ensures.told.faults ∙ c.loop-least.invariant.reads.faults;
+  };
 }
 
-pub returns-in-End-clause-stops : goal.returns-in-End-clause-stops
-returns-in-End-clause-stops g c = record {
-  read = read_more (g.C.Source.incoming c.args.conn.now) (g.C.Source.incoming c.loop-least.conn) (g.C.Source.incoming c.read.new.conn)
+pub returns-in-End-clause-ends : goal.returns-in-End-clause-ends
+returns-in-End-clause-ends g c = record {
+  stops = record {
+    read = read_more (g.C.Source.incoming c.args.conn.now) (g.C.Source.incoming c.loop-least.conn) (g.C.Source.incoming c.read.new.conn)
+        c.args.self.now.buffer.bytes c.loop-least.self.buffer.bytes c.read.new.self.bytes c.args.self.now.left c.loop-least.self.left c.read.new.left
+        c.loop-least.invariant.reads.read c.in-End.ensures.read;
+    undecided = omega (
+      arith,
+      read_nothing (g.C.Source.incoming c.loop-least.conn) (g.C.Source.incoming c.read.new.conn) c.loop-least.self.buffer.bytes c.read.new.self.bytes
+          c.loop-least.self.left c.read.new.left c.in-End.ensures.read c.in-End.ensures.told.left,
+      c.loop-least-test.true,
+      c.len.ensures,
+    );
+    stopped = (c.in-End.ensures.told.at_end, omega (arith, c.in-End.ensures.told.left, c.if-self-eq0.false));
+    faults = c.in-End.ensures.told.faults ∙ c.loop-least.invariant.reads.faults;
+  };
+  calls = reads_next g.C.Source.read_gives (λ bytes. length bytes < c.args.least) (FindsEndAs end_of.Done) c.args.conn.now c.loop-least.conn c.read.new.conn
       c.args.self.now.buffer.bytes c.loop-least.self.buffer.bytes c.read.new.self.bytes c.args.self.now.left c.loop-least.self.left c.read.new.left
-      c.loop-least.invariant.read c.in-End.ensures.read;
-  undecided = omega (
-    arith,
-    read_nothing (g.C.Source.incoming c.loop-least.conn) (g.C.Source.incoming c.read.new.conn) c.loop-least.self.buffer.bytes c.read.new.self.bytes
-        c.loop-least.self.left c.read.new.left c.in-End.ensures.read c.in-End.ensures.left,
-    c.loop-least-test.true,
-    c.len.ensures,
-  );
-  stopped = (c.in-End.ensures.end, omega (arith, c.in-End.ensures.left, c.if-self-eq0.false));
-  faults = c.in-End.ensures.faults ∙ c.loop-least.invariant.faults;
+      got.End c.loop-least.invariant.reads.calls (omega (arith, c.loop-least-test.true, c.len.ensures)) (omega (arith, c.if-self-eq0.false)) c.in-End.ensures.once found_it;
 }
 
-pub returns-in-End-clause-last : goal.returns-in-End-clause-last
-returns-in-End-clause-last g c =
-    reads_next g.C.Source.read_gives (λ bytes. length bytes < c.args.least) (FindsEndAs end_of.Done) c.args.conn.now c.loop-least.conn c.read.new.conn
-    c.args.self.now.buffer.bytes c.loop-least.self.buffer.bytes c.read.new.self.bytes c.args.self.now.left c.loop-least.self.left c.read.new.left
-    got.End c.loop-least.invariant.calls (omega (arith, c.loop-least-test.true, c.len.ensures)) (omega (arith, c.if-self-eq0.false)) c.in-End.ensures.once found_it
-
-pub returns-in-Failed-clause-stops : goal.returns-in-Failed-clause-stops
-returns-in-Failed-clause-stops g c = record {
-  read = read_more (g.C.Source.incoming c.args.conn.now) (g.C.Source.incoming c.loop-least.conn) (g.C.Source.incoming c.read.new.conn)
+pub returns-in-Failed-clause-ends : goal.returns-in-Failed-clause-ends
+returns-in-Failed-clause-ends g c = record {
+  stops = record {
+    read = read_more (g.C.Source.incoming c.args.conn.now) (g.C.Source.incoming c.loop-least.conn) (g.C.Source.incoming c.read.new.conn)
+        c.args.self.now.buffer.bytes c.loop-least.self.buffer.bytes c.read.new.self.bytes c.args.self.now.left c.loop-least.self.left c.read.new.left
+        c.loop-least.invariant.reads.read c.in-Failed.ensures.read;
+    undecided = omega (
+      arith,
+      read_nothing (g.C.Source.incoming c.loop-least.conn) (g.C.Source.incoming c.read.new.conn) c.loop-least.self.buffer.bytes c.read.new.self.bytes
+          c.loop-least.self.left c.read.new.left c.in-Failed.ensures.read c.in-Failed.ensures.told.left,
+      c.loop-least-test.true,
+      c.len.ensures,
+    );
+    stopped = omega (arith, c.in-Failed.ensures.told.left, c.if-self-eq0.false);
+    faults = c.in-Failed.ensures.told.faults ∙ ap raised c.loop-least.invariant.reads.faults;
+  };
+  calls = reads_next g.C.Source.read_gives (λ bytes. length bytes < c.args.least) (FindsEndAs end_of.ReadFault) c.args.conn.now c.loop-least.conn c.read.new.conn
       c.args.self.now.buffer.bytes c.loop-least.self.buffer.bytes c.read.new.self.bytes c.args.self.now.left c.loop-least.self.left c.read.new.left
-      c.loop-least.invariant.read c.in-Failed.ensures.read;
-  undecided = omega (
-    arith,
-    read_nothing (g.C.Source.incoming c.loop-least.conn) (g.C.Source.incoming c.read.new.conn) c.loop-least.self.buffer.bytes c.read.new.self.bytes
-        c.loop-least.self.left c.read.new.left c.in-Failed.ensures.read c.in-Failed.ensures.left,
-    c.loop-least-test.true,
-    c.len.ensures,
-  );
-  stopped = omega (arith, c.in-Failed.ensures.left, c.if-self-eq0.false);
-  faults = c.in-Failed.ensures.faults ∙ ap raised c.loop-least.invariant.faults;
+      got.Failed c.loop-least.invariant.reads.calls (omega (arith, c.loop-least-test.true, c.len.ensures)) (omega (arith, c.if-self-eq0.false)) c.in-Failed.ensures.once found_none;
 }
-
-pub returns-in-Failed-clause-last : goal.returns-in-Failed-clause-last
-returns-in-Failed-clause-last g c =
-    reads_next g.C.Source.read_gives (λ bytes. length bytes < c.args.least) (FindsEndAs end_of.ReadFault) c.args.conn.now c.loop-least.conn c.read.new.conn
-    c.args.self.now.buffer.bytes c.loop-least.self.buffer.bytes c.read.new.self.bytes c.args.self.now.left c.loop-least.self.left c.read.new.left
-    got.Failed c.loop-least.invariant.calls (omega (arith, c.loop-least-test.true, c.len.ensures)) (omega (arith, c.if-self-eq0.false)) c.in-Failed.ensures.once found_none

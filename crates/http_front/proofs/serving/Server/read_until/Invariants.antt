@@ -1,18 +1,14 @@
-use Rattle.std.proofs.Common.{◌≡◌, ◌<◌, length}
-use Rattle.funnel_io.specs.Calls.{GaveBytes}
+use Rattle.std.proofs.Common.{◌<◌, length}
+use Rattle.funnel_io.specs.Beside.{StaysBeside}
 use Rattle.http_front.specs.Ready.{IsReady}
-use Rattle.http_front.specs.Steps.{HasRead}
-use Rattle.http_front.specs.TurnSteps.{ReadsAsNeeded}
+use Rattle.http_front.specs.TurnSteps.{ReadsOn}
 use Rattle.http_front.proofs.serving.Server.read_until.Given as goal
 
 abbrev pub invariant-loop-least : goal.invariant-loop-least
 invariant-loop-least g l = record {
   ready : IsReady l.self;
-  borrowed : g.C.Borrower.borrowed l.conn ≡ g.C.Borrower.borrowed l.fn.conn;
-  beside : g.C.Source.beside_read l.conn ≡ g.C.Source.beside_read l.fn.conn;
-  read : HasRead (g.C.Source.incoming l.fn.conn) (g.C.Source.incoming l.conn) l.fn.self.buffer.bytes l.self.buffer.bytes l.fn.self.left l.self.left;
-  calls : ReadsAsNeeded (λ bytes. length bytes < l.fn.least) GaveBytes g.C.Source.read_gives l.fn.conn l.conn l.fn.self.buffer.bytes l.self.buffer.bytes l.fn.self.left l.self.left;
-  faults : (g.C.Source.incoming l.conn).faults ≡ (g.C.Source.incoming l.fn.conn).faults;
+  stays : StaysBeside g.C.Borrower.borrowed g.C.Source.beside_read l.fn.conn l.conn;
+  reads : ReadsOn (λ bytes. length bytes < l.fn.least) g.C.Source.incoming g.C.Source.read_gives l.fn.conn l.conn l.fn.self.buffer.bytes l.self.buffer.bytes l.fn.self.left l.self.left;
 }
 
 abbrev pub decreases-loop-least : goal.decreases-loop-least

@@ -7,6 +7,6 @@ use Rattle.row_layout.proofs.layout.Layout.push_hashed.Given as goal
 
 abbrev pub invariant-loop-j : goal.invariant-loop-j
 invariant-loop-j l = record {
-  rows : (word : List ℕ) → l.hash ≡ fnv_1a word → l.rows.items ≡ l.fn.rows.items ++ map (hashed_row l.self word l.class) (range_with_len 0 l.j);
-  laid : All (IsRowOf l.self) l.rows.items;
+  rows : (word : List ℕ) → l.hash ≡ fnv_1a word → l.rows.items ≡ l.fn.rows.items ++ map (hashed_row l.self.config word l.class) (range_with_len 0 l.j);
+  laid : All (IsRowOf l.self.config) l.rows.items;
 }

@@ -1,5 +1,5 @@
 -- The rows of a word are its private row, or those of its class.
-use Rattle.std.proofs.Common.{◌≡◌, ◌++◌, ◌∷◌, [], ◌<◌, ℕ, length, ap, sym, subst, ◌∙◌, inl, arith}
+use Rattle.std.proofs.Common.{◌++◌, ◌∷◌, [], ◌<◌, ℕ, length, ap, sym, subst, ◌∙◌, inl, arith}
 use Rattle.std.specs.List.{All}
 use Rattle.std.proofs.lemmas.Bool.{le-ltb, lt-ltb}
 use Rattle.funnel_model.specs.Sizes.{class_of_word, private_words}
@@ -11,23 +11,23 @@ use Rattle.row_layout.proofs.layout.Layout.push_rows.Goals as goal
 
 pub private-requires : goal.private-requires
 private-requires c =
-    let config = c.args.self.now in
+    let config = c.args.self.now.config in
     let private = word_rows-private config c.args.word.now c.in-Private.number c.in-Private.ensures.value in
     subst (λ (i : ℕ). i < length (private_words config)) (sym private.1) (private_number-below config c.args.word.now private.0)
 
 pub push_hashed-requires-clause-shared : goal.push_hashed-requires-clause-shared
 push_hashed-requires-clause-shared c =
-    let shared = word_rows-shared c.args.self.now c.args.word.now c.in-Shared.class c.in-Shared.ensures.value in
+    let shared = word_rows-shared c.args.self.now.config c.args.word.now c.in-Shared.class c.in-Shared.ensures.value in
     omega (arith, shared.0, shared.1)
 
 pub push_hashed-requires-clause-class : goal.push_hashed-requires-clause-class
 push_hashed-requires-clause-class c =
-    let shared = word_rows-shared c.args.self.now c.args.word.now c.in-Shared.class c.in-Shared.ensures.value in
-    omega (arith, shared.1, class_of_word-small c.args.self.now c.args.word.now)
+    let shared = word_rows-shared c.args.self.now.config c.args.word.now c.in-Shared.class c.in-Shared.ensures.value in
+    omega (arith, shared.1, class_of_word-small c.args.self.now.config c.args.word.now)
 
 pub returns-in_ok-push-in-Private-clause-rows : goal.returns-in_ok-push-in-Private-clause-rows
 returns-in_ok-push-in-Private-clause-rows c =
-    let config = c.args.self.now in
+    let config = c.args.self.now.config in
     let private = word_rows-private config c.args.word.now c.in-Private.number c.in-Private.ensures.value in
     c.in_ok-push-in-Private.ensures.items
     ∙ ap (λ row. c.args.rows.now.items ++ row ∷ []) (c.private.ensures ∙ ap (private_row config) private.1)
@@ -35,7 +35,7 @@ returns-in_ok-push-in-Private-clause-rows c =
 
 pub returns-in_ok-push-in-Private-clause-laid : goal.returns-in_ok-push-in-Private-clause-laid
 returns-in_ok-push-in-Private-clause-laid c =
-    let config = c.args.self.now in
+    let config = c.args.self.now.config in
     let private = word_rows-private config c.args.word.now c.in-Private.number c.in-Private.ensures.value in
     let below = subst (λ (i : ℕ). i < length (private_words config)) (sym private.1) (private_number-below config c.args.word.now private.0) in
     subst (All (IsRowOf config)) (sym c.in_ok-push-in-Private.ensures.items)
@@ -43,7 +43,7 @@ returns-in_ok-push-in-Private-clause-laid c =
 
 pub returns-in_ok-push_hashed-in-Shared-clause-rows : goal.returns-in_ok-push_hashed-in-Shared-clause-rows
 returns-in_ok-push_hashed-in-Shared-clause-rows c =
-    let config = c.args.self.now in
+    let config = c.args.self.now.config in
     let word = c.args.word.now in
     let shared = word_rows-shared config word c.in-Shared.class c.in-Shared.ensures.value in
     c.in_ok-push_hashed-in-Shared.ensures.rows word c.new-hash.ensures
@@ -51,10 +51,10 @@ returns-in_ok-push_hashed-in-Shared-clause-rows c =
 
 pub returns-in_ok-push-in-Private-clause-exact : goal.returns-in_ok-push-in-Private-clause-exact
 returns-in_ok-push-in-Private-clause-exact c =
-    let private = word_rows-private c.args.self.now c.args.word.now c.in-Private.number c.in-Private.ensures.value in
-    sym (lt-ltb (class_of_word c.args.self.now c.args.word.now) 3 private.0)
+    let private = word_rows-private c.args.self.now.config c.args.word.now c.in-Private.number c.in-Private.ensures.value in
+    sym (lt-ltb (class_of_word c.args.self.now.config c.args.word.now) 3 private.0)
 
 pub returns-in_ok-push_hashed-in-Shared-clause-exact : goal.returns-in_ok-push_hashed-in-Shared-clause-exact
 returns-in_ok-push_hashed-in-Shared-clause-exact c =
-    let shared = word_rows-shared c.args.self.now c.args.word.now c.in-Shared.class c.in-Shared.ensures.value in
-    sym (le-ltb (class_of_word c.args.self.now c.args.word.now) 3 shared.0)
+    let shared = word_rows-shared c.args.self.now.config c.args.word.now c.in-Shared.class c.in-Shared.ensures.value in
+    sym (le-ltb (class_of_word c.args.self.now.config c.args.word.now) 3 shared.0)

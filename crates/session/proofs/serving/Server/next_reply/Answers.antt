@@ -46,7 +46,7 @@ returns-in-Failed-clause-ends g c = record {
   faults = c.in-Failed.ensures.faults;
   same = refl;
   knows_end = c.in-Failed.ensures.at_end;
-  ends = λ taken given has_given. ((c.in-Failed.ensures.next.gives taken given has_given).0, c.in-Failed.ensures.failed_below_limit refl);
+  ends = λ taken given has_given. ((c.in-Failed.ensures.next.gives taken given has_given).0, c.in-Failed.ensures.limits.below_limit refl);
 }
 
 pub returns-in-Limit-clause-ends : goal.returns-in-Limit-clause-ends
@@ -57,7 +57,7 @@ returns-in-Limit-clause-ends g c = record {
   faults = c.in-Limit.ensures.faults;
   same = refl;
   knows_end = c.in-Limit.ensures.at_end;
-  ends = λ taken given has_given. ((c.in-Limit.ensures.next.gives taken given has_given).0, c.in-Limit.ensures.limit refl, refl);
+  ends = λ taken given has_given. ((c.in-Limit.ensures.next.gives taken given has_given).0, c.in-Limit.ensures.limits.at_limit refl, refl);
 }
 
 pub returns-in-Finished-clause-ends : goal.returns-in-Finished-clause-ends

@@ -11,7 +11,7 @@ pub returns-in-Err-clause-serves : goal.returns-in-Err-clause-serves
 returns-in-Err-clause-serves g c old p =
     let P : Outgoing → Type 0 = λ out. Serves (g.S.Service.caller c.args.service.now) c.args.limit old
     (record { front = g.S.Service.front c.next_reply.new.service; incoming = g.C.Source.incoming c.next_reply.new.conn; outgoing = out }) c.in-Err.end in
-    subst P (sym c.in-Err.ensures.outgoing)
+    subst P (sym c.in-Err.ensures.stays.other_half)
     (serves_end _ _ _ _ _ _ _ _ (g.C.Source.incoming c.next_reply.new.conn) _ p c.in-Err.end c.in-Err.ensures.ends)
 
 pub returns-in-Ok-write_all-clause-serves : goal.returns-in-Ok-write_all-clause-serves
@@ -24,8 +24,8 @@ returns-in-Ok-write_all-clause-serves g c old p =
     subst P (sym stays)
     (served_more _ _ _ _ _ _ _ _ (g.C.Source.incoming c.next_reply.new.conn) _ p c.in-Ok.reply (vec_capacity c.next_reply.new.self.text) c.render.new.text.items
     c.in-Ok.ensures.answers c.render.ensures.text (g.C.Sink.outgoing c.write_all.new.sink)
-    (rw (c.as_slice.ensures.value, c.next_reply.ensures.outgoing) at c.in-Ok-write_all.ensures.ok)
-    (rw c.next_reply.ensures.outgoing at c.in-Ok-write_all.ensures.faults))
+    (rw (c.as_slice.ensures.value, c.next_reply.ensures.stays.other_half) at c.in-Ok-write_all.ensures.ok)
+    (rw c.next_reply.ensures.stays.other_half at c.in-Ok-write_all.ensures.faults))
 
 pub returns-clause-serves : goal.returns-clause-serves
 returns-clause-serves g c old p =
@@ -37,8 +37,8 @@ returns-clause-serves g c old p =
     subst P (sym stays)
     (serves_part _ _ _ _ _ _ _ _ (g.C.Source.incoming c.next_reply.new.conn) _ p c.in-Ok.reply (vec_capacity c.next_reply.new.self.text) c.render.new.text.items
     c.in-Ok.ensures.answers c.render.ensures.text (g.C.Sink.outgoing c.write_all.new.sink)
-    (rw (c.as_slice.ensures.value, c.next_reply.ensures.outgoing) at c.in-Err-write_all.ensures.part)
-    (rw c.next_reply.ensures.outgoing at c.in-Err-write_all.ensures.faults))
+    (rw (c.as_slice.ensures.value, c.next_reply.ensures.stays.other_half) at c.in-Err-write_all.ensures.part)
+    (rw c.next_reply.ensures.stays.other_half at c.in-Err-write_all.ensures.faults))
 
 pub returns-in-Err-clause-in_turns : goal.returns-in-Err-clause-in_turns
 returns-in-Err-clause-in_turns g c first p =
