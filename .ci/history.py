@@ -15,8 +15,18 @@ FORMS = [
         "(place)",
         "(journal) ([0-9]{1,20})",
         "(recycle)",
+        "(tune) (.*)",
     )
 ]
+# Texts of tunings, and what an engine with the default statistics answers them, however many there were before.
+TUNINGS = {
+    "": "tuned [0-9]+",
+    '{"tail":5}': "tuned [0-9]+",
+    '{"tail":9,"documents":2,"words":{"ant":2,"bee":1}}': "tuned [0-9]+",
+    '{"tail":20}': "refused room 1200 600",
+    '{"slices":2}': "refused tuning 4",
+    "[]": "refused tuning 3",
+}
 # The word of the reply to a request that is made, and the sign of its commit.
 COMMITS = {"add": ("added", "+"), "del": ("deleted", "-")}
 
@@ -157,9 +167,12 @@ class History:
     def fits(self, request, reply, count):
         """Whether a request that is no commit may have this reply after so many commits. Where none is known, any will do.
 
-        Of slices the model knows nothing: a recycle may be answered by each of its replies, and any add may find them full."""
+        Of slices the model knows nothing: a recycle may be answered by each of its replies, and any add may find them full. Nor does
+        it count tunings."""
         if request == ("recycle",):
             return reply is None or re.fullmatch("nothing retired|recycled [0-9]+|guarded [0-9]+ [0-9]+", reply)
+        if request[0] == "tune":
+            return reply is None or re.fullmatch(TUNINGS[request[1]], reply)
         wanted = self.reply(request, count)
         if wanted is None:
             return request[0] == "add" and reply in (None, "refused full")

@@ -1,11 +1,11 @@
 """The random lines that a connection sends."""
 
-from history import LONGEST_LINE
+from history import LONGEST_LINE, TUNINGS
 
 LINES = 300
 WORDS = ["ant", "Bee", "cat", "DOG", "elk"]
 SHARED = range(1, 31)
-NO_REQUESTS = [b"", b"add", b"Add 1 ant", b"add  1 ant", b"del 7 ", b"finder", b"query", b"place 1", b"journal", b"find \xff"]
+NO_REQUESTS = [b"", b"add", b"Add 1 ant", b"add  1 ant", b"del 7 ", b"finder", b"query", b"tune", b"place 1", b"journal", b"find \xff"]
 
 
 def own(number):
@@ -44,8 +44,8 @@ class Script:
         return self.chance.choice([" ", " ", "  "]).join(tokens)
 
     def line(self):
-        kinds = ["add", "del", "find", "query", "place", "journal", "recycle", "none", "long"]
-        kind = self.chance.choices(kinds, [30, 26, 20, 10, 3, 2, 2, 6, 0.2 if self.may_be_long else 0])[0]
+        kinds = ["add", "del", "find", "query", "place", "journal", "recycle", "tune", "none", "long"]
+        kind = self.chance.choices(kinds, [30, 26, 20, 10, 3, 2, 2, 2, 6, 0.2 if self.may_be_long else 0])[0]
         if kind == "add" and (document := next(self.adds, None)):
             return f"add {document} {self.text(5)}".encode()
         if kind == "del" and (document := next(self.deletes, None)):
@@ -56,6 +56,8 @@ class Script:
             return f"query {self.query()}".encode()
         if kind == "journal":
             return f"journal {self.chance.randrange(2000)}".encode()
+        if kind == "tune":
+            return f"tune {self.chance.choice([*TUNINGS])}".encode()
         if kind == "none":
             return self.chance.choice(NO_REQUESTS)
         if kind == "long":

@@ -92,6 +92,19 @@ def slice_rows():
     yield Row("a slice of deleted documents is recycled", [*emptied, *recycled], one_slice)
 
 
+def tune_rows():
+    """Rows of two slices of 64 columns, the first of which is treated by new statistics once it is cleared."""
+    deletes = [(f"del {number}", f"deleted {number + 65}") for number in range(1, 65)]
+    emptied = [*deletes, ("recycle", "recycled 0")]
+    more = [("add 500 x", "added 130"), ("find x", "found 2 65 500")]
+    yield Row("slices of two treatments are searched", [*adds(1, 65), ('tune {"tail":5}', "tuned 1"), *emptied, *more])
+    listed_word = ('tune {"documents":2,"words":{"x":2},"tail":9}', "tuned 1")
+    more = [("add 500 x y", "added 130"), ("find x", "found 2 65 500"), ("find y x", "found 1 500"), ("query x -y", "found 1 65")]
+    yield Row("a word is found in slices that list it and that don't", [*adds(1, 65), listed_word, *emptied, *more])
+    later = [("tune {}", "tuned 2"), ("add 501 y", "added 131"), ("find y", "found 2 500 501"), ("place", "place 131")]
+    yield Row("a slice keeps its treatment while it is used", [*adds(1, 65), listed_word, *emptied, *more, *later])
+
+
 def reserve_rows():
     """Rows of slices of 64 columns, of which as many are to be kept free."""
 
@@ -194,7 +207,7 @@ def text_rows():
 
 def main(program):
     with open(os.path.join(os.path.dirname(__file__), "rows.txt"), encoding="utf-8") as file:
-        rows = [*rows_of(file.read()), *odd_values(), *text_rows(), *slice_rows(), *reserve_rows(), *fit_rows(), *long_rows()]
+        rows = [*rows_of(file.read()), *odd_values(), *text_rows(), *slice_rows(), *tune_rows(), *reserve_rows(), *fit_rows(), *long_rows()]
     failed = sum(row.fails(program) for row in rows)
     print(f"{failed} of {len(rows)} rows failed" if failed else "each row has its replies")
     return 1 if failed else 0

@@ -1,9 +1,10 @@
 -- What the calls at the desk leave of a pass.
-use Rattle.std.proofs.Common.{◌≡◌, ℕ, ◌<◌, false, List, [], ◌∷◌, ◌++◌, Result, Ok, Err, Some, IfOk, MatchResult, sym, refl, ap, ◌∙◌, subst, append-nil}
+use Rattle.std.proofs.Common.{◌≡◌, ℕ, ◌<◌, false, List, [], ◌∷◌, ◌++◌, Result, Ok, Err, Some, IfOk, MatchResult, sym, refl, ap, ◌∙◌, subst, append-nil, append_assoc}
 use Rattle.std.proofs.lemmas.List.Elements.{All-weaker}
 use Rattle.std.specs.List.{All}
 use Rattle.std.specs.Prelude.{IfSome}
 use Rattle.funnel_model.specs.declared.claim.Claim.{Claim}
+use Rattle.funnel_model.specs.declared.claim.ClearJob.{ClearJob}
 use Rattle.funnel_model.specs.declared.claim.Token.{Token}
 use Rattle.funnel_model.specs.declared.commit.Commit.{Commit}
 use Rattle.funnel_model.specs.declared.call.Call.TheVariants as call
@@ -21,22 +22,25 @@ use Rattle.funnel_model.proofs.Clears.{last_by-front}
 use Rattle.funnel_model.proofs.Histories.{allowed_within, legal_before}
 use Rattle.funnel_model.proofs.Spans.{last_by-own}
 use Rattle.slice_rule.specs.Pools.{PoolId}
+use Rattle.row_layout.specs.Layouts.{LayoutId}
 use Rattle.row_layout.specs.Owners.{IsOwnedOnlyAt, OwnsIn}
 use Rattle.slice_rule.specs.Seats.{HasNoneOutstanding, HoldsToken, IsSeated, KeepsToColumn, PassState}
-use Rattle.commit_desk.specs.Answers.{AnswersClear, AnswersTake, events_of_clear, events_of_commit, events_of_delete, events_of_find, events_of_journal, events_of_place, events_of_take}
+use Rattle.commit_desk.specs.Answers.{AnswersClear, AnswersTake, events_of_clear, events_of_commit, events_of_delete, events_of_find, events_of_journal, events_of_place, events_of_take, events_of_tune}
 use Rattle.commit_desk.specs.declared.answers.AddFault.TheVariants as add
 use Rattle.commit_desk.specs.declared.answers.ClearRefusal.{ClearRefusal}
 use Rattle.commit_desk.specs.declared.answers.ClearRefusal.TheVariants as clear
 use Rattle.commit_desk.specs.declared.answers.CommitFault.{CommitFault}
 use Rattle.commit_desk.specs.declared.answers.DeleteFault.{DeleteFault}
 use Rattle.commit_desk.specs.declared.answers.DeleteFault.TheVariants as delete
+use Rattle.commit_desk.specs.declared.answers.FindFault.{FindFault}
 use Rattle.commit_desk.specs.declared.answers.JournalFault.{JournalFault}
 use Rattle.commit_desk.specs.declared.answers.JournalFault.TheVariants as journal
 use Rattle.commit_desk.specs.declared.answers.Spent.{Spent}
 use Rattle.commit_desk.specs.declared.answers.Taken.{Taken}
 use Rattle.commit_desk.specs.declared.answers.Taken.TheVariants as taken
 use Rattle.commit_desk.specs.declared.answers.ToClear.{ToClear}
-use Rattle.commit_desk.specs.Desks.{DeskState, IsUnwritten, Makes, NothingYet}
+use Rattle.commit_desk.specs.Desks.{DeskState, IsFresh, IsPrepared, IsReused, Makes}
+use Rattle.commit_desk.specs.Layouts.{IsLayoutOf}
 use Rattle.commit_desk.specs.Passes.{IsFinding, IsResting, IsToClear, IsToDo, IsToWrite}
 
 -- the last event of the pass is the one that it made
@@ -88,10 +92,14 @@ module _ (pool : PoolId) (before after : DeskState) (seat next : PassState) (her
     rests_delete id (Err (delete.Spent events)) made = rests_none idle made
     rests_delete id (Err delete.Absent) made = rests_one (event.No seat.number (call.Delete id)) refl refl made
 
-    pub finds_or_rests : (query : List ℕ) (answer : Result Token Spent) → IfOk answer (λ token. HoldsToken next token) → Makes (events_of_find seat.number query answer) before after seat next →
+    pub rests_tune : (config : Config) (answer : Result ℕ Spent) → Makes (events_of_tune seat.number config answer) before after seat next → IsResting pool next
+    rests_tune config (Ok count) made = rests_one (event.Tune seat.number config) refl refl made
+    rests_tune config (Err spent) made = rests_none idle made
+
+    pub finds_or_rests : (query : List ℕ) (answer : Result Token FindFault) → IfOk answer (λ token. HoldsToken next token) → Makes (events_of_find seat.number query answer) before after seat next →
         MatchResult answer (λ token. IsFinding pool token next) (λ _. IsResting pool next)
     finds_or_rests query (Ok token) holds made = record { seated = seated_by (event.Find seat.number query ∷ []) made; holds = holds }
-    finds_or_rests query (Err spent) holds made = rests_none idle made
+    finds_or_rests query (Err fault) holds made = rests_none idle made
 
     module _ (of : before.pool ≡ pool) (most : ℕ) where
       -- the slice that the pass began to clear
@@ -115,13 +123,14 @@ module _ (pool : PoolId) (before after : DeskState) (seat next : PassState) (her
       clears_or_rests (Err (clear.Guarded slice guard opened_at)) may made = rests_one (event.No seat.number call.Recycle) refl refl made
 
       -- the column that the pass claimed
-      pub to_write : (events : List Event) (slice column : ℕ) → slice < before.pool.limits.slices → column < before.pool.limits.columns → last_by next.number next.front ≡ Some (event.Take next.number slice column) →
-          IsUnwritten next → Makes events before after seat next → IsToWrite pool (record { slice = slice; column = column }) next
-      to_write events slice column in' within holds nothing made = record {
+      pub to_write : (events : List Event) (slice column : ℕ) (layout : LayoutId) → slice < before.pool.limits.slices → column < before.pool.limits.columns →
+          last_by next.number next.front ≡ Some (event.Take next.number slice column) → IsFresh (record { slice = slice; column = column }) layout next → Makes events before after seat next →
+          IsToWrite pool (record { slice = slice; column = column }) layout next
+      to_write events slice column layout in' within holds fresh made = record {
         seated = seated_by events made;
         holds = holds;
-        nothing = nothing.nothing;
-        treated = subst (λ (k : Config). treat k slice next.front ≡ k) (ap (λ (p : PoolId). p.config) (made.same ∙ here)) (nothing.treated slice);
+        nothing = fresh.unwritten.nothing;
+        laid = subst (λ (p : PoolId). IsLayoutOf p.config slice next.front layout) (made.same ∙ here) fresh.laid;
         in_range = subst (λ (p : PoolId). slice < p.limits.slices) of in';
         column = subst (λ (p : PoolId). column < p.limits.columns) of within;
       }
@@ -135,28 +144,59 @@ module _ (pool : PoolId) (before after : DeskState) (seat next : PassState) (her
           take_within before.pool.limits before.history seat.number slice column (legal_before before.pool.limits before.history (e ∷ []) legal)
           (allowed_within before.pool.limits (before.history ++ e ∷ []) before.history e [] legal refl)
 
-      pub is_to_do : (id : ℕ) (text : List ℕ) (answer : Taken) → AnswersTake most before.pool.limits before.history seat.number id answer → NothingYet answer next →
+      pub is_to_do : (id : ℕ) (text : List ℕ) (answer : Taken) → AnswersTake most before.pool.limits before.history seat.number id answer → IsPrepared answer next →
           Makes (events_of_take seat.number id text answer) before after seat next → IsToDo pool answer next
-      is_to_do id text (taken.Claim claim) may nothing made =
+      is_to_do id text (taken.Claim claim layout) may fresh made =
           let e = event.Take seat.number claim.slice claim.column in
-          to_write (e ∷ []) claim.slice claim.column may.1.in_range (taken_within claim.slice claim.column made)
-          (last_made before after seat next e refl made ∙ ap (λ n. Some (event.Take n claim.slice claim.column)) (sym made.number)) nothing made
-      is_to_do id text (taken.Clear work) may nothing made = (to_clear work.job.slice may.2.in_range made, old_slots work may.3)
+          to_write (e ∷ []) claim.slice claim.column layout may.1.in_range (taken_within claim.slice claim.column made)
+          (last_made before after seat next e refl made ∙ ap (λ n. Some (event.Take n claim.slice claim.column)) (sym made.number)) fresh made
+      is_to_do id text (taken.Clear work layout) may laid made = (
+        to_clear work.job.slice may.2.in_range made,
+        old_slots work may.3,
+        subst (λ (p : PoolId). IsLayoutOf p.config work.job.slice next.front layout) (made.same ∙ here) laid,
+      )
       is_to_do id text (taken.Refused (add.Spent events)) may nothing made = rests_none idle made
       is_to_do id text (taken.Refused (add.Present added)) may nothing made = rests_one (event.No seat.number (call.Add id text)) refl refl made
       is_to_do id text (taken.Refused (add.Full blocks)) may nothing made = rests_one (event.No seat.number (call.Add id text)) refl refl made
-      is_to_do id text (taken.Refused add.Memory) may nothing made = rests_one (event.No seat.number (call.Add id text)) refl refl made
+      is_to_do id text (taken.Refused add.Memory) may nothing made = rests_none idle made
 
--- bits that no column of the slice owns but the claimed one keep to it, since the slice is treated by the pool's configuration
-pub keep_to_column : (pool : PoolId) (claim : Claim) (bits : List Bit) (seat : PassState) → pool.limits.slice_words ≡ words_of_slice pool.config → IsToWrite pool claim seat →
-    All (IsOwnedOnlyAt (words_of_slice pool.config) pool.config claim.slice claim.column) bits → All (KeepsToColumn seat claim) bits
-keep_to_column pool claim bits seat rows start =
-    All-weaker (IsOwnedOnlyAt (words_of_slice pool.config) pool.config claim.slice claim.column) (KeepsToColumn seat claim)
+-- the column that the pass claimed in the slice that it had cleared
+pub taken_after : (pool : PoolId) (before after : DeskState) (seat next : PassState) (job : ClearJob) (claim : Claim) (layout : LayoutId) → IsSeated pool seat → HasNoneOutstanding next →
+    before.pool ≡ pool → job.slice < pool.limits.slices → claim ≡ record { slice = job.slice; column = 0 } →
+    Makes (event.Opened seat.number job.slice false ∷ event.Take seat.number job.slice 0 ∷ []) before after seat next → IsReused job.slice seat next →
+    IsLayoutOf seat.pool.config job.slice seat.front layout → IsToWrite pool claim layout next
+taken_after pool before after seat next job claim layout seated none of in' claim_is made reused laid =
+    let slice = job.slice in
+    let opens = event.Opened seat.number slice false in
+    let takes = event.Take seat.number slice 0 in
+    let first = before.history ++ opens ∷ [] in
+    let whole : after.history ≡ first ++ takes ∷ [] = made.history ∙ sym (append_assoc before.history (opens ∷ []) (takes ∷ [])) in
+    let limits = before.pool.limits in
+    let legal : IsLegal limits (first ++ takes ∷ []) = subst (IsLegal limits) whole (subst (λ (p : PoolId). IsLegal p.limits after.history) made.pool made.legal) in
+    let within : 0 < limits.columns =
+    take_within limits first seat.number slice 0 (legal_before limits first (takes ∷ []) legal) (allowed_within limits (first ++ takes ∷ []) first takes [] legal refl) in
+    let last : last_by next.number next.front ≡ Some (event.Take next.number slice 0) =
+    ap (λ n. last_by n next.front) made.number ∙ ap (last_by seat.number) (made.front ∙ whole) ∙ last_by-own seat.number first takes refl
+    ∙ ap (λ n. Some (event.Take n slice 0)) (sym made.number) in
+    subst (λ (k : Claim). IsToWrite pool k layout next) (sym claim_is) (record {
+      seated = record { same = made.same ∙ seated.same; none_outstanding = none };
+      holds = last;
+      nothing = reused.unwritten.nothing;
+      laid = subst (λ (p : PoolId). IsLayoutOf p.config slice next.front layout) (made.same ∙ seated.same) (reused.laid layout laid);
+      in_range = in';
+      column = subst (λ (p : PoolId). 0 < p.limits.columns) of within;
+    })
+
+-- bits that no column of the slice owns but the claimed one, by the layout of the slice, keep to it
+pub keep_to_column : (pool : PoolId) (claim : Claim) (layout : LayoutId) (bits : List Bit) (seat : PassState) → pool.limits.slice_words ≡ words_of_slice pool.config →
+    IsToWrite pool claim layout seat → All (IsOwnedOnlyAt layout.room layout.config claim.slice claim.column) bits → All (KeepsToColumn seat claim) bits
+keep_to_column pool claim layout bits seat rows start =
+    All-weaker (IsOwnedOnlyAt layout.room layout.config claim.slice claim.column) (KeepsToColumn seat claim)
     (λ b only column owns.
     let here : OwnsIn pool.limits.slice_words (treat pool.config claim.slice seat.front) claim.slice column b =
     subst (λ (p : PoolId). OwnsIn p.limits.slice_words (treat p.config claim.slice seat.front) claim.slice column b) start.seated.same owns.treated in
     only column
-    (subst (λ (k : Config). OwnsIn (words_of_slice pool.config) k claim.slice column b) start.treated
+    (subst (λ (l : LayoutId). OwnsIn l.room l.config claim.slice column b) (sym start.laid.is)
     (subst (λ n. OwnsIn n (treat pool.config claim.slice seat.front) claim.slice column b) rows here)))
     bits
 

@@ -1,5 +1,5 @@
 -- What the desk keeps, when a document is added, dropped and deleted.
-use Rattle.std.proofs.Common.{◌≡◌, ℕ, ◌+◌, ◌<◌, true, false, List, [], ◌∷◌, ◌++◌, cond, length, All, Option, Some, None, sym, refl, ◌∙◌, subst, arith}
+use Rattle.std.proofs.Common.{◌≡◌, ℕ, ◌+◌, ◌<◌, true, false, List, [], ◌∷◌, ◌++◌, cond, length, All, Option, Some, None, sym, refl, ap, ◌∙◌, subst, arith}
 use Rattle.std.proofs.lemmas.Bool.{false≢true}
 use Rattle.std.specs.List.{list_any}
 use Rattle.std.proofs.lemmas.List.{length-append, length-set}
@@ -14,39 +14,41 @@ use Rattle.funnel_model.specs.declared.bit_list.Bit.{Bit}
 use Rattle.funnel_model.specs.declared.config.Config.{Config}
 use Rattle.funnel_model.specs.declared.event.Event.{Event}
 use Rattle.funnel_model.specs.declared.event.Event.TheVariants as event
-use Rattle.funnel_model.specs.Events.{deletes_or_drops, finds_or_ends, moves, next_after, tuning_of}
+use Rattle.funnel_model.specs.Events.{clears, deletes_or_drops, finds_or_ends, moves, next_after, tuning_of}
 use Rattle.funnel_model.specs.History.{last_by, place}
 use Rattle.funnel_model.specs.Legal.{IsAllowed, Limits}
 use Rattle.funnel_model.specs.Sizes.{words_of_slice}
+use Rattle.funnel_model.specs.Tunings.{treat}
 use Rattle.funnel_model.specs.Words.{AreWordsOf, words}
 use Rattle.funnel_model.proofs.CausedMoves.{caused-push}
 use Rattle.funnel_model.proofs.Histories.{legal-push}
 use Rattle.funnel_model.proofs.LiveLemmas.{commits-silent}
 use Rattle.funnel_model.proofs.NextEvents.{awaited-push}
-use Rattle.funnel_model.proofs.TuningLemmas.{treat_untuned}
 use Rattle.row_layout.proofs.BitLemmas.{rows-of_part}
 use Rattle.row_layout.proofs.SoundHistories.{sound-push}
-use Rattle.row_layout.specs.DocumentBits.{AreDocumentBits, AreDocumentBitsIn}
+use Rattle.row_layout.specs.DocumentBits.{AreDocumentBitsIn}
 use Rattle.row_layout.specs.Sound.{HasItsBits}
 use Rattle.slice_rule.specs.Pools.{PoolId}
 use Rattle.slice_stages.specs.Stages.{RetiredBefore, StageTable, after_end, stage_of, with_stage}
 use Rattle.slice_stages.specs.declared.stage.Stage.TheVariants as stage
 use Rattle.commit_desk.specs.Journals.{IsJournalOf, JournalState, with_commit}
 use Rattle.commit_desk.specs.Kept.{AreStages, AreTokens, Books, HasFew, IsDesk}
+use Rattle.commit_desk.specs.Layouts.{AreLayoutsOf}
 use Rattle.commit_desk.specs.Records.{AreListed, AreRecorded, IsLiveIn}
 use Rattle.commit_desk.proofs.Few.{few-next, few-start}
 use Rattle.commit_desk.proofs.Journals.{journal-push, journal-silent}
+use Rattle.commit_desk.proofs.LayoutEvents.{layouts-quiet}
 use Rattle.commit_desk.proofs.ListedKept.{listed-add, listed-delete, listed-one}
 use Rattle.commit_desk.proofs.RecordFacts.{is_column, no_entry, none_live_in_pending}
 use Rattle.commit_desk.proofs.RecordsKept.{recorded-add, recorded-delete, recorded-drop}
 use Rattle.commit_desk.proofs.StageReadings.{AreAtStages, in_use_stage, live_in_use, retired_before, taken_in_use}
 use Rattle.commit_desk.proofs.StagesKept.{stages-add, stages-delete, stages-drop}
 use Rattle.commit_desk.proofs.TokenEvents.{tokens-same}
-use Rattle.commit_desk.proofs.Untuned.{untuned-push}
 
 -- the bits of a document's words are those of its text's words
-pub bits_of_text : (config : Config) (set : List (List ℕ)) (text : List ℕ) (s c : ℕ) (bits : List Bit) → AreWordsOf set text → AreDocumentBits config set s c bits → AreDocumentBits config (words text) s c bits
-bits_of_text config set text s c bits of_text are = record {
+pub bits_of_text : (room : ℕ) (config : Config) (set : List (List ℕ)) (text : List ℕ) (s c : ℕ) (bits : List Bit) → AreWordsOf set text →
+    AreDocumentBitsIn room config set s c bits → AreDocumentBitsIn room config (words text) s c bits
+bits_of_text room config set text s c bits of_text are = record {
   rising = are.rising;
   exactly = λ bit. (
     λ has. let d = (are.exactly bit).0 has in (d.0, rows-of_part config set (words text) (λ word. (of_text word).0) d.0 d.1, d.2),
@@ -110,10 +112,10 @@ module _ (pool : PoolId) (most : ℕ) (history : List Event) (books : Books) (is
 
   -- what is kept with one more event, part by part
   pub desk-with : (e : Event) (next : Books) → IsAllowed pool.limits history e → HasItsBits pool.config history e → tuning_of e ≡ None → (moves e ≡ true → list_any deletes_or_drops history ≡ true) → HasFew most pool.limits.passes (history ++ e ∷ []) → next_after e ≡ None →
-      ((pass : ℕ) → finds_or_ends pass e ≡ false) → next.slices ≡ books.slices → next.columns ≡ books.columns → next.tokens ≡ books.tokens → next.events ≡ length history + 1 →
-      IsJournalOf pool.limits.commits (history ++ e ∷ []) next.journal → AreRecorded pool.limits (history ++ e ∷ []) next.table → AreListed next.table next.live →
+      ((pass : ℕ) → finds_or_ends pass e ≡ false) → ((slice : ℕ) → clears slice e ≡ false) → next.slices ≡ books.slices → next.columns ≡ books.columns → next.tokens ≡ books.tokens → next.events ≡ length history + 1 →
+      next.layouts ≡ books.layouts → IsJournalOf pool.limits.commits (history ++ e ∷ []) next.journal → AreRecorded pool.limits (history ++ e ∷ []) next.table → AreListed next.table next.live →
       AreStages pool.limits (history ++ e ∷ []) next.table books.tokens next.stages → IsDesk pool most (history ++ e ∷ []) next
-  desk-with e next allowed bits tunes_none cause few awaits silent slices columns tokens events journal recorded listed staged =
+  desk-with e next allowed bits tunes_none cause few awaits silent quiet slices columns tokens events layouts journal recorded listed staged =
       let kept = is.kept in record {
         in_range = is.in_range;
         sizes = is.sizes;
@@ -125,7 +127,6 @@ module _ (pool : PoolId) (most : ℕ) (history : List Event) (books : Books) (is
           legal = legal-push pool.limits history e kept.legal allowed;
           sound = sound-push pool.config history e kept.sound bits;
           caused = (caused-push history e).1 (kept.caused, cause);
-          untuned = untuned-push history e kept.untuned tunes_none;
           slices_are = slices ∙ kept.slices_are;
           columns_are = columns ∙ kept.columns_are;
           events_are = events ∙ sym (length-append history (e ∷ []));
@@ -134,12 +135,21 @@ module _ (pool : PoolId) (most : ℕ) (history : List Event) (books : Books) (is
           listed = listed;
           tokens_are = subst (AreTokens pool.limits (history ++ e ∷ [])) (sym tokens) (tokens-same pool.limits history e books.tokens silent kept.tokens_are);
           staged = subst (λ (ts : List (Option ℕ)). AreStages pool.limits (history ++ e ∷ []) next.table ts next.stages) (sym tokens) staged;
+          layouts_are = subst (AreLayoutsOf pool.config pool.limits.slices (history ++ e ∷ [])) (sym layouts)
+              (layouts-quiet pool.config pool.limits.slices history e books.layouts tunes_none quiet kept.layouts_are);
         };
       }
 
+  -- the bits of a document's words under a configuration, in the room of a slice, are those of its text in the room of the opening
+  pub own_bits : (config : Config) (set : List (List ℕ)) (text : List ℕ) (s c : ℕ) (bits : List Bit) → AreWordsOf set text →
+      AreDocumentBitsIn pool.limits.slice_words config set s c bits → AreDocumentBitsIn (words_of_slice pool.config) config (words text) s c bits
+  own_bits config set text s c bits of_text are =
+      subst (λ n. AreDocumentBitsIn n config (words text) s c bits) (ap (λ (l : Limits). l.slice_words) is.sizes)
+      (bits_of_text pool.limits.slice_words config set text s c bits of_text are)
+
   -- a document is added on the column that its pass took
   pub desk-add : (pass s c : ℕ) (doc : Parts) (bits : List Bit) (next : Entries) → IsAllowed pool.limits history (event.Add pass doc.id doc.text s c bits) → AreWordsOf doc.words doc.text →
-      AreDocumentBits pool.config doc.words s c bits → ((other : ℕ) → entry_of next other ≡ cond (other == doc.id) (Some (s, c)) (entry_of books.live other)) →
+      AreDocumentBitsIn pool.limits.slice_words (treat pool.config s history) doc.words s c bits → ((other : ℕ) → entry_of next other ≡ cond (other == doc.id) (Some (s, c)) (entry_of books.live other)) →
       next.slices ≡ books.live.slices → next.columns ≡ books.live.columns →
       IsDesk pool most (history ++ event.Add pass doc.id doc.text s c bits ∷ []) (record books {
         events = length history + 1;
@@ -155,9 +165,8 @@ module _ (pool : PoolId) (most : ℕ) (history : List Event) (books : Books) (is
       let y : Slot = record { column = became.Live (place history + 1) (length history + 1); doc = Some doc } in
       let table = with_slot books.table s c y in
       desk-with e (record books { events = length history + 1; journal = with_commit books.journal (record { add = true; id = doc.id }); table = table; live = next }) allowed
-      (subst (λ (k : Config). AreDocumentBitsIn (words_of_slice pool.config) k (words doc.text) s c bits) (sym (treat_untuned pool.config s history kept.untuned))
-      (bits_of_text pool.config doc.words doc.text s c bits of_text bits_are)) refl (λ is. absurd (false≢true is))
-      (few-next most pool.limits.passes history e (event.Take pass s c) kept.few allowed.pass rule.taken (omega arith)) refl (λ other. refl) refl refl refl refl
+      (own_bits (treat pool.config s history) doc.words doc.text s c bits of_text bits_are) refl (λ is. absurd (false≢true is))
+      (few-next most pool.limits.passes history e (event.Take pass s c) kept.few allowed.pass rule.taken (omega arith)) refl (λ other. refl) (λ slice. refl) refl refl refl refl refl
       (journal-push pool.limits.commits history e (record { add = true; id = doc.id }) books.journal kept.journal_is refl)
       (recorded-add pool.limits history books.table kept.legal kept.recorded pass s c doc bits allowed of_text here)
       (listed-add books.table books.live kept.recorded.size kept.listed s c (place history + 1) (length history + 1) doc next here
@@ -183,7 +192,7 @@ module _ (pool : PoolId) (most : ℕ) (history : List Event) (books : Books) (is
       let ended = after_end pool.limits.columns (length history + 1) first over in
       let recorded = recorded-drop pool.limits history books.table kept.legal kept.recorded pass id text s c allowed here in
       desk-with e (record books { events = length history + 1; table = table; stages = with_stage books.stages s ended }) allowed tt refl (λ is. absurd (false≢true is))
-      (few-next most pool.limits.passes history e (event.Take pass s c) kept.few allowed.pass rule.taken (omega arith)) refl (λ other. refl) refl refl refl refl
+      (few-next most pool.limits.passes history e (event.Take pass s c) kept.few allowed.pass rule.taken (omega arith)) refl (λ other. refl) (λ slice. refl) refl refl refl refl refl
       (journal-silent pool.limits.commits history (history ++ e ∷ []) books.journal (commits-silent history e refl) kept.journal_is) recorded
       (listed-one books.table books.live kept.recorded.size kept.listed s c y here (λ doc l. cc l.column)
       (none_live_in_pending pool.limits history books.table kept.legal kept.recorded pass s c rule.taken here))
@@ -209,7 +218,7 @@ module _ (pool : PoolId) (most : ℕ) (history : List Event) (books : Books) (is
       let ended = after_end pool.limits.columns (length history + 1) first over in
       let recorded = recorded-delete pool.limits history books.table kept.legal kept.recorded pass s c doc l allowed here in
       desk-with e (record books { events = length history + 1; journal = with_commit books.journal (record { add = false; id = doc.id }); table = table; live = next; stages = with_stage books.stages s ended }) allowed tt refl (λ is. absurd (false≢true is))
-      (few-start most pool.limits.passes history e below) refl (λ other. refl) refl refl refl refl
+      (few-start most pool.limits.passes history e below) refl (λ other. refl) (λ slice. refl) refl refl refl refl refl
       (journal-push pool.limits.commits history e (record { add = false; id = doc.id }) books.journal kept.journal_is refl) recorded
       (listed-delete books.table books.live kept.recorded.size kept.listed s c (length history + 1) doc l next here entries slices columns)
       (staged_by pool.limits history e books.table table books.tokens books.stages (with_stage books.stages s ended) kept.staged (length-set books.stages.stages s ended) refl refl

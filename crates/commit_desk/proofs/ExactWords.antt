@@ -1,13 +1,10 @@
 -- What a scan told of exact words: a document that was live in the column of a candidate as the find began has those of the query.
-use Rattle.std.proofs.Common.{◌≡◌, ℕ, ◌+◌, ◌<◌, ◌≤◌, true, false, List, [], ◌∷◌, ◌++◌, length, refl, sym, ap, ◌∙◌, subst, arith, Contains}
-use Rattle.std.specs.List.{list_any}
-use Rattle.std.specs.Option.{is_some}
+use Rattle.std.proofs.Common.{◌≡◌, ℕ, ◌+◌, ◌<◌, ◌≤◌, true, List, [], ◌∷◌, ◌++◌, length, refl, sym, ap, ◌∙◌, subst, Contains}
 use Rattle.funnel_model.specs.Configuration.{IsInRange}
 use Rattle.funnel_model.specs.declared.claim.Token.{Token}
 use Rattle.funnel_model.specs.declared.config.Config.{Config}
 use Rattle.funnel_model.specs.declared.event.Event.{Event}
 use Rattle.funnel_model.specs.declared.event.Event.TheVariants as event
-use Rattle.funnel_model.specs.Events.{tuning_of}
 use Rattle.funnel_model.specs.History.{Document}
 use Rattle.funnel_model.specs.Legal.{IsLegal, Limits}
 use Rattle.funnel_model.specs.Sizes.{columns_of_slice, words_of_slice}
@@ -15,7 +12,7 @@ use Rattle.funnel_model.specs.Slices.{IsInUse, IsLiveOn}
 use Rattle.funnel_model.specs.Tokens.{MayRead}
 use Rattle.funnel_model.specs.Tunings.{treat}
 use Rattle.funnel_model.specs.Words.{AreWordsOf, words}
-use Rattle.funnel_model.proofs.TuningLemmas.{treat-push, treat_untuned}
+use Rattle.funnel_model.proofs.TuningLemmas.{treat-push}
 use Rattle.row_layout.proofs.Lists.{Contains-flat_map}
 use Rattle.row_layout.proofs.Owners.{exact-has_row, exact-owned, owned-tells-documents}
 use Rattle.row_layout.proofs.SetBits.{live_uncleared, put_stands}
@@ -58,12 +55,14 @@ read_tells_words limits opening earlier pass opened_at slice column word documen
     owned-tells-documents limits opening earlier slice column document since lives.later word reads.row legal sound put stays
     reads.in_range reads.in_slice reads.exact reads.its_row among
 
--- A find that began after these events, and the candidates of its scan.
-module _ (config : Config) (limits : Limits) (in_range : IsInRange config) (columns_are : limits.columns ≡ columns_of_slice config)
-    (earlier : List Event) (query : List ℕ) (legal : IsLegal limits earlier) (sound : IsSound config earlier)
-    (untuned : list_any (λ e. is_some (tuning_of e)) earlier ≡ false) (base : PassState) (made : base.pool.config ≡ config) (same : base.pool.limits ≡ limits)
+-- A find that began after these events, and the candidates of a scan of slices that one configuration treats.
+module _ (opening config : Config) (limits : Limits) (in_range : IsInRange config) (columns_are : limits.columns ≡ columns_of_slice config)
+    (fits : words_of_slice config ≤ words_of_slice opening) (rows : limits.slice_words ≡ words_of_slice opening)
+    (earlier : List Event) (query : List ℕ) (legal : IsLegal limits earlier) (sound : IsSound opening earlier)
+    (base : PassState) (made : base.pool.config ≡ opening) (same : base.pool.limits ≡ limits)
     (held : Token) (set : List (List ℕ)) (candidates : List (ℕ × ℕ)) (of_query : AreWordsOf set query)
-    (used : (slice : ℕ) → Contains held.slices slice → IsInUse limits.columns slice earlier) where
+    (used : (slice : ℕ) → Contains held.slices slice → IsInUse limits.columns slice earlier)
+    (treats : (slice : ℕ) → Contains held.slices slice → treat opening slice earlier ≡ config) where
   abbrev front : List Event
   front = earlier ++ event.Find base.number query ∷ []
 
@@ -86,10 +85,11 @@ module _ (config : Config) (limits : Limits) (in_range : IsInRange config) (colu
     pub has_exact : (word : List ℕ) → is_exact config word ≡ true → Contains (words query) word → (d : Document) (since : ℕ) → IsLiveOn earlier slice column d since →
         Contains (words d.text) word
     has_exact word exact in_query d since lives =
-        let treated : treat config slice earlier ≡ config = treat_untuned config slice earlier untuned in
+        let treated : treat opening slice earlier ≡ config = treats slice (scanned.of_token (slice, column) has).slice in
         let row = row_of_word config word 0 in
         let its_row = exact-has_row config word exact in
-        read_tells_words limits config earlier seat held.opened_at slice column word d since legal sound
+        let room : base.pool.limits.slice_words ≡ words_of_slice opening = ap (λ (l : Limits). l.slice_words) same ∙ rows in
+        read_tells_words limits opening earlier seat held.opened_at slice column word d since legal sound
         (record {
           limits_are = same;
           opening_is = made;
@@ -99,12 +99,15 @@ module _ (config : Config) (limits : Limits) (in_range : IsInRange config) (colu
           in_engine = subst (λ (l : Limits). column < l.columns) same (scanned.of_token (slice, column) has).column;
           in_slice = subst (λ (k : Config). column < columns_of_slice k) (sym treated) below;
           in_range = subst IsInRange (sym treated) in_range;
-          fits = subst (λ (k : Config). words_of_slice k ≤ words_of_slice config) (sym treated) (omega arith);
-          room = subst (λ (l : Limits). l.slice_words ≡ words_of_slice config) same scanned.laid;
+          fits = subst (λ (k : Config). words_of_slice k ≤ words_of_slice opening) (sym treated) fits;
+          room = rows;
           exact = subst (λ (k : Config). is_exact k word ≡ true) (sym treated) exact;
           row = row;
           its_row = subst (λ (k : Config). Contains (rows_of_word k word) row) (sym treated) its_row;
-          read = scanned.read (slice, column) has (bit_of_row (words_of_slice config) slice column row)
-              (row, Contains-flat_map (rows_of_word config) set word row ((of_query word).1 in_query) its_row, refl);
+          read = scanned.read (slice, column) has (bit_of_row (words_of_slice opening) slice column row) (
+            row,
+            Contains-flat_map (rows_of_word config) set word row ((of_query word).1 in_query) its_row,
+            ap (λ n. bit_of_row n slice column row) (sym room),
+          );
         })
         lives

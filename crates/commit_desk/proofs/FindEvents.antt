@@ -25,11 +25,11 @@ use Rattle.slice_rule.specs.Seats.{HoldsToken, PassState}
 use Rattle.commit_desk.specs.Kept.{AreTokens, Books, HasFew, IsDesk}
 use Rattle.commit_desk.proofs.Few.{few-next, few-start}
 use Rattle.commit_desk.proofs.Journals.{journal-silent}
+use Rattle.commit_desk.proofs.LayoutEvents.{layouts-quiet}
 use Rattle.commit_desk.proofs.Marks.{mark-end, mark-find, mark-same}
 use Rattle.commit_desk.proofs.RecordsKept.{recorded-same}
 use Rattle.commit_desk.proofs.StagesKept.{LeavesSlice, stages-same}
 use Rattle.commit_desk.proofs.TokenEvents.{tokens-end, tokens-find}
-use Rattle.commit_desk.proofs.Untuned.{untuned-push}
 
 -- an event that changes no document, no column and no slice, after which any other may come
 pub record IsSilent (e : Event) : Type 0 where
@@ -80,7 +80,6 @@ module _ (pool : PoolId) (most : ℕ) (history : List Event) (books : Books) (is
           legal = legal-push pool.limits history e kept.legal allowed;
           sound = sound-push pool.config history e kept.sound (silent.bits pool.config history);
           caused = caused-still history e kept.caused silent.moves_none;
-          untuned = untuned-push history e kept.untuned silent.tunes_none;
           slices_are = kept.slices_are;
           columns_are = kept.columns_are;
           events_are = sym (length-append history (e ∷ []));
@@ -95,6 +94,7 @@ module _ (pool : PoolId) (most : ℕ) (history : List Event) (books : Books) (is
             mark_within = mark-same history e books.stages.mark kept.staged.mark_within;
             none_before = none_before;
           };
+          layouts_are = layouts-quiet pool.config pool.limits.slices history e books.layouts silent.tunes_none (λ slice. (silent.leaves slice).clears) kept.layouts_are;
         };
       }
 

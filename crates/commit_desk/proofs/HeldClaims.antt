@@ -6,26 +6,42 @@ use Rattle.std.specs.List.{list_any}
 use Rattle.funnel_model.specs.declared.bit_list.Bit.{Bit}
 use Rattle.funnel_model.specs.declared.claim.Claim.{Claim}
 use Rattle.funnel_model.specs.declared.config.Config.{Config}
+use Rattle.funnel_model.specs.declared.event.Event.{Event}
 use Rattle.funnel_model.specs.declared.event.Event.TheVariants as event
 use Rattle.funnel_model.specs.Events.{deletes_or_drops}
 use Rattle.funnel_model.specs.History.{IsFrontOf, last_by}
+use Rattle.funnel_model.specs.Legal.{IsLegal}
+use Rattle.funnel_model.specs.Tunings.{treat}
 use Rattle.funnel_model.proofs.Clears.{last_by-front}
-use Rattle.row_layout.specs.DocumentBits.{AreDocumentBits}
+use Rattle.funnel_model.proofs.Columns.{last_is_pending}
+use Rattle.funnel_model.proofs.Histories.{legal_before}
+use Rattle.funnel_model.proofs.TuningLemmas.{treat_pending}
+use Rattle.row_layout.specs.DocumentBits.{AreDocumentBitsIn}
 use Rattle.slice_rule.specs.declared.view.Fact.{Fact}
 use Rattle.slice_rule.specs.declared.view.Fact.TheVariants as fact
 use Rattle.slice_rule.specs.Numbers.{last_number}
 use Rattle.slice_rule.specs.Pools.{PoolId}
 use Rattle.slice_rule.specs.Seats.{HasNoneOutstanding, HoldsClaim, IsSamePass, PassState}
 use Rattle.slice_rule.proofs.Since.{number-front}
+use Rattle.commit_desk.specs.Desks.{DeskState}
 use Rattle.commit_desk.specs.Moving.{HoldsLook}
 use Rattle.commit_desk.specs.Passes.{HasWritten}
 use Rattle.commit_desk.specs.declared.look.Look.{Look}
 
 -- the bits of a document are bits of words
-pub of_words : {config : Config} {words : List (List ℕ)} {slice column : ℕ} {bits : List Bit} → AreDocumentBits config words slice column bits → All (λ (b : Bit). b.bit < 64) bits
-of_words {config} {words} {slice} {column} {bits} are =
+pub of_words : {room : ℕ} {config : Config} {words : List (List ℕ)} {slice column : ℕ} {bits : List Bit} → AreDocumentBitsIn room config words slice column bits →
+    All (λ (b : Bit). b.bit < 64) bits
+of_words {room} {config} {words} {slice} {column} {bits} are =
     All-weaker (Contains bits) (λ (b : Bit). b.bit < 64)
     (λ b in_bits. let is = (are.exactly b).0 in_bits in let at = ap (λ (b : Bit). b.bit) is.2 in omega (arith, at)) bits (All-contains_itself bits)
+
+-- what a pass that caught up wrote is by the treatment of its slice now
+pub bits_now : (before now : DeskState) (seat : PassState) (words : List (List ℕ)) (slice column : ℕ) (bits : List Bit) → now ≡ before → seat.front ≡ before.history →
+    AreDocumentBitsIn before.pool.limits.slice_words (treat before.pool.config slice seat.front) words slice column bits →
+    AreDocumentBitsIn now.pool.limits.slice_words (treat now.pool.config slice now.history) words slice column bits
+bits_now before now seat words slice column bits view front are =
+    subst (λ (d : DeskState). AreDocumentBitsIn d.pool.limits.slice_words (treat d.pool.config slice d.history) words slice column bits) (sym view)
+    (subst (λ (h : List Event). AreDocumentBitsIn before.pool.limits.slice_words (treat before.pool.config slice h) words slice column bits) front are)
 
 module _ (seat caught : PassState) (same : IsSamePass seat caught) (goes : IsFrontOf caught.number seat.front caught.front) where
   -- the claim itself
@@ -55,12 +71,22 @@ module _ (seat caught : PassState) (same : IsSamePass seat caught) (goes : IsFro
     cause = ap (list_any deletes_or_drops) goes.whole ∙ list_any-append deletes_or_drops seat.front goes.later ∙ ap (λ b. b || list_any deletes_or_drops goes.later) held.cause;
   }
 
+  -- the treatment of the slice in which it has claimed a column
+  treat_held : (pool : PoolId) (claim : Claim) → IsLegal pool.limits caught.front → HoldsClaim seat claim → treat pool.config claim.slice caught.front ≡ treat pool.config claim.slice seat.front
+  treat_held pool claim legal held =
+      let last : last_by caught.number seat.front ≡ Some (event.Take caught.number claim.slice claim.column) =
+      subst (λ n. last_by n seat.front ≡ Some (event.Take n claim.slice claim.column)) (sym same.number) held in
+      let before = legal_before pool.limits seat.front goes.later (subst (IsLegal pool.limits) goes.whole legal) in
+      treat_pending pool.limits pool.config seat.front caught.front caught.number claim.slice claim.column legal goes
+      (last_is_pending pool.limits seat.front claim.slice claim.column caught.number before last)
+
   -- and all that it wrote
-  pub written_held : (pool : PoolId) (claim : Claim) (words : List (List ℕ)) (bits : List Bit) → HasNoneOutstanding caught → HasWritten pool claim words bits seat → HasWritten pool claim words bits caught
-  written_held pool claim words bits none written = record {
+  pub written_held : (pool : PoolId) (claim : Claim) (words : List (List ℕ)) (bits : List Bit) → IsLegal pool.limits caught.front → HasNoneOutstanding caught →
+      HasWritten pool claim words bits seat → HasWritten pool claim words bits caught
+  written_held pool claim words bits legal none written = record {
     seated = record { same = same.pool ∙ written.seated.same; none_outstanding = none };
     holds = claim_held claim written.holds;
-    document = written.document;
+    document = subst (λ (k : Config). AreDocumentBitsIn pool.limits.slice_words k words claim.slice claim.column bits) (sym (treat_held pool claim legal written.holds)) written.document;
     inside = written.inside;
     bits_set = bits_held bits written.bits_set;
   }

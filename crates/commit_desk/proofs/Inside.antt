@@ -16,4 +16,5 @@ books_of i = record {
   live = i.live;
   tokens = i.tokens;
   stages = i.stages;
+  layouts = i.layouts;
 }

@@ -23,10 +23,13 @@ use Rattle.slice_stages.specs.declared.stage.Stage.{Stage}
 use Rattle.slice_stages.specs.Stages.{StageTable, empty_stage}
 use Rattle.token_manager.specs.Guarding.{HasOpened}
 use Rattle.commit_desk.specs.Journals.{IsJournalOf}
+use Rattle.row_layout.specs.Layouts.{own_layout}
 use Rattle.commit_desk.specs.Kept.{AreStages, AreTokens, Books, IsAtStage, AreBooksOf}
 use Rattle.commit_desk.specs.Records.{AreListed, AreRecorded, IsLiveIn, IsRecorded}
 use Rattle.commit_desk.proofs.Few.{few-new}
 use Rattle.commit_desk.proofs.Journals.{journal-new}
+use Rattle.commit_desk.specs.Layouts.{first_layouts}
+use Rattle.commit_desk.proofs.LayoutEvents.{layouts-new}
 use Rattle.commit_desk.proofs.Slots.{none_over}
 
 none_some : (x : ℕ × ℕ) → None ≡ Some x → ⊥
@@ -138,16 +141,16 @@ few_columns config is =
     omega (arith, all)
 
 -- a desk without events
-pub kept-new : (config : Config) (limits : Limits) (most : ℕ) (books : Books) → 1 ≤ limits.columns → books.slices ≡ limits.slices → books.columns ≡ limits.columns → books.events ≡ 0 → books.journal ≡ record { most = limits.commits; place = 0; kept = [] } →
+pub kept-new : (config : Config) (limits : Limits) (most : ℕ) (books : Books) → IsInRange config → 1 ≤ limits.columns → books.slices ≡ limits.slices → books.columns ≡ limits.columns → books.events ≡ 0 → books.journal ≡ record { most = limits.commits; place = 0; kept = [] } →
     books.table.slices ≡ limits.slices → books.table.columns ≡ limits.columns → books.table.slots ≡ replicate (limits.slices * limits.columns) free_slot → books.table.out ≡ replicate limits.slices false →
     ((id : ℕ) → entry_of books.live id ≡ None) → books.live.slices ≡ limits.slices → books.live.columns ≡ limits.columns → books.tokens ≡ replicate limits.passes None →
-    books.stages.columns ≡ limits.columns → books.stages.stages ≡ replicate limits.slices empty_stage → books.stages.mark ≡ 0 → AreBooksOf config limits most [] books
-kept-new config limits most books some slices columns events journal ts tc free there no_entry ls lc tokens sc stages mark = record {
+    books.stages.columns ≡ limits.columns → books.stages.stages ≡ replicate limits.slices empty_stage → books.stages.mark ≡ 0 →
+    books.layouts ≡ first_layouts limits.slices (own_layout config) → AreBooksOf config limits most [] books
+kept-new config limits most books in_range some slices columns events journal ts tc free there no_entry ls lc tokens sc stages mark layouts = record {
   few = few-new most limits.passes;
   legal = tt;
   sound = sound-start config;
   caused = caused-start;
-  untuned = refl;
   slices_are = slices;
   columns_are = columns;
   events_are = events;
@@ -156,4 +159,5 @@ kept-new config limits most books some slices columns events journal ts tc free 
   listed = listed-new limits books.table books.live ts tc free there no_entry ls lc;
   tokens_are = tokens-new limits books.tokens tokens;
   staged = stages-new limits books.table books.live ts tc free there no_entry ls lc books.tokens books.stages some tokens sc stages mark;
+  layouts_are = layouts-new config limits.slices books.layouts in_range layouts;
 }

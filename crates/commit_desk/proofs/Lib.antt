@@ -20,6 +20,8 @@ pub mod Journals
 pub mod Judged
 pub mod KeptNew
 pub mod LaterStates
+pub mod LayoutEvents
+pub mod LayoutsKept
 pub mod ListedKept
 pub mod LiveLooks
 pub mod MadeEvents
@@ -39,6 +41,8 @@ pub mod StageFacts
 pub mod StageReadings
 pub mod StagesKept
 pub mod StillThere
+pub mod TakenRoom
 pub mod TokenEvents
+pub mod TreatmentNumbers
+pub mod TuneEvents
 pub mod Turns
-pub mod Untuned

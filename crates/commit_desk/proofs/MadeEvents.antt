@@ -1,11 +1,9 @@
 -- What an event makes of the desk and of the pass, by what the pool tells.
-use Rattle.std.proofs.Common.{◌≡◌, ℕ, ◌+◌, ◌<◌, false, List, [], ◌∷◌, ◌++◌, length, refl, sym, ap, ◌∙◌, subst}
+use Rattle.std.proofs.Common.{◌≡◌, ℕ, ◌+◌, ◌<◌, List, [], ◌∷◌, ◌++◌, length, refl, sym, ap, ◌∙◌, subst}
 use Rattle.std.proofs.lemmas.List.{length-append}
 use Rattle.funnel_model.specs.declared.event.Event.{Event}
-use Rattle.std.specs.List.{All, list_any}
-use Rattle.std.specs.Option.{is_some}
-use Rattle.funnel_model.proofs.TuningLemmas.{treat_untuned}
-use Rattle.funnel_model.specs.Events.{pass_of, tuning_of}
+use Rattle.std.specs.List.{All}
+use Rattle.funnel_model.specs.Events.{pass_of}
 use Rattle.funnel_model.specs.Legal.{IsLegal}
 use Rattle.slice_rule.specs.Pools.{PoolId}
 use Rattle.slice_rule.proofs.Since.{number_is as last_is}
@@ -30,15 +28,14 @@ made_one before home new limit seat next e view caught same legal made =
 pub number_is : (home new : HomeState) (e : Event) (events : ℕ) → IsSameHome (after_append home e) new → events ≡ length new.history → events ≡ length home.history + 1
 number_is home new e events same count = count ∙ ap length same.history ∙ length-append home.history (e ∷ [])
 
--- a pass that just claimed a column has set no bit there yet, and each slice is treated by the opening configuration where nothing was tuned
+-- a pass that just claimed a column has set no bit there yet
 pub unwritten : (next : PassState) (before : List Event) (e : Event) (events : ℕ) (history : List Event) → pass_of e ≡ next.number → next.front ≡ before ++ e ∷ [] →
-    next.front ≡ history → events ≡ length history → All (λ f. number_under f < events) next.own → list_any (λ x. is_some (tuning_of x)) history ≡ false → IsUnwritten next
-unwritten next before e events history its made seen count nothing untuned =
+    next.front ≡ history → events ≡ length history → All (λ f. number_under f < events) next.own → IsUnwritten next
+unwritten next before e events history its made seen count nothing =
     let all : events ≡ length before + 1 = count ∙ ap length (sym seen ∙ made) ∙ length-append before (e ∷ []) in
     let last : last_number next.number next.front ≡ events = last_is next.number next.front events e (record { earlier = before; later = []; whole = made; count = all }) its refl in
     record {
       nothing = subst (λ n. All (λ f. number_under f < n) next.own) (sym last) nothing;
-      treated = λ slice. treat_untuned next.pool.config slice next.front (ap (list_any (λ x. is_some (tuning_of x))) seen ∙ untuned);
     }
 
 -- a pass that made events has seen the whole history still

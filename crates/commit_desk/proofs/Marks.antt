@@ -177,7 +177,6 @@ desk-look pool most history books mark is next =
         legal = kept.legal;
         sound = kept.sound;
         caused = kept.caused;
-        untuned = kept.untuned;
         slices_are = kept.slices_are;
         columns_are = kept.columns_are;
         events_are = kept.events_are;
@@ -187,5 +186,6 @@ desk-look pool most history books mark is next =
         tokens_are = kept.tokens_are;
         staged = mark-look pool.limits history books.table books.tokens books.stages mark
             (next_mark_within pool.limits history books.tokens mark kept.tokens_are next) (next_mark_before history books.tokens mark next) kept.staged;
+        layouts_are = kept.layouts_are;
       };
     }

@@ -12,24 +12,22 @@ use Rattle.document_store.specs.Slots.{IsColumn, slot_at, with_slot, is_over_in}
 use Rattle.document_store.specs.declared.column.Column.TheVariants as became
 use Rattle.document_store.specs.declared.slots.Slot.{Slot}
 use Rattle.funnel_model.specs.declared.bit_list.Bit.{Bit}
-use Rattle.funnel_model.specs.declared.config.Config.{Config}
 use Rattle.funnel_model.specs.declared.event.Event.{Event}
 use Rattle.funnel_model.specs.declared.event.Event.TheVariants as event
 use Rattle.funnel_model.specs.Events.{deletes_or_drops}
 use Rattle.funnel_model.specs.History.{Document}
 use Rattle.funnel_model.specs.Legal.{IsAllowed}
-use Rattle.funnel_model.specs.Sizes.{words_of_slice}
-use Rattle.funnel_model.specs.Words.{AreWordsOf, words}
+use Rattle.funnel_model.specs.Tunings.{treat}
+use Rattle.funnel_model.specs.Words.{AreWordsOf}
 use Rattle.funnel_model.proofs.LiveColumns.{live_column_is_live}
 use Rattle.funnel_model.proofs.LiveLemmas.{commits-silent}
-use Rattle.funnel_model.proofs.TuningLemmas.{treat_untuned}
-use Rattle.row_layout.specs.DocumentBits.{AreDocumentBits, AreDocumentBitsIn}
+use Rattle.row_layout.specs.DocumentBits.{AreDocumentBitsIn}
 use Rattle.slice_rule.specs.Pools.{PoolId}
 use Rattle.slice_stages.specs.Stages.{after_end, stage_of, with_stage}
 use Rattle.slice_stages.specs.declared.stage.Stage.TheVariants as stage
 use Rattle.commit_desk.specs.Kept.{Books, IsDesk}
 use Rattle.commit_desk.specs.Records.{IsLiveIn, document_added_at}
-use Rattle.commit_desk.proofs.DocumentEvents.{bits_of_text, desk-with, staged_by, taken_column}
+use Rattle.commit_desk.proofs.DocumentEvents.{desk-with, own_bits, staged_by, taken_column}
 use Rattle.commit_desk.proofs.Few.{few-next}
 use Rattle.commit_desk.proofs.Journals.{journal-silent}
 use Rattle.commit_desk.proofs.ListedKept.{listed-one}
@@ -56,7 +54,7 @@ module _ (pool : PoolId) (most : ℕ) (history : List Event) (books : Books) (is
       let ended = after_end pool.limits.columns (length history + 1) first over in
       let recorded = recorded-void pool.limits history books.table kept.legal kept.recorded pass s c allowed here in
       desk-with pool most history books is e (record books { events = length history + 1; table = table; stages = with_stage books.stages s ended }) allowed tt refl (λ moved. cause)
-      (few-next most pool.limits.passes history e (event.Take pass s c) kept.few allowed.pass rule.taken (omega arith)) refl (λ other. refl) refl refl refl refl
+      (few-next most pool.limits.passes history e (event.Take pass s c) kept.few allowed.pass rule.taken (omega arith)) refl (λ other. refl) (λ slice. refl) refl refl refl refl refl
       (journal-silent pool.limits.commits history (history ++ e ∷ []) books.journal (commits-silent history e refl) kept.journal_is) recorded
       (listed-one books.table books.live kept.recorded.size kept.listed s c y here (λ doc l. cc l.column)
       (none_live_in_pending pool.limits history books.table kept.legal kept.recorded pass s c rule.taken here))
@@ -66,7 +64,7 @@ module _ (pool : PoolId) (most : ℕ) (history : List Event) (books : Books) (is
   -- a live document moves to the column that a pass took
   pub desk-move : (pass s c f l first over added : ℕ) (doc new : Parts) (bits : List Bit) (lives : IsLiveIn (slot_at books.table f l) doc) (without next : Entries) →
       IsAllowed pool.limits history (event.Move pass doc.id s c bits) → list_any deletes_or_drops history ≡ true → IsColumn books.table f l → document_added_at added new ≡ document_added_at lives.added doc →
-      AreWordsOf new.words new.text → AreDocumentBits pool.config new.words s c bits →
+      AreWordsOf new.words new.text → AreDocumentBitsIn pool.limits.slice_words (treat pool.config s history) new.words s c bits →
       ((other : ℕ) → entry_of without other ≡ cond (other == doc.id) None (entry_of books.live other)) → without.slices ≡ books.live.slices → without.columns ≡ books.live.columns →
       ((other : ℕ) → entry_of next other ≡ cond (other == new.id) (Some (s, c)) (entry_of without other)) → next.slices ≡ without.slices → next.columns ≡ without.columns →
       stage_of books.stages f ≡ stage.InUse first over →
@@ -97,11 +95,11 @@ module _ (pool : PoolId) (most : ℕ) (history : List Event) (books : Books) (is
         document,
         live_there,
         refl,
-        subst (λ (k : Config). AreDocumentBitsIn (words_of_slice pool.config) k (words document.text) s c bits) (sym (treat_untuned pool.config s history kept.untuned))
-            (bits_of_text pool.config new.words document.text s c bits (subst (AreWordsOf new.words) (ap (λ (x : Document). x.text) same) of_text) bits_are),
+        own_bits pool most history books is (treat pool.config s history) new.words document.text s c bits
+            (subst (AreWordsOf new.words) (ap (λ (x : Document). x.text) same) of_text) bits_are,
       )
       refl (λ moved. cause)
-      (few-next most pool.limits.passes history e (event.Take pass s c) kept.few allowed.pass rule.taken (omega arith)) refl (λ other. refl) refl refl refl refl
+      (few-next most pool.limits.passes history e (event.Take pass s c) kept.few allowed.pass rule.taken (omega arith)) refl (λ other. refl) (λ slice. refl) refl refl refl refl refl
       (journal-silent pool.limits.commits history (history ++ e ∷ []) books.journal (commits-silent history e refl) kept.journal_is) recorded
       (listed-move pool.limits history books.table kept.legal kept.recorded f l s c doc new added lives from to same apart pass bits allowed of_text books.live without next kept.listed none_there
       taken taken_slices taken_columns put put_slices put_columns)

@@ -7,7 +7,7 @@ use Rattle.document_store.specs.declared.slots.Slot.{Slot}
 use Rattle.funnel_model.specs.declared.config.Config.{Config}
 use Rattle.funnel_model.specs.declared.event.Event.{Event}
 use Rattle.funnel_model.specs.declared.event.Event.TheVariants as event
-use Rattle.funnel_model.specs.Events.{commit_of, finds_or_ends, moves, next_after, tuning_of}
+use Rattle.funnel_model.specs.Events.{commit_of, finds_or_ends, moves, next_after}
 use Rattle.funnel_model.specs.Legal.{IsAllowed, Limits, awaited}
 use Rattle.funnel_model.proofs.CausedMoves.{caused-still}
 use Rattle.funnel_model.proofs.Claims.{take_follows, take_within}
@@ -21,8 +21,10 @@ use Rattle.slice_stages.specs.Stages.{StageTable, empty_stage, stage_of, with_st
 use Rattle.slice_stages.specs.declared.stage.Stage.{Stage}
 use Rattle.slice_stages.specs.declared.stage.Stage.TheVariants as stage
 use Rattle.commit_desk.specs.Kept.{Books, HasFew, IsDesk, AreBooksOf}
+use Rattle.commit_desk.specs.Layouts.{AreLayoutsOf, LayoutsState, with_cleared}
 use Rattle.commit_desk.specs.Records.{AreListed, AreRecorded}
 use Rattle.commit_desk.proofs.Journals.{journal-silent}
+use Rattle.commit_desk.proofs.LayoutEvents.{layouts-clear, layouts-quiet}
 use Rattle.commit_desk.proofs.ListedKept.{listed-clear, listed-one, listed-opened}
 use Rattle.commit_desk.proofs.Marks.{mark-same}
 use Rattle.commit_desk.proofs.RecordFacts.{is_column, none_live_in_free, none_live_to_clear}
@@ -30,7 +32,6 @@ use Rattle.commit_desk.proofs.RecordsKept.{recorded-clear, recorded-opened, reco
 use Rattle.commit_desk.proofs.StageReadings.{AreAtStages}
 use Rattle.commit_desk.proofs.StagesKept.{stages-clear, stages-opened, stages-take}
 use Rattle.commit_desk.proofs.TokenEvents.{tokens-same}
-use Rattle.commit_desk.proofs.Untuned.{untuned-push}
 
 pending_not_live : (pass added since : ℕ) → became.Pending pass ≡ became.Live added since → ⊥
 pending_not_live pass added since is = cc
@@ -41,15 +42,15 @@ books_after books events table stages = record books { events = events; table = 
 
 module _ (config : Config) (limits : Limits) (most : ℕ) (history : List Event) (books : Books) (is : AreBooksOf config limits most history books) where
   -- an event that is no commit, and neither begins nor ends a find
-  kept-event : (e : Event) → IsAllowed limits history e → commit_of e ≡ None → ((pass : ℕ) → finds_or_ends pass e ≡ false) → HasItsBits config history e → tuning_of e ≡ None → moves e ≡ false → HasFew most limits.passes (history ++ e ∷ []) →
+  kept-event : (e : Event) → IsAllowed limits history e → commit_of e ≡ None → ((pass : ℕ) → finds_or_ends pass e ≡ false) → HasItsBits config history e → moves e ≡ false → HasFew most limits.passes (history ++ e ∷ []) →
       (table : Table) (stages : StageTable) → AreRecorded limits (history ++ e ∷ []) table → AreListed table books.live → length stages.stages ≡ limits.slices → stages.columns ≡ limits.columns →
-      stages.mark ≡ books.stages.mark → AreAtStages limits (history ++ e ∷ []) table stages → AreBooksOf config limits most (history ++ e ∷ []) (books_after books (length history + 1) table stages)
-  kept-event e allowed no_commit no_find bits tunes_none unmoved few table stages recorded listed size columns mark each = record {
+      stages.mark ≡ books.stages.mark → AreAtStages limits (history ++ e ∷ []) table stages → (layouts : LayoutsState) → AreLayoutsOf config limits.slices (history ++ e ∷ []) layouts →
+      AreBooksOf config limits most (history ++ e ∷ []) (books_after (record books { layouts = layouts }) (length history + 1) table stages)
+  kept-event e allowed no_commit no_find bits unmoved few table stages recorded listed size columns mark each layouts layouts_are = record {
     few = few;
     legal = legal-push limits history e is.legal allowed;
     sound = sound-push config history e is.sound bits;
     caused = caused-still history e is.caused unmoved;
-    untuned = untuned-push history e is.untuned tunes_none;
     slices_are = is.slices_are;
     columns_are = is.columns_are;
     events_are = sym (length-append history (e ∷ []));
@@ -64,6 +65,7 @@ module _ (config : Config) (limits : Limits) (most : ℕ) (history : List Event)
       mark_within = subst (λ m. m ≤ length (history ++ e ∷ [])) (sym mark) (mark-same history e books.stages.mark is.staged.mark_within);
       none_before = λ pass number opened. subst (λ m. m ≤ number) (sym mark) (is.staged.none_before pass number opened);
     };
+    layouts_are = layouts_are;
   }
 
   -- the stages with another for one slice are as many
@@ -81,26 +83,29 @@ module _ (config : Config) (limits : Limits) (most : ℕ) (history : List Event)
       let here = is_column limits history books.table is.legal is.recorded s first (take_follows limits history pass s first is.legal allowed).in_range
       (take_within limits history pass s first is.legal allowed) in
       let at : IsColumn books.table s first = record { slice_in_range = here.slice_in_range; column_in_range = here.column_in_range } in
-      kept-event e allowed refl (λ p. refl) tt refl refl few (with_slot books.table s first y) (with_stage books.stages s (stage.InUse (first + 1) over))
+      kept-event e allowed refl (λ p. refl) tt refl few (with_slot books.table s first y) (with_stage books.stages s (stage.InUse (first + 1) over))
       (recorded-take limits history books.table is.legal is.recorded pass s first allowed at)
       (listed-one books.table books.live is.recorded.size is.listed s first y at (λ doc l. pending_not_live pass l.added l.since l.column)
       (none_live_in_free limits history books.table is.legal is.recorded pass s first allowed at))
       (size-with s (stage.InUse (first + 1) over)) is.staged.columns_are refl
       (stages-take limits history books.table books.stages is.legal is.recorded is.staged.count is.staged.each pass s first over y refl allowed at_stage)
+      books.layouts (layouts-quiet config limits.slices history e books.layouts refl (λ slice. refl) is.layouts_are)
 
   -- a pass begins to clear a slice
   pub kept-clear : (pass s : ℕ) → IsAllowed limits history (event.Clear pass s) → HasFew most limits.passes (history ++ event.Clear pass s ∷ []) →
-      AreBooksOf config limits most (history ++ event.Clear pass s ∷ []) (books_after books (length history + 1) (without_slice books.table s) (with_stage books.stages s (stage.Clearing pass)))
+      AreBooksOf config limits most (history ++ event.Clear pass s ∷ [])
+      (books_after (record books { layouts = with_cleared books.layouts s }) (length history + 1) (without_slice books.table s) (with_stage books.stages s (stage.Clearing pass)))
   kept-clear pass s allowed few =
       let e = event.Clear pass s in
       let in' = allowed.rule.in_range in
       let within : s < books.table.slices = let h = is.recorded.slices_are in omega arith in
-      kept-event e allowed refl (λ p. refl) tt refl refl few (without_slice books.table s) (with_stage books.stages s (stage.Clearing pass))
+      kept-event e allowed refl (λ p. refl) tt refl few (without_slice books.table s) (with_stage books.stages s (stage.Clearing pass))
       (recorded-clear limits history books.table is.legal is.recorded pass s allowed in')
       (listed-clear books.table books.live is.recorded.size is.listed s within
       (λ column doc below l. none_live_to_clear limits history books.table is.legal is.recorded s column doc (record { slice_in_range = within; column_in_range = below }) allowed.rule.can_clear l))
       (size-with s (stage.Clearing pass)) is.staged.columns_are refl
       (stages-clear limits history books.table books.stages is.legal is.recorded is.staged.count is.staged.each pass s allowed)
+      (with_cleared books.layouts s) (layouts-clear config limits.slices history pass s books.layouts in' is.layouts_are)
 
   -- a pass opens the slice that it cleared
   pub kept-opened : (pass s : ℕ) (alone : Bool) → 0 < limits.columns → IsAllowed limits history (event.Opened pass s alone) → HasFew most limits.passes (history ++ event.Opened pass s alone ∷ []) →
@@ -108,11 +113,12 @@ module _ (config : Config) (limits : Limits) (most : ℕ) (history : List Event)
   kept-opened pass s alone some allowed few =
       let e = event.Opened pass s alone in
       let in' = clears_in_range limits history is.legal pass s allowed.rule.cleared in
-      kept-event e allowed refl (λ p. refl) tt refl refl few (with_slice books.table s) (with_stage books.stages s empty_stage)
+      kept-event e allowed refl (λ p. refl) tt refl few (with_slice books.table s) (with_stage books.stages s empty_stage)
       (recorded-opened limits history books.table is.legal is.recorded pass s alone allowed in')
       (listed-opened books.table books.live is.recorded.size is.listed s)
       (size-with s empty_stage) is.staged.columns_are refl
       (stages-opened limits history books.table books.stages is.legal is.recorded is.staged.count is.staged.each pass s alone some allowed)
+      books.layouts (layouts-quiet config limits.slices history e books.layouts refl (λ slice. refl) is.layouts_are)
 
 -- what is kept, under other names
 pub kept-as : (config : Config) (limits : Limits) (most : ℕ) (history later : List Event) (books : Books) (events : ℕ) (table : Table) (stages : StageTable) →
@@ -123,6 +129,12 @@ kept-as config limits most history later books events table stages grown events_
     (subst (λ n. AreBooksOf config limits most history (books_after books n table stages)) (sym events_are)
     (subst (λ (t : Table). AreBooksOf config limits most history (books_after books books.events t stages)) (sym table_is)
     (subst (λ (s : StageTable). AreBooksOf config limits most history (books_after books books.events books.table s)) (sym stages_are) is)))
+
+-- and under another name for the layouts
+pub layouts-as : (config : Config) (limits : Limits) (most : ℕ) (history : List Event) (books : Books) (layouts : LayoutsState) → layouts ≡ books.layouts →
+    AreBooksOf config limits most history books → AreBooksOf config limits most history (record books { layouts = layouts })
+layouts-as config limits most history books layouts same is =
+    subst (λ (l : LayoutsState). AreBooksOf config limits most history (record books { layouts = l })) (sym same) is
 
 -- a desk with other books after an event that asks for no other
 pub desk-with : (pool next : PoolId) (most : ℕ) (was history later : List Event) (books books_now : Books) (e : Event) → next ≡ pool → later ≡ history ++ e ∷ [] → next_after e ≡ None →

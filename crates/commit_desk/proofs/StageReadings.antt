@@ -155,7 +155,7 @@ module _ (limits : Limits) (history : List Event) (table : Table) (legal : IsLeg
         (cases_lt first limits.columns))
 
     -- and the other way round
-    left_has_room : (slice : ℕ) → slice < limits.slices → HasLeft limits.columns (stage_of stages slice) → HasRoom limits.columns history slice
+    pub left_has_room : (slice : ℕ) → slice < limits.slices → HasLeft limits.columns (stage_of stages slice) → HasRoom limits.columns history slice
     left_has_room slice in' left =
         let found = left_is limits.columns (stage_of stages slice) left in
         let is = used_slice slice found.0 found.1 in' found.2 in

@@ -6,12 +6,14 @@ use Rattle.funnel_model.specs.declared.call.Call.TheVariants as call
 use Rattle.funnel_model.specs.declared.claim.Claim.{Claim}
 use Rattle.funnel_model.specs.declared.claim.Token.{Token}
 use Rattle.funnel_model.specs.declared.commit.Commit.{Commit}
+use Rattle.funnel_model.specs.declared.config.Config.{Config}
 use Rattle.funnel_model.specs.declared.event.Event.{Event}
 use Rattle.funnel_model.specs.declared.event.Event.TheVariants as event
 use Rattle.funnel_model.specs.History.{base, commits_after, is_live, live_place, place}
 use Rattle.funnel_model.specs.Legal.{HasRoom, IsFull, IsIdle, Limits, MayClear, MayTake, NoneCanClear}
 use Rattle.funnel_model.specs.Slices.{IsInUse, IsRetired}
 use Rattle.funnel_model.specs.Steps.{NoneRetired}
+use Rattle.funnel_model.specs.Tunings.{tunings}
 use Rattle.commit_desk.specs.declared.answers.AddFault.{AddFault}
 use Rattle.commit_desk.specs.declared.answers.AddFault.TheVariants as add
 use Rattle.commit_desk.specs.declared.answers.ClearRefusal.{ClearRefusal}
@@ -20,6 +22,8 @@ use Rattle.commit_desk.specs.declared.answers.CommitFault.{CommitFault}
 use Rattle.commit_desk.specs.declared.answers.CommitFault.TheVariants as commit
 use Rattle.commit_desk.specs.declared.answers.DeleteFault.{DeleteFault}
 use Rattle.commit_desk.specs.declared.answers.DeleteFault.TheVariants as delete
+use Rattle.commit_desk.specs.declared.answers.FindFault.{FindFault}
+use Rattle.commit_desk.specs.declared.answers.FindFault.TheVariants as find
 use Rattle.commit_desk.specs.declared.answers.JournalFault.{JournalFault}
 use Rattle.commit_desk.specs.declared.answers.JournalFault.TheVariants as journal
 use Rattle.commit_desk.specs.declared.answers.Spent.{Spent}
@@ -50,27 +54,34 @@ pub record MayAdd (most : ℕ) (history : List Event) (pass id : ℕ) : Type 0 w
   pub idle : IsIdle pass history
   pub enters : MayEnter most history id
 
--- why an add is refused: each reason yields to those before it
+-- and no slice has room for it
+pub record MayMakeRoom (most : ℕ) (limits : Limits) (history : List Event) (pass id : ℕ) : Type 0 where
+  pub adds : MayAdd most history pass id
+  pub no_room : (slice : ℕ) → slice < limits.slices → HasRoom limits.columns history slice → ⊥
+
+-- why an add is refused: each reason yields to those before it, and where a column or a slice could be had, memory may be wanting for
+-- its layout
 abbrev pub RefusesAdd : ℕ → Limits → List Event → ℕ → AddFault → Type 0
 RefusesAdd most limits history id (add.Spent events) = IsSpentAt most history events
 RefusesAdd most limits history id (add.Present added) = TakesCalls most history × IsPresent history id added
 RefusesAdd most limits history id (add.Full blocks) = MayEnter most history id × IsFull limits history × AreBlocks limits history blocks
-RefusesAdd most limits history id add.Memory = ⊥
+RefusesAdd most limits history id add.Memory = MayEnter most history id × (IsFull limits history → ⊥)
 
 -- an add takes the next column of the lowest slice with room; where none has room, it is to clear the lowest slice that can be cleared,
 -- with as many old slots as a slice has columns; else it is refused
 abbrev pub AnswersTake : ℕ → Limits → List Event → ℕ → ℕ → Taken → Type 0
-AnswersTake most limits history pass id (taken.Claim claim) = MayEnter most history id × MayTake limits history pass claim.slice claim.column
-AnswersTake most limits history pass id (taken.Clear work) =
+AnswersTake most limits history pass id (taken.Claim claim layout) = MayEnter most history id × MayTake limits history pass claim.slice claim.column
+AnswersTake most limits history pass id (taken.Clear work layout) =
     MayEnter most history id × ((slice : ℕ) → slice < limits.slices → HasRoom limits.columns history slice → ⊥) × MayClear limits history pass work.job.slice
     × (work.slots ≡ limits.columns)
 AnswersTake most limits history pass id (taken.Refused fault) = RefusesAdd most limits history id fault
 
 -- and these are its events
 abbrev pub events_of_take : ℕ → ℕ → List ℕ → Taken → List Event
-events_of_take pass id text (taken.Claim claim) = event.Take pass claim.slice claim.column ∷ []
-events_of_take pass id text (taken.Clear work) = event.Clear pass work.job.slice ∷ []
+events_of_take pass id text (taken.Claim claim layout) = event.Take pass claim.slice claim.column ∷ []
+events_of_take pass id text (taken.Clear work layout) = event.Clear pass work.job.slice ∷ []
 events_of_take pass id text (taken.Refused (add.Spent events)) = []
+events_of_take pass id text (taken.Refused add.Memory) = []
 events_of_take pass id text (taken.Refused _) = event.No pass (call.Add id text) ∷ []
 
 -- the events of a pass that opens a slice and takes its first column
@@ -148,13 +159,24 @@ events_of_journal pass from (Ok read) = event.Read pass (call.Journal from) ∷ 
 events_of_journal pass from (Err (journal.Trimmed n)) = event.Read pass (call.Journal from) ∷ []
 events_of_journal pass from (Err fault) = []
 
--- a find begins, unless the engine is spent: its token has the number of commits, the find's own number, and the slices in use
-abbrev pub AnswersFind : ℕ → Limits → List Event → Result Token Spent → Type 0
+-- a find begins, unless the engine is spent, or there was no memory for the layouts of its slices: its token has the number of commits,
+-- the find's own number, and the slices in use
+abbrev pub AnswersFind : ℕ → Limits → List Event → Result Token FindFault → Type 0
 AnswersFind most limits history (Ok token) =
     TakesCalls most history × (token.place ≡ place history) × (token.opened_at ≡ length history + 1)
     × ((slice : ℕ) → Contains token.slices slice ↔ ((slice < limits.slices) × IsInUse limits.columns slice history))
-AnswersFind most limits history (Err spent) = IsSpentAt most history spent.events
+AnswersFind most limits history (Err (find.Spent events)) = IsSpentAt most history events
+AnswersFind most limits history (Err find.Memory) = TakesCalls most history
 
-abbrev pub events_of_find : ℕ → List ℕ → Result Token Spent → List Event
+abbrev pub events_of_find : ℕ → List ℕ → Result Token FindFault → List Event
 events_of_find pass query (Ok token) = event.Find pass query ∷ []
-events_of_find pass query (Err spent) = []
+events_of_find pass query (Err fault) = []
+
+-- a tuning is told how many there were with this one, unless the engine is spent
+abbrev pub AnswersTune : ℕ → List Event → Result ℕ Spent → Type 0
+AnswersTune most history (Ok count) = TakesCalls most history × (count ≡ length (tunings history) + 1)
+AnswersTune most history (Err spent) = IsSpentAt most history spent.events
+
+abbrev pub events_of_tune : ℕ → Config → Result ℕ Spent → List Event
+events_of_tune pass config (Ok count) = event.Tune pass config ∷ []
+events_of_tune pass config (Err spent) = []

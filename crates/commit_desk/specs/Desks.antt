@@ -1,14 +1,16 @@
 -- What contracts see of a desk, and what a call makes of it and of the pass.
 use Rattle.std.specs.Prelude.{◌≡◌, ℕ, ◌<◌, List, ◌++◌, All}
+use Rattle.funnel_model.specs.declared.claim.Claim.{Claim}
 use Rattle.funnel_model.specs.declared.event.Event.{Event}
 use Rattle.funnel_model.specs.History.{IsFrontOf}
 use Rattle.funnel_model.specs.Legal.{IsLegal}
-use Rattle.funnel_model.specs.Tunings.{treat}
+use Rattle.row_layout.specs.Layouts.{LayoutId}
 use Rattle.slice_rule.specs.Numbers.{last_number}
 use Rattle.slice_rule.specs.Pools.{PoolId}
 use Rattle.slice_rule.specs.Seats.{IsSeated, PassState, number_under}
 use Rattle.commit_desk.specs.declared.answers.Taken.{Taken}
 use Rattle.commit_desk.specs.declared.answers.Taken.TheVariants as taken
+use Rattle.commit_desk.specs.Layouts.{IsLayoutOf}
 
 -- its pool, the number of events from which on it takes no call, and the history
 pub record DeskState : Type 0 where
@@ -40,12 +42,22 @@ pub record Makes (events : List Event) (before after : DeskState) (seat next : P
 abbrev pub NothingUnderLast : PassState → Type 0
 NothingUnderLast seat = All (λ f. number_under f < last_number seat.number seat.front) seat.own
 
--- a pass that just claimed a column has set no bit there yet; and each slice is treated by the opening configuration, as the pass has seen
+-- a pass that just claimed a column has set no bit there yet
 pub record IsUnwritten (seat : PassState) : Type 0 where
   pub nothing : NothingUnderLast seat
-  pub treated : (slice : ℕ) → treat seat.pool.config slice seat.front ≡ seat.pool.config
 
--- so it is with a pass that has claimed a column
-abbrev pub NothingYet : Taken → PassState → Type 0
-NothingYet (taken.Claim claim) seat = IsUnwritten seat
-NothingYet _ seat = Unit {0}
+-- a pass that just claimed a column of a slice with this layout, as it has seen
+pub record IsFresh (claim : Claim) (layout : LayoutId) (seat : PassState) : Type 0 where
+  pub unwritten : IsUnwritten seat
+  pub laid : IsLayoutOf seat.pool.config claim.slice seat.front layout
+
+-- so it is with a pass that has claimed a column; and with a slice to clear comes the layout that it has from now on
+abbrev pub IsPrepared : Taken → PassState → Type 0
+IsPrepared (taken.Claim claim layout) seat = IsFresh claim layout seat
+IsPrepared (taken.Clear work layout) seat = IsLayoutOf seat.pool.config work.job.slice seat.front layout
+IsPrepared _ seat = Unit {0}
+
+-- a pass that opened the slice and claimed its first column: the slice has the layout that it had
+pub record IsReused (slice : ℕ) (seat next : PassState) : Type 0 where
+  pub unwritten : IsUnwritten next
+  pub laid : (layout : LayoutId) → IsLayoutOf seat.pool.config slice seat.front layout → IsLayoutOf next.pool.config slice next.front layout

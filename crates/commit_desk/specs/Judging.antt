@@ -1,5 +1,4 @@
--- What a find keeps of its candidates by a test of their texts, turn by turn. It is told by the history before the find, which later events
--- don't change.
+-- What a find keeps of its candidates by a test of their texts. It is told by the history before the find, which later events don't change.
 use Rattle.std.specs.Prelude.{◌≡◌, ℕ, Bool, true, false, List, [], ◌∷◌, ◌++◌, map, filter, Option, Some, None, Contains}
 use Rattle.std.specs.List.{AllPairs, cons_option}
 use Rattle.document_store.specs.Documents.{HasEvery}
@@ -42,6 +41,12 @@ AreGivenWhere earlier test (candidate ∷ later) found =
 abbrev pub GiveAllWhere : List Event → (List ℕ → Bool) → List (ℕ × ℕ) → Type 0
 GiveAllWhere earlier test candidates =
     (found : ℕ × ℕ) → Contains (found_where earlier test) found → (candidate : ℕ × ℕ) × Contains candidates candidate × GivesWhere earlier test candidate (Some found)
+
+-- each document that was live in a column of one of these slices and passes the test stands in the column of a candidate
+abbrev pub GiveAllIn : List Event → (List ℕ → Bool) → List ℕ → List (ℕ × ℕ) → Type 0
+GiveAllIn earlier test slices candidates =
+    (slice column : ℕ) (document : Document) (since : ℕ) → Contains slices slice → IsLiveOn earlier slice column document since
+    → test document.text ≡ true → Contains candidates (slice, column)
 
 -- each text that passes the test has all words of some branch
 abbrev pub HasSomeBranch : (List ℕ → Bool) → List (List (List ℕ)) → Type 0

@@ -1,18 +1,18 @@
 -- What the desk keeps of a history.
 use Rattle.std.specs.Prelude.{◌≡◌, ℕ, ◌+◌, ◌*◌, ◌^◌, ◌<◌, ◌≤◌, ◌↔◌, false, true, List, length, count_by, sum_by, Option, None}
-use Rattle.std.specs.List.{list_any, range_with_len}
-use Rattle.std.specs.Option.{is_some, option_map_or}
+use Rattle.std.specs.List.{range_with_len}
+use Rattle.std.specs.Option.{option_map_or}
 use Rattle.document_store.specs.Entries.{Entries}
 use Rattle.document_store.specs.Slots.{Table, slots_of, is_over}
 use Rattle.funnel_model.specs.Configuration.{IsInRange}
 use Rattle.funnel_model.specs.declared.config.Config.{Config}
 use Rattle.funnel_model.specs.declared.event.Event.{Event}
 use Rattle.funnel_model.specs.declared.event.Event.TheVariants as event
-use Rattle.funnel_model.specs.Events.{tuning_of}
 use Rattle.funnel_model.specs.History.{MovesAreCaused, last_by}
 use Rattle.funnel_model.specs.Legal.{Limits, IsLegal, awaited}
 use Rattle.funnel_model.specs.Slices.{IsRetiredAt, claimed, is_clearing, is_clearing_by}
 use Rattle.funnel_model.specs.Tokens.{HasToken}
+use Rattle.funnel_model.specs.Sizes.{words_of_slice}
 use Rattle.row_layout.specs.Sound.{IsSound}
 use Rattle.slice_rule.specs.Pools.{PoolId, limits_of}
 use Rattle.slice_stages.specs.Stages.{StageTable, stage_of}
@@ -20,6 +20,7 @@ use Rattle.slice_stages.specs.declared.stage.Stage.{Stage}
 use Rattle.slice_stages.specs.declared.stage.Stage.TheVariants as stage
 use Rattle.token_manager.specs.Guarding.{HasOpened}
 use Rattle.commit_desk.specs.Journals.{IsJournalOf, JournalState}
+use Rattle.commit_desk.specs.Layouts.{AreLayoutsOf, LayoutsState}
 use Rattle.commit_desk.specs.Records.{AreListed, AreRecorded}
 
 -- each pass has the token that is kept of it, and no other
@@ -77,7 +78,7 @@ abbrev pub HasFew : ℕ → ℕ → List Event → Type 0
 HasFew most passes history = length history + all_left passes history ≤ most + 3 * passes
 
 -- what the desk keeps beside the history: the numbers of slices and of columns of each, the number of its events, the journal of its
--- last commits, the records of the columns, the live numbers, the tokens of running finds, and how far each slice is
+-- last commits, the records of the columns, the live numbers, the tokens of running finds, how far each slice is, and its layout
 pub record Books : Type 0 where
   pub slices : ℕ
   pub columns : ℕ
@@ -87,14 +88,14 @@ pub record Books : Type 0 where
   pub live : Entries
   pub tokens : List (Option ℕ)
   pub stages : StageTable
+  pub layouts : LayoutsState
 
--- a history, in which each move has its cause and nothing was tuned, and what is kept beside it
+-- a history, in which each move has its cause, and what is kept beside it
 pub record AreBooksOf (config : Config) (limits : Limits) (most : ℕ) (history : List Event) (books : Books) : Type 0 where
   pub few : HasFew most limits.passes history
   pub legal : IsLegal limits history
   pub sound : IsSound config history
   pub caused : MovesAreCaused history
-  pub untuned : list_any (λ e. is_some (tuning_of e)) history ≡ false
   pub slices_are : books.slices ≡ limits.slices
   pub columns_are : books.columns ≡ limits.columns
   pub events_are : books.events ≡ length history
@@ -103,11 +104,12 @@ pub record AreBooksOf (config : Config) (limits : Limits) (most : ℕ) (history 
   pub listed : AreListed books.table books.live
   pub tokens_are : AreTokens limits history books.tokens
   pub staged : AreStages limits history books.table books.tokens books.stages
+  pub layouts_are : AreLayoutsOf config limits.slices history books.layouts
 
--- the desk of this pool, with this limit of events: the pool's sizes are those of its configuration
+-- the desk of this pool, with this limit of events: the pool's sizes are those of its configuration, with the room for its rows
 pub record IsDesk (pool : PoolId) (most : ℕ) (history : List Event) (books : Books) : Type 0 where
   pub in_range : IsInRange pool.config
-  pub sizes : pool.limits ≡ limits_of pool.config pool.limits.slice_words
+  pub sizes : pool.limits ≡ limits_of pool.config (words_of_slice pool.config)
   pub some : 1 ≤ most
   pub bounded : most ≤ 2 ^ 62
   pub none_awaited : awaited history ≡ None

@@ -1,5 +1,6 @@
 -- What holds of what a desk keeps, whatever the history.
-use Rattle.std.specs.Prelude.{◌≡◌, ℕ, ◌*◌, ◌<◌, ◌≤◌, ◌↔◌, true, false, List, [], ◌∷◌, ◌++◌, length, replicate, sum_by, Contains, Err, Option, None}
+use Rattle.std.specs.Prelude.{◌≡◌, ℕ, ◌*◌, ◌<◌, ◌≤◌, ◌↔◌, true, false, List, [], ◌∷◌, ◌++◌, length, replicate, sum_by, Contains, Ok, Err, Option, None}
+use Rattle.std.specs.Option.{option_map}
 use Rattle.std.specs.List.{slice_range}
 use mathlib.Core.List.{IsPrefix}
 use Rattle.document_store.specs.Entries.{column_of}
@@ -9,6 +10,7 @@ use Rattle.funnel_model.specs.declared.config.Config.{Config}
 use Rattle.funnel_model.specs.declared.event.Event.{Event}
 use Rattle.funnel_model.specs.declared.bit_list.Bit.{Bit}
 use Rattle.funnel_model.specs.declared.claim.Claim.{Claim}
+use Rattle.funnel_model.specs.declared.memory.Memory.{Memory}
 use Rattle.funnel_model.specs.Expressions.{Tree, answer_by, keeps}
 use Rattle.funnel_model.specs.History.{Document, answer, base, commits_after, live, place}
 use Rattle.funnel_model.specs.Legal.{IsLegal, Limits}
@@ -21,6 +23,7 @@ use Rattle.funnel_model.specs.Tunings.{treat}
 use Rattle.funnel_model.specs.Words.{meets, words}
 use Rattle.row_layout.specs.declared.row.Row.{Row}
 use Rattle.row_layout.specs.DocumentBits.{bit_of_row}
+use Rattle.row_layout.specs.Layouts.{own_layout}
 use Rattle.row_layout.specs.Owners.{is_exact}
 use Rattle.row_layout.specs.Rows.{rows_of_word}
 use Rattle.row_layout.specs.Sound.{IsSound}
@@ -33,15 +36,18 @@ use Rattle.commit_desk.specs.declared.answers.AddFault.{AddFault}
 use Rattle.commit_desk.specs.declared.answers.ClearRefusal.{ClearRefusal}
 use Rattle.commit_desk.specs.declared.answers.CommitFault.{CommitFault}
 use Rattle.commit_desk.specs.declared.answers.DeleteFault.{DeleteFault}
+use Rattle.commit_desk.specs.declared.answers.TakenMove.{TakenMove}
 use Rattle.commit_desk.specs.declared.answers.Taken.TheVariants as taken
 use Rattle.commit_desk.specs.declared.look.Look.{Look}
 use Rattle.commit_desk.specs.Judging.{answer_where}
 use Rattle.commit_desk.specs.Kept.{Books, AreBooksOf}
+use Rattle.commit_desk.specs.Layouts.{first_layouts}
 use Rattle.commit_desk.specs.Moving.{AnswersTakeMove, HoldsLook, IsNextLook, IsThereStill, LooksState, document_of}
 use Rattle.commit_desk.specs.Resolving.{AreLookedFor, LooksUpTo}
 
--- nothing is kept yet: every column is free, no number is live, no find runs and no column of a slice is claimed
-pub record AreNew (limits : Limits) (books : Books) : Type 0 where
+-- nothing is kept yet: every column is free, no number is live, no find runs, no column of a slice is claimed, and each slice has the
+-- layout of the opening configuration
+pub record AreNew (config : Config) (limits : Limits) (books : Books) : Type 0 where
   pub slices : books.slices ≡ limits.slices
   pub columns : books.columns ≡ limits.columns
   pub events : books.events ≡ 0
@@ -57,10 +63,13 @@ pub record AreNew (limits : Limits) (books : Books) : Type 0 where
   pub stage_columns : books.stages.columns ≡ limits.columns
   pub empty : books.stages.stages ≡ replicate limits.slices empty_stage
   pub mark : books.stages.mark ≡ 0
+  pub layouts : books.layouts ≡ first_layouts limits.slices (own_layout config)
 
 -- that is what a desk keeps of the history without events
 abbrev pub NewDesksAreKept : Type 0
-NewDesksAreKept = (config : Config) (limits : Limits) (most : ℕ) (books : Books) → 1 ≤ limits.columns → AreNew limits books → AreBooksOf config limits most [] books
+NewDesksAreKept =
+    (config : Config) (limits : Limits) (most : ℕ) (books : Books) → IsInRange config → 1 ≤ limits.columns → AreNew config limits books
+    → AreBooksOf config limits most [] books
 
 -- what is kept is that of one number of commits, of one list of the last of them, and of one number of events
 abbrev pub DesksHaveTheirCommits : Type 0
@@ -88,14 +97,24 @@ NextLookIsOne =
     IsLegal limits history → IsNextLook reserve most limits looks history id slice column document since →
     IsNextLook reserve most limits looks history id other at another from → (slice ≡ other) × (column ≡ at) × (document ≡ another) × (since ≡ from)
 
--- and one answer is that of taking a column for it
+-- the column that was taken for a move, and what is moved there
+abbrev pub move_of : TakenMove → Claim × Look
+move_of taken = (taken.claim, taken.look)
+
+-- and one column is taken for it, or none
 abbrev pub TakeOfMoveIsOne : Type 0
-TakeOfMoveIsOne = (most : ℕ) (limits : Limits) (history : List Event) (pass : ℕ) (look : Look) (answer other : Option (Claim × Look)) →
-    AnswersTakeMove most limits history pass look answer → AnswersTakeMove most limits history pass look other → answer ≡ other
+TakeOfMoveIsOne = (most : ℕ) (limits : Limits) (history : List Event) (pass : ℕ) (look : Look) (answer other : Option TakenMove) →
+    AnswersTakeMove most limits history pass look (Ok answer) → AnswersTakeMove most limits history pass look (Ok other) →
+    option_map move_of answer ≡ option_map move_of other
+
+-- memory is wanting only where one may be taken
+abbrev pub TakeOfMoveWantsMemory : Type 0
+TakeOfMoveWantsMemory = (most : ℕ) (limits : Limits) (history : List Event) (pass : ℕ) (look : Look) (memory : Memory) →
+    AnswersTakeMove most limits history pass look (Err memory) → AnswersTakeMove most limits history pass look (Ok None) → ⊥
 
 -- so it is with both turns
 abbrev pub MovesAreOne : Type 0
-MovesAreOne = NextLookIsOne × TakeOfMoveIsOne
+MovesAreOne = NextLookIsOne × TakeOfMoveIsOne × TakeOfMoveWantsMemory
 
 -- what a pass looked at is live with the text that it saw, in each history in which it is still there
 abbrev pub MovesKeepTexts : Type 0
@@ -112,7 +131,7 @@ pub record AnswersAreByTests : Type 0 where
   pub query : (history : List Event) (query : List ℕ) → answer history query ≡ answer_where history (λ text. meets text query)
   pub expression : (history : List Event) (expr : Tree) → answer_by history expr ≡ answer_where history (keeps expr)
 
--- a turn of a judge has few documents: were one word looked for in each, these would be few
+-- a turn of a judge decides 32 documents at most, each of which counts as one here
 abbrev pub TurnsJudgeFewDocuments : Type 0
 TurnsJudgeFewDocuments =
     (earlier : List Event) (cost : ℕ) (candidates : List (ℕ × ℕ)) (from to : ℕ) (documents : ℕ × ℕ → ℕ) → LooksUpTo earlier (judged_cost cost) candidates from to →

@@ -1,10 +1,13 @@
 pub mod Answers
 pub mod Desks
+pub mod FindLayouts
 pub mod Journals
 pub mod Judging
 pub mod Kept
 pub mod Laws
+pub mod Layouts
 pub mod Moving
+pub mod Numbered
 pub mod Passes
 pub mod Records
 pub mod Resolving

@@ -15,6 +15,7 @@ use Rattle.funnel_model.specs.Slices.{IsFilled, IsInState, Live}
 use Rattle.funnel_model.specs.Words.{AreWordsOf}
 use Rattle.slice_rule.specs.Seats.{PassState}
 use Rattle.commit_desk.specs.Answers.{MayEnter, TakesCalls}
+use Rattle.commit_desk.specs.declared.answers.TakenMove.{TakenMove}
 use Rattle.commit_desk.specs.declared.look.Look.{Look}
 use Rattle.commit_desk.specs.Records.{document_added_at}
 
@@ -119,22 +120,24 @@ pub record HoldsLook (seat : PassState) (look : Look) : Type 0 where
   pub cause : list_any deletes_or_drops seat.front ≡ true
 
 -- For a move a column is claimed as for an add, in another slice than the one that is emptied. Else nothing is done: calls are taken no
--- more, no slice has room, or the lowest that has is the one that is emptied.
-abbrev pub AnswersTakeMove : ℕ → Limits → List Event → ℕ → Look → Option (Claim × Look) → Type 0
-AnswersTakeMove most limits history pass look (Some taken) =
-    TakesCalls most history × MayTake limits history pass taken.0.slice taken.0.column × (taken.0.slice ≢ look.slice) × (taken.1 ≡ look)
-AnswersTakeMove most limits history pass look None =
+-- more, no slice has room, or the lowest that has is the one that is emptied. Want of memory is answered only where a column may be claimed.
+abbrev pub AnswersTakeMove : ℕ → Limits → List Event → ℕ → Look → Result (Option TakenMove) Memory → Type 0
+AnswersTakeMove most limits history pass look (Ok (Some taken)) =
+    TakesCalls most history × MayTake limits history pass taken.claim.slice taken.claim.column × (taken.claim.slice ≢ look.slice) × (taken.look ≡ look)
+AnswersTakeMove most limits history pass look (Ok None) =
     (most ≤ length history) ⊎ ((slice : ℕ) → slice < limits.slices → HasRoom limits.columns history slice → ⊥)
     ⊎ ((column : ℕ) × MayTake limits history pass look.slice column)
+AnswersTakeMove most limits history pass look (Err memory) =
+    TakesCalls most history × (slice : ℕ) × (column : ℕ) × MayTake limits history pass slice column × (slice ≢ look.slice)
 
-abbrev pub events_of_take_move : ℕ → Option (Claim × Look) → List Event
-events_of_take_move pass (Some taken) = event.Take pass taken.0.slice taken.0.column ∷ []
-events_of_take_move pass None = []
+abbrev pub events_of_take_move : ℕ → Result (Option TakenMove) Memory → List Event
+events_of_take_move pass (Ok (Some taken)) = event.Take pass taken.claim.slice taken.claim.column ∷ []
+events_of_take_move pass _ = []
 
 -- the look ends where no column was claimed
-abbrev pub looks_after_take : LooksState → Look → Option (Claim × Look) → LooksState
-looks_after_take looks look (Some taken) = looks
-looks_after_take looks look None = with_mark looks look.slice look.column false
+abbrev pub looks_after_take : LooksState → Look → Result (Option TakenMove) Memory → LooksState
+looks_after_take looks look (Ok (Some taken)) = looks
+looks_after_take looks look _ = with_mark looks look.slice look.column false
 
 -- the document is moved where it is live still in the column that was looked at, by the very event that put it there then
 abbrev pub IsThereStill : List Event → Look → Type 0

@@ -6,7 +6,8 @@ use Rattle.funnel_model.specs.declared.claim.ClearJob.{ClearJob}
 use Rattle.funnel_model.specs.declared.claim.Token.{Token}
 use Rattle.funnel_model.specs.Legal.{IsIdle, IsInSlice, Limits}
 use Rattle.funnel_model.specs.Tunings.{treat}
-use Rattle.row_layout.specs.DocumentBits.{AreDocumentBits}
+use Rattle.row_layout.specs.DocumentBits.{AreDocumentBitsIn}
+use Rattle.row_layout.specs.Layouts.{LayoutId}
 use Rattle.slice_rule.specs.declared.view.Fact.TheVariants as fact
 use Rattle.slice_rule.specs.Numbers.{last_number}
 use Rattle.slice_rule.specs.Pools.{PoolId}
@@ -14,6 +15,7 @@ use Rattle.slice_rule.specs.Seats.{HasZeroed, HoldsClaim, HoldsJob, HoldsToken, 
 use Rattle.commit_desk.specs.Desks.{NothingUnderLast}
 use Rattle.commit_desk.specs.declared.answers.Taken.{Taken}
 use Rattle.commit_desk.specs.declared.answers.Taken.TheVariants as taken
+use Rattle.commit_desk.specs.Layouts.{IsLayoutOf}
 
 -- the pass is not in the middle of a call
 pub record IsResting (pool : PoolId) (seat : PassState) : Type 0 where
@@ -25,20 +27,20 @@ pub record IsFinding (pool : PoolId) (token : Token) (seat : PassState) : Type 0
   pub seated : IsSeated pool seat
   pub holds : HoldsToken seat token
 
--- the pass claimed a column of the pool, whose slice is treated by the opening configuration, and wrote nothing into it yet
-pub record IsToWrite (pool : PoolId) (claim : Claim) (seat : PassState) : Type 0 where
+-- the pass claimed a column of the pool, whose slice has this layout, and wrote nothing into it yet
+pub record IsToWrite (pool : PoolId) (claim : Claim) (layout : LayoutId) (seat : PassState) : Type 0 where
   pub seated : IsSeated pool seat
   pub holds : HoldsClaim seat claim
   pub nothing : NothingUnderLast seat
-  pub treated : treat pool.config claim.slice seat.front ≡ pool.config
+  pub laid : IsLayoutOf pool.config claim.slice seat.front layout
   pub in_range : claim.slice < pool.limits.slices
   pub column : claim.column < pool.limits.columns
 
--- the pass wrote these bits into its column, which are those of a document with these words
+-- the pass wrote these bits into its column, which are those of a document with these words under the treatment of the slice
 pub record HasWritten (pool : PoolId) (claim : Claim) (words : List (List ℕ)) (bits : List Bit) (seat : PassState) : Type 0 where
   pub seated : IsSeated pool seat
   pub holds : HoldsClaim seat claim
-  pub document : AreDocumentBits pool.config words claim.slice claim.column bits
+  pub document : AreDocumentBitsIn pool.limits.slice_words (treat pool.config claim.slice seat.front) words claim.slice claim.column bits
   pub inside : All (λ b. IsInSlice pool.limits.slice_words claim.slice b.word) bits
   pub bits_set : (b : Bit) → Contains bits b ↔ Contains seat.own (fact.BitSet (last_number seat.number seat.front) b)
 
@@ -60,6 +62,7 @@ pub record HasCleared (pool : PoolId) (job : ClearJob) (seat : PassState) : Type
 
 -- what the pass is to do after its take
 abbrev pub IsToDo : PoolId → Taken → PassState → Type 0
-IsToDo pool (taken.Claim claim) seat = IsToWrite pool claim seat
-IsToDo pool (taken.Clear work) seat = IsToClear pool work.job seat × (work.slots ≡ pool.limits.columns)
+IsToDo pool (taken.Claim claim layout) seat = IsToWrite pool claim layout seat
+IsToDo pool (taken.Clear work layout) seat =
+    IsToClear pool work.job seat × (work.slots ≡ pool.limits.columns) × IsLayoutOf pool.config work.job.slice seat.front layout
 IsToDo pool (taken.Refused fault) seat = IsResting pool seat

@@ -12,8 +12,11 @@ use Rattle.funnel_model.specs.declared.config.Config.{Config}
 use Rattle.row_layout.specs.Owners.{is_exact}
 use Rattle.slice_rule.specs.Pools.{PoolId}
 use Rattle.slice_rule.specs.Seats.{HoldsToken, IsSeated, PassState}
-use Rattle.commit_desk.specs.Judging.{AreGivenWhere, GiveAllWhere, GivesWhere, WereScannedForAny}
-use Rattle.commit_desk.specs.Scans.{WereScanned}
+use Rattle.commit_desk.specs.declared.layouts.SlicesLayout.{SlicesLayout}
+use Rattle.commit_desk.specs.FindLayouts.{AreOfTreatment}
+use Rattle.commit_desk.specs.Layouts.{SuitsOpening}
+use Rattle.commit_desk.specs.Judging.{AreGivenWhere, GiveAllIn, GiveAllWhere, GivesWhere, WereScannedForAny}
+use Rattle.commit_desk.specs.Scans.{WereScanned, token_of}
 
 -- the rest of a query, which is looked for in the documents: words of it, of which each other one is exact under the configuration
 pub record IsRestOf (config : Config) (query : List ℕ) (rest : List (List ℕ)) : Type 0 where
@@ -45,24 +48,36 @@ pub record AreLookedFor (earlier : List Event) (cost : ℕ) (candidates : List (
 abbrev pub LooksUpTo : List Event → ℕ → List (ℕ × ℕ) → ℕ → ℕ → Type 0
 LooksUpTo earlier cost candidates from to = (looked : ℕ × ℕ → ℕ) × AreLookedFor earlier cost candidates looked × EndsTurn candidates looked from to
 
--- A turn of a find whose documents are to pass a test, from one candidate up to another, by the history before the find: what its candidates
--- give comes after what was found before, all candidates give all that pass, and it ends where it may.
-pub record FindsUpTo (earlier : List Event) (test : List ℕ → Bool) (cost : ℕ) (candidates : List (ℕ × ℕ)) (from to : ℕ) (before after : List (ℕ × ℕ)) : Type 0 where
+-- A turn of a find whose documents are to pass a test, from one candidate in these slices up to another, by the history before the find:
+-- what its candidates give comes after what was found before, each document of the slices that passes stands in a candidate's column, and
+-- it ends where it may.
+pub record FindsUpTo (earlier : List Event) (test : List ℕ → Bool) (cost : ℕ) (slices : List ℕ) (candidates : List (ℕ × ℕ)) (from to : ℕ) (before after : List (ℕ × ℕ)) : Type 0 where
   pub more : List (ℕ × ℕ)
   pub given : AreGivenWhere earlier test (slice_range candidates from to) more
   pub found : after ≡ before ++ more
-  pub all : GiveAllWhere earlier test candidates
+  pub all : GiveAllIn earlier test slices candidates
   pub turn : LooksUpTo earlier cost candidates from to
 
--- the pass has a find open whose candidates were scanned for the words of its query, of which this is the rest
-pub record IsVerifying (pool : PoolId) (token : Token) (rest : List (List ℕ)) (candidates : List (ℕ × ℕ)) (seat : PassState) : Type 0 where
-  pub seated : IsSeated pool seat
-  pub holds : HoldsToken seat token
-  pub rest_of : (begun : HasToken seat.front seat.number token.opened_at) → IsRestOf pool.config begun.query rest
-  pub scanned : WereScanned pool.config seat token candidates
+-- the slices of the entry are some of those of the pass's token, and its configuration, which the engine may have, treated each of them
+-- before the find
+pub record IsEntryOf (pool : PoolId) (token : Token) (entry : SlicesLayout) (seat : PassState) : Type 0 where
+  pub among : (slice : ℕ) → Contains entry.slices slice → Contains token.slices slice
+  pub suits : SuitsOpening pool.config entry.layout.config
+  pub treated : (begun : HasToken seat.front seat.number token.opened_at) → AreOfTreatment pool.config begun.earlier entry.layout.config entry.slices
 
--- the pass has a find open whose candidates were scanned for branches, one of which each text that passes the test has
-pub record IsJudging (pool : PoolId) (token : Token) (test : List ℕ → Bool) (candidates : List (ℕ × ℕ)) (seat : PassState) : Type 0 where
+-- The pass has a find open. The candidates were scanned in the slices of an entry of its layouts for the words of its query, of which this
+-- is the rest.
+pub record IsVerifying (pool : PoolId) (token : Token) (entry : SlicesLayout) (rest : List (List ℕ)) (candidates : List (ℕ × ℕ)) (seat : PassState) : Type 0 where
   pub seated : IsSeated pool seat
   pub holds : HoldsToken seat token
-  pub scanned : WereScannedForAny pool.config seat token test candidates
+  pub of_token : IsEntryOf pool token entry seat
+  pub rest_of : (begun : HasToken seat.front seat.number token.opened_at) → IsRestOf entry.layout.config begun.query rest
+  pub scanned : WereScanned entry.layout.config seat (token_of entry.slices token) candidates
+
+-- The pass has a find open. The candidates were scanned in the slices of an entry of its layouts for branches, one of which each text that
+-- passes the test has.
+pub record IsJudging (pool : PoolId) (token : Token) (entry : SlicesLayout) (test : List ℕ → Bool) (candidates : List (ℕ × ℕ)) (seat : PassState) : Type 0 where
+  pub seated : IsSeated pool seat
+  pub holds : HoldsToken seat token
+  pub of_token : IsEntryOf pool token entry seat
+  pub scanned : WereScannedForAny entry.layout.config seat (token_of entry.slices token) test candidates

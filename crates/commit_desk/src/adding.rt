@@ -1,27 +1,31 @@
-ghost use Rattle.std.specs.Prelude.{◌≡◌, ◌+◌, ◌<◌, ◌≤◌, true, [], ◌∷◌, MatchOption, MatchResult, Ok, Err, All, length, vec_capacity};
+ghost use Rattle.std.specs.Prelude.{◌≡◌, ℕ, ◌+◌, ◌<◌, ◌≤◌, true, [], ◌∷◌, length, vec_capacity};
+ghost use Rattle.std.specs.Prelude.{All, Err, IfOk, MatchOption, MatchResult, Ok};
 ghost use Rattle.funnel_model.specs.declared.call.Call.TheVariants as call;
 ghost use Rattle.funnel_model.specs.declared.event.Event.TheVariants as event;
 ghost use Rattle.funnel_model.specs.History.{is_live, place};
-ghost use Rattle.funnel_model.specs.Legal.{IsIdle, IsRefused, MayTake};
+ghost use Rattle.funnel_model.specs.Legal.{IsIdle, IsRefused, MayClear, MayTake, NoneCanClear};
 ghost use Rattle.funnel_model.specs.Slices.{claimed};
 ghost use Rattle.slice_rule.specs.Seats.{HasNoneOutstanding, HoldsClaim, IsSeated};
-ghost use Rattle.commit_desk.specs.Answers.{AnswersCommit, AnswersTake, MayAdd, MayEnter, RefusesAdd, TakesCalls};
+ghost use Rattle.commit_desk.specs.Answers.{AnswersCommit, AnswersTake, MayAdd, MayMakeRoom, TakesCalls};
 ghost use Rattle.commit_desk.specs.Answers.{events_of_commit, events_of_opened_take, events_of_take};
-ghost use Rattle.commit_desk.specs.Desks.{IsCaughtUp, IsUnwritten, Makes, NothingYet};
+ghost use Rattle.commit_desk.specs.Desks.{IsCaughtUp, IsFresh, IsPrepared, IsReused, IsUnwritten, Makes};
+ghost use Rattle.commit_desk.specs.Layouts.{IsCurrentLayout, IsLayoutOf};
 ghost use Rattle.commit_desk.specs.Passes.{HasWritten, HoldsCleared};
 
-use crate::answers::{AddFault, CommitFault, Taken};
+use crate::answers::{AddFault, CommitFault, Taken, ToClear};
 use crate::desk::Desk;
 use crate::entries::{Adds, Drops, Refuses};
+use crate::shared_layout::SharedLayout;
 use document_store::{Doc, FreeSlots};
-use funnel_model::{Block, Blocked, Claim, ClearJob, Commit, Event};
+use funnel_model::{Block, Blocked, Claim, ClearJob, Commit, Event, Memory};
 use row_layout::Bits;
 use slice_rule::{PassSeat, Pool};
 
 impl Desk {
-    /// Claims a column for a document, or begins to clear a slice for it, or says why the document can't be added. `room`
-    /// is an empty list with room for a block of each slice, for the answer `Full`, which alone takes it: else it stays the
-    /// caller's, who drops it where the desk is free.
+    /// Claims a column for a document, or begins to clear a slice for it, or says why the document can't be added. With a column or a
+    /// slice comes the layout by which the document's bits are to be set; where it can't be shared, no event is made. `room` is an empty
+    /// list with room for a block of each slice, for the answer `Full`, which alone takes it: else it stays the caller's, who drops it
+    /// where the desk is free.
     pub fn take(
         &mut self,
         pool: &Pool,
@@ -36,23 +40,21 @@ impl Desk {
         ensures answer { AnswersTake self.old.events_limit self.old.pool.limits self.old.history seat.old.number doc.now.id result }
         ensures events { Makes (events_of_take seat.old.number doc.now.id doc.now.text result) self.old self.new seat.old seat.new }
         ensures none_outstanding { HasNoneOutstanding seat.new }
-        ensures nothing_yet { NothingYet result seat.new }
+        ensures prepared { IsPrepared result seat.new }
     {
         pool.catch_up(&mut self.home, seat);
         if self.is_spent() {
             return Taken::Refused(AddFault::Spent(self.events));
         }
-        match self.check_add(doc.id()) {
-            Ok(()) => self.take_room(pool, seat, doc, room),
-            Err(fault) => {
-                self.refuse_add(pool, seat, doc);
-                Taken::Refused(fault)
-            }
+        if let Some(place) = self.place_of(doc.id()) {
+            self.refuse_add(pool, seat, doc);
+            return Taken::Refused(AddFault::Present(place));
         }
+        self.take_room(pool, seat, doc, room)
     }
 
     /// Opens the slice that the pass cleared for an add, and claims its first column. Its slots, which the pass has emptied,
-    /// come back to the records.
+    /// come back to the records. It has the layout that it had since its Clear.
     pub fn opened_take(
         &mut self,
         pool: &Pool,
@@ -67,7 +69,7 @@ impl Desk {
         ensures claim { result ≡ record { slice = job.slice; column = 0 } }
         ensures events { Makes (events_of_opened_take seat.old.number job.slice) self.old self.new seat.old seat.new }
         ensures none_outstanding { HasNoneOutstanding seat.new }
-        ensures nothing_yet { IsUnwritten seat.new }
+        ensures prepared { IsReused job.slice seat.old seat.new }
     {
         pool.catch_up(&mut self.home, seat);
         let ClearJob { slice } = job;
@@ -114,18 +116,6 @@ impl Desk {
         }
     }
 
-    // Whether nothing but want of room keeps a document with this number out, or what does, where calls are taken.
-    fn check_add(&self, id: u64) -> Result<(), AddFault>
-        requires { TakesCalls self.now.events_limit self.now.history }
-        ensures { MatchResult result (λ _. MayEnter self.now.events_limit self.now.history id)
-            (λ fault. RefusesAdd self.now.events_limit self.now.pool.limits self.now.history id fault) }
-    {
-        match self.check_commit(id) {
-            Ok(()) => Ok(()),
-            Err(CommitFault::Present(place)) => Err(AddFault::Present(place)),
-        }
-    }
-
     // Whether a document with this number can be added, or why not.
     fn check_commit(&self, id: u64) -> Result<(), CommitFault>
         ensures { MatchResult result (λ _. AnswersCommit self.now.history id (Ok (place self.now.history + 1)))
@@ -137,7 +127,7 @@ impl Desk {
         Ok(())
     }
 
-    // Claims a column, or begins to clear a slice, or refuses the document for want of room.
+    // Claims a column, or begins to clear a slice, or refuses the document for want of room or of memory.
     fn take_room(
         &mut self,
         pool: &Pool,
@@ -152,13 +142,40 @@ impl Desk {
         ensures answer { AnswersTake self.old.events_limit self.old.pool.limits self.old.history seat.old.number doc.now.id result }
         ensures events { Makes (events_of_take seat.old.number doc.now.id doc.now.text result) self.old self.new seat.old seat.new }
         ensures none_outstanding { HasNoneOutstanding seat.new }
-        ensures nothing_yet { NothingYet result seat.new }
+        ensures prepared { IsPrepared result seat.new }
     {
         if let Some(slice) = self.stages.with_room() {
-            return Taken::Claim(self.claim(pool, seat, slice));
+            return match self.claim_laid(pool, seat, slice) {
+                Ok((claim, layout)) => Taken::Claim(claim, layout),
+                Err(Memory) => Taken::Refused(AddFault::Memory),
+            };
         }
-        if let Some(work) = self.begin_clear(pool, seat) {
-            return Taken::Clear(work);
+        self.make_room(pool, seat, doc, room)
+    }
+
+    // Begins to clear a slice, where none has room, or refuses the document for want of a slice or of memory.
+    fn make_room(
+        &mut self,
+        pool: &Pool,
+        seat: &mut PassSeat,
+        doc: &Doc,
+        room: &mut Option<Vec<Block>>,
+    ) -> Taken
+        requires pool { pool.now ≡ self.old.pool }
+        requires caught_up { IsCaughtUp self.old seat.old }
+        requires may { MayMakeRoom self.old.events_limit self.old.pool.limits self.old.history seat.old.number doc.now.id }
+        requires room { MatchOption room.old ⊥ (λ empty. (empty.items ≡ []) × (self.old.pool.limits.slices ≤ vec_capacity empty)) }
+        ensures answer { AnswersTake self.old.events_limit self.old.pool.limits self.old.history seat.old.number doc.now.id result }
+        ensures events { Makes (events_of_take seat.old.number doc.now.id doc.now.text result) self.old self.new seat.old seat.new }
+        ensures none_outstanding { HasNoneOutstanding seat.new }
+        ensures prepared { IsPrepared result seat.new }
+    {
+        let _ = &self.home;
+        if let Some(slice) = self.clearable() {
+            return match self.clear_laid(pool, seat, slice) {
+                Ok((work, layout)) => Taken::Clear(work, layout),
+                Err(Memory) => Taken::Refused(AddFault::Memory),
+            };
         }
         let Some(room) = room.take() else {
             unreachable!()
@@ -166,6 +183,93 @@ impl Desk {
         let blocks = self.blocks(room);
         self.refuse_add(pool, seat, doc);
         Taken::Refused(AddFault::Full(blocks))
+    }
+
+    // Claims the next column of the slice, and shares the slice's layout before; where it can't be shared, it does nothing.
+    pub(crate) fn claim_laid(
+        &mut self,
+        pool: &Pool,
+        seat: &mut PassSeat,
+        slice: u32,
+    ) -> Result<(Claim, SharedLayout), Memory>
+        requires pool { pool.now ≡ self.old.pool }
+        requires caught_up { IsCaughtUp self.old seat.old }
+        requires takes_calls { TakesCalls self.old.events_limit self.old.history }
+        requires may { MayTake self.old.pool.limits self.old.history seat.old.number slice (length (claimed slice self.old.history)) }
+        ensures claim { IfOk result (λ taken. taken.0 ≡ record { slice = slice; column = length (claimed slice self.old.history) }) }
+        ensures made { MatchResult result (λ taken. Makes (event.Take seat.old.number slice taken.0.column ∷ []) self.old self.new seat.old seat.new)
+            (λ _. Makes [] self.old self.new seat.old seat.new) }
+        ensures none_outstanding { HasNoneOutstanding seat.new }
+        ensures fresh { IfOk result (λ taken. IsFresh taken.0 taken.1 seat.new) }
+    {
+        let _ = &self.home;
+        let Ok(layout) = self.layout_of(slice) else {
+            return Err(Memory);
+        };
+        let claim = self.claim(pool, seat, slice);
+        Ok((claim, layout))
+    }
+
+    // Begins to clear the lowest slice that can be cleared, and shares the layout that it gets before; where it can't be shared, it does
+    // nothing.
+    fn clear_laid(
+        &mut self,
+        pool: &Pool,
+        seat: &mut PassSeat,
+        slice: u32,
+    ) -> Result<(ToClear, SharedLayout), Memory>
+        requires pool { pool.now ≡ self.old.pool }
+        requires caught_up { IsCaughtUp self.old seat.old }
+        requires takes_calls { TakesCalls self.old.events_limit self.old.history }
+        requires may { MayClear self.old.pool.limits self.old.history seat.old.number slice }
+        ensures work { IfOk result (λ begun. MayClear self.old.pool.limits self.old.history seat.old.number begun.0.job.slice
+            × (begun.0.slots ≡ self.old.pool.limits.columns)) }
+        ensures made { MatchResult result (λ begun. Makes (event.Clear seat.old.number begun.0.job.slice ∷ []) self.old self.new seat.old seat.new)
+            (λ _. Makes [] self.old self.new seat.old seat.new) }
+        ensures none_outstanding { HasNoneOutstanding seat.new }
+        ensures laid { IfOk result (λ begun. IsLayoutOf seat.new.pool.config begun.0.job.slice seat.new.front begun.1) }
+    {
+        let _ = &self.home;
+        let Ok(layout) = self.layout_after(slice) else {
+            return Err(Memory);
+        };
+        let Some(work) = self.begin_clear(pool, seat) else {
+            unreachable!()
+        };
+        Ok((work, layout))
+    }
+
+    // The lowest slice that can be cleared, where there is one.
+    fn clearable(&mut self) -> Option<u32>
+        ensures answer { MatchOption result (NoneCanClear self.old.pool.limits self.old.history)
+            (λ slice. (pass : ℕ) → IsIdle pass self.old.history → MayClear self.old.pool.limits self.old.history pass slice) }
+        ensures same { self.new ≡ self.old }
+    {
+        let _ = &self.home;
+        let mark = match self.tokens.oldest() {
+            Some(number) => number,
+            None => self.events,
+        };
+        self.stages.look(mark);
+        self.stages.clearable()
+    }
+
+    // The layout that a slice has once it is cleared now.
+    fn layout_after(&self, slice: u32) -> Result<SharedLayout, Memory>
+        requires { slice < self.now.pool.limits.slices }
+        ensures { IfOk result (λ layout. IsCurrentLayout self.now.pool.config self.now.history layout) }
+    {
+        let _ = &self.home;
+        self.layouts.after_clear(slice)
+    }
+
+    // The layout of a slice.
+    pub(crate) fn layout_of(&self, slice: u32) -> Result<SharedLayout, Memory>
+        requires { slice < self.now.pool.limits.slices }
+        ensures { IfOk result (λ layout. IsLayoutOf self.now.pool.config slice self.now.history layout) }
+    {
+        let _ = &self.home;
+        self.layouts.of(slice)
     }
 
     // Claims the next column of the slice.

@@ -1,4 +1,6 @@
 //! What the calls of the desk answer.
+use crate::look::Look;
+use crate::shared_layout::SharedLayout;
 use document_store::OldSlots;
 use funnel_model::{Blocked, Claim, ClearJob};
 
@@ -14,17 +16,28 @@ pub struct Spent {
 pub struct ToClear {
     pub job: ClearJob,
     pub slots: OldSlots,
+    /// The layout that the slice had, where it got another: for its owner to drop where the desk is free.
+    pub old_layout: Option<SharedLayout>,
 }
 
-/// What became of an add's wish for a column.
+/// What became of an add's wish for a column. The layout is that by which the document's bits are to be set.
 #[derive(Debug)]
 pub enum Taken {
-    /// The pass has claimed this column.
-    Claim(Claim),
-    /// No slice has a column left, and the pass is to clear this slice. Then `opened_take` claims its first column.
-    Clear(ToClear),
+    /// The pass has claimed this column, whose slice has this layout.
+    Claim(Claim, SharedLayout),
+    /// No slice has a column left, and the pass is to clear this slice, which has this layout from now on. Then `opened_take` claims
+    /// its first column.
+    Clear(ToClear, SharedLayout),
     /// The add is refused.
     Refused(AddFault),
+}
+
+/// A column that was claimed for a document that is to be moved, and the layout of its slice. It must be spent.
+#[derive(Debug)]
+pub struct TakenMove {
+    pub claim: Claim,
+    pub look: Look,
+    pub layout: SharedLayout,
 }
 
 /// Why no document was added.
@@ -36,7 +49,7 @@ pub enum AddFault {
     Full(Blocked),
     /// The history has this many events, and no call is taken any more.
     Spent(u64),
-    /// There was no memory. The desk does not answer this.
+    /// There was no memory. The desk answers this where it could not share the layout of a slice.
     Memory,
 }
 
@@ -70,6 +83,15 @@ pub enum ClearRefusal {
     },
     /// The history has this many events, and no call is taken any more.
     Spent(u64),
+}
+
+/// Why no find was made.
+#[derive(Clone, Copy, Debug, PartialEq, Eq)]
+pub enum FindFault {
+    /// The history has this many events, and no call is taken any more.
+    Spent(u64),
+    /// There was no memory. The desk answers this where it could not tell the layouts of the find's slices.
+    Memory,
 }
 
 /// Why the journal was not read.

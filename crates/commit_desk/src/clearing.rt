@@ -65,7 +65,8 @@ impl Desk {
         slice
     }
 
-    // The pass begins to clear the lowest slice that can be cleared, where there is one. The slice's slots leave the records.
+    // The pass begins to clear the lowest slice that can be cleared, where there is one. The slice's slots leave the records, and it
+    // gets the current layout in place of the one that it had.
     pub(crate) fn begin_clear(&mut self, pool: &Pool, seat: &mut PassSeat) -> Option<ToClear>
         requires pool { pool.now ≡ self.old.pool }
         requires caught_up { IsCaughtUp self.old seat.old }
@@ -91,7 +92,12 @@ impl Desk {
         self.events = pool.make_event(&mut self.home, seat, &Event::Clear { pass, slice });
         self.stages.clear(slice, pass);
         let slots = self.records.take_out(slice);
+        let old_layout = self.layouts.renew(slice);
         let job = ClearJob { slice };
-        Some(ToClear { job, slots })
+        Some(ToClear {
+            job,
+            slots,
+            old_layout,
+        })
     }
 }

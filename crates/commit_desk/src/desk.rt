@@ -2,12 +2,16 @@ ghost use Rattle.std.specs.Prelude.{◌≡◌, ◌+◌, ◌*◌, ◌≤◌, ◌^
 ghost use Rattle.funnel_model.specs.Configuration.{IsInRange};
 ghost use Rattle.funnel_model.specs.History.{MovesAreCaused, base, commits_after, live_place};
 ghost use Rattle.funnel_model.specs.Legal.{IsLegal};
+ghost use Rattle.funnel_model.specs.Sizes.{words_of_slice};
+ghost use Rattle.row_layout.specs.Layouts.{own_layout};
 ghost use Rattle.row_layout.specs.Sound.{IsSound};
 ghost use Rattle.slice_rule.specs.Pools.{limits_of};
 
 use crate::journal::Journal;
+use crate::slice_layouts::SliceLayouts;
 use document_store::{Column, LiveList, Records};
 use funnel_model::{Commits, Config, Memory};
+use row_layout::Layout;
 use slice_rule::Home;
 use slice_stages::Stages;
 use std::alloc::Global;
@@ -28,6 +32,7 @@ pub struct Desk {
     pub(crate) live: LiveList,
     pub(crate) tokens: Tokens,
     pub(crate) stages: Stages,
+    pub(crate) layouts: SliceLayouts,
 }
 
 impl Model for Desk {
@@ -51,26 +56,30 @@ impl Model for Desk {
       live = d.live;
       tokens = d.tokens;
       stages = d.stages;
+      layouts = d.layouts;
     }) };
 }
 
 impl Desk {
     ghost use Rattle.commit_desk.specs.Desks.{DeskState};
 
-    /// An empty desk of the pool whose home it is given. From so many events on it takes no call. It takes all memory that
-    /// it ever needs, but for that of a journal's answer and of a look.
+    /// An empty desk of the pool whose home it is given, each of whose slices has this layout, that of the configuration. From so many
+    /// events on it takes no call. It takes all memory that it ever needs, but for that of a journal's answer, of a look, and of the
+    /// layouts of a find.
     pub fn new(
         alloc: Global,
         config: &Config,
         home: Home,
         events_limit: u64,
+        layout: Layout,
     ) -> Result<Desk, Memory>
         requires config { IsInRange config.now }
         requires made_with { home.pool.config ≡ config.now }
-        requires sizes { home.pool.limits ≡ limits_of config.now home.pool.limits.slice_words }
+        requires sizes { home.pool.limits ≡ limits_of config.now (words_of_slice config.now) }
         requires empty { home.history ≡ [] }
         requires some { 1 ≤ events_limit }
         requires bounded { events_limit ≤ 2 ^ 62 }
+        requires laid { layout ≡ own_layout config.now }
         ensures { IfOk result (λ desk. desk ≡ record { pool = home.pool; events_limit = events_limit; history = [] }) }
     {
         let columns = 64 * (1 << config.max_rank as u32) * config.blocks;
@@ -85,6 +94,7 @@ impl Desk {
             live: LiveList::new(alloc, config.slices, columns)?,
             tokens: Tokens::new(alloc, config.passes)?,
             stages: Stages::new(alloc, config.slices, columns)?,
+            layouts: SliceLayouts::new(alloc, layout, config.slices)?,
         })
     }
 

@@ -3,7 +3,7 @@ ghost use Rattle.funnel_model.specs.declared.call.Call.TheVariants as call;
 ghost use Rattle.funnel_model.specs.declared.event.Event.TheVariants as event;
 
 use document_store::Doc;
-use funnel_model::Claim;
+use funnel_model::{Claim, Config};
 use row_layout::Bits;
 use slice_rule::Entry;
 
@@ -54,6 +54,17 @@ pub struct Refuses<'a> {
 
 impl<'a> Entry for Refuses<'a> {
     ghost event = { λ e. event.No e.pass (call.Add e.doc.now.id e.doc.now.text) };
+}
+
+/// An engine is tuned.
+#[derive(Drop)]
+pub struct Tunes<'a> {
+    pub pass: u32,
+    pub config: &'a Config,
+}
+
+impl<'a> Entry for Tunes<'a> {
+    ghost event = { λ e. event.Tune e.pass e.config.now };
 }
 
 /// A find begins.

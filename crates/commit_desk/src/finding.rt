@@ -1,69 +1,80 @@
-ghost use Rattle.std.specs.Prelude.{◌≡◌, ◌+◌, ◌≤◌, [], ◌∷◌, length, IfOk, Ok, Err};
+ghost use Rattle.std.specs.Prelude.{◌≡◌, ℕ, ◌+◌, ◌<◌, ◌≤◌, ◌↔◌, [], ◌∷◌, length, Contains, IfOk, Ok};
 ghost use Rattle.funnel_model.specs.declared.event.Event.TheVariants as event;
+ghost use Rattle.funnel_model.specs.declared.claim.Token.{Token};
 ghost use Rattle.funnel_model.specs.Legal.{IsIdle};
+ghost use Rattle.funnel_model.specs.Slices.{IsInUse};
 ghost use Rattle.funnel_model.specs.Tokens.{HasToken};
 ghost use Rattle.funnel_model.specs.Words.{meets};
 ghost use Rattle.slice_rule.specs.Seats.{HasNoneOutstanding, HoldsToken, IsSeated};
 ghost use Rattle.commit_desk.specs.Answers.{AnswersFind, TakesCalls, events_of_find};
 ghost use Rattle.commit_desk.specs.Desks.{IsCaughtUp, Makes};
+ghost use Rattle.commit_desk.specs.FindLayouts.{AreFindLayouts};
 ghost use Rattle.commit_desk.specs.Resolving.{FindsUpTo, IsVerifying};
 
-use crate::answers::Spent;
+use crate::answers::FindFault;
 use crate::desk::Desk;
 use crate::entries::Finds;
+use crate::layouts::{Layouts, SlicesLayout};
 use document_store::{Found, resolve_part};
-use funnel_model::{Candidates, Event, Token, WordSet};
+use funnel_model::{Candidates, Event, Memory, Token, WordSet};
 use slice_rule::{PassSeat, Pool};
 
 impl Desk {
-    /// Begins a find. Its token lets it read the slices that are in use, until the find ends. It takes no memory.
+    /// Begins a find. Its token lets it read the slices that are in use, until the find ends. Before the event is made `layouts` gets
+    /// their layouts in place of what it had: an entry for each treatment that some of them has. Where it has no room for these, it
+    /// takes memory.
     pub fn open_find(
         &mut self,
         pool: &Pool,
         seat: &mut PassSeat,
         query: &str,
-    ) -> Result<Token, Spent>
+        layouts: &mut Layouts,
+    ) -> Result<Token, FindFault>
         requires pool { pool.now ≡ self.old.pool }
         requires seat { IsSeated self.old.pool seat.old }
         requires idle { IsIdle seat.old.number seat.old.front }
         ensures answer { AnswersFind self.old.events_limit self.old.pool.limits self.old.history result }
         ensures token { IfOk result (λ token. HoldsToken seat.new token) }
+        ensures layouts { IfOk result (λ token. AreFindLayouts self.old.pool self.old.history token layouts.new.entries.items) }
         ensures events { Makes (events_of_find seat.old.number query.now result) self.old self.new seat.old seat.new }
         ensures none_outstanding { HasNoneOutstanding seat.new }
     {
         pool.catch_up(&mut self.home, seat);
         if self.is_spent() {
-            return Err(Spent {
-                events: self.events,
-            });
+            return Err(FindFault::Spent(self.events));
         }
+        let Ok(()) = self.share_layouts(layouts) else {
+            return Err(FindFault::Memory);
+        };
         Ok(self.make_find(pool, seat, query))
     }
 
-    /// A turn of a find that looks at its candidates from this one on, until there are no more, it has looked up 4,096 of them, or
-    /// looked for 256 words, but never ends within a document; and answers where the next turn goes on. `out` gets those whose
-    /// document was live when the find began and has every word of the query, in the order of the candidates; it has room for all
-    /// that are left. The words of the query but for `rest` are exact: the scan has told that each candidate's document has them,
-    /// and only `rest` is looked for. It makes no event, and takes no memory.
+    /// A turn of a find that looks at candidates in the slices of one entry of its layouts, from this one on, until there are no more,
+    /// it has looked up 4,096 of them, or looked for 256 words, but never ends within a document; and answers where the next turn goes
+    /// on. `out` gets those whose document was live when the find began and has every word of the query, in the order of the
+    /// candidates; it has room for all that are left. The words of the query but for `rest` are exact: the scan has told that each
+    /// candidate's document has them, and only `rest` is looked for. It makes no event, and takes no memory.
     pub fn resolve_part(
         &mut self,
         pool: &Pool,
         seat: &mut PassSeat,
         token: &Token,
+        entry: &SlicesLayout,
         candidates: &Candidates,
         from: usize,
         rest: &WordSet,
         out: &mut Found,
     ) -> usize
         requires pool { pool.now ≡ self.old.pool }
-        requires verifying { IsVerifying self.old.pool token.now rest.now candidates.now seat.old }
+        requires verifying { IsVerifying self.old.pool token.now entry.now rest.now candidates.now seat.old }
         requires from { from ≤ length candidates.now }
         requires room { length candidates.now ≤ out.old.room + from }
         ensures found { (begun : HasToken seat.old.front seat.old.number token.now.opened_at) →
-            FindsUpTo begun.earlier (λ text. meets text begun.query) (length rest.now) candidates.now from result out.old.found out.new.found }
+            FindsUpTo begun.earlier (λ text. meets text begun.query) (length rest.now) entry.now.slices candidates.now from result out.old.found
+            out.new.found }
         ensures enough { length candidates.now ≤ out.new.room + result }
         ensures events { Makes [] self.old self.new seat.old seat.new }
-        ensures verifying { IsVerifying self.new.pool token.now rest.now candidates.now seat.new }
+        ensures verifying { IsVerifying self.new.pool token.now entry.now rest.now candidates.now seat.new }
     {
         pool.catch_up(&mut self.home, seat);
         resolve_part(
@@ -87,6 +98,18 @@ impl Desk {
     {
         pool.catch_up(&mut self.home, seat);
         self.make_end(pool, seat, token);
+    }
+
+    // Puts the slices that a find may read into entries with their layouts, in place of what there was.
+    fn share_layouts(&self, layouts: &mut Layouts) -> Result<(), Memory>
+        ensures { IfOk result (λ _. (token : Token) →
+            ((slice : ℕ) → Contains token.slices slice ↔
+            ((slice < self.now.pool.limits.slices) × IsInUse self.now.pool.limits.columns slice self.now.history)) →
+            AreFindLayouts self.now.pool self.now.history token layouts.new.entries.items) }
+    {
+        let slices = self.stages.in_use();
+        layouts.entries.clear();
+        self.layouts.share_out(&slices, layouts)
     }
 
     // Makes the event that begins a find, and gives its token.

@@ -4,7 +4,8 @@
 //! of its last commits, the records of its columns, the live numbers, the tokens of running finds, and how far each slice is.
 //! Each call makes the events that its contract names, in the order of the checks that it names too, and afterwards the
 //! pass that made it has seen the whole history. All memory is taken when the desk is made, but for that of a journal's
-//! answer, and of the copy of a document that is looked at to move it.
+//! answer, of the copy of a document that is looked at to move it, and of the layouts of a find's slices. Sharing a layout may be
+//! refused too, where it has too many owners; then the call makes no event.
 #![tactic(auto)]
 
 mod adding;
@@ -17,16 +18,23 @@ mod finding;
 mod journal;
 mod judging;
 pub mod laws;
+mod layouts;
 mod look;
 mod making;
 mod moving;
 mod named;
 mod reading;
 mod refusing;
+mod shared_layout;
+mod slice_layouts;
+mod tuning;
 
 pub use answers::{
-    AddFault, ClearRefusal, CommitFault, DeleteFault, JournalFault, Spent, Taken, ToClear,
+    AddFault, ClearRefusal, CommitFault, DeleteFault, FindFault, JournalFault, Spent, Taken,
+    TakenMove, ToClear,
 };
 pub use desk::Desk;
+pub use layouts::{Layouts, SlicesLayout};
 pub use look::{Look, Looks};
 pub use named::Named;
+pub use shared_layout::{SharedLayout, next_layouts};

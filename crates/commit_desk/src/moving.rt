@@ -9,12 +9,13 @@ ghost use Rattle.funnel_model.specs.Slices.{IsInState, Live};
 ghost use Rattle.funnel_model.specs.Words.{AreWordsOf};
 ghost use Rattle.std.specs.List.{list_any};
 ghost use Rattle.slice_rule.specs.Seats.{HasNoneOutstanding, HoldsClaim, IsSeated};
-ghost use Rattle.commit_desk.specs.Desks.{IsCaughtUp, IsUnwritten, Makes};
+ghost use Rattle.commit_desk.specs.Desks.{IsCaughtUp, IsFresh, Makes};
 ghost use Rattle.commit_desk.specs.Passes.{HasWritten};
 ghost use Rattle.commit_desk.specs.Moving.{AnswersLook, AnswersTakeMove, HoldsLook, HasLive, HasOneToMove, IsLowestFree};
 ghost use Rattle.commit_desk.specs.Moving.{IsLowestLiveOrNone, IsPartlyHeld, IsFreeToMove, IsNextToMove, IsThereStill, IsToBeEmptied};
 ghost use Rattle.commit_desk.specs.Moving.{document_of, is_fewer, event_of_move, events_of_take_move, looks_after, looks_after_take, with_mark};
 
+use crate::answers::TakenMove;
 use crate::desk::Desk;
 use crate::entries::Moves;
 use crate::look::{Look, Looks};
@@ -56,33 +57,44 @@ impl Desk {
         Ok(Some(look))
     }
 
-    /// Claims a column for the document that was looked at. Where it claims none the look is over. It takes no memory.
+    /// Claims a column for the document that was looked at, and tells the layout of its slice. Where it claims none the look is over:
+    /// so it is also where the layout can't be shared.
     pub fn take_move(
         &mut self,
         pool: &Pool,
         seat: &mut PassSeat,
         looks: &mut Looks,
         look: Look,
-    ) -> Option<(Claim, Look)>
+    ) -> Result<Option<TakenMove>, Memory>
         requires pool { pool.now ≡ self.old.pool }
         requires seat { IsSeated self.old.pool seat.old }
         requires idle { IsIdle seat.old.number seat.old.front }
         ensures answer { AnswersTakeMove self.old.events_limit self.old.pool.limits self.old.history seat.old.number look result }
         ensures events { Makes (events_of_take_move seat.old.number result) self.old self.new seat.old seat.new }
         ensures looks { looks.new ≡ looks_after_take looks.old look result }
-        ensures nothing_yet { IfSome result (λ _. IsUnwritten seat.new) }
+        ensures fresh { IfOk result (λ found. IfSome found (λ taken. IsFresh taken.claim taken.layout seat.new)) }
         ensures none_outstanding { HasNoneOutstanding seat.new }
     {
         pool.catch_up(&mut self.home, seat);
         if !self.is_spent() {
             if let Some(slice) = self.stages.with_room() {
                 if slice != look.slice {
-                    return Some((self.claim(pool, seat, slice), look));
+                    return match self.claim_laid(pool, seat, slice) {
+                        Ok((claim, layout)) => Ok(Some(TakenMove {
+                            claim,
+                            look,
+                            layout,
+                        })),
+                        Err(Memory) => {
+                            looks.drop_look(look);
+                            Err(Memory)
+                        }
+                    };
                 }
             }
         }
         looks.drop_look(look);
-        None
+        Ok(None)
     }
 
     /// Moves the document to the column that was claimed for it, all of whose bits the pass has set; or leaves the column void where

@@ -1,6 +1,6 @@
 //! A pass between its calls, and in the middle of each.
 use crate::draft::Draft;
-use commit_desk::ToClear;
+use commit_desk::{Layouts, SharedLayout, SlicesLayout, ToClear};
 use document_store::{Doc, Found};
 use funnel_model::{Candidates, Claim, Token, WordSet};
 use row_layout::Bits;
@@ -24,10 +24,11 @@ impl<N: PoolName> Model for Caller<N> {
     ghost invariant = { λ c. IsResting N.pool c.seat };
 }
 
-/// A pass that has claimed a column for a document, and whether the slice was cleared for it.
+/// A pass that has claimed a column for a document, the layout of its slice, and whether the slice was cleared for it.
 pub(crate) struct Claiming<N: PoolName> {
     pub seat: PassSeat,
     pub claim: Claim,
+    pub layout: SharedLayout,
     pub draft: Draft<N>,
     pub cleared: bool,
 }
@@ -39,7 +40,7 @@ impl<N: PoolName> Model for Claiming<N> {
 
     ghost view = { λ _. tt };
 
-    ghost invariant = { λ c. IsToWrite N.pool c.claim c.seat };
+    ghost invariant = { λ c. IsToWrite N.pool c.claim c.layout c.seat };
 }
 
 /// A pass that wrote a document into the column that it had claimed.
@@ -79,10 +80,33 @@ impl<N: PoolName> Model for Clearing<N> {
     ghost invariant = { λ c. IsToClear N.pool c.to_clear.job c.seat × (c.to_clear.slots ≡ N.pool.limits.columns) };
 }
 
-/// A pass that has begun a find of no words.
+/// A pass that is to clear a slice for an add, and the layout that the slice has from then on.
+pub(crate) struct Reusing<N: PoolName> {
+    pub seat: PassSeat,
+    pub to_clear: ToClear,
+    pub layout: SharedLayout,
+    pub of: PhantomData<N>,
+}
+
+impl<N: PoolName> Model for Reusing<N> {
+    ghost use Rattle.std.specs.Prelude.{◌≡◌};
+    ghost use Rattle.commit_desk.specs.Layouts.{IsLayoutOf};
+    ghost use Rattle.commit_desk.specs.Passes.{IsToClear};
+
+    ghost Value = { Unit {0} };
+
+    ghost view = { λ _. tt };
+
+    ghost invariant = { λ r. IsToClear N.pool r.to_clear.job r.seat × (r.to_clear.slots ≡ N.pool.limits.columns)
+        × IsLayoutOf N.pool.config r.to_clear.job.slice r.seat.front r.layout };
+}
+
+/// A pass that has begun a find of no words, an entry of its layouts, and the others.
 pub(crate) struct Finding<N: PoolName> {
     pub seat: PassSeat,
     pub token: Token,
+    pub entry: SlicesLayout,
+    pub layouts: Layouts,
     pub of: PhantomData<N>,
 }
 
@@ -93,13 +117,15 @@ impl<N: PoolName> Model for Finding<N> {
 
     ghost view = { λ _. tt };
 
-    ghost invariant = { λ f. IsFindingAll N.pool f.token f.seat };
+    ghost invariant = { λ f. IsFindingAll N.pool f.token f.entry f.layouts.entries.items f.seat };
 }
 
-/// A pass whose find of no words looks at all columns, from one on.
+/// A pass whose find of no words looks at all columns of a slice, from one on.
 pub(crate) struct Looking<N: PoolName> {
     pub seat: PassSeat,
     pub token: Token,
+    pub entry: SlicesLayout,
+    pub layouts: Layouts,
     pub rest: WordSet,
     pub columns: Candidates,
     pub found: Found,
@@ -114,5 +140,5 @@ impl<N: PoolName> Model for Looking<N> {
 
     ghost view = { λ _. tt };
 
-    ghost invariant = { λ l. IsLookingAtAll N.pool l.token l.seat l.rest l.columns l.found l.from };
+    ghost invariant = { λ l. IsLookingAtAll N.pool l.token l.entry l.layouts.entries.items l.seat l.rest l.columns l.found l.from };
 }

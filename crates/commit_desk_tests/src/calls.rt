@@ -1,10 +1,11 @@
 //! The calls of the desk, each by a pass that may make it.
-use crate::caller::{Caller, Claiming, Clearing, Finding, Written};
+use crate::caller::{Caller, Claiming, Clearing, Finding, Reusing, Written};
 use crate::draft::Draft;
 use crate::setting::Setting;
 use column_writer::write_column;
 use commit_desk::{
-    AddFault, ClearRefusal, CommitFault, DeleteFault, JournalFault, Spent, Taken, ToClear,
+    AddFault, ClearRefusal, CommitFault, DeleteFault, FindFault, JournalFault, Layouts, Spent,
+    Taken, ToClear,
 };
 use funnel_model::Commits;
 use row_layout::fill_bits;
@@ -42,36 +43,49 @@ impl<N: PoolName> Setting<N> {
         let Ok(draft) = self.draft(id) else {
             return Err((caller, AddFault::Memory));
         };
-        let Ok(room) = Vec::with_capacity(self.alloc, 1) else {
+        let Ok(room) = Vec::with_capacity(self.alloc, 2) else {
             return Err((caller, AddFault::Memory));
         };
         let mut room = Some(room);
         let Caller { mut seat, of } = caller;
         let cleared = false;
         match self.desk.take(&self.pool, &mut seat, &draft.doc, &mut room) {
-            Taken::Claim(claim) => Ok(Claiming {
+            Taken::Claim(claim, layout) => Ok(Claiming {
                 seat,
                 claim,
+                layout,
                 draft,
                 cleared,
             }),
-            Taken::Clear(to_clear) => {
-                let clearing = Clearing { seat, to_clear, of };
-                Ok(self.open_and_claim(clearing, draft))
+            Taken::Clear(to_clear, layout) => {
+                let reusing = Reusing {
+                    seat,
+                    to_clear,
+                    layout,
+                    of,
+                };
+                Ok(self.open_and_claim(reusing, draft))
             }
             Taken::Refused(fault) => Err((Caller { seat, of }, fault)),
         }
     }
 
     // Clears a slice for an add, opens it, and claims its first column.
-    fn open_and_claim(&mut self, clearing: Clearing<N>, draft: Draft<N>) -> Claiming<N> {
-        let Clearing {
+    fn open_and_claim(&mut self, reusing: Reusing<N>, draft: Draft<N>) -> Claiming<N> {
+        let Reusing {
             mut seat,
             to_clear,
+            layout,
             of: _,
-        } = clearing;
-        let ToClear { job, slots } = to_clear;
-        clear_slice(&self.pool, &mut seat, &self.layout, &job);
+        } = reusing;
+        let ToClear {
+            job,
+            slots,
+            old_layout,
+        } = to_clear;
+        drop(old_layout);
+        let (_, room) = self.layout.slice_range(0);
+        clear_slice(&self.pool, &mut seat, room, &job);
         let claim = self
             .desk
             .opened_take(&self.pool, &mut seat, job, slots.empty());
@@ -79,6 +93,7 @@ impl<N: PoolName> Setting<N> {
         Claiming {
             seat,
             claim,
+            layout,
             draft,
             cleared,
         }
@@ -86,15 +101,17 @@ impl<N: PoolName> Setting<N> {
 
     /// Writes the document into its column.
     pub fn write(&self, claiming: Claiming<N>) -> Written<N> {
+        let _ = &self.pool;
         let Claiming {
             mut seat,
             claim,
+            layout,
             draft,
             cleared: _,
         } = claiming;
         let Draft { doc, mut bits, of } = draft;
         fill_bits(
-            &self.layout,
+            layout.layout(),
             doc.words(),
             claim.slice,
             claim.column,
@@ -124,10 +141,23 @@ impl<N: PoolName> Setting<N> {
     }
 
     /// Begins a find of no words.
-    pub fn begin(&mut self, caller: Caller<N>) -> Result<Finding<N>, Spent> {
+    pub fn begin(&mut self, caller: Caller<N>) -> Result<Finding<N>, FindFault> {
         let Caller { mut seat, of } = caller;
-        let token = self.desk.open_find(&self.pool, &mut seat, "")?;
-        Ok(Finding { seat, token, of })
+        let mut layouts = Layouts::new(self.alloc);
+        let token = self
+            .desk
+            .open_find(&self.pool, &mut seat, "", &mut layouts)?;
+        let Some(entry) = layouts.entries.pop() else {
+            self.desk.end_find(&self.pool, &mut seat, token);
+            return Err(FindFault::Memory);
+        };
+        Ok(Finding {
+            seat,
+            token,
+            entry,
+            layouts,
+            of,
+        })
     }
 
     /// Ends a find without its candidates.
@@ -135,6 +165,8 @@ impl<N: PoolName> Setting<N> {
         let Finding {
             mut seat,
             token,
+            entry: _,
+            layouts: _,
             of,
         } = finding;
         self.desk.end_find(&self.pool, &mut seat, token);
@@ -157,8 +189,14 @@ impl<N: PoolName> Setting<N> {
             to_clear,
             of,
         } = clearing;
-        let ToClear { job, slots } = to_clear;
-        clear_slice(&self.pool, &mut seat, &self.layout, &job);
+        let ToClear {
+            job,
+            slots,
+            old_layout,
+        } = to_clear;
+        drop(old_layout);
+        let (_, room) = self.layout.slice_range(0);
+        clear_slice(&self.pool, &mut seat, room, &job);
         let slice = self.desk.opened(&self.pool, &mut seat, job, slots.empty());
         (Caller { seat, of }, slice)
     }

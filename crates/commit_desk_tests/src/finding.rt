@@ -41,24 +41,28 @@ impl Case for Last {
 }
 
 /// The columns of the slice, each once.
-fn all_columns(alloc: Global, count: u32) -> Result<Candidates, Memory>
-    ensures { IfOk result (λ made. made ≡ columns_up_to count) }
+fn all_columns(alloc: Global, slice: u32, count: u32) -> Result<Candidates, Memory>
+    ensures { IfOk result (λ made. made ≡ columns_up_to slice count) }
 {
     let mut columns = Candidates::new(Vec::new(alloc));
     for column in 0..count {
-        columns.push(0, column)?;
+        columns.push(slice, column)?;
     }
     Ok(columns)
 }
 
 /// No words to be looked for, all columns of the slice, and room for what they give.
-fn candidates(alloc: Global, layout: &Layout) -> Result<(WordSet, Candidates, Found), Fail>
+fn candidates(
+    alloc: Global,
+    layout: &Layout,
+    slice: u32,
+) -> Result<(WordSet, Candidates, Found), Fail>
     ensures rest { IfOk result (λ made. made.0 ≡ []) }
-    ensures columns { IfOk result (λ made. made.1 ≡ columns_up_to (columns_of_slice layout.now.config)) }
+    ensures columns { IfOk result (λ made. made.1 ≡ columns_up_to slice (columns_of_slice layout.now.config)) }
     ensures room { IfOk result (λ made. length made.1 ≤ made.2.room) }
 {
     let rest = WordSet::from_sorted(alloc, &[])?;
-    let columns = all_columns(alloc, layout.columns())?;
+    let columns = all_columns(alloc, slice, layout.columns())?;
     let found = Found::with_room(alloc, columns.len())?;
     Ok((rest, columns, found))
 }
@@ -76,18 +80,75 @@ impl<N: PoolName> Setting<N> {
         Ok((caller, opened_at, found))
     }
 
+    /// What a find of no words finds in the slice of each of two entries of its layouts, of which the last comes first.
+    pub fn find_two(&mut self, caller: Caller<N>) -> Result<(Found, Found), Fail> {
+        let finding = self.begin(caller)?;
+        let looking = self.look_at_all(finding)?;
+        let (looking, _) = self.turn(looking);
+        let (looking, _) = self.turn(looking);
+        let (finding, last) = self.next_entry(looking)?;
+        let looking = self.look_at_all(finding)?;
+        let (looking, _) = self.turn(looking);
+        let (looking, _) = self.turn(looking);
+        let (_, first) = self.end(looking);
+        Ok((last, first))
+    }
+
+    /// The find before it looks at its next entry, and what it found in this one.
+    fn next_entry(&mut self, looking: Looking<N>) -> Result<(Finding<N>, Found), Fail> {
+        let Looking {
+            mut seat,
+            token,
+            entry: _,
+            mut layouts,
+            rest: _,
+            columns: _,
+            found,
+            from: _,
+            of,
+        } = looking;
+        let Some(entry) = layouts.entries.pop() else {
+            self.desk.end_find(&self.pool, &mut seat, token);
+            return Err(Fail::new("a second entry"));
+        };
+        let finding = Finding {
+            seat,
+            token,
+            entry,
+            layouts,
+            of,
+        };
+        Ok((finding, found))
+    }
+
     /// A find before its first turn.
     pub fn look_at_all(&mut self, finding: Finding<N>) -> Result<Looking<N>, Fail> {
-        if !finding.token.slices.has(0) {
+        let Some(slice) = finding.entry.slices.lowest() else {
             let _ = self.drop_find(finding);
             return Err(Fail::new("a slice that it may read"));
+        };
+        if 1 < slice {
+            let _ = self.drop_find(finding);
+            return Err(Fail::new("a slice of two"));
         }
-        match candidates(self.alloc, &self.layout) {
+        if finding.entry.slices.has(slice + 1) {
+            let _ = self.drop_find(finding);
+            return Err(Fail::new("one slice of an entry"));
+        }
+        match candidates(self.alloc, &self.layout, slice) {
             Ok((rest, columns, found)) => {
-                let Finding { seat, token, of } = finding;
+                let Finding {
+                    seat,
+                    token,
+                    entry,
+                    layouts,
+                    of,
+                } = finding;
                 Ok(Looking {
                     seat,
                     token,
+                    entry,
+                    layouts,
                     rest,
                     columns,
                     found,
@@ -107,6 +168,8 @@ impl<N: PoolName> Setting<N> {
         let Looking {
             mut seat,
             token,
+            entry,
+            layouts,
             rest,
             columns,
             mut found,
@@ -114,11 +177,13 @@ impl<N: PoolName> Setting<N> {
             of,
         } = looking;
         let from = self.desk.resolve_part(
-            &self.pool, &mut seat, &token, &columns, from, &rest, &mut found,
+            &self.pool, &mut seat, &token, &entry, &columns, from, &rest, &mut found,
         );
         let next = Looking {
             seat,
             token,
+            entry,
+            layouts,
             rest,
             columns,
             found,
@@ -133,6 +198,8 @@ impl<N: PoolName> Setting<N> {
         let Looking {
             mut seat,
             token,
+            entry: _,
+            layouts: _,
             rest: _,
             columns: _,
             mut found,

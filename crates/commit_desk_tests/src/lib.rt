@@ -1,4 +1,4 @@
-//! Tests of the desk alone: two passes and one slice.
+//! Tests of the desk alone: two passes, and one slice or two.
 #![tactic(auto)]
 
 #[cfg(test)]
@@ -17,3 +17,5 @@ mod filling;
 mod finding;
 #[cfg(test)]
 mod setting;
+#[cfg(test)]
+mod tuning;

@@ -24,10 +24,11 @@ pub(crate) trait Case {
 
 pub(crate) type Two<N> = (Caller<N>, Caller<N>);
 
-/// A desk with its pool of one slice. Contracts see nothing of it.
+/// A desk with its pool of one slice or two. Contracts see nothing of it.
 #[derive(Drop)]
 pub(crate) struct Setting<N: PoolName> {
     pub alloc: Global,
+    pub base: Config,
     pub layout: Layout,
     pub pool: Pool,
     pub desk: Desk,
@@ -41,27 +42,29 @@ impl<N: PoolName> Model for Setting<N> {
 
     ghost view = { λ _. tt };
 
-    ghost invariant = { λ s. IsSetting N.pool s.layout s.pool s.desk.pool };
+    ghost invariant = { λ s. IsSetting N.pool s.layout s.pool s.desk.pool s.base };
 }
 
-fn no_words(alloc: Global) -> Listed
+pub(crate) fn no_words(alloc: Global) -> Listed
     ensures { result ≡ [] }
 {
     Listed::new(Vec::new(alloc))
 }
 
-/// Two passes and one slice, the rest by default.
-fn config(alloc: Global, blocks: u32, max_rank: u8) -> Config
+/// Two passes and so many slices, the rest by default.
+fn config(alloc: Global, slices: u32, blocks: u32, max_rank: u8) -> Config
+    requires slices { 1 ≤ slices }
+    requires few { slices ≤ 2 }
     requires some { 1 ≤ blocks }
     requires most { blocks ≤ 64 }
     requires rank { max_rank ≤ 6 }
     ensures in_range { IsInRange result }
     ensures passes { result.passes ≡ 2 }
-    ensures slices { result.slices ≡ 1 }
+    ensures slices { result.slices ≡ slices }
 {
     Config {
         passes: 2,
-        slices: 1,
+        slices,
         blocks,
         max_rank,
         commits: 1024,
@@ -84,7 +87,7 @@ pub(crate) fn run<C: Case, R: Abort>(
     requires some { 1 ≤ events_limit }
     requires bounded { events_limit ≤ 2 ^ 62 }
 {
-    run_sized::<C, R>(rt, alloc, events_limit, 1, 0)
+    run_sized::<C, R>(rt, alloc, events_limit, 1, 1, 0)
 }
 
 /// The same at a desk of 8,192 columns.
@@ -92,23 +95,34 @@ pub(crate) fn run_wide<C: Case, R: Abort>(
     rt: &R,
     alloc: Global,
 ) -> Result<(C::Seen, Commits), Fail> {
-    run_sized::<C, R>(rt, alloc, 1 << 62, 64, 1)
+    run_sized::<C, R>(rt, alloc, 1 << 62, 1, 64, 1)
+}
+
+/// The same at a desk of two slices of 64 columns.
+pub(crate) fn run_two<C: Case, R: Abort>(
+    rt: &R,
+    alloc: Global,
+) -> Result<(C::Seen, Commits), Fail> {
+    run_sized::<C, R>(rt, alloc, 1 << 62, 2, 1, 0)
 }
 
 fn run_sized<C: Case, R: Abort>(
     rt: &R,
     alloc: Global,
     events_limit: u64,
+    slices: u32,
     blocks: u32,
     max_rank: u8,
 ) -> Result<(C::Seen, Commits), Fail>
     requires some { 1 ≤ events_limit }
     requires bounded { events_limit ≤ 2 ^ 62 }
+    requires slices { 1 ≤ slices }
+    requires few { slices ≤ 2 }
     requires blocks { 1 ≤ blocks }
     requires most { blocks ≤ 64 }
     requires rank { max_rank ≤ 6 }
 {
-    let config = config(alloc, blocks, max_rank);
+    let config = config(alloc, slices, blocks, max_rank);
     if sizes(&config).pool_words > 33_554_432 {
         return Err(Fail::new("the pool is too large"));
     }
@@ -120,12 +134,14 @@ fn run_sized<C: Case, R: Abort>(
     let (pool, home, mut passes) = Pool::new(alloc, &config, slice_words).expect(rt, "a pool");
     let second = passes.pop().expect(rt, "two passes");
     let first = passes.pop().expect(rt, "two passes");
-    let desk = Desk::new(alloc, &config, home, events_limit).expect(rt, "a desk");
-    run_named::<C, Brand>(alloc, layout, pool, desk, first, second)
+    let own = Layout::new(alloc, &config)?;
+    let desk = Desk::new(alloc, &config, home, events_limit, own).expect(rt, "a desk");
+    run_named::<C, Brand>(alloc, config, layout, pool, desk, first, second)
 }
 
 fn run_named<C: Case, N: PoolName>(
     alloc: Global,
+    base: Config,
     layout: Layout,
     pool: Pool,
     desk: Desk,
@@ -135,12 +151,15 @@ fn run_named<C: Case, N: PoolName>(
     requires named { pool ≡ N.pool }
     requires laid { IsLaidBy layout pool }
     requires desk { desk.pool ≡ pool }
+    requires base { base ≡ pool.config }
+    requires in_range { IsInRange base }
     requires first { IsResting pool first }
     requires second { IsResting pool second }
 {
     let of = PhantomData::<N>;
     let mut setting = Setting {
         alloc,
+        base,
         layout,
         pool,
         desk,

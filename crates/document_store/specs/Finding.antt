@@ -48,7 +48,7 @@ looked_in slot cost number = option_map_or (λ (place : ℕ). option_map_or (λ 
 abbrev pub looked_at : Table → ℕ → ℕ → ℕ × ℕ → ℕ
 looked_at table cost number candidate = looked_in (slot_at table candidate.0 candidate.1) cost number
 
--- a document that a judge decides counts as many words as the judge looks for in it, but never as few as none
+-- a document that a judge decides counts as many words as the judge looks for in it, and 8 at least
 abbrev pub judged_cost : ℕ → ℕ
 judged_cost cost = max cost LEAST_COST
 

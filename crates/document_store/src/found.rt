@@ -22,7 +22,16 @@ impl Model for Found {
 }
 
 impl Found {
-    /// None, with room for n. Only this takes memory.
+    /// None, without room.
+    pub fn new(alloc: Global) -> Found
+        ensures { result.found ≡ [] }
+    {
+        Found {
+            found: Vec::new(alloc),
+        }
+    }
+
+    /// None, with room for n. Only this and `reserve` take memory.
     pub fn with_room(alloc: Global, n: usize) -> Result<Found, Memory>
         ensures empty { IfOk result (λ f. f.found ≡ []) }
         ensures room { IfOk result (λ f. f.room ≡ n) }
@@ -30,6 +39,15 @@ impl Found {
         Ok(Found {
             found: Vec::with_capacity(alloc, n)?,
         })
+    }
+
+    /// Makes room for n more.
+    pub fn reserve(&mut self, n: usize) -> Result<(), Memory>
+        ensures found { self.new.found ≡ self.old.found }
+        ensures room { IfOk result (λ _. n ≤ self.new.room) }
+    {
+        self.found.reserve(n)?;
+        Ok(())
     }
 
     pub fn len(&self) -> usize

@@ -18,7 +18,7 @@ pub const MOST_LOOKED_FOR: usize = 256;
 
 /// Looks at the candidates from this one on, until the turn is over or there are no more, and answers where the next turn goes
 /// on. `out` gets those whose document was live in its column as the find with this number began and is kept by the judge. Each
-/// such document counts as `cost` words that the turn looks for. It takes no memory.
+/// document that was live then counts as `cost` words that the turn looks for, kept or not. It takes no memory.
 pub fn resolve_part<J: Judge>(
     records: &Records,
     candidates: &Candidates,
@@ -31,6 +31,7 @@ pub fn resolve_part<J: Judge>(
     requires from { from ≤ length candidates.now }
     requires room { length candidates.now ≤ out.old.room + from }
     requires in_range { (slice column : ℕ) → Contains candidates.now (slice, column) → IsColumn records.now slice column }
+    requires cost { J.cost judge.now ≤ cost }
     ensures found { out.new.found ≡ out.old.found ++ filter_map (kept_at records.now (J.test judge.now) opened_at) (slice_range candidates.now from result) }
     ensures turn { EndsTurn candidates.now (looked_at records.now cost opened_at) from result }
     ensures enough { length candidates.now ≤ out.new.room + result }

@@ -21,7 +21,7 @@ use Rattle.commit_desk.specs.declared.answers.CommitFault.{CommitFault}
 use Rattle.commit_desk.specs.declared.answers.CommitFault.TheVariants as commit
 use Rattle.commit_desk.specs.declared.answers.Taken.TheVariants as taken
 use Rattle.slice_recycler.specs.Turns.{IsTurn}
-use Rattle.slice_recycler.proofs.Steps.{IsQuiet, own-unanswered, quiet_trans, quiet_turn, quiet_weaker, step_made_after, step_spent_after}
+use Rattle.slice_recycler.proofs.Steps.{IsQuiet, idle_still, own-unanswered, quiet_trans, quiet_turn, quiet_weaker, step_add_without_memory, step_made_after, step_spent_after}
 use Rattle.engine.specs.Adds.{AddTurns, ClaimTurns, CommitTurns, MovesFirst, OwnTurns, TakeTurn, fault_of_drop}
 use Rattle.engine.specs.Moves.{SomeMoves}
 use Rattle.engine.specs.Replies.{reply_of_add}
@@ -48,7 +48,7 @@ module _ (limits : Limits) (pass id : ℕ) (text : List ℕ) where
   claim_is_quiet : (before middle : List Event) (claim : Claim) → ClaimTurns limits pass id text before middle claim → IsQuiet pass 0 before middle
   claim_is_quiet before middle claim turns =
       ⊎_elim
-      (λ taken. let events = event.Take pass claim.slice claim.column ∷ [] in quiet_turn pass before middle events taken (own-unanswered pass events refl) refl)
+      (λ first. let events = event.Take pass claim.slice claim.column ∷ [] in quiet_turn pass before middle events first.took (own-unanswered pass events refl) refl)
       (λ first.
       let clears = event.Clear pass claim.slice ∷ [] in
       let opens = event.Opened pass claim.slice false ∷ event.Take pass claim.slice 0 ∷ [] in
@@ -62,7 +62,7 @@ module _ (limits : Limits) (pass id : ℕ) (text : List ℕ) where
     refused_turns config (add.Present added) turn = inl turn
     refused_turns config (add.Full blocks) turn = turn
     refused_turns config (add.Spent events) turn = turn
-    refused_turns config add.Memory turn = absurd turn.answer
+    refused_turns config add.Memory turn = turn
 
     pub dropped_turns : (config : Config) (fault : CommitFault) → CommitTurns config limits pass id text before after (Err fault) → OwnTurns config limits pass id text before after (Err (fault_of_drop fault))
     dropped_turns config (commit.Present added) turns = inr turns
@@ -106,7 +106,10 @@ module _ (limits : Limits) (pass id : ℕ) (text : List ℕ) where
         turns
     own_step config (Err (add.Full blocks)) turn = refused_by reply.Full turn (absent_reply turn.earlier id reply.Full turn.answer.0.absent)
     own_step config (Err (add.Spent events)) turn = step_spent_after limits pass before start after (call.Add id text) idle idle_start first turn turn.answer.many legal
-    own_step config (Err add.Memory) turns = absurd turns
+    own_step config (Err add.Memory) turn =
+        let most = most_moves (call.Add id text) in
+        step_add_without_memory limits pass before after idle legal (idle_still pass start after turn idle_start) id text
+        (quiet_weaker pass (most + 0) most before after (omega arith) (quiet_trans pass most 0 before start after first (quiet_turn pass start after [] turn refl refl)))
 
   module _ (config : Config) (before start after : List Event) (moves : ℕ) (few : moves ≤ MOST_MOVES) (moved : SomeMoves config limits pass id before start moves) where
     first_moved : (answer : Result ℕ AddFault) → OwnTurns config limits pass id text start after answer → MovesFirst config limits pass id text before after answer
@@ -117,7 +120,7 @@ module _ (limits : Limits) (pass id : ℕ) (text : List ℕ) where
     moved_turns (Err (add.Present added)) own = first_moved (Err (add.Present added)) own
     moved_turns (Err (add.Full blocks)) own = first_moved (Err (add.Full blocks)) own
     moved_turns (Err (add.Spent events)) own = first_moved (Err (add.Spent events)) own
-    moved_turns (Err add.Memory) own = absurd own
+    moved_turns (Err add.Memory) own = inr (first_moved (Err add.Memory) own)
 
     pub moved_step : (answer : Result ℕ AddFault) → OwnTurns config limits pass id text start after answer → IsIdle pass before → IsIdle pass start → IsLegal limits after →
         Step limits pass before after (call.Add id text) (reply_of_add answer)

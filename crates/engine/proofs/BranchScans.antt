@@ -4,28 +4,30 @@ use Rattle.std.specs.List.Sorted.{IsStrictlySortedBy}
 use Rattle.std.specs.Ordering.{nat_cmp}
 use Rattle.std.proofs.lemmas.Bool.{cases_lt, eq-eqb, eqb-true}
 use Rattle.std.proofs.lemmas.List.{map-append, take_more}
-use Rattle.std.proofs.lemmas.List.Elements.{All-append, All-cons, All-nil, All-weaker, Contains-append_cases, Contains-append_left, Contains-append_right, Contains-push_cases}
+use Rattle.std.proofs.lemmas.List.Elements.{All-append, All-cons, All-nil, Contains-append_cases, Contains-append_left, Contains-append_right, Contains-push_cases}
+use Rattle.commit_desk.specs.declared.layouts.SlicesLayout.{SlicesLayout}
 use Rattle.commit_desk.specs.Judging.{AreScannedForAny}
 use Rattle.commit_desk.specs.Scans.{AreScanned, HasAllCommitted, IsOfToken}
 use Rattle.engine.specs.Branches.{AddsEach, AddsScan, AreScannedForAnyBelow, CanScanEach, IsPlanned, token_at, words_of_each}
 use Rattle.engine.specs.declared.branch_scans.Planned.{Planned}
-use Rattle.engine.specs.Scans.{AreScannedBelow, CanScan, token_below}
+use Rattle.engine.specs.Engines.{IsOfConfig}
+use Rattle.engine.specs.Scans.{AreScannedBelow, CanScan, IsReadable, part_of, token_below}
 use Rattle.engine.proofs.CandidateParts.{pairs-append}
-use Rattle.engine.proofs.Scans.{below, is_below, of_token_later, read_kept, scanned_all, scanned_more, scanned_none, scanned_without, token_kept}
+use Rattle.engine.proofs.Scans.{below, is_below, of_token_later, part_kept, readable_kept, same_columns, same_room, scanned_all, scanned_more, scanned_none, scanned_without, token_kept}
 use Rattle.funnel_model.proofs.AnswerLemmas.{Contains-filter, Contains-filtered}
 use Rattle.funnel_model.specs.declared.bit_list.Bit.{Bit}
 use Rattle.funnel_model.specs.declared.claim.Token.{Token}
 use Rattle.funnel_model.specs.declared.config.Config.{Config}
 use Rattle.funnel_model.specs.declared.event.Event.{Event}
 use Rattle.funnel_model.specs.RowWords.{IsCommitted}
-use Rattle.funnel_model.specs.Sizes.{columns_of_slice, words_of_slice}
-use Rattle.rank_matcher.specs.Appended.{candidates_of}
+use Rattle.funnel_model.specs.Sizes.{columns_of_slice}
+use Rattle.rank_matcher.specs.Appended.{HasBits, HasEach, candidates_of}
 use Rattle.row_layout.specs.declared.row.Row.{Row}
-use Rattle.row_layout.specs.DocumentBits.{bit_of_row}
+use Rattle.row_layout.specs.DocumentBits.{IsDocumentBitIn, bit_of_row}
 use Rattle.row_layout.specs.Orders.{HasRowsOf}
 use Rattle.row_layout.specs.Rows.{IsRowOf}
 use Rattle.row_read.specs.declared.shared.Shared.{Shared}
-use Rattle.row_read.specs.SharedRows.{CanRead, SharedKept, WasReadSet, kept_of}
+use Rattle.row_read.specs.SharedRows.{IsCommittedUnder, SharedKept, WasReadSet, kept_of}
 use Rattle.slice_rule.specs.Pools.{PoolId}
 use Rattle.slice_rule.specs.Seats.{PassState, WasReadUnder}
 
@@ -51,9 +53,9 @@ module _ (config : Config) (before after : PassState) (token : Token) (pool : af
     each_once = are.each_once;
     every = λ slice column has below all.
         are.every slice column has (subst (λ (p : PoolId). column < p.limits.columns) pool below)
-        (λ bit of. subst (λ (h : List Event). IsCommitted h slice bit) front (all bit of));
-    read = λ candidate has bit of. seen_stays bit (are.read candidate has bit of);
-    laid = subst (λ (p : PoolId). p.limits.slice_words ≡ words_of_slice config) (sym pool) are.laid;
+        (λ bit of. subst (λ (h : List Event). IsCommitted h slice bit) front (all bit (subst (λ (p : PoolId). IsDocumentBitIn p.limits.slice_words config words slice column bit) (sym pool) of)));
+    read = λ candidate has bit of.
+        seen_stays bit (are.read candidate has bit (subst (λ (p : PoolId). IsDocumentBitIn p.limits.slice_words config words candidate.0 candidate.1 bit) pool of));
   }
 
   pub any_scanned_later : (branches : List (List (List ℕ))) (candidates : List (ℕ × ℕ)) → AreScannedForAny config before token branches candidates → AreScannedForAny config after token branches candidates
@@ -85,7 +87,6 @@ module _ (config : Config) (seat : PassState) (token : Token) (slice : ℕ) (rea
     every = λ s column has. let is = is_below (slice + 1) s token has in each s is.1 is.0 column (cases_lt s slice);
     read = λ candidate has.
         ⊎_elim (λ (h : Contains first candidate). before.read candidate h) (λ (h : Contains second candidate). here.read candidate h) (Contains-append_cases first second candidate has);
-    laid = before.laid;
   }
     where
       each : (s : ℕ) → s < slice + 1 → Contains token.slices s → (column : ℕ) → (s < slice) ⊎ (slice ≤ s) → column < seat.pool.limits.columns → HasAllCommitted config seat words s column →
@@ -122,10 +123,10 @@ module _ (config : Config) (seat : PassState) (token : Token) (slice : ℕ) (rea
   }
 
 -- before the first slice
-pub any_none : (config : Config) (seat : PassState) (token : Token) (branches : List (List (List ℕ))) → seat.pool.limits.slice_words ≡ words_of_slice config → AreScannedForAnyBelow config seat token branches 0 []
-any_none config seat token branches laid = record {
+pub any_none : (config : Config) (seat : PassState) (token : Token) (branches : List (List (List ℕ))) → AreScannedForAnyBelow config seat token branches 0 []
+any_none config seat token branches = record {
   each_once = λ i j d lt within. absurd (omega (arith, within));
-  of_each = λ branch has. ([], scanned_none config seat token branch laid, λ candidate found. found);
+  of_each = λ branch has. ([], scanned_none config seat token branch, λ candidate found. found);
   of_some = λ candidate has. absurd (nothing candidate has);
 }
 
@@ -161,97 +162,96 @@ any_of_one config seat token words candidates are = record {
 pub adds_none : (config : Config) (seat : PassState) (token : Token) (slice : ℕ) (list : List (ℕ × ℕ)) → AddsEach config seat token slice [] list list
 adds_none config seat token slice list = record { of_before = λ column has. has; of_each = λ branch has. absurd (nothing branch has); of_some = λ column has. inl has }
 
--- What reads of the rows add. They keep the token, the pool and the front.
-module _ (config : Config) (before after : Shared) (kept : kept_of after ≡ kept_of before) (seen_stays : (bit : Bit) → WasReadSet before bit → WasReadSet after bit) where
+-- What reads of the rows of an entry add. They keep the token, the pool and the front.
+module _ (entry : SlicesLayout) (before after : Shared) (kept : kept_of after ≡ kept_of before) (seen_stays : (bit : Bit) → WasReadSet before bit → WasReadSet after bit) where
+  abbrev config : Config
+  config = entry.layout.config
+
+  abbrev part : Token
+  part = part_of entry before
+
   same_pool : after.seat.now.pool ≡ before.seat.now.pool
   same_pool = ap (λ (k : SharedKept). k.seat_pool) kept
 
   same_front : after.seat.now.front ≡ before.seat.now.front
   same_front = ap (λ (k : SharedKept). k.front) kept
 
+  same_part : part_of entry after ≡ part_of entry before
+  same_part = part_kept before after kept entry
+
   stays : (bit : Bit) → WasReadUnder before.seat.now before.token.now.opened_at bit → WasReadUnder after.seat.now before.token.now.opened_at bit
   stays =
       subst (λ (t : Token). (bit : Bit) → WasReadUnder before.seat.now before.token.now.opened_at bit → WasReadUnder after.seat.now t.opened_at bit) (token_kept before after kept) seen_stays
 
   -- one more branch
-  pub adds_more : (slice : ℕ) (branches : List (List (List ℕ))) (words : List (List ℕ)) (start old new : List (ℕ × ℕ)) → AddsEach config before.seat.now before.token.now slice branches start old →
-      AddsScan config after.seat.now after.token.now slice words old new → AddsEach config after.seat.now after.token.now slice (branches ++ words ∷ []) start new
+  pub adds_more : (slice : ℕ) (branches : List (List (List ℕ))) (words : List (List ℕ)) (start old new : List (ℕ × ℕ)) → AddsEach config before.seat.now part slice branches start old →
+      AddsScan config after.seat.now (part_of entry after) slice words old new → AddsEach config after.seat.now (part_of entry after) slice (branches ++ words ∷ []) start new
   adds_more slice branches words start old new adds added =
-      let token = before.token.now in
       let seat = after.seat.now in
-      let one = subst (λ (t : Token). AddsScan config seat t slice words old new) (token_kept before after kept) added in
+      let one = subst (λ (t : Token). AddsScan config seat t slice words old new) same_part added in
       let both = one.2 in
-      let kept_scan = scanned_later config before.seat.now seat (token_at slice token) same_pool same_front stays in
-      subst (λ (t : Token). AddsEach config seat t slice (branches ++ words ∷ []) start new) (sym (token_kept before after kept))
+      let kept_scan = scanned_later config before.seat.now seat (token_at slice part) same_pool same_front stays in
+      subst (λ (t : Token). AddsEach config seat t slice (branches ++ words ∷ []) start new) (sym same_part)
       (record {
         of_before = λ column has. (both column).1 (inl (adds.of_before column has));
         of_each = λ branch has.
             ⊎_elim (λ (earlier : Contains branches branch). let of = adds.of_each branch earlier in (of.0, kept_scan branch of.0 of.1, λ column found. (both column).1 (inl (of.2 column found))))
-            (λ (this : words ≡ branch). (one.0, subst (λ ws. AreScanned config seat (token_at slice token) ws one.0) this one.1, λ column found. (both column).1 (inr found)))
+            (λ (this : words ≡ branch). (one.0, subst (λ ws. AreScanned config seat (token_at slice part) ws one.0) this one.1, λ column found. (both column).1 (inr found)))
             (Contains-push_cases branches words branch has);
         of_some = λ column has.
             ⊎_elim
             (λ (earlier : Contains old column).
             ⊎_elim (λ (h : Contains start column). inl h)
-            (λ (of : (branch : List (List ℕ)) × (scanned : List (ℕ × ℕ)) × Contains branches branch × AreScanned config before.seat.now (token_at slice token) branch scanned × Contains scanned column).
+            (λ (of : (branch : List (List ℕ)) × (scanned : List (ℕ × ℕ)) × Contains branches branch × AreScanned config before.seat.now (token_at slice part) branch scanned × Contains scanned column).
             inr (of.0, of.1, Contains-append_left branches (words ∷ []) of.0 of.2, kept_scan of.0 of.1 of.3, of.4))
             (adds.of_some column earlier))
             (λ (found : Contains one.0 column). inr (words, one.0, Contains-append_right branches (words ∷ []) words (0, omega arith, refl), one.1, found)) ((both column).0 has);
       })
 
   -- one more slice
-  pub any_more : (branches : List (List (List ℕ))) (slice : ℕ) (old new : List (ℕ × ℕ)) → Contains before.token.now.slices slice → AreScannedForAnyBelow config before.seat.now before.token.now branches slice old →
-      AddsEach config after.seat.now after.token.now slice branches old new → AllPairs (λ (candidate other : ℕ × ℕ). candidate ≡ other → ⊥) new →
-      AreScannedForAnyBelow config after.seat.now after.token.now branches (slice + 1) new
-  any_more branches slice old new readable are adds once =
-      let token = before.token.now in
+  pub any_more : (branches : List (List (List ℕ))) (slice : ℕ) (old new : List (ℕ × ℕ)) → Contains entry.slices slice → AreScannedForAnyBelow config before.seat.now part branches slice old →
+      AddsEach config after.seat.now (part_of entry after) slice branches old new → AllPairs (λ (candidate other : ℕ × ℕ). candidate ≡ other → ⊥) new →
+      AreScannedForAnyBelow config after.seat.now (part_of entry after) branches (slice + 1) new
+  any_more branches slice old new has are adds once =
       let seat = after.seat.now in
-      subst (λ (t : Token). AreScannedForAnyBelow config seat t branches (slice + 1) new) (sym (token_kept before after kept))
-      (any_joined config seat token slice readable branches old new (any_scanned_later config before.seat.now seat (token_below slice token) same_pool same_front stays branches old are)
-      (subst (λ (t : Token). AddsEach config seat t slice branches old new) (token_kept before after kept) adds) once)
+      subst (λ (t : Token). AreScannedForAnyBelow config seat t branches (slice + 1) new) (sym same_part)
+      (any_joined config seat part slice has branches old new (any_scanned_later config before.seat.now seat (token_below slice part) same_pool same_front stays branches old are)
+      (subst (λ (t : Token). AddsEach config seat t slice branches old new) same_part adds) once)
 
   -- the scan of one slice for the words of a plan
-  pub scanned_at : (words : List (List ℕ)) (plan : List Row) (slice : ℕ) (columns : List ℕ) (found : List (ℕ × ℕ)) → before.seat.now.pool.limits.columns ≡ columns_of_slice config →
-      before.seat.now.pool.limits.slice_words ≡ words_of_slice config → Contains before.token.now.slices slice → HasRowsOf config words plan → found ≡ candidates_of slice columns →
-      ((column : ℕ) → column < columns_of_slice config →
-      All (λ row. (s : ℕ) × Contains before.token.now.slices s × IsCommitted before.seat.now.front s (bit_of_row (words_of_slice config) slice column row)) plan → Contains columns column) →
-      All (λ column. column < columns_of_slice config) columns → IsStrictlySortedBy nat_cmp columns →
-      All (λ column. All (λ row. WasReadSet after (bit_of_row (words_of_slice config) slice column row)) plan) columns → AreScanned config after.seat.now (token_at slice after.token.now) words found
-  scanned_at words plan slice columns found sizes laid readable rows found_is covered in_slice rising seen =
-      let token = token_at slice before.token.now in
-      let here = at_slice slice slice before.token.now readable refl in
+  pub scanned_at : (pool : PoolId) (words : List (List ℕ)) (plan : List Row) (slice : ℕ) (columns : List ℕ) (found : List (ℕ × ℕ)) → IsOfConfig pool → CanScan pool before entry words plan →
+      Contains entry.slices slice → found ≡ candidates_of slice columns → HasEach (IsCommittedUnder before) entry.layout plan slice columns →
+      All (λ column. column < columns_of_slice config) columns → IsStrictlySortedBy nat_cmp columns → All (HasBits (WasReadSet after) entry.layout plan slice) columns →
+      AreScanned config after.seat.now (token_at slice (part_of entry after)) words found
+  scanned_at pool words plan slice columns found of_config can has found_is covered in_slice rising seen =
+      let token = token_at slice part in
+      let here = at_slice slice slice part has refl in
       let none : AreScannedBelow config before.seat.now token words slice [] = record {
-        of_token = λ candidate has. absurd (nothing candidate has);
+        of_token = λ candidate in_none. absurd (nothing candidate in_none);
         each_once = λ i j d lt within. absurd (omega (arith, within));
-        every = λ s column has.
-            let low = is_below slice s token has in
-            let is = (is_at slice s before.token.now low.0).1 in
+        every = λ s column in_token.
+            let low = is_below slice s token in_token in
+            let is = (is_at slice s part low.0).1 in
             let less = low.1 in
             absurd (omega (arith, is, less));
-        read = λ candidate has. absurd (nothing candidate has);
-        laid = laid;
+        read = λ candidate in_none. absurd (nothing candidate in_none);
       } in
-      subst (λ (t : Token). AreScanned config after.seat.now (token_at slice t) words found) (sym (token_kept before after kept))
+      subst (λ (t : Token). AreScanned config after.seat.now (token_at slice t) words found) (sym same_part)
       (subst (AreScanned config after.seat.now token words) (sym found_is)
-      (scanned_all config after.seat.now token words (slice + 1) (candidates_of slice columns) (λ s has. let is = (is_at slice s before.token.now has).1 in omega (arith, is))
-      (scanned_more config before.seat.now after.seat.now token words plan slice [] columns same_pool same_front sizes here rows none stays
-      (λ column low all.
-      covered column low
-      (All-weaker (λ row. (s : ℕ) × Contains token.slices s × IsCommitted before.seat.now.front s (bit_of_row (words_of_slice config) slice column row))
-      (λ row. (s : ℕ) × Contains before.token.now.slices s × IsCommitted before.seat.now.front s (bit_of_row (words_of_slice config) slice column row))
-      (λ row committed. (committed.0, (is_at slice committed.0 before.token.now committed.1).0, committed.2)) plan all))
-      in_slice rising
-      (subst (λ (t : Token). All (λ column. All (λ row. WasReadUnder after.seat.now t.opened_at (bit_of_row (words_of_slice config) slice column row)) plan) columns) (token_kept before after kept) seen))))
+      (scanned_all config after.seat.now token words (slice + 1) (candidates_of slice columns) (λ s in_token. let is = (is_at slice s part in_token).1 in omega (arith, is))
+      (scanned_more entry.layout before.seat.now after.seat.now token before.token.now words plan slice [] columns same_pool same_front (same_columns pool before entry of_config can.readable)
+      (same_room pool before entry of_config can.readable) here (can.readable.among slice has) can.planned.rows none stays covered in_slice rising
+      (subst (λ (t : Token). All (λ column. All (λ row. WasReadUnder after.seat.now t.opened_at (bit_of_row entry.layout.room slice column row)) plan) columns) (token_kept before after kept) seen))))
 
 -- What a scan of one slice found is of that slice, and in its range.
-module _ (config : Config) (pool : PoolId) (before after : Shared) (kept : kept_of after ≡ kept_of before) (can_read : CanRead pool before.seat.now before.token.now) (slice : ℕ) (words : List (List ℕ))
-    (scanned : List (ℕ × ℕ)) (are : AreScanned config after.seat.now (token_at slice after.token.now) words scanned) (candidate : ℕ × ℕ) (has : Contains scanned candidate) where
+module _ (pool : PoolId) (entry : SlicesLayout) (before after : Shared) (kept : kept_of after ≡ kept_of before) (readable : IsReadable pool before entry) (slice : ℕ) (words : List (List ℕ))
+    (scanned : List (ℕ × ℕ)) (are : AreScanned entry.layout.config after.seat.now (token_at slice (part_of entry after)) words scanned) (candidate : ℕ × ℕ) (has : Contains scanned candidate) where
   pub column_below : candidate.1 < pool.limits.columns
   column_below =
-      subst (λ n. candidate.1 < n) (ap (λ (p : PoolId). p.limits.columns) (ap (λ (k : SharedKept). k.seat_pool) kept ∙ can_read.same)) (are.of_token candidate has).column
+      subst (λ n. candidate.1 < n) (ap (λ (p : PoolId). p.limits.columns) (ap (λ (k : SharedKept). k.seat_pool) kept ∙ readable.can_read.same)) (are.of_token candidate has).column
 
   pub of_slice : candidate.0 ≡ slice
-  of_slice = (is_at slice candidate.0 after.token.now (are.of_token candidate has).slice).1
+  of_slice = (is_at slice candidate.0 (part_of entry after) (are.of_token candidate has).slice).1
 
 -- no candidate of the slices below one is of that slice
 pub none_of_slice : (config : Config) (seat : PassState) (token : Token) (branches : List (List (List ℕ))) (slice : ℕ) (candidates : List (ℕ × ℕ)) → AreScannedForAnyBelow config seat token branches slice candidates →
@@ -267,22 +267,14 @@ words_more branches at d inside =
     ap words_of_each (take_more branches at d inside) ∙ map-append (λ (b : Planned). b.words.now) (take at branches) (get_or branches at d ∷ [])
 
 -- a branch may be scanned for while reads keep the pass as it is
-pub can_scan : (pool : PoolId) (before after : Shared) (branch : Planned) → kept_of after ≡ kept_of before → before.pool.now ≡ pool → CanRead pool before.seat.now before.token.now → IsPlanned pool.config branch →
-    CanScan pool after branch.words.now branch.plan
-can_scan pool before after branch kept same can_read planned = record {
-  same = ap (λ (k : SharedKept). k.pool) kept ∙ same;
-  can_read = read_kept pool before after kept can_read;
-  rows = planned.rows;
-  laid = planned.laid;
-}
+pub can_scan : (pool : PoolId) (before after : Shared) (entry : SlicesLayout) (branch : Planned) → kept_of after ≡ kept_of before → IsReadable pool before entry → IsPlanned entry.layout.config branch →
+    CanScan pool after entry branch.words.now branch.plan
+can_scan pool before after entry branch kept readable planned = record { readable = readable_kept pool before after entry kept readable; planned = planned }
 
 -- and so may all branches
-pub scan_kept : (pool : PoolId) (before after : Shared) (branches : List Planned) → kept_of after ≡ kept_of before → CanScanEach pool before branches → CanScanEach pool after branches
-scan_kept pool before after branches kept can = record {
-  same = ap (λ (k : SharedKept). k.pool) kept ∙ can.same;
-  can_read = read_kept pool before after kept can.can_read;
-  planned = can.planned;
-}
+pub scan_each_kept : (pool : PoolId) (before after : Shared) (entry : SlicesLayout) (branches : List Planned) → kept_of after ≡ kept_of before → CanScanEach pool before entry branches →
+    CanScanEach pool after entry branches
+scan_each_kept pool before after entry branches kept can = record { readable = readable_kept pool before after entry kept can.readable; planned = can.planned }
 
 -- one more branch is planned
 pub planned_push : (config : Config) (planned after : List Planned) (before : List (List (List ℕ))) (one : Planned) → after ≡ planned ++ one ∷ [] → words_of_each planned ≡ before → All (IsPlanned config) planned →

@@ -1,5 +1,5 @@
 -- What a pass has done for its add between its turns.
-use Rattle.std.proofs.Common.{◌≡◌, ℕ, ◌<◌, ◌⊎◌, ◌↔◌, false, List, [], ◌∷◌, Result, refl, sym, ap, subst, ⊎_elim, inr, arith}
+use Rattle.std.proofs.Common.{◌≡◌, ℕ, ◌<◌, ◌⊎◌, ◌↔◌, false, List, [], ◌∷◌, Result, refl, sym, ap, ◌∙◌, subst, ⊎_elim, inr, arith}
 use Rattle.std.specs.List.{All, Contains}
 use Rattle.std.proofs.lemmas.List.Elements.{All-contains}
 use Rattle.column_writer.specs.Written.{IsBitOf}
@@ -9,9 +9,9 @@ use Rattle.funnel_model.specs.declared.config.Config.{Config}
 use Rattle.funnel_model.specs.declared.event.Event.{Event}
 use Rattle.funnel_model.specs.declared.event.Event.TheVariants as event
 use Rattle.funnel_model.specs.Legal.{IsInSlice, Limits}
-use Rattle.funnel_model.specs.Sizes.{words_of_slice}
-use Rattle.funnel_model.specs.Words.{words}
-use Rattle.row_layout.specs.DocumentBits.{AreDocumentBits}
+use Rattle.funnel_model.specs.Tunings.{treat}
+use Rattle.row_layout.specs.DocumentBits.{AreDocumentBitsIn}
+use Rattle.row_layout.specs.Layouts.{LayoutId}
 use Rattle.slice_rule.specs.declared.view.Fact.{Fact}
 use Rattle.slice_rule.specs.declared.view.Fact.TheVariants as fact
 use Rattle.slice_rule.specs.Numbers.{last_number}
@@ -26,6 +26,7 @@ use Rattle.commit_desk.proofs.CallEnds.{seated_still}
 use Rattle.slice_recycler.specs.Turns.{IsTurn}
 use Rattle.engine.specs.Adds.{ClaimTurns, ClearsFirst, CommitTurns, TakeTurn}
 use Rattle.engine.specs.Engines.{IsOfConfig}
+use Rattle.engine.specs.Moves.{AreBitsAt}
 
 -- a pass that knew nothing under its claim has set exactly the bits that it wrote
 has_set : (number : ℕ) (bits : List Bit) (before own : List Fact) → All (λ f. number_under f < number) before → ((f : Fact) → Contains own f ↔ (Contains before f ⊎ IsBitOf number bits f)) → (b : Bit) →
@@ -38,29 +39,46 @@ has_set number bits before own nothing has b = (
       ((has (fact.BitSet number b)).0 in_own),
 )
 
+-- the layout of the slice of a column that its pass is to write: the treatment of the slice, in the room of the pool's slices
+module _ (pool : PoolId) (claim : Claim) (layout : LayoutId) (seat : PassState) (of_config : IsOfConfig pool) (start : IsToWrite pool claim layout seat) where
+  pub treated : layout.config ≡ treat pool.config claim.slice seat.front
+  treated = ap (λ (l : LayoutId). l.config) start.laid.is
+
+  pub room_is : layout.room ≡ pool.limits.slice_words
+  room_is = ap (λ (l : LayoutId). l.room) start.laid.is ∙ sym (ap (λ (l : Limits). l.slice_words) of_config.limits)
+
 -- a pass that set the bits of a document at its column has written it
-pub has_written : (pool : PoolId) (claim : Claim) (set : List (List ℕ)) (bits : List Bit) (seat next : PassState) → IsOfConfig pool → IsToWrite pool claim seat →
+pub has_written : (pool : PoolId) (claim : Claim) (layout : LayoutId) (set : List (List ℕ)) (bits : List Bit) (seat next : PassState) → IsOfConfig pool → IsToWrite pool claim layout seat →
     next ≡ record seat { own = next.own } → ((f : Fact) → Contains next.own f ↔ (Contains seat.own f ⊎ IsBitOf (last_number seat.number seat.front) bits f)) →
-    AreDocumentBits pool.config set claim.slice claim.column bits → All (λ b. IsInSlice (words_of_slice pool.config) claim.slice b.word) bits →
+    AreDocumentBitsIn layout.room layout.config set claim.slice claim.column bits → All (λ b. IsInSlice layout.room claim.slice b.word) bits →
     HasWritten pool claim set bits next
-has_written pool claim set bits seat next of_config start is has document inside = record {
-  seated = seated_still pool seat next is start.seated;
-  holds = subst (λ (p : PassState). HoldsClaim p claim) (sym is) start.holds;
-  document = document;
-  inside = subst (λ n. All (λ b. IsInSlice n claim.slice b.word) bits) (sym (ap (λ (l : Limits). l.slice_words) of_config.limits)) inside;
-  bits_set = λ b. subst (λ n. Contains bits b ↔ Contains next.own (fact.BitSet n b)) (sym (ap (λ (p : PassState). last_number p.number p.front) is))
-      (has_set (last_number seat.number seat.front) bits seat.own next.own start.nothing has b);
-}
+has_written pool claim layout set bits seat next of_config start is has document inside =
+    let words = room_is pool claim layout seat of_config start in
+    let front : next.front ≡ seat.front = ap (λ (p : PassState). p.front) is in
+    let by_treatment : AreDocumentBitsIn pool.limits.slice_words (treat pool.config claim.slice seat.front) set claim.slice claim.column bits =
+    subst (λ (config : Config). AreDocumentBitsIn pool.limits.slice_words config set claim.slice claim.column bits) (treated pool claim layout seat of_config start)
+    (subst (λ n. AreDocumentBitsIn n layout.config set claim.slice claim.column bits) words document) in
+    record {
+      seated = seated_still pool seat next is start.seated;
+      holds = subst (λ (p : PassState). HoldsClaim p claim) (sym is) start.holds;
+      document = subst (λ (h : List Event). AreDocumentBitsIn pool.limits.slice_words (treat pool.config claim.slice h) set claim.slice claim.column bits) (sym front) by_treatment;
+      inside = subst (λ n. All (λ b. IsInSlice n claim.slice b.word) bits) words inside;
+      bits_set = λ b. subst (λ n. Contains bits b ↔ Contains next.own (fact.BitSet n b)) (sym (ap (λ (p : PassState). last_number p.number p.front) is))
+          (has_set (last_number seat.number seat.front) bits seat.own next.own start.nothing has b);
+    }
 
 -- the turns of a claim that cleared a slice between them
-pub cleared_first : (limits : Limits) (pass id : ℕ) (text : List ℕ) (before after : List Event) (to_clear : ToClear) (claim : Claim) (seat next : PassState) →
-    TakeTurn limits pass id text before seat.front (taken.Clear to_clear) → to_clear.slots ≡ limits.columns → seat.number ≡ pass → next ≡ record seat { own = next.own } →
+pub cleared_first : (limits : Limits) (pass id : ℕ) (text : List ℕ) (before after : List Event) (to_clear : ToClear) (layout : LayoutId) (claim : Claim) (seat next : PassState) →
+    TakeTurn limits pass id text before seat.front (taken.Clear to_clear layout) → to_clear.slots ≡ limits.columns → seat.number ≡ pass → next ≡ record seat { own = next.own } →
     IsTurn next.number next.front after (λ history. Unit {0}) (event.Opened next.number to_clear.job.slice false ∷ event.Take next.number to_clear.job.slice 0 ∷ []) → claim.slice ≡ to_clear.job.slice → claim.column ≡ 0 →
     ClearsFirst limits pass id text before after claim
-cleared_first limits pass id text before after to_clear claim seat next cleared slots number is opened slice first = record {
+cleared_first limits pass id text before after to_clear layout claim seat next cleared slots number is opened slice first = record {
+  layout = layout;
+  old_layout = to_clear.old_layout;
   middle = seat.front;
-  cleared = subst (λ (s : ℕ). TakeTurn limits pass id text before seat.front (taken.Clear (record { job = record { slice = s }; slots = limits.columns }))) (sym slice)
-      (subst (λ (n : ℕ). TakeTurn limits pass id text before seat.front (taken.Clear (record to_clear { slots = n }))) slots cleared);
+  cleared = subst (λ (s : ℕ). TakeTurn limits pass id text before seat.front
+      (taken.Clear (record { job = record { slice = s }; slots = limits.columns; old_layout = to_clear.old_layout }) layout)) (sym slice)
+      (subst (λ (n : ℕ). TakeTurn limits pass id text before seat.front (taken.Clear (record to_clear { slots = n }) layout)) slots cleared);
   opened = subst (λ (s : ℕ). IsTurn pass seat.front after (λ history. Unit {0}) (event.Opened pass s false ∷ event.Take pass s 0 ∷ [])) (sym slice)
       (subst (λ (n : ℕ). IsTurn n seat.front after (λ history. Unit {0}) (event.Opened n to_clear.job.slice false ∷ event.Take n to_clear.job.slice 0 ∷ [])) number
       (subst (λ (p : PassState). IsTurn p.number p.front after (λ history. Unit {0}) (event.Opened p.number to_clear.job.slice false ∷ event.Take p.number to_clear.job.slice 0 ∷ [])) is opened));
@@ -69,7 +87,7 @@ cleared_first limits pass id text before after to_clear claim seat next cleared 
 
 -- the turns of an add whose pass wrote its bits before the last one
 pub commit_turns : (config : Config) (limits : Limits) (pass id : ℕ) (text : List ℕ) (before after : List Event) (claim : Claim) (bits : List Bit) (answer : Result ℕ CommitFault) (seat next : PassState) →
-    ClaimTurns limits pass id text before seat.front claim → seat.number ≡ pass → next ≡ record seat { own = next.own } → AreDocumentBits config (words text) claim.slice claim.column bits →
+    ClaimTurns limits pass id text before seat.front claim → seat.number ≡ pass → next ≡ record seat { own = next.own } → AreBitsAt config limits next.front text claim bits →
     IsTurn next.number next.front after (λ history. AnswersCommit history id answer) (events_of_commit next.number id text claim bits answer) →
     CommitTurns config limits pass id text before after answer
 commit_turns config limits pass id text before after claim bits answer seat next claimed number is of_text turn = record {
@@ -77,7 +95,7 @@ commit_turns config limits pass id text before after claim bits answer seat next
   bits = bits;
   middle = seat.front;
   claimed = claimed;
-  of_text = of_text;
+  of_text = subst (λ (h : List Event). AreBitsAt config limits h text claim bits) (ap (λ (p : PassState). p.front) is) of_text;
   committed = subst (λ (n : ℕ). IsTurn n seat.front after (λ history. AnswersCommit history id answer) (events_of_commit n id text claim bits answer)) number
       (subst (λ (p : PassState). IsTurn p.number p.front after (λ history. AnswersCommit history id answer) (events_of_commit p.number id text claim bits answer)) is turn);
 }

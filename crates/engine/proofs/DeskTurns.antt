@@ -1,32 +1,33 @@
 -- What a call at the desk, under the engine's lock, is as a turn of its pass.
-use Rattle.std.proofs.Common.{◌≡◌, ℕ, ◌<◌, ◌^◌, false, List, [], ◌∷◌, ◌++◌, Result, Ok, Err, Some, sym, refl, ap, ◌∙◌, subst, append_assoc}
+use Rattle.std.proofs.Common.{◌≡◌, ℕ, ◌^◌, ◌<◌, ◌≤◌, List, [], Result, Ok, Err, sym, refl, ap, ◌∙◌, subst, ⊎_elim, arith}
+use Rattle.std.proofs.lemmas.Bool.{cases_lt}
 use Rattle.funnel_model.specs.declared.call.Call.TheVariants as call
-use Rattle.funnel_model.specs.declared.claim.Claim.{Claim}
 use Rattle.funnel_model.specs.declared.commit.Commit.{Commit}
 use Rattle.funnel_model.specs.declared.event.Event.{Event}
 use Rattle.funnel_model.specs.declared.event.Event.TheVariants as event
 use Rattle.funnel_model.specs.declared.reply.Reply.TheVariants as reply
-use Rattle.funnel_model.specs.History.{last_by}
 use Rattle.funnel_model.specs.Legal.{IsIdle, IsLegal, Limits}
 use Rattle.funnel_model.specs.Steps.{Step}
-use Rattle.funnel_model.proofs.Claims.{take_within}
-use Rattle.funnel_model.proofs.Histories.{allowed_within, legal_before}
 use Rattle.funnel_model.proofs.ReplyLemmas.{journal_read, journal_trimmed}
-use Rattle.funnel_model.proofs.Spans.{last_by-own}
-use Rattle.funnel_model.proofs.StepLemmas.{call_by-own}
+use Rattle.funnel_model.proofs.StepLemmas.{call_by-own, step_without_memory}
 use Rattle.slice_rule.specs.Pools.{PoolId}
-use Rattle.slice_rule.specs.Seats.{HasNoneOutstanding, PassState}
+use Rattle.slice_rule.specs.Seats.{PassState}
 use Rattle.commit_desk.specs.Answers.{AnswersDelete, AnswersJournal, AnswersPlace, events_of_delete, events_of_journal, events_of_place}
 use Rattle.commit_desk.specs.declared.answers.DeleteFault.{DeleteFault}
 use Rattle.commit_desk.specs.declared.answers.DeleteFault.TheVariants as delete
 use Rattle.commit_desk.specs.declared.answers.JournalFault.{JournalFault}
 use Rattle.commit_desk.specs.declared.answers.JournalFault.TheVariants as journal
 use Rattle.commit_desk.specs.declared.answers.Spent.{Spent}
-use Rattle.commit_desk.specs.Desks.{DeskState, IsUnwritten, Makes}
+use Rattle.commit_desk.specs.Desks.{DeskState, Makes}
 use Rattle.funnel_model.specs.declared.config.Config.{Config}
-use Rattle.funnel_model.specs.Tunings.{treat}
-use Rattle.commit_desk.specs.Passes.{IsToWrite}
+use Rattle.engine.specs.declared.retuning.TuneFault.{TuneFault}
+use Rattle.engine.specs.declared.retuning.TuneFault.TheVariants as tune
+use Rattle.engine.specs.Passes.{PassView}
 use Rattle.engine.specs.Replies.{reply_of_delete, reply_of_journal, reply_of_place}
+use Rattle.engine.specs.Turns.{MakesTuneCall, TuneTurn, fault_of_layout}
+use Rattle.funnel_model.specs.Sizes.{words_of_slice}
+use Rattle.row_layout.specs.declared.fault.LayoutFault.{LayoutFault}
+use Rattle.row_layout.specs.declared.fault.LayoutFault.TheVariants as layout
 use Rattle.slice_recycler.specs.Turns.{IsTurn}
 use Rattle.slice_recycler.proofs.Steps.{idle_still, quiet_turn, step_journal_without_memory, step_made_by_turn, step_spent_turn}
 
@@ -74,27 +75,40 @@ module _ (limits : Limits) (pass : ℕ) (before after : List Event) (idle : IsId
       step_made_by_turn limits pass before after e (call.Delete id) reply.Absent idle turn refl (call_by-own pass e refl) refl refl
       refl legal
 
--- the first column of a slice that its pass cleared and opened is its to write
-pub claims_first : (pool : PoolId) (before after : DeskState) (seat next : PassState) (slice : ℕ) (claim : Claim) → seat.pool ≡ pool → HasNoneOutstanding next → before.pool ≡ pool → slice < pool.limits.slices →
-    claim.slice ≡ slice → claim.column ≡ 0 → IsUnwritten next → Makes (event.Opened seat.number slice false ∷ event.Take seat.number slice 0 ∷ []) before after seat next → IsToWrite pool claim next
-claims_first pool before after seat next slice claim here none of in' at first nothing made =
-    let limits = before.pool.limits in
-    let e = event.Take seat.number slice 0 in
-    let opens = event.Opened seat.number slice false in
-    let opened = before.history ++ opens ∷ [] in
-    let whole : after.history ≡ opened ++ e ∷ [] = made.history ∙ sym (append_assoc before.history (opens ∷ []) (e ∷ [])) in
-    let legal : IsLegal limits (opened ++ e ∷ []) = subst (IsLegal limits) whole (subst (λ (p : PoolId). IsLegal p.limits after.history) made.pool made.legal) in
-    let last : last_by next.number next.front ≡ Some e = ap (λ n. last_by n next.front) made.number ∙ ap (last_by seat.number) (made.front ∙ whole) ∙ last_by-own seat.number opened e refl in
-    let within : 0 < limits.columns =
-    take_within limits opened seat.number slice 0 (legal_before limits opened (e ∷ []) legal) (allowed_within limits (opened ++ e ∷ []) opened e [] legal refl) in
-    record {
-      seated = record { same = made.same ∙ here; none_outstanding = none };
-      holds = last ∙ ap (λ n. Some (event.Take n slice 0)) (sym made.number) ∙ ap (λ s. Some (event.Take next.number s 0)) (sym at) ∙ ap (λ k. Some (event.Take next.number claim.slice k)) (sym first);
-      nothing = nothing.nothing;
-      treated = subst (λ (k : Config). treat k claim.slice next.front ≡ k) (ap (λ (p : PoolId). p.config) (made.same ∙ here)) (nothing.treated claim.slice);
-      in_range = subst (λ s. s < pool.limits.slices) (sym at) in';
-      column = subst (λ k. k < pool.limits.columns) (sym first) (subst (λ (p : PoolId). 0 < p.limits.columns) of within);
-    }
+  -- the call of a tuning
+  pub tune_call : (number : ℕ) → number ≡ pass → (config : Config) (answer : Result ℕ TuneFault) →
+      TuneTurn limits config answer (record { number = pass; front = before }) (record { number = number; front = after }) →
+      MakesTuneCall limits config answer (record { number = pass; front = before }) (record { number = number; front = after })
+  tune_call number same config (Ok count) (room, turn) =
+      let e = event.Tune pass config in
+      record {
+        step = step_made_by_turn limits pass before after e (call.Tune config) (reply.Tuned count) idle turn refl (call_by-own pass e refl) refl refl (ap reply.Tuned turn.answer.1) legal;
+        number = same;
+      }
+  tune_call number same config (Err (tune.Spent events)) (room, turn) =
+      record { step = step_spent_turn limits pass before after (call.Tune config) idle turn turn.answer.many legal; number = same }
+  tune_call number same config (Err tune.Memory) (room, is) =
+      let none : before ≡ after = sym (ap (λ (p : PassView). p.front) is) in
+      record {
+        step = subst (λ (h : List Event). Step limits pass before h (call.Tune config) reply.Memory) none
+            (step_without_memory limits pass before (call.Tune config) idle (subst (IsLegal limits) (sym none) legal) refl);
+        number = same;
+      }
+  tune_call number same config (Err (tune.Wide needed room)) turn = tt
+
+-- a tuning whose rows were not laid out
+pub unfit_turn : {X : Type 0} (limits : Limits) (config : Config) (room : ℕ) → room ≡ limits.slice_words → (refused : LayoutFault) →
+    (room < words_of_slice config → ◌≡◌ {A = Result X LayoutFault} (Err refused) (Err (layout.Wide (words_of_slice config) room))) → (words_of_slice config ≤ room → refused ≡ layout.Memory) →
+    (pass : PassView) → TuneTurn limits config (Err (fault_of_layout refused)) pass pass
+unfit_turn limits config room is refused wide fits pass =
+    ⊎_elim
+    (λ (low : room < words_of_slice config).
+    let told : refused ≡ layout.Wide (words_of_slice config) room = let h = wide low in cc in
+    subst (λ (f : LayoutFault). TuneTurn limits config (Err (fault_of_layout f)) pass pass) (sym told)
+    (record { needed_is = refl; room_is = is; wide = low }, refl))
+    (λ (enough : words_of_slice config ≤ room).
+    subst (λ (f : LayoutFault). TuneTurn limits config (Err (fault_of_layout f)) pass pass) (sym (fits enough)) (omega (arith, enough, is), refl))
+    (cases_lt room (words_of_slice config))
 
 -- The steps of calls of the engine's desk.
 module _ (pool : PoolId) (before after : DeskState) (seat next : PassState) (of : before.pool ≡ pool) (limit : before.events_limit ≡ 2 ^ 62) (pool_limit : before.pool.limits.events ≡ 2 ^ 62)

@@ -1,13 +1,18 @@
 -- How the turns of a find make its step.
-use Rattle.std.proofs.Common.{◌≡◌, ◌⊎◌, ℕ, Bool, true, false, not, List, [], ◌∷◌, ◌++◌, filter, inl, inr, sym, refl, ap, subst, ◌∙◌, All, Contains}
+use Rattle.std.proofs.Common.{◌≡◌, ◌⊎◌, ℕ, Bool, true, false, not, List, [], ◌∷◌, ◌++◌, filter, inl, inr, sym, refl, ap, subst, ◌∙◌, Contains, Result, Ok, Err, IfOk}
+use Rattle.commit_desk.specs.Answers.{AnswersFind, events_of_find}
+use Rattle.commit_desk.specs.declared.answers.FindFault.{FindFault}
+use Rattle.commit_desk.specs.declared.answers.FindFault.TheVariants as find
+use Rattle.commit_desk.specs.declared.layouts.SlicesLayout.{SlicesLayout}
+use Rattle.commit_desk.specs.Desks.{DeskState, Makes}
+use Rattle.commit_desk.specs.FindLayouts.{AreFindLayouts}
+use Rattle.commit_desk.specs.Judging.{answer_where}
 use Rattle.commit_desk.specs.Passes.{IsFinding}
 use Rattle.commit_desk.specs.Resolving.{IsRestOf}
 use Rattle.engine.specs.Passes.{view_of}
 use Rattle.engine.proofs.OpenFinds.{begun_last}
-use Rattle.engine.proofs.Scans.{holds_still}
-use Rattle.engine.specs.declared.finding.FindFault.{FindFault}
-use Rattle.engine.specs.declared.finding.FindFault.TheVariants as find
-use Rattle.engine.specs.Finds.{EndedTurns, FindBegins, FindEnds, FoundTurns, HasJustBegun, IsBegunAt, IsScanFor, RefusedTurns}
+use Rattle.engine.specs.Finds.{EndedTurns, FindBegins, FindEnds, FoundTurns, IsBegunAt, IsJustFinding, IsScanFor, RefusedTurn, RefusedTurns}
+use Rattle.engine.specs.Judged.{KeptTurns}
 use Rattle.engine.specs.Replies.{reply_of_find_fault}
 use Rattle.funnel_model.proofs.AnswerLemmas.{Contains-filter, Contains-filtered}
 use Rattle.funnel_model.proofs.StepLemmas.{call_by-own}
@@ -20,38 +25,20 @@ use Rattle.funnel_model.specs.declared.reply.Reply.TheVariants as reply
 use Rattle.funnel_model.specs.History.{answer}
 use Rattle.funnel_model.specs.Legal.{IsIdle, IsLegal, Limits}
 use Rattle.funnel_model.specs.Steps.{AddsCall, Step}
+use Rattle.funnel_model.specs.Tokens.{HasToken}
 use Rattle.funnel_model.specs.Words.{AreWordsOf}
-use Rattle.row_layout.specs.declared.row.Row.{Row}
-use Rattle.row_layout.specs.Orders.{HasRowsOf}
 use Rattle.row_layout.specs.Owners.{is_exact}
-use Rattle.row_layout.specs.Rows.{IsRowOf}
+use Rattle.slice_recycler.specs.Turns.{IsTurn}
 use Rattle.slice_recycler.proofs.Steps.{IsQuiet, adds_call, own-unanswered, quiet_none, quiet_turn, step_find_without_memory, step_found_without_memory, step_made_within, step_spent_turn}
 use Rattle.slice_rule.specs.Pools.{PoolId}
 use Rattle.slice_rule.specs.Seats.{PassState}
-
--- a pass that read something still has its find open
-pub finding_still : (pool : PoolId) (token : Token) (seat next : PassState) → next ≡ record seat { own = next.own; told = next.told } → IsFinding pool token seat → IsFinding pool token next
-finding_still pool token seat next is finding =
-    let did : IsFinding pool token (record seat { own = next.own; told = next.told }) = record {
-      seated = record { same = finding.seated.same; none_outstanding = finding.seated.none_outstanding };
-      holds = holds_still seat next.own next.told token finding.holds;
-    } in
-    subst (IsFinding pool token) (sym is) did
-
--- and its last event began it
-pub begun_still : (seat next : PassState) → next ≡ record seat { own = next.own; told = next.told } → HasJustBegun seat → HasJustBegun next
-begun_still seat next is begun = record {
-  earlier = begun.earlier;
-  query = begun.query;
-  at = subst (λ (s : PassState). IsBegunAt (view_of s) begun.earlier begun.query) (sym is) begun.at;
-}
 
 -- the end of a find answers no call
 pub end_is_quiet : (pass : ℕ) (before after : List Event) → FindEnds pass before after → IsQuiet pass 0 before after
 end_is_quiet pass before after turn = quiet_turn pass before after (event.End pass ∷ []) turn (own-unanswered pass (event.End pass ∷ []) refl) refl
 
 -- the words that aren't exact are the rest of a query
-rest_is : (config : Config) (set rest : List (List ℕ)) (query : List ℕ) → AreWordsOf set query → rest ≡ filter (λ word. not (is_exact config word)) set → IsRestOf config query rest
+pub rest_is : (config : Config) (set rest : List (List ℕ)) (query : List ℕ) → AreWordsOf set query → rest ≡ filter (λ word. not (is_exact config word)) set → IsRestOf config query rest
 rest_is config set rest query of_query left = record {
   part = λ word has. (of_query word).0 (Contains-filtered (λ w. not (is_exact config w)) set word (subst (λ ws. Contains ws word) left has)).0;
   others_exact = λ word has. by_test word ((of_query word).1 has) (is_exact config word) refl;
@@ -69,24 +56,33 @@ module _ (limits : Limits) (pass : ℕ) (query : List ℕ) (before : List Event)
   pub begun_by : (next : PassState) → next.number ≡ pass → (turn : FindBegins limits pass query before next.front) → IsBegunAt (view_of next) turn.earlier query
   begun_by next number turn = subst (λ n. next.front ≡ turn.earlier ++ event.Find n query ∷ []) (sym number) turn.made
 
-  -- the find scans for the words of its query
-  pub scan_begun : (pool : PoolId) (layout : Config) (next : PassState) (token : Token) (words rest : List (List ℕ)) (plan : List Row) → layout ≡ pool.config → next.number ≡ pass →
-      FindBegins limits pass query before next.front → IsFinding pool token next → AreWordsOf words query → rest ≡ filter (λ word. not (is_exact layout word)) words → HasRowsOf layout words plan →
-      All (IsRowOf layout) plan → IsScanFor pool next token words rest plan
-  scan_begun pool layout next token words rest plan laid_out number turn finding of_query left rows laid =
-      let at = begun_by next number turn in
-      let asked : (earlier : List Event) (other : List ℕ) → IsBegunAt (view_of next) earlier other → query ≡ other = λ earlier other at_other.
-      (begun_last next token.opened_at turn.earlier query at finding.holds.begun).1 ∙ sym (begun_last next token.opened_at earlier other at_other finding.holds.begun).1 in
-      record {
-        finding = finding;
-        begun = record { earlier = turn.earlier; query = query; at = at };
-        of_query = λ earlier other at_other. subst (AreWordsOf words) (asked earlier other at_other) of_query;
-        rest_of = λ earlier other at_other.
-            subst (λ q. IsRestOf pool.config q rest) (asked earlier other at_other)
-            (subst (λ (config : Config). IsRestOf config query rest) laid_out (rest_is layout words rest query of_query left));
-        rows = subst (λ (config : Config). HasRowsOf config words plan) laid_out rows;
-        laid = subst (λ (config : Config). All (IsRowOf config) plan) laid_out laid;
-      }
+  -- the find reads its slices by these layouts
+  pub just_begun : (pool : PoolId) (next : PassState) (token : Token) (layouts : List SlicesLayout) → next.number ≡ pass → FindBegins limits pass query before next.front → IsFinding pool token next →
+      ((begun : HasToken next.front next.number token.opened_at) → AreFindLayouts pool begun.earlier token layouts) → IsJustFinding pool token next layouts
+  just_begun pool next token layouts number turn finding laid = record {
+    finding = finding;
+    begun = record { earlier = turn.earlier; query = query; at = begun_by next number turn };
+    laid = laid;
+  }
+
+  -- and scans for the words of its query
+  pub scan_begun : (pool : PoolId) (next : PassState) (token : Token) (words : List (List ℕ)) (layouts : List SlicesLayout) → next.number ≡ pass → FindBegins limits pass query before next.front →
+      IsFinding pool token next → AreWordsOf words query → ((begun : HasToken next.front next.number token.opened_at) → AreFindLayouts pool begun.earlier token layouts) →
+      IsScanFor pool next token words layouts
+  scan_begun pool next token words layouts number turn finding of_query laid = record {
+    just = just_begun pool next token layouts number turn finding laid;
+    of_query = λ begun. subst (AreWordsOf words) (begun_last next token.opened_at turn.earlier query (begun_by next number turn) begun).1 of_query;
+  }
+
+  -- a find that the desk refused
+  pub refused_find : (after : List Event) (fault : FindFault) → IsTurn pass before after (λ history. AnswersFind limits.events limits history (Err fault)) [] → RefusedTurn limits pass before after fault
+  refused_find after find.Memory turn = turn
+  refused_find after (find.Spent events) turn = turn
+
+  -- did not begin
+  pub not_begun : (after : List Event) (fault : FindFault) → RefusedTurn limits pass before after fault → RefusedTurns limits pass before after fault
+  not_begun after find.Memory turn = inr turn
+  not_begun after (find.Spent events) turn = turn
 
   -- What follows it is made of the pass as it was then.
   module _ (middle : PassState) (number : middle.number ≡ pass) (begun : FindBegins limits pass query before middle.front) (after : List Event) (ended : FindEnds middle.number middle.front after) where
@@ -100,8 +96,9 @@ module _ (limits : Limits) (pass : ℕ) (query : List ℕ) (before : List Event)
 module _ (limits : Limits) (pass : ℕ) (query : List ℕ) (before after : List Event) (idle : IsIdle pass before) (legal : IsLegal limits after) where
   -- that did not begin
   pub refused_step : IsIdle pass after → (fault : FindFault) → RefusedTurns limits pass before after fault → Step limits pass before after (call.Find query) (reply_of_find_fault fault)
-  refused_step idle_end find.Memory same =
+  refused_step idle_end find.Memory (inl same) =
       step_find_without_memory limits pass before after idle legal idle_end (subst (IsQuiet pass 0 before) same (quiet_none pass before)) query
+  refused_step idle_end find.Memory (inr turn) = step_find_without_memory limits pass before after idle legal idle_end (quiet_turn pass before after [] turn refl refl) query
   refused_step idle_end (find.Spent events) turn = step_spent_turn limits pass before after (call.Find query) idle turn turn.answer.many legal
 
   module _ (idle_end : IsIdle pass after) where
@@ -118,3 +115,23 @@ module _ (limits : Limits) (pass : ℕ) (query : List ℕ) (before after : List 
     dropped_step turns =
         step_found_without_memory limits pass before turns.middle after query idle turns.begun (call_by-own pass (event.Find pass query) refl)
         (end_is_quiet pass turns.middle after turns.ended) legal idle_end
+
+-- The layouts that the desk told as the find began are those of its slices before it.
+pub layouts_then : (pool : PoolId) (before after : DeskState) (seat next : PassState) (query : List ℕ) (answer : Result Token FindFault) (entries : List SlicesLayout) → before.pool ≡ pool →
+    Makes (events_of_find seat.number query answer) before after seat next → IfOk answer (λ token. AreFindLayouts before.pool before.history token entries) →
+    IfOk answer (λ token. (begun : HasToken next.front next.number token.opened_at) → AreFindLayouts pool begun.earlier token entries)
+layouts_then pool before after seat next query (Ok token) entries of made laid = λ begun.
+    let at : IsBegunAt (view_of next) before.history query =
+    subst (λ n. next.front ≡ before.history ++ event.Find n query ∷ []) (sym made.number) (made.front ∙ made.history) in
+    subst (λ (h : List Event). AreFindLayouts pool h token entries) (begun_last next token.opened_at before.history query at begun).0
+    (subst (λ (p : PoolId). AreFindLayouts p before.history token entries) of laid)
+layouts_then pool before after seat next query (Err fault) entries of made laid = tt
+
+-- the turns of a find that is answered by a judge
+pub kept_turns : (limits : Limits) (pass : ℕ) (test : List ℕ → Bool) (before : List Event) (middle : PassState) (number : middle.number ≡ pass) (begun : FindBegins limits pass [] before middle.front) (after : List Event)
+    (ended : FindEnds middle.number middle.front after) (ids : List ℕ) → ((earlier : List Event) (query : List ℕ) → IsBegunAt (view_of middle) earlier query → ids ≡ answer_where earlier test) →
+    KeptTurns limits pass test before after ids
+kept_turns limits pass test before middle number begun after ended ids kept = record {
+  turns = ended_turns limits pass [] before middle number begun after ended;
+  kept = kept begun.earlier [] (begun_by limits pass [] before middle number begun);
+}

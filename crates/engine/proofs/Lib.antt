@@ -4,7 +4,7 @@ pub mod Claims
 pub mod DeskTurns
 pub mod Ends
 pub mod Finds
-pub mod FoundUpTo
+pub mod FindParts
 pub mod MovePasses
 pub mod Moves
 pub mod NewPasses
@@ -12,8 +12,8 @@ pub mod NotTaken
 pub mod OpenFinds
 pub mod Scans
 pub mod Sizes
-pub mod JudgedFinds
 pub mod BranchScans
 pub mod MergedColumns
 pub mod WordExprs
 pub mod QueryCalls
+pub mod TuneCalls

@@ -1,34 +1,35 @@
 -- Where a pass stands between the turns of a move.
-use Rattle.std.proofs.Common.{◌≡◌, ◌↔◌, ℕ, ◌<◌, Bool, true, false, IsTrue, ◌||◌, List, [], ◌∷◌, ◌++◌, Option, Some, None, Ok, sym, refl, ap, ◌∙◌, subst, append-nil}
+use Rattle.std.proofs.Common.{◌≡◌, ◌↔◌, ℕ, ◌<◌, Bool, true, false, IsTrue, ◌||◌, List, [], ◌∷◌, ◌++◌, Option, Some, None, Result, Ok, Err, sym, refl, ap, ◌∙◌, subst, append-nil}
 use Rattle.std.proofs.lemmas.List.Folds.{list_any-append}
 use Rattle.std.specs.List.{list_any}
-use Rattle.std.specs.Prelude.{IfSome, MatchOption}
+use Rattle.std.specs.Prelude.{IfOk, IfSome}
 use mathlib.Core.List.{IsPrefix}
 use Rattle.funnel_model.specs.declared.bit_list.Bit.{Bit}
 use Rattle.funnel_model.specs.declared.claim.Claim.{Claim}
 use Rattle.funnel_model.specs.declared.config.Config.{Config}
 use Rattle.funnel_model.specs.declared.event.Event.{Event}
 use Rattle.funnel_model.specs.declared.event.Event.TheVariants as event
+use Rattle.funnel_model.specs.declared.memory.Memory.{Memory}
 use Rattle.funnel_model.specs.Events.{deletes_or_drops}
 use Rattle.funnel_model.specs.History.{last_by}
 use Rattle.funnel_model.specs.Legal.{IsIdle, IsLegal, Limits}
-use Rattle.funnel_model.specs.Words.{words}
 use Rattle.funnel_model.proofs.Claims.{take_within}
 use Rattle.funnel_model.proofs.Histories.{allowed_within, legal_before}
 use Rattle.funnel_model.proofs.Spans.{last_by-own}
 use Rattle.funnel_model.proofs.StepLemmas.{prefix_trans}
-use Rattle.row_layout.specs.DocumentBits.{AreDocumentBits}
+use Rattle.row_layout.specs.Layouts.{LayoutId}
 use Rattle.slice_rule.specs.Pools.{PoolId}
 use Rattle.slice_rule.specs.Seats.{HasNoneOutstanding, PassState}
 use Rattle.commit_desk.specs.declared.look.Look.{Look}
-use Rattle.commit_desk.specs.Desks.{DeskState, IsUnwritten, Makes}
+use Rattle.commit_desk.specs.declared.answers.TakenMove.{TakenMove}
+use Rattle.commit_desk.specs.Desks.{DeskState, IsFresh, Makes}
+use Rattle.commit_desk.specs.Layouts.{IsLayoutOf}
 use Rattle.commit_desk.specs.Moving.{AnswersLook, AnswersTakeMove, HoldsLook, IsThereStill, LooksState, event_of_move, events_of_take_move}
-use Rattle.funnel_model.specs.Tunings.{treat}
 use Rattle.commit_desk.specs.Passes.{IsResting, IsToWrite}
 use Rattle.commit_desk.proofs.CallEnds.{rests_one}
 use Rattle.slice_recycler.specs.Turns.{IsTurn}
 use Rattle.slice_recycler.proofs.Steps.{idle_still}
-use Rattle.engine.specs.Moves.{IsToBeMoved, MoveTurns}
+use Rattle.engine.specs.Moves.{AreBitsAt, IsToBeMoved, MoveTurns, TakesFor, WritesOrRests}
 
 -- a pass that looked at a document holds its look while its front grows
 pub holds_on : (seat next : PassState) (look : Look) → IsPrefix seat.front next.front → HoldsLook seat look → HoldsLook next look
@@ -62,9 +63,9 @@ module _ (pool : PoolId) (before after : DeskState) (seat next : PassState) (non
 
   module _ (of : before.pool ≡ pool) where
     -- a column that the pass claimed is its to write
-    claims_one : seat.pool ≡ pool → (claim : Claim) → claim.slice < before.pool.limits.slices → IsUnwritten next →
-        Makes (event.Take seat.number claim.slice claim.column ∷ []) before after seat next → IsToWrite pool claim next
-    claims_one here claim in' nothing made =
+    claims_one : seat.pool ≡ pool → (claim : Claim) (layout : LayoutId) → claim.slice < before.pool.limits.slices → IsFresh claim layout next →
+        Makes (event.Take seat.number claim.slice claim.column ∷ []) before after seat next → IsToWrite pool claim layout next
+    claims_one here claim layout in' fresh made =
         let limits = before.pool.limits in
         let e = event.Take seat.number claim.slice claim.column in
         let legal : IsLegal limits (before.history ++ e ∷ []) = subst (IsLegal limits) made.history (subst (λ (p : PoolId). IsLegal p.limits after.history) made.pool made.legal) in
@@ -76,34 +77,40 @@ module _ (pool : PoolId) (before after : DeskState) (seat next : PassState) (non
         record {
           seated = record { same = made.same ∙ here; none_outstanding = none };
           holds = last ∙ ap (λ n. Some (event.Take n claim.slice claim.column)) (sym made.number);
-          nothing = nothing.nothing;
-          treated = subst (λ (k : Config). treat k claim.slice next.front ≡ k) (ap (λ (p : PoolId). p.config) (made.same ∙ here)) (nothing.treated claim.slice);
+          nothing = fresh.unwritten.nothing;
+          laid = subst (λ (p : PoolId). IsLayoutOf p.config claim.slice next.front layout) (made.same ∙ here) fresh.laid;
           in_range = subst (λ (p : PoolId). claim.slice < p.limits.slices) of in';
           column = subst (λ (p : PoolId). claim.column < p.limits.columns) of within;
         }
 
     -- what the pass is to do after it took a column for a move, or took none
-    pub writes_or_rests : IsResting pool seat → (most : ℕ) (look : Look) (answer : Option (Claim × Look)) → AnswersTakeMove most before.pool.limits before.history seat.number look answer →
-        IfSome answer (λ taken. IsUnwritten next) → Makes (events_of_take_move seat.number answer) before after seat next →
-        MatchOption answer (IsResting pool next) (λ taken. IsToWrite pool taken.0 next)
-    writes_or_rests rests most look None may nothing made = rests_on rests made
-    writes_or_rests rests most look (Some taken) may nothing made = claims_one rests.seated.same taken.0 may.1.in_range nothing made
+    pub writes_or_rests : IsResting pool seat → (most : ℕ) (look : Look) (answer : Result (Option TakenMove) Memory) → AnswersTakeMove most before.pool.limits before.history seat.number look answer →
+        IfOk answer (λ found. IfSome found (λ taken. IsFresh taken.claim taken.layout next)) → Makes (events_of_take_move seat.number answer) before after seat next →
+        WritesOrRests pool next answer
+    writes_or_rests rests most look (Ok None) may fresh made = rests_on rests made
+    writes_or_rests rests most look (Ok (Some taken)) may fresh made = claims_one rests.seated.same taken.claim taken.layout may.1.in_range fresh made
+    writes_or_rests rests most look (Err memory) may fresh made = rests_on rests made
 
 -- the document that the desk names is to be moved
 to_be_moved : (reserve : ℕ) (limits : Limits) (looks : LooksState) (history : List Event) (id : ℕ) (look : Look) → AnswersLook reserve limits.events limits looks history id (Ok (Some look)) →
     IsToBeMoved reserve limits history id look
 to_be_moved reserve limits looks history id look next = record { held = next.held; empties = next.empties; live = next.next.live }
 
+-- the column that was taken for it
+takes_for : (limits : Limits) (history : List Event) (pass : ℕ) (look : Look) (taken : TakenMove) → AnswersTakeMove limits.events limits history pass look (Ok (Some taken)) →
+    TakesFor limits history pass look taken.claim
+takes_for limits history pass look taken may = record { takes_calls = may.0; may = may.1; other = may.2 }
+
 -- The turns of a move whose pass wrote the bits before the last one.
-module _ (config : Config) (limits : Limits) (pass id : ℕ) (before after : List Event) (look kept : Look) (claim : Claim) (bits : List Bit) (moved : Bool) (seen took wrote : PassState) where
+module _ (config : Config) (limits : Limits) (pass id : ℕ) (before after : List Event) (look : Look) (taken : TakenMove) (bits : List Bit) (moved : Bool) (seen took wrote : PassState) where
   pub move_turns : IsTurn pass before seen.front (λ history. (looks : LooksState) × AnswersLook config.reserve limits.events limits looks history id (Ok (Some look))) [] → seen.number ≡ pass →
-      IsTurn seen.number seen.front took.front (λ history. AnswersTakeMove limits.events limits history seen.number look (Some (claim, kept))) (event.Take seen.number claim.slice claim.column ∷ []) →
-      kept ≡ look → took.number ≡ seen.number → wrote ≡ record took { own = wrote.own } → AreDocumentBits config (words look.doc.text) claim.slice claim.column bits →
-      IsTurn wrote.number wrote.front after (λ history. IsTrue moved ↔ IsThereStill history kept) (event_of_move wrote.number kept claim bits moved ∷ []) →
+      IsTurn seen.number seen.front took.front (λ history. AnswersTakeMove limits.events limits history seen.number look (Ok (Some taken))) (event.Take seen.number taken.claim.slice taken.claim.column ∷ []) →
+      taken.look ≡ look → took.number ≡ seen.number → wrote ≡ record took { own = wrote.own } → AreBitsAt config limits wrote.front look.doc.text taken.claim bits →
+      IsTurn wrote.number wrote.front after (λ history. IsTrue moved ↔ IsThereStill history taken.look) (event_of_move wrote.number taken.look taken.claim bits moved ∷ []) →
       MoveTurns config limits pass id before after
-  move_turns looked number taken same next is of_text ended = record {
+  move_turns looked number takes same next is of_text ended = record {
     look = look;
-    claim = claim;
+    claim = taken.claim;
     bits = bits;
     moved = moved;
     seen = seen.front;
@@ -114,10 +121,16 @@ module _ (config : Config) (limits : Limits) (pass id : ℕ) (before after : Lis
       answer = to_be_moved config.reserve limits looked.answer.0 looked.earlier id look looked.answer.1;
       made = looked.made;
     };
-    took = subst (λ (k : Look). IsTurn pass seen.front took.front (λ history. AnswersTakeMove limits.events limits history pass look (Some (claim, k))) (event.Take pass claim.slice claim.column ∷ [])) same
-        (subst (λ (n : ℕ). IsTurn n seen.front took.front (λ history. AnswersTakeMove limits.events limits history n look (Some (claim, kept))) (event.Take n claim.slice claim.column ∷ [])) number taken);
-    of_text = of_text;
-    ended = subst (λ (k : Look). IsTurn pass took.front after (λ history. IsTrue moved ↔ IsThereStill history k) (event_of_move pass k claim bits moved ∷ [])) same
-        (subst (λ (n : ℕ). IsTurn n took.front after (λ history. IsTrue moved ↔ IsThereStill history kept) (event_of_move n kept claim bits moved ∷ [])) (next ∙ number)
-        (subst (λ (p : PassState). IsTurn p.number p.front after (λ history. IsTrue moved ↔ IsThereStill history kept) (event_of_move p.number kept claim bits moved ∷ [])) is ended));
+    took =
+        subst (λ (n : ℕ). IsTurn n seen.front took.front (λ history. TakesFor limits history n look taken.claim) (event.Take n taken.claim.slice taken.claim.column ∷ [])) number
+        (record {
+          earlier = takes.earlier;
+          seen = takes.seen;
+          answer = takes_for limits takes.earlier seen.number look taken takes.answer;
+          made = takes.made;
+        });
+    of_text = subst (λ (h : List Event). AreBitsAt config limits h look.doc.text taken.claim bits) (ap (λ (p : PassState). p.front) is) of_text;
+    ended = subst (λ (k : Look). IsTurn pass took.front after (λ history. IsTrue moved ↔ IsThereStill history k) (event_of_move pass k taken.claim bits moved ∷ [])) same
+        (subst (λ (n : ℕ). IsTurn n took.front after (λ history. IsTrue moved ↔ IsThereStill history taken.look) (event_of_move n taken.look taken.claim bits moved ∷ [])) (next ∙ number)
+        (subst (λ (p : PassState). IsTurn p.number p.front after (λ history. IsTrue moved ↔ IsThereStill history taken.look) (event_of_move p.number taken.look taken.claim bits moved ∷ [])) is ended));
   }

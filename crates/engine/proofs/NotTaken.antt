@@ -27,7 +27,7 @@ module _ (limits : Limits) (pass id : ℕ) (text : List ℕ) where
   claimed_late : (before after : List Event) (claim : Claim) → limits.events ≤ length before → ClaimTurns limits pass id text before after claim → ⊥
   claimed_late before after claim many turns =
       ⊎_elim
-      (λ taken. taken_late before after _ taken many taken.answer.0.takes_calls)
+      (λ first. taken_late before after _ first.took many first.took.answer.0.takes_calls)
       (λ first. taken_late before first.middle _ first.cleared many first.cleared.answer.0.takes_calls)
       turns
 
@@ -36,38 +36,40 @@ module _ (limits : Limits) (pass id : ℕ) (text : List ℕ) where
 
   -- the own turns of an add, before which nothing was moved
   own_not_taken : (config : Config) (before start after : List Event) (answer : Result ℕ AddFault) → limits.events ≤ length before → IsFrontOf pass before start → OwnTurns config limits pass id text start after answer →
-      IsNotTaken (record { limits = limits; pass = pass }) before after (reply_of_add answer)
+      IsNotTaken (record { opening = config; limits = limits; pass = pass }) before after (reply_of_add answer)
   own_not_taken config before start after answer many seen turns = of answer turns where
     many_now : limits.events ≤ length start
     many_now = let grows = no_shorter pass before start seen in omega (arith, many, grows)
 
-    of : (answer : Result ℕ AddFault) → OwnTurns config limits pass id text start after answer → IsNotTaken (record { limits = limits; pass = pass }) before after (reply_of_add answer)
+    of : (answer : Result ℕ AddFault) → OwnTurns config limits pass id text start after answer → IsNotTaken (record { opening = config; limits = limits; pass = pass }) before after (reply_of_add answer)
     of (Ok added) turns = absurd (committed_late config start after (Ok added) many_now turns)
     of (Err (add.Present added)) turns =
         absurd (⊎_elim (λ turn. taken_late start after _ turn many_now turn.answer.0) (λ late. committed_late config start after _ many_now late) turns)
     of (Err (add.Full blocks)) turns = absurd (taken_late start after _ turns many_now turns.answer.0.takes_calls)
     of (Err (add.Spent events)) turns =
         record { reply = inl refl; call = quiet_adds_none pass 0 before after (quiet_trans pass 0 0 before start after (quiet_front pass before start seen) (quiet_turn pass start after [] turns refl refl)) }
-    of (Err add.Memory) turns = absurd turns
+    of (Err add.Memory) turns = absurd (taken_late start after _ turns many_now turns.answer.0.takes_calls)
 
   module _ (before : List Event) (many : limits.events ≤ length before) where
     moved_not_taken : (config : Config) (after : List Event) (answer : Result ℕ AddFault) → MovesFirst config limits pass id text before after answer →
-        IsNotTaken (record { limits = limits; pass = pass }) before after (reply_of_add answer)
+        IsNotTaken (record { opening = config; limits = limits; pass = pass }) before after (reply_of_add answer)
     moved_not_taken config after answer turns =
         own_not_taken config before turns.middle after answer many (none_moved_late config limits pass id turns.moves before turns.middle many turns.moved) turns.own
 
     pub add_not_taken : (config : Config) (after : List Event) (answer : Result ℕ AddFault) → AddTurns config limits pass id text before after answer →
-        IsNotTaken (record { limits = limits; pass = pass }) before after (reply_of_add answer)
+        IsNotTaken (record { opening = config; limits = limits; pass = pass }) before after (reply_of_add answer)
     add_not_taken config after (Ok added) turns = moved_not_taken config after (Ok added) turns
     add_not_taken config after (Err (add.Present added)) turns = moved_not_taken config after (Err (add.Present added)) turns
     add_not_taken config after (Err (add.Full blocks)) turns = moved_not_taken config after (Err (add.Full blocks)) turns
     add_not_taken config after (Err (add.Spent events)) turns = moved_not_taken config after (Err (add.Spent events)) turns
-    add_not_taken config after (Err add.Memory) turns = record { reply = inr refl; call = ap (own pass) (sym turns) }
+    add_not_taken config after (Err add.Memory) turns =
+        ⊎_elim (λ (same : before ≡ after). record { reply = inr refl; call = ap (own pass) (sym same) })
+        (λ (moved : MovesFirst config limits pass id text before after (Err add.Memory)). moved_not_taken config after (Err add.Memory) moved) turns
 
 -- so an add is answered as a call
 pub answers_add : (pool : PoolId) (pass id : ℕ) (text : List ℕ) (before after : List Event) (answer : Result ℕ AddFault) (given : Reply) →
     Step pool.limits pass before after (call.Add id text) (reply_of_add answer) → AddTurns pool.config pool.limits pass id text before after answer → given ≡ reply_of_add answer →
-    AnswersCall (record { limits = pool.limits; pass = pass }) before after (call.Add id text) given
+    AnswersCall (record { opening = pool.config; limits = pool.limits; pass = pass }) before after (call.Add id text) given
 answers_add pool pass id text before after answer given step turns told =
-    subst (AnswersCall (record { limits = pool.limits; pass = pass }) before after (call.Add id text)) (sym told)
+    subst (AnswersCall (record { opening = pool.config; limits = pool.limits; pass = pass }) before after (call.Add id text)) (sym told)
     (record { step = step; spent = λ many. add_not_taken pool.limits pass id text before many pool.config after answer turns })

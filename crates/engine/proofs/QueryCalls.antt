@@ -1,7 +1,7 @@
 -- How the find of a judge answers a query.
-use Rattle.std.proofs.Common.{◌≡◌, ℕ, Bool, ◌≤◌, ◌⊎◌, List, [], ◌∷◌, ◌++◌, length, Result, Ok, Err, refl, sym, ap, ◌∙◌, append_assoc, inl, inr}
-use Rattle.engine.specs.declared.finding.FindFault.{FindFault}
-use Rattle.engine.specs.declared.finding.FindFault.TheVariants as find
+use Rattle.std.proofs.Common.{◌≡◌, ℕ, Bool, ◌≤◌, ◌⊎◌, List, [], ◌∷◌, ◌++◌, length, Result, Ok, Err, refl, ap, ◌∙◌, append_assoc, inl, inr}
+use Rattle.commit_desk.specs.declared.answers.FindFault.{FindFault}
+use Rattle.commit_desk.specs.declared.answers.FindFault.TheVariants as find
 use Rattle.engine.specs.declared.word_expr.WordExpr.{WordExpr}
 use Rattle.engine.specs.Finds.{EndedTurns}
 use Rattle.engine.specs.Judged.{JudgedTurns, KeptTurns, MakesFindOfAll}
@@ -12,13 +12,14 @@ use Rattle.engine.proofs.NotTaken.{taken_late}
 use Rattle.engine.proofs.WordExprs.{answer_is_by}
 use Rattle.funnel_model.specs.declared.call.Call.{Call}
 use Rattle.funnel_model.specs.declared.call.Call.TheVariants as call
+use Rattle.funnel_model.specs.declared.config.Config.{Config}
 use Rattle.funnel_model.specs.declared.event.Event.{Event}
 use Rattle.funnel_model.specs.declared.event.Event.TheVariants as event
 use Rattle.funnel_model.specs.declared.expr.Expr.{Expr}
 use Rattle.funnel_model.specs.declared.reply.Reply.{Reply}
 use Rattle.funnel_model.specs.declared.reply.Reply.TheVariants as reply
 use Rattle.funnel_model.specs.Expressions.{tree_of}
-use Rattle.funnel_model.specs.History.{answer, own}
+use Rattle.funnel_model.specs.History.{answer}
 use Rattle.funnel_model.specs.Legal.{IsIdle, IsLegal, Limits}
 use Rattle.funnel_model.specs.Steps.{AddsCall, IsJudged, IsMade, IsSpent, LacksMemory, Step}
 use Rattle.line_proto.specs.Services.{AnswersCall, IsNotTaken}
@@ -27,7 +28,7 @@ use Rattle.slice_recycler.proofs.Steps.{quiet_adds_none, quiet_turn, step_spent_
 -- The call that such a find makes: that of the empty query.
 module _ (limits : Limits) (pass : ℕ) (test : List ℕ → Bool) (before after : List Event) (idle : IsIdle pass before) (legal : IsLegal limits after) (idle_end : IsIdle pass after) where
   refused_all : (fault : FindFault) → JudgedTurns limits pass test before after (Err fault) → Step limits pass before after (call.Find []) (reply_of_find_fault fault)
-  refused_all find.Memory (inl same) = refused_step limits pass [] before after idle legal idle_end find.Memory same
+  refused_all find.Memory (inl turn) = refused_step limits pass [] before after idle legal idle_end find.Memory (inr turn)
   refused_all find.Memory (inr ended) = dropped_step limits pass [] before after idle legal idle_end ended
   refused_all (find.Spent events) turn = refused_step limits pass [] before after idle legal idle_end (find.Spent events) turn
 
@@ -39,7 +40,7 @@ module _ (limits : Limits) (pass : ℕ) (test : List ℕ → Bool) (before after
   finds_all number same (Err fault) turns = record { step = refused_all fault turns; number = same }
 
 -- A query whose expression is the judge's.
-module _ (limits : Limits) (pass : ℕ) (expr : Expr) (judge : WordExpr) (is : IsTestOf judge (tree_of expr)) (before after : List Event) where
+module _ (opening : Config) (limits : Limits) (pass : ℕ) (expr : Expr) (judge : WordExpr) (is : IsTestOf judge (tree_of expr)) (before after : List Event) where
   abbrev asked : Call
   asked = call.Query expr
 
@@ -79,20 +80,20 @@ module _ (limits : Limits) (pass : ℕ) (expr : Expr) (judge : WordExpr) (is : I
 
   -- a query that found no memory
   lacks : JudgedTurns limits pass (test_of judge) before after (Err find.Memory) → LacksMemory pass before after asked reply.Memory
-  lacks (inl same) = record { reply = refl; call = inl (ap (own pass) (sym same)) }
+  lacks (inl turn) = record { reply = refl; call = inl (quiet_adds_none pass 0 before after (quiet_turn pass before after [] turn refl refl)) }
   lacks (inr ended) = record { reply = refl; call = inr (made_call ended) }
 
   -- it isn't taken where the front has as many events as there may be
   not_taken : limits.events ≤ length before → (answered : Result (List ℕ) FindFault) → JudgedTurns limits pass (test_of judge) before after answered →
-      IsNotTaken (record { limits = limits; pass = pass }) before after (reply_of_find answered)
+      IsNotTaken (record { opening = opening; limits = limits; pass = pass }) before after (reply_of_find answered)
   not_taken many (Ok ids) kept = absurd (taken_late limits pass 0 [] before kept.turns.middle _ kept.turns.begun many kept.turns.begun.answer)
-  not_taken many (Err find.Memory) (inl same) = record { reply = inr refl; call = ap (own pass) (sym same) }
+  not_taken many (Err find.Memory) (inl turn) = absurd (taken_late limits pass 0 [] before after _ turn many turn.answer)
   not_taken many (Err find.Memory) (inr ended) = absurd (taken_late limits pass 0 [] before ended.middle _ ended.begun many ended.begun.answer)
   not_taken many (Err (find.Spent events)) turn =
       record { reply = inl refl; call = quiet_adds_none pass 0 before after (quiet_turn pass before after [] turn refl refl) }
 
   pub answers : (number : ℕ) → (answered : Result (List ℕ) FindFault) → MakesFindOfAll limits answered (record { number = pass; front = before }) (record { number = number; front = after }) →
-      JudgedTurns limits pass (test_of judge) before after answered → AnswersCall (record { limits = limits; pass = pass }) before after asked (reply_of_find answered)
+      JudgedTurns limits pass (test_of judge) before after answered → AnswersCall (record { opening = opening; limits = limits; pass = pass }) before after asked (reply_of_find answered)
   answers number (Ok ids) (all, made) turns = record {
     step = as_query (reply.Found all) (reply.Found ids) made.step (inr (inr (inr (judged ids turns))));
     spent = λ many. not_taken many (Ok ids) turns;

@@ -4,9 +4,11 @@ use Rattle.std.specs.List.Sorted.{IsStrictlySortedBy}
 use Rattle.std.specs.Ordering.{nat_cmp}
 use Rattle.std.proofs.lemmas.Bool.{cases_lt, lt-ltb, ltb-true}
 use Rattle.std.proofs.lemmas.List.Elements.{All-contains, Contains-append_cases, Contains-append_left, Contains-append_right}
-use Rattle.commit_desk.specs.Scans.{AreScanned, HasAllCommitted, IsOfToken}
-use Rattle.engine.specs.Scans.{AreScannedBelow, CanScan, token_below}
+use Rattle.commit_desk.specs.declared.layouts.SlicesLayout.{SlicesLayout}
+use Rattle.commit_desk.specs.Scans.{AreScanned, HasAllCommitted, IsOfToken, token_of}
+use Rattle.engine.specs.Scans.{AreScannedBelow, CanScan, IsReadable, part_of, token_below}
 use Rattle.engine.specs.Engines.{IsOfConfig}
+use Rattle.engine.specs.Finds.{CanLookIn}
 use Rattle.engine.proofs.CandidateParts.{candidate_is, candidate_of_column, candidates_once, pairs-append}
 use Rattle.funnel_model.proofs.AnswerLemmas.{Contains-filter, Contains-filtered}
 use Rattle.funnel_model.specs.declared.bit_list.Bit.{Bit}
@@ -14,16 +16,16 @@ use Rattle.funnel_model.specs.declared.claim.Token.{Token}
 use Rattle.funnel_model.specs.declared.config.Config.{Config}
 use Rattle.funnel_model.specs.declared.event.Event.{Event}
 use Rattle.funnel_model.specs.RowWords.{IsCommitted}
-use Rattle.funnel_model.specs.Sizes.{columns_of_slice, words_of_slice}
+use Rattle.funnel_model.specs.Sizes.{columns_of_slice}
 use Rattle.rank_matcher.proofs.DocumentHits.{plan-bits}
-use Rattle.rank_matcher.specs.Appended.{appended, candidates_of}
-use Rattle.funnel_model.specs.Legal.{Limits}
+use Rattle.rank_matcher.specs.Appended.{AppendsColumns, HasBits, HasEach, appended, candidates_of}
+use Rattle.funnel_model.specs.Legal.{IsInSlice, Limits}
 use Rattle.row_layout.specs.declared.row.Row.{Row}
-use Rattle.row_layout.specs.DocumentBits.{IsDocumentBit, bit_of_row}
-use Rattle.row_layout.specs.Layouts.{own_layout}
+use Rattle.row_layout.specs.DocumentBits.{IsDocumentBitIn, bit_of_row}
+use Rattle.row_layout.specs.Layouts.{LayoutId}
 use Rattle.row_layout.specs.Orders.{HasRowsOf}
 use Rattle.row_read.specs.declared.shared.Shared.{Shared}
-use Rattle.row_read.specs.SharedRows.{CanRead, IsCommittedUnder, SharedKept, kept_of}
+use Rattle.row_read.specs.SharedRows.{CanRead, IsCommittedUnder, IsInReach, SharedKept, kept_of}
 use Rattle.row_read.specs.SharedRows as shared
 use Rattle.slice_rule.specs.declared.view.Fact.{Fact}
 use Rattle.slice_rule.specs.Pools.{PoolId}
@@ -38,14 +40,12 @@ module _ (slices slice : ℕ) (token : Token) where
   below has low = Contains-filter (λ s. nat_lt s slices) token.slices slice has (lt-ltb slice slices low)
 
 -- no slice is below slice 0
-pub scanned_none : (config : Config) (seat : PassState) (token : Token) (words : List (List ℕ)) → seat.pool.limits.slice_words ≡ words_of_slice config →
-    AreScannedBelow config seat token words 0 []
-scanned_none config seat token words laid = record {
+pub scanned_none : (config : Config) (seat : PassState) (token : Token) (words : List (List ℕ)) → AreScannedBelow config seat token words 0 []
+scanned_none config seat token words = record {
   of_token = λ candidate has. absurd (nothing candidate has);
   each_once = λ i j d lt within. absurd (omega (arith, within));
   every = λ slice column has. let low = (is_below 0 slice token has).1 in absurd (omega (arith, low));
   read = λ candidate has. absurd (nothing candidate has);
-  laid = laid;
 }
   where
     nothing : (candidate : ℕ × ℕ) → Contains [] candidate → ⊥
@@ -61,7 +61,6 @@ scanned_all config seat token words slices candidates in_range scanned = record 
   each_once = scanned.each_once;
   every = λ slice column has. scanned.every slice column (below slices slice token has (in_range slice has));
   read = scanned.read;
-  laid = scanned.laid;
 }
 
 -- what is of a slice below one is of a slice below the next
@@ -79,32 +78,35 @@ scanned_without config seat token words slice candidates lacks scanned = record 
   each_once = scanned.each_once;
   every = λ s column has. let is = is_below (slice + 1) s token has in here s is.1 is.0 column (cases_lt s slice);
   read = scanned.read;
-  laid = scanned.laid;
 }
   where
     here : (s : ℕ) → s < slice + 1 → Contains token.slices s → (column : ℕ) → (s < slice) ⊎ (slice ≤ s) → column < seat.pool.limits.columns → HasAllCommitted config seat words s column → Contains candidates (s, column)
     here s low has column (inl lower) = scanned.every s column (below slice s token has lower)
     here s low has column (inr high) = let same : s ≡ slice = omega (arith, low, high) in absurd (lacks (subst (Contains token.slices) same has))
 
--- A slice that the token has, of which these columns were appended.
-module _ (config : Config) (before after : PassState) (token : Token) (words : List (List ℕ)) (plan : List Row) (slice : ℕ) (old : List (ℕ × ℕ)) (columns : List ℕ)
-    (same_pool : after.pool ≡ before.pool) (same_front : after.front ≡ before.front) (sizes : before.pool.limits.columns ≡ columns_of_slice config)
-    (readable : Contains token.slices slice) (rows : HasRowsOf config words plan) (scanned : AreScannedBelow config before token words slice old)
+-- A slice that the token has, of which these columns were appended. The rows were read by a token that may have more slices.
+module _ (layout : LayoutId) (before after : PassState) (token whole : Token) (words : List (List ℕ)) (plan : List Row) (slice : ℕ) (old : List (ℕ × ℕ)) (columns : List ℕ)
+    (same_pool : after.pool ≡ before.pool) (same_front : after.front ≡ before.front) (sizes : before.pool.limits.columns ≡ columns_of_slice layout.config)
+    (room : layout.room ≡ before.pool.limits.slice_words) (here : Contains token.slices slice) (readable : Contains whole.slices slice) (rows : HasRowsOf layout.config words plan)
+    (scanned : AreScannedBelow layout.config before token words slice old)
     (seen_stays : (bit : Bit) → WasReadUnder before token.opened_at bit → WasReadUnder after token.opened_at bit) where
-  width : after.pool.limits.columns ≡ columns_of_slice config
+  width : after.pool.limits.columns ≡ columns_of_slice layout.config
   width = ap (λ (p : PoolId). p.limits.columns) same_pool ∙ sizes
+
+  room_now : layout.room ≡ after.pool.limits.slice_words
+  room_now = room ∙ sym (ap (λ (p : PoolId). p.limits.slice_words) same_pool)
 
   of_old : (candidate : ℕ × ℕ) → Contains old candidate → IsOfToken after.pool.limits.columns (token_below (slice + 1) token) candidate
   of_old candidate has =
       of_token_later after.pool.limits.columns slice token candidate
       (subst (λ n. IsOfToken n (token_below slice token) candidate) (sym (ap (λ (p : PoolId). p.limits.columns) same_pool)) (scanned.of_token candidate has))
 
-  of_new : All (λ column. column < columns_of_slice config) columns → (candidate : ℕ × ℕ) → Contains (candidates_of slice columns) candidate → IsOfToken after.pool.limits.columns (token_below (slice + 1) token) candidate
+  of_new : All (λ column. column < columns_of_slice layout.config) columns → (candidate : ℕ × ℕ) → Contains (candidates_of slice columns) candidate → IsOfToken after.pool.limits.columns (token_below (slice + 1) token) candidate
   of_new in_slice candidate has =
       let is = candidate_is slice columns candidate has in
-      let low = All-contains (λ column. column < columns_of_slice config) columns candidate.1 in_slice is.1 in
+      let low = All-contains (λ column. column < columns_of_slice layout.config) columns candidate.1 in_slice is.1 in
       record {
-        slice = subst (Contains (token_below (slice + 1) token).slices) (sym is.0) (below (slice + 1) slice token readable (omega arith));
+        slice = subst (Contains (token_below (slice + 1) token).slices) (sym is.0) (below (slice + 1) slice token here (omega arith));
         column = subst (λ n. candidate.1 < n) (sym width) low;
       }
 
@@ -113,30 +115,34 @@ module _ (config : Config) (before after : PassState) (token : Token) (words : L
 
   -- a column of the slice whose bits are all committed is covered
   every_new :
-      ((column : ℕ) → column < columns_of_slice config →
-      All (λ row. (s : ℕ) × Contains token.slices s × IsCommitted before.front s (bit_of_row (words_of_slice config) slice column row)) plan → Contains columns column) →
-      (column : ℕ) → column < after.pool.limits.columns → HasAllCommitted config after words slice column → Contains (candidates_of slice columns) (slice, column)
+      ((column : ℕ) → column < columns_of_slice layout.config →
+      All (λ row. (s : ℕ) × Contains whole.slices s × IsCommitted before.front s (bit_of_row layout.room slice column row)) plan → Contains columns column) →
+      (column : ℕ) → column < after.pool.limits.columns → HasAllCommitted layout.config after words slice column → Contains (candidates_of slice columns) (slice, column)
   every_new covered column low committed =
       candidate_of_column slice columns column
       (covered column (subst (λ n. column < n) width low)
-      (plan-bits (λ bit. (s : ℕ) × Contains token.slices s × IsCommitted before.front s bit) (own_layout config) words slice column
-      (λ bit of_document. (slice, readable, subst (λ (h : List Event). IsCommitted h slice bit) same_front (committed bit of_document))) plan rows))
+      (plan-bits (λ bit. (s : ℕ) × Contains whole.slices s × IsCommitted before.front s bit) layout words slice column
+      (λ bit of_document.
+      (slice, readable, subst (λ (h : List Event). IsCommitted h slice bit) same_front (committed bit (subst (λ n. IsDocumentBitIn n layout.config words slice column bit) room_now of_document)))) plan rows))
 
   -- of each of them the bits of the words were seen
-  read_new : All (λ column. All (λ row. WasReadUnder after token.opened_at (bit_of_row (words_of_slice config) slice column row)) plan) columns →
-      (candidate : ℕ × ℕ) → Contains (candidates_of slice columns) candidate → (bit : Bit) → IsDocumentBit config words candidate.0 candidate.1 bit → WasReadUnder after token.opened_at bit
-  read_new seen candidate has bit (row, of_words, is) =
+  read_new : All (λ column. All (λ row. WasReadUnder after token.opened_at (bit_of_row layout.room slice column row)) plan) columns →
+      (candidate : ℕ × ℕ) → Contains (candidates_of slice columns) candidate → (bit : Bit) → IsDocumentBitIn after.pool.limits.slice_words layout.config words candidate.0 candidate.1 bit →
+      WasReadUnder after token.opened_at bit
+  read_new seen candidate has bit of_document =
+      let found = subst (λ n. IsDocumentBitIn n layout.config words candidate.0 candidate.1 bit) (sym room_now) of_document in
+      let row = found.0 in
       let of_slice = candidate_is slice columns candidate has in
-      let each = All-contains (λ column. All (λ row. WasReadUnder after token.opened_at (bit_of_row (words_of_slice config) slice column row)) plan) columns candidate.1 seen of_slice.1 in
-      let set = All-contains (λ row. WasReadUnder after token.opened_at (bit_of_row (words_of_slice config) slice candidate.1 row)) plan row each ((rows row).1 of_words) in
-      subst (WasReadUnder after token.opened_at) (sym (is ∙ ap (λ s. bit_of_row (words_of_slice config) s candidate.1 row) (low_new candidate has))) set
+      let each = All-contains (λ column. All (λ r. WasReadUnder after token.opened_at (bit_of_row layout.room slice column r)) plan) columns candidate.1 seen of_slice.1 in
+      let set = All-contains (λ r. WasReadUnder after token.opened_at (bit_of_row layout.room slice candidate.1 r)) plan row each ((rows row).1 found.1) in
+      subst (WasReadUnder after token.opened_at) (sym (found.2 ∙ ap (λ s. bit_of_row layout.room s candidate.1 row) (low_new candidate has))) set
 
   pub scanned_more :
-      ((column : ℕ) → column < columns_of_slice config →
-      All (λ row. (s : ℕ) × Contains token.slices s × IsCommitted before.front s (bit_of_row (words_of_slice config) slice column row)) plan → Contains columns column) →
-      All (λ column. column < columns_of_slice config) columns → IsStrictlySortedBy nat_cmp columns →
-      All (λ column. All (λ row. WasReadUnder after token.opened_at (bit_of_row (words_of_slice config) slice column row)) plan) columns →
-      AreScannedBelow config after token words (slice + 1) (old ++ candidates_of slice columns)
+      ((column : ℕ) → column < columns_of_slice layout.config →
+      All (λ row. (s : ℕ) × Contains whole.slices s × IsCommitted before.front s (bit_of_row layout.room slice column row)) plan → Contains columns column) →
+      All (λ column. column < columns_of_slice layout.config) columns → IsStrictlySortedBy nat_cmp columns →
+      All (λ column. All (λ row. WasReadUnder after token.opened_at (bit_of_row layout.room slice column row)) plan) columns →
+      AreScannedBelow layout.config after token words (slice + 1) (old ++ candidates_of slice columns)
   scanned_more covered in_slice rising seen = record {
     of_token = λ candidate has. ⊎_elim (of_old candidate) (of_new in_slice candidate) (Contains-append_cases old (candidates_of slice columns) candidate has);
     each_once =
@@ -146,24 +152,30 @@ module _ (config : Config) (before after : PassState) (token : Token) (words : L
         let is = low_new other of_second in
         let slices = ap (λ (c : ℕ × ℕ). c.0) same in
         omega (arith, low, is, slices));
-    every = λ s column has. let is = is_below (slice + 1) s token has in here s is.1 is.0 column (cases_lt s slice);
+    every = λ s column has. let is = is_below (slice + 1) s token has in each s is.1 is.0 column (cases_lt s slice);
     read = λ candidate has bit of_document.
-        ⊎_elim (λ (h : Contains old candidate). seen_stays bit (scanned.read candidate h bit of_document)) (λ (h : Contains (candidates_of slice columns) candidate). read_new seen candidate h bit of_document)
+        ⊎_elim
+        (λ (h : Contains old candidate).
+        seen_stays bit
+        (scanned.read candidate h bit
+        (subst (λ (p : PoolId). IsDocumentBitIn p.limits.slice_words layout.config words candidate.0 candidate.1 bit) same_pool of_document)))
+        (λ (h : Contains (candidates_of slice columns) candidate). read_new seen candidate h bit of_document)
         (Contains-append_cases old (candidates_of slice columns) candidate has);
-    laid = ap (λ (p : PoolId). p.limits.slice_words) same_pool ∙ scanned.laid;
   }
     where
-      here : (s : ℕ) → s < slice + 1 → Contains token.slices s → (column : ℕ) → (s < slice) ⊎ (slice ≤ s) → column < after.pool.limits.columns → HasAllCommitted config after words s column →
+      each : (s : ℕ) → s < slice + 1 → Contains token.slices s → (column : ℕ) → (s < slice) ⊎ (slice ≤ s) → column < after.pool.limits.columns → HasAllCommitted layout.config after words s column →
           Contains (old ++ candidates_of slice columns) (s, column)
-      here s low has column (inl lower) in_range committed =
+      each s low has column (inl lower) in_range committed =
           Contains-append_left old (candidates_of slice columns) (s, column)
           (scanned.every s column (below slice s token has lower) (subst (λ n. column < n) (ap (λ (p : PoolId). p.limits.columns) same_pool) in_range)
-          (λ bit of_document. subst (λ (h : List Event). IsCommitted h s bit) same_front (committed bit of_document)))
-      here s low has column (inr high) in_range committed =
+          (λ bit of_document.
+          subst (λ (h : List Event). IsCommitted h s bit) same_front
+          (committed bit (subst (λ (p : PoolId). IsDocumentBitIn p.limits.slice_words layout.config words s column bit) (sym same_pool) of_document))))
+      each s low has column (inr high) in_range committed =
           let same : s ≡ slice = omega (arith, low, high) in
           subst (λ n. Contains (old ++ candidates_of slice columns) (n, column)) (sym same)
           (Contains-append_right old (candidates_of slice columns) (slice, column)
-          (every_new covered column in_range (subst (λ n. HasAllCommitted config after words n column) same committed)))
+          (every_new covered column in_range (subst (λ n. HasAllCommitted layout.config after words n column) same committed)))
 
 -- What reads keep of a pass.
 module _ (before after : Shared) (kept : kept_of after ≡ kept_of before) where
@@ -173,6 +185,9 @@ module _ (before after : Shared) (kept : kept_of after ≡ kept_of before) where
 
   pub token_kept : after.token.now ≡ before.token.now
   token_kept = ap (λ (k : SharedKept). k.token) kept
+
+  pub part_kept : (entry : SlicesLayout) → part_of entry after ≡ part_of entry before
+  part_kept entry = ap (λ (t : Token). token_of entry.slices t) token_kept
 
 -- a pass that did more still holds its token
 pub holds_still : (seat : PassState) (own told : List Fact) (token : Token) → HoldsToken seat token → HoldsToken (record seat { own = own; told = told }) token
@@ -190,36 +205,74 @@ read_kept pool before after kept can_read =
     } in
     subst (CanRead pool after.seat.now) (sym (token_kept before after kept)) (subst (λ (s : PassState). CanRead pool s before.token.now) (sym (seat_kept before after kept)) did)
 
-pub scan_kept : (pool : PoolId) (before after : Shared) (words : List (List ℕ)) (plan : List Row) → kept_of after ≡ kept_of before → CanScan pool before words plan → CanScan pool after words plan
-scan_kept pool before after words plan kept scan = record {
-  same = ap (λ (k : SharedKept). k.pool) kept ∙ scan.same;
-  can_read = read_kept pool before after kept scan.can_read;
-  rows = scan.rows;
-  laid = scan.laid;
+pub readable_kept : (pool : PoolId) (before after : Shared) (entry : SlicesLayout) → kept_of after ≡ kept_of before → IsReadable pool before entry → IsReadable pool after entry
+readable_kept pool before after entry kept readable = record {
+  same = ap (λ (k : SharedKept). k.pool) kept ∙ readable.same;
+  can_read = read_kept pool before after kept readable.can_read;
+  among = λ slice has. subst (λ (t : Token). Contains t.slices slice) (sym (token_kept before after kept)) (readable.among slice has);
+  layout = readable.layout;
 }
 
--- the slices of the token are slices of the pool
-pub in_pool : (pool : PoolId) (shared : Shared) (words : List (List ℕ)) (plan : List Row) → IsOfConfig pool → CanScan pool shared words plan →
-    (slice : ℕ) → Contains shared.token.now.slices slice → slice < pool.config.slices
-in_pool pool shared words plan of_config scan slice has =
-    subst (λ n. slice < n) (ap (λ (p : PoolId). p.limits.slices) scan.can_read.same ∙ ap (λ (l : Limits). l.slices) of_config.limits) ((scan.can_read.holds.slices slice).0 has).0
+pub scan_kept : (pool : PoolId) (before after : Shared) (entry : SlicesLayout) (words : List (List ℕ)) (plan : List Row) → kept_of after ≡ kept_of before → CanScan pool before entry words plan →
+    CanScan pool after entry words plan
+scan_kept pool before after entry words plan kept scan = record { readable = readable_kept pool before after entry kept scan.readable; planned = scan.planned }
+
+-- what a find may read of an entry of its layouts, once its rows are those of the pool
+pub readable_by : (pool : PoolId) (entry : SlicesLayout) (pass : PassState) (token : Token) (rows : Shared) → CanLookIn pool pass token entry → CanRead rows.pool.now rows.seat.now rows.token.now →
+    rows.pool.now ≡ pool → rows.token.now ≡ token → IsReadable pool rows entry
+readable_by pool entry pass token rows look can_read same token_is =
+    let found = look.laid look.finding.holds.begun in
+    record {
+      same = same;
+      can_read = subst (λ (p : PoolId). CanRead p rows.seat.now rows.token.now) same can_read;
+      among = λ slice has. subst (λ (t : Token). Contains t.slices slice) (sym token_is) (look.among slice has);
+      layout = record { room = found.room; sized = found.suits.sized };
+    }
+
+-- What may be read by a layout of the pool.
+module _ (pool : PoolId) (shared : Shared) (entry : SlicesLayout) (of_config : IsOfConfig pool) (readable : IsReadable pool shared entry) where
+  -- the slices of the entry are slices of the pool
+  pub in_pool : (slice : ℕ) → Contains entry.slices slice → slice < pool.config.slices
+  in_pool slice has =
+      subst (λ n. slice < n) (ap (λ (p : PoolId). p.limits.slices) readable.can_read.same ∙ ap (λ (l : Limits). l.slices) of_config.limits)
+      ((readable.can_read.holds.slices slice).0 (readable.among slice has)).0
+
+  -- and of its layout, whose slices have the columns and the words of the pool's
+  pub in_layout : (slice : ℕ) → Contains entry.slices slice → slice < entry.layout.config.slices
+  in_layout slice has = subst (λ n. slice < n) (sym (ap (λ (k : Config). k.slices) readable.layout.sized)) (in_pool slice has)
+
+  pub same_columns : shared.seat.now.pool.limits.columns ≡ columns_of_slice entry.layout.config
+  same_columns =
+      ap (λ (p : PoolId). p.limits.columns) readable.can_read.same ∙ ap (λ (l : Limits). l.columns) of_config.limits
+      ∙ sym (ap columns_of_slice readable.layout.sized)
+
+  pub same_room : entry.layout.room ≡ shared.seat.now.pool.limits.slice_words
+  same_room = readable.layout.room ∙ sym (ap (λ (p : PoolId). p.limits.slice_words) readable.can_read.same)
+
+  -- each of its words is in reach
+  pub in_reach : (slice : ℕ) → Contains entry.slices slice → (word : ℕ) → IsInSlice entry.layout.room slice word → IsInReach shared word
+  in_reach slice has word inside = record {
+    can_read = subst (λ (p : PoolId). CanRead p shared.seat.now shared.token.now) (sym readable.same) readable.can_read;
+    slice = slice;
+    readable = readable.among slice has;
+    inside = subst (λ n. IsInSlice n slice word) (readable.layout.room ∙ sym (ap (λ (p : PoolId). p.limits.slice_words) readable.same)) inside;
+  }
 
 -- One more slice is scanned, of which the reads are those of the rows.
-pub scanned_slice : (layout : Config) (before after : Shared) (words : List (List ℕ)) (plan : List Row) (slice : ℕ) (old new : List (ℕ × ℕ)) →
-    kept_of after ≡ kept_of before → before.seat.now.pool.limits.columns ≡ columns_of_slice layout → Contains before.token.now.slices slice → HasRowsOf layout words plan →
-    AreScannedBelow layout before.seat.now before.token.now words slice old → new ≡ old ++ candidates_of slice (appended old new) →
-    ((column : ℕ) → column < columns_of_slice layout →
-    All (λ row. IsCommittedUnder before (bit_of_row (words_of_slice layout) slice column row)) plan → Contains (appended old new) column) →
-    All (λ column. column < columns_of_slice layout) (appended old new) → IsStrictlySortedBy nat_cmp (appended old new) →
-    All (λ column. All (λ row. shared.WasReadSet after (bit_of_row (words_of_slice layout) slice column row)) plan) (appended old new) →
-    ((bit : Bit) → shared.WasReadSet before bit → shared.WasReadSet after bit) →
-    AreScannedBelow layout after.seat.now after.token.now words (slice + 1) new
-scanned_slice layout before after words plan slice old new kept sizes readable rows below appends covered in_slice rising seen seen_stays =
+pub scanned_slice : (pool : PoolId) (before after : Shared) (entry : SlicesLayout) (words : List (List ℕ)) (plan : List Row) (slice : ℕ) (old new : List (ℕ × ℕ)) → IsOfConfig pool →
+    CanScan pool before entry words plan → kept_of after ≡ kept_of before → Contains entry.slices slice →
+    AreScannedBelow entry.layout.config before.seat.now (part_of entry before) words slice old → AppendsColumns entry.layout slice old new →
+    HasEach (IsCommittedUnder before) entry.layout plan slice (appended old new) → All (HasBits (shared.WasReadSet after) entry.layout plan slice) (appended old new) →
+    ((bit : Bit) → shared.WasReadSet before bit → shared.WasReadSet after bit) → AreScannedBelow entry.layout.config after.seat.now (part_of entry after) words (slice + 1) new
+scanned_slice pool before after entry words plan slice old new of_config can kept has below appends covered seen seen_stays =
     let token = token_kept before after kept in
-    subst (λ (t : Token). AreScannedBelow layout after.seat.now t words (slice + 1) new) (sym token)
-    (subst (AreScannedBelow layout after.seat.now before.token.now words (slice + 1)) (sym appends)
-    (scanned_more layout before.seat.now after.seat.now before.token.now words plan slice old (appended old new) (ap (λ (k : SharedKept). k.seat_pool) kept) (ap (λ (k : SharedKept). k.front) kept) sizes
-    readable rows below
+    let part = part_of entry before in
+    let layout = entry.layout in
+    let readable = can.readable in
+    subst (λ (t : Token). AreScannedBelow layout.config after.seat.now t words (slice + 1) new) (sym (part_kept before after kept entry))
+    (subst (AreScannedBelow layout.config after.seat.now part words (slice + 1)) (sym appends.appends)
+    (scanned_more layout before.seat.now after.seat.now part before.token.now words plan slice old (appended old new) (ap (λ (k : SharedKept). k.seat_pool) kept) (ap (λ (k : SharedKept). k.front) kept)
+    (same_columns pool before entry of_config readable) (same_room pool before entry of_config readable) has (readable.among slice has) can.planned.rows below
     (subst (λ (t : Token). (bit : Bit) → WasReadUnder before.seat.now before.token.now.opened_at bit → WasReadUnder after.seat.now t.opened_at bit) token seen_stays)
-    covered in_slice rising
-    (subst (λ (t : Token). All (λ column. All (λ row. WasReadUnder after.seat.now t.opened_at (bit_of_row (words_of_slice layout) slice column row)) plan) (appended old new)) token seen)))
+    covered appends.in_slice appends.rising
+    (subst (λ (t : Token). All (λ column. All (λ row. WasReadUnder after.seat.now t.opened_at (bit_of_row layout.room slice column row)) plan) (appended old new)) token seen)))

@@ -1,5 +1,5 @@
 -- The turns of an add at the desk: those of its moves, and those for its own document.
-use Rattle.std.specs.Prelude.{◌≡◌, ℕ, ◌*◌, ◌≤◌, ◌⊎◌, List, [], length, Result, Ok, Err}
+use Rattle.std.specs.Prelude.{◌≡◌, ℕ, ◌*◌, ◌≤◌, ◌⊎◌, List, [], length, Option, Result, Ok, Err}
 use Rattle.document_store.specs.Documents.{Parts}
 use Rattle.funnel_model.specs.declared.bit_list.Bit.{Bit}
 use Rattle.funnel_model.specs.declared.call.TheConstants.{MOST_MOVES}
@@ -7,7 +7,7 @@ use Rattle.funnel_model.specs.declared.claim.Claim.{Claim}
 use Rattle.funnel_model.specs.declared.config.Config.{Config}
 use Rattle.funnel_model.specs.declared.event.Event.{Event}
 use Rattle.funnel_model.specs.Legal.{Limits}
-use Rattle.funnel_model.specs.Words.{AreWordsOf, words}
+use Rattle.funnel_model.specs.Words.{AreWordsOf}
 use Rattle.commit_desk.specs.Answers.{AnswersCommit, AnswersTake, events_of_commit, events_of_opened_take, events_of_take}
 use Rattle.commit_desk.specs.declared.answers.AddFault.{AddFault}
 use Rattle.commit_desk.specs.declared.answers.AddFault.TheVariants as add
@@ -15,13 +15,14 @@ use Rattle.commit_desk.specs.declared.answers.CommitFault.{CommitFault}
 use Rattle.commit_desk.specs.declared.answers.CommitFault.TheVariants as commit
 use Rattle.commit_desk.specs.declared.answers.Taken.{Taken}
 use Rattle.commit_desk.specs.declared.answers.Taken.TheVariants as taken
-use Rattle.engine.specs.Moves.{SomeMoves}
+use Rattle.engine.specs.Moves.{AreBitsAt, SomeMoves}
 use Rattle.row_layout.specs.declared.row.TheConstants.{MOST_ROWS}
-use Rattle.row_layout.specs.DocumentBits.{AreDocumentBits, BitsState}
+use Rattle.row_layout.specs.DocumentBits.{BitsState}
+use Rattle.row_layout.specs.Layouts.{LayoutId}
 use Rattle.slice_recycler.specs.Turns.{IsTurn}
 
 -- a document that is to be added: its set of words is that of its text, and there is room for their bits, of which none is there yet
-pub record IsPrepared (doc : Parts) (bits : BitsState) : Type 0 where
+pub record IsToBeAdded (doc : Parts) (bits : BitsState) : Type 0 where
   pub of_text : AreWordsOf doc.words doc.text
   pub no_bits : bits.bits ≡ []
   pub room : MOST_ROWS * length doc.words ≤ bits.room
@@ -31,25 +32,34 @@ abbrev pub TakeTurn : Limits → ℕ → ℕ → List ℕ → List Event → Lis
 TakeTurn limits pass id text before after answer =
     IsTurn pass before after (λ history. AnswersTake limits.events limits history pass id answer) (events_of_take pass id text answer)
 
+-- the pass took this column in the first turn of its add
+pub record TakesFirst (limits : Limits) (pass id : ℕ) (text : List ℕ) (before after : List Event) (claim : Claim) : Type 0 where
+  pub layout : LayoutId
+  pub took : TakeTurn limits pass id text before after (taken.Claim claim layout)
+
 -- the pass cleared a slice, opened it, and took its first column
 pub record ClearsFirst (limits : Limits) (pass id : ℕ) (text : List ℕ) (before after : List Event) (claim : Claim) : Type 0 where
+  pub layout : LayoutId
+  pub old_layout : Option LayoutId
   pub middle : List Event
-  pub cleared : TakeTurn limits pass id text before middle (taken.Clear (record { job = record { slice = claim.slice }; slots = limits.columns }))
+  pub cleared : TakeTurn limits pass id text before middle
+      (taken.Clear (record { job = record { slice = claim.slice }; slots = limits.columns; old_layout = old_layout }) layout)
   pub opened : IsTurn pass middle after (λ history. Unit {0}) (events_of_opened_take pass claim.slice)
   pub first : claim.column ≡ 0
 
 -- the pass took a column: at once, or after it cleared a slice
 abbrev pub ClaimTurns : Limits → ℕ → ℕ → List ℕ → List Event → List Event → Claim → Type 0
 ClaimTurns limits pass id text before after claim =
-    TakeTurn limits pass id text before after (taken.Claim claim) ⊎ ClearsFirst limits pass id text before after claim
+    TakesFirst limits pass id text before after claim ⊎ ClearsFirst limits pass id text before after claim
 
--- the add came to its last turn, and was answered so there: the document was added with exactly its bits, or dropped
+-- the add came to its last turn, and was answered so there: the document was added with exactly its bits, by the treatment that its slice
+-- had when the pass had claimed the column, or dropped
 pub record CommitTurns (config : Config) (limits : Limits) (pass id : ℕ) (text : List ℕ) (before after : List Event) (answer : Result ℕ CommitFault) : Type 0 where
   pub claim : Claim
   pub bits : List Bit
   pub middle : List Event
   pub claimed : ClaimTurns limits pass id text before middle claim
-  pub of_text : AreDocumentBits config (words text) claim.slice claim.column bits
+  pub of_text : AreBitsAt config limits middle text claim bits
   pub committed : IsTurn pass middle after (λ history. AnswersCommit history id answer) (events_of_commit pass id text claim bits answer)
 
 -- what an add is answered whose document was dropped so
@@ -57,14 +67,15 @@ abbrev pub fault_of_drop : CommitFault → AddFault
 fault_of_drop (commit.Present added) = add.Present added
 
 -- The turns of an add for its own document. One that is answered by its place was added in its last turn. It is refused as present in its
--- first turn or in its last, and for want of room or as spent in its first.
+-- first turn or in its last, and for want of room, as spent or for want of memory for the layout of its slice in its first.
 abbrev pub OwnTurns : Config → Limits → ℕ → ℕ → List ℕ → List Event → List Event → Result ℕ AddFault → Type 0
 OwnTurns config limits pass id text before after (Ok added) = CommitTurns config limits pass id text before after (Ok added)
 OwnTurns config limits pass id text before after (Err (add.Present added)) =
-    TakeTurn limits pass id text before after (taken.Refused (add.Present added)) ⊎ CommitTurns config limits pass id text before after (Err (commit.Present added))
+    TakeTurn limits pass id text before after (taken.Refused (add.Present added))
+    ⊎ CommitTurns config limits pass id text before after (Err (commit.Present added))
 OwnTurns config limits pass id text before after (Err (add.Full blocks)) = TakeTurn limits pass id text before after (taken.Refused (add.Full blocks))
 OwnTurns config limits pass id text before after (Err (add.Spent events)) = TakeTurn limits pass id text before after (taken.Refused (add.Spent events))
-OwnTurns config limits pass id text before after (Err add.Memory) = ⊥
+OwnTurns config limits pass id text before after (Err add.Memory) = TakeTurn limits pass id text before after (taken.Refused add.Memory)
 
 -- the add moved a few documents, and then came its own turns
 pub record MovesFirst (config : Config) (limits : Limits) (pass id : ℕ) (text : List ℕ) (before after : List Event) (answer : Result ℕ AddFault) : Type 0 where
@@ -74,7 +85,8 @@ pub record MovesFirst (config : Config) (limits : Limits) (pass id : ℕ) (text 
   pub moved : SomeMoves config limits pass id before middle moves
   pub own : OwnTurns config limits pass id text middle after answer
 
--- The turns of an add. Where no memory was found for it nothing was done, and nothing was moved.
+-- The turns of an add. Where no memory was found for it nothing was done, and nothing was moved; or none was found for the layout of its
+-- slice, after the moves.
 abbrev pub AddTurns : Config → Limits → ℕ → ℕ → List ℕ → List Event → List Event → Result ℕ AddFault → Type 0
-AddTurns config limits pass id text before after (Err add.Memory) = before ≡ after
+AddTurns config limits pass id text before after (Err add.Memory) = (before ≡ after) ⊎ MovesFirst config limits pass id text before after (Err add.Memory)
 AddTurns config limits pass id text before after answer = MovesFirst config limits pass id text before after answer

@@ -1,29 +1,25 @@
 -- A scan for several branches: their plans, and what the scans of a slice for each of them merge to.
 use Rattle.std.specs.Prelude.{◌≡◌, ◌↔◌, ◌⊎◌, ◌==◌, ℕ, List, All, map, Contains}
 use Rattle.std.specs.List.{AllPairs, filter}
+use Rattle.commit_desk.specs.declared.layouts.SlicesLayout.{SlicesLayout}
 use Rattle.commit_desk.specs.Judging.{AreScannedForAny}
 use Rattle.commit_desk.specs.Scans.{AreScanned}
 use Rattle.engine.specs.declared.branch_scans.Planned.{Planned}
-use Rattle.engine.specs.Scans.{token_below}
+use Rattle.engine.specs.Scans.{IsPlanFor, IsReadable, token_below}
 use Rattle.funnel_model.specs.declared.claim.Token.{Token}
 use Rattle.funnel_model.specs.declared.config.Config.{Config}
-use Rattle.row_layout.specs.Orders.{HasRowsOf}
-use Rattle.row_layout.specs.Rows.{IsRowOf}
 use Rattle.row_read.specs.declared.shared.Shared.{Shared}
-use Rattle.row_read.specs.SharedRows.{CanRead}
 use Rattle.slice_rule.specs.Pools.{PoolId}
 use Rattle.slice_rule.specs.Seats.{PassState}
 
 -- the plan of a branch has the rows of its words
-pub record IsPlanned (config : Config) (branch : Planned) : Type 0 where
-  pub rows : HasRowsOf config branch.words.now branch.plan
-  pub laid : All (IsRowOf config) branch.plan
+abbrev pub IsPlanned : Config → Planned → Type 0
+IsPlanned config branch = IsPlanFor config branch.words.now branch.plan
 
--- the rows are those of the pool, which may be read, and each branch is planned by its configuration
-pub record CanScanEach (pool : PoolId) (shared : Shared) (branches : List Planned) : Type 0 where
-  pub same : shared.pool.now ≡ pool
-  pub can_read : CanRead pool shared.seat.now shared.token.now
-  pub planned : All (IsPlanned pool.config) branches
+-- the slices of the entry may be read, and each branch is planned by its layout
+pub record CanScanEach (pool : PoolId) (shared : Shared) (entry : SlicesLayout) (branches : List Planned) : Type 0 where
+  pub readable : IsReadable pool shared entry
+  pub planned : All (IsPlanned entry.layout.config) branches
 
 -- the words of each
 abbrev pub words_of_each : List Planned → List (List (List ℕ))

@@ -1,13 +1,13 @@
 -- What contracts see of an engine before it is open, while it is, and when it is closed.
-use Rattle.std.specs.Prelude.{◌≡◌, ℕ, List, length, map}
+use Rattle.std.specs.Prelude.{◌≡◌, ℕ, List, [], length, map}
 use Rattle.std.specs.List.{range_with_len}
 use Rattle.funnel_model.specs.Configuration.{IsValid}
 use Rattle.funnel_model.specs.declared.commit.Commit.{Commit}
+use Rattle.funnel_model.specs.declared.config.Config.{Config}
 use Rattle.funnel_model.specs.declared.event.Event.{Event}
 use Rattle.funnel_model.specs.History.{IsFrontOf, commits_after, own}
 use Rattle.funnel_model.specs.Sizes.{words_of_slice}
 use Rattle.engine.specs.Passes.{PassView}
-use Rattle.row_layout.specs.Layouts.{LayoutId, own_layout}
 use Rattle.slice_rule.specs.Pools.{PoolId, limits_of}
 use Rattle.slice_rule.specs.Seats.{HomeState, PassState, new_home_state, new_pass_state}
 
@@ -22,14 +22,15 @@ pub record IsBlank (pool : PoolId) (home : HomeState) (passes : List PassState) 
   pub new_home : home ≡ new_home_state pool
   pub new_passes : passes ≡ map (new_pass_state pool) (range_with_len 0 pool.config.passes)
 
--- the engine's pool is the one that its type names; its rows are laid out by the pool's configuration, and it has that one's slices and
--- reserve
-pub record IsEngine (named pool : PoolId) (layout : LayoutId) (slices reserve : ℕ) : Type 0 where
+-- the engine's pool is the one that its type names, and it has the row words of a slice, the slices and the reserve of the pool's
+-- configuration; it keeps that configuration, but for its listed words
+pub record IsEngine (named pool : PoolId) (room slices reserve : ℕ) (base : Config) : Type 0 where
   pub of_name : pool ≡ named
   pub of_config : IsOfConfig pool
-  pub laid_out : layout ≡ own_layout pool.config
+  pub room_is : room ≡ pool.limits.slice_words
   pub count : slices ≡ pool.config.slices
   pub kept_free : reserve ≡ pool.config.reserve
+  pub based : base ≡ record pool.config { words = [] }
 
 -- an engine that is closed: how many commits of its history come before those that its journal keeps, these, the number of its
 -- events, and the history

@@ -1,23 +1,23 @@
--- Finds: what an open one scans for, and the turns of a find at the desk.
-use Rattle.std.specs.Prelude.{◌≡◌, ℕ, ◌+◌, ◌<◌, ◌≤◌, ◌⊎◌, List, [], ◌∷◌, ◌++◌, length, take, All, Option, None, Some, Result, Ok, Err}
+-- Finds: what an open one scans for, what it has found of its slices, and the turns of a find at the desk.
+use Rattle.std.specs.Prelude.{◌≡◌, ℕ, ◌+◌, ◌<◌, ◌≤◌, ◌⊎◌, Bool, true, false, List, [], ◌∷◌, ◌++◌, length, Contains, Option, None, Some, Result, Ok, Err}
+use Rattle.std.specs.List.{AllPairs}
 use Rattle.document_store.specs.Finding.{FoundState}
 use Rattle.funnel_model.specs.declared.claim.Token.{Token}
 use Rattle.funnel_model.specs.declared.event.Event.{Event}
 use Rattle.funnel_model.specs.declared.event.Event.TheVariants as event
-use Rattle.funnel_model.specs.History.{answer}
+use Rattle.funnel_model.specs.History.{Document, IsFrontOf, answer}
 use Rattle.funnel_model.specs.Legal.{Limits}
+use Rattle.funnel_model.specs.Slices.{IsLiveOn}
 use Rattle.funnel_model.specs.Tokens.{HasToken}
-use Rattle.funnel_model.specs.Words.{AreWordsOf}
+use Rattle.funnel_model.specs.Words.{AreWordsOf, meets}
 use Rattle.commit_desk.specs.Answers.{IsSpentAt, TakesCalls}
-use Rattle.commit_desk.specs.Passes.{IsFinding}
-use Rattle.commit_desk.specs.Resolving.{AreGiven, GiveAll, IsRestOf}
-use Rattle.commit_desk.specs.Scans.{WereScanned}
-use Rattle.engine.specs.declared.finding.FindFault.{FindFault}
-use Rattle.engine.specs.declared.finding.FindFault.TheVariants as find
+use Rattle.commit_desk.specs.declared.answers.FindFault.{FindFault}
+use Rattle.commit_desk.specs.declared.answers.FindFault.TheVariants as find
+use Rattle.commit_desk.specs.declared.layouts.SlicesLayout.{SlicesLayout}
+use Rattle.commit_desk.specs.FindLayouts.{AreFindLayouts, IsFindLayout}
+use Rattle.commit_desk.specs.Judging.{AreGivenWhere, GiveAllIn}
+use Rattle.commit_desk.specs.Passes.{IsFinding, IsResting}
 use Rattle.engine.specs.Passes.{PassView, view_of}
-use Rattle.row_layout.specs.declared.row.Row.{Row}
-use Rattle.row_layout.specs.Orders.{HasRowsOf}
-use Rattle.row_layout.specs.Rows.{IsRowOf}
 use Rattle.slice_recycler.specs.Turns.{IsTurn}
 use Rattle.slice_rule.specs.Pools.{PoolId}
 use Rattle.slice_rule.specs.Seats.{PassState}
@@ -32,43 +32,74 @@ pub record HasJustBegun (pass : PassState) : Type 0 where
   pub query : List ℕ
   pub at : IsBegunAt (view_of pass) earlier query
 
--- the pass has a find open, which the last event that it has seen began, and which scans for these words: those of its query, by a plan of
--- their rows; the documents that the scan finds are to have the rest of them
-pub record IsScanFor (pool : PoolId) (pass : PassState) (token : Token) (words rest : List (List ℕ)) (plan : List Row) : Type 0 where
+-- the pass has a find open, which the last event that it has seen began, and by these layouts its slices are read
+pub record IsJustFinding (pool : PoolId) (token : Token) (pass : PassState) (layouts : List SlicesLayout) : Type 0 where
   pub finding : IsFinding pool token pass
   pub begun : HasJustBegun pass
-  pub of_query : (earlier : List Event) (query : List ℕ) → IsBegunAt (view_of pass) earlier query → AreWordsOf words query
-  pub rest_of : (earlier : List Event) (query : List ℕ) → IsBegunAt (view_of pass) earlier query → IsRestOf pool.config query rest
-  pub rows : HasRowsOf pool.config words plan
-  pub laid : All (IsRowOf pool.config) plan
+  pub laid : (begun : HasToken pass.front pass.number token.opened_at) → AreFindLayouts pool begun.earlier token layouts
 
--- A find between its turns. Its candidates were scanned for the words of its query, and their documents are to have the rest of them; there
--- is room for all that are left, and what those before this one give is found: by the history before the find, whatever came since.
-pub record IsFoundUpTo (pool : PoolId) (pass : PassState) (token : Token) (rest : List (List ℕ)) (candidates : List (ℕ × ℕ)) (found : FoundState) (from : ℕ) : Type 0 where
+-- and these are the words of its query
+pub record IsScanFor (pool : PoolId) (pass : PassState) (token : Token) (words : List (List ℕ)) (layouts : List SlicesLayout) : Type 0 where
+  pub just : IsJustFinding pool token pass layouts
+  pub of_query : (begun : HasToken pass.front pass.number token.opened_at) → AreWordsOf words begun.query
+
+-- a find is to give the documents whose text meets its query
+abbrev pub by_query : List ℕ → List ℕ → Bool
+by_query query text = meets text query
+
+-- the pass has a find open, of whose slices the entry has some, with their layout before the find
+pub record CanLookIn (pool : PoolId) (pass : PassState) (token : Token) (entry : SlicesLayout) : Type 0 where
   pub finding : IsFinding pool token pass
-  pub rest_of : (begun : HasToken pass.front pass.number token.opened_at) → IsRestOf pool.config begun.query rest
-  pub scanned : WereScanned pool.config pass token candidates
+  pub among : (slice : ℕ) → Contains entry.slices slice → Contains token.slices slice
+  pub laid : (begun : HasToken pass.front pass.number token.opened_at) → IsFindLayout pool begun.earlier entry
+
+-- The candidates were looked at by the history before the find, whatever came since: what they give comes after what was found before, and
+-- each document that was live in these slices and is to be given stands in the column of one of them.
+abbrev pub FindsIn : (List ℕ → List ℕ → Bool) → PassState → Token → List ℕ → List (ℕ × ℕ) → List (ℕ × ℕ) → List (ℕ × ℕ) → Type 0
+FindsIn test pass token slices candidates before after =
+    (begun : HasToken pass.front pass.number token.opened_at) → (more : List (ℕ × ℕ)) × AreGivenWhere begun.earlier (test begun.query) candidates more
+    × (after ≡ before ++ more) × GiveAllIn begun.earlier (test begun.query) slices candidates
+
+-- so were some candidates in these slices, each once
+pub record AddsFound (test : List ℕ → List ℕ → Bool) (pass : PassState) (token : Token) (slices : List ℕ) (before after : List (ℕ × ℕ)) : Type 0 where
+  pub candidates : List (ℕ × ℕ)
+  pub each_once : AllPairs (λ (candidate other : ℕ × ℕ). candidate ≡ other → ⊥) candidates
+  pub in_slices : (candidate : ℕ × ℕ) → Contains candidates candidate → Contains slices candidate.0
+  pub finds : FindsIn test pass token slices candidates before after
+
+-- the slice is one of those that these entries have
+abbrev pub IsLeft : List SlicesLayout → ℕ → Type 0
+IsLeft left slice = (entry : SlicesLayout) × Contains left entry × Contains entry.slices slice
+
+-- What a find has found where these entries are left: what candidates in its other slices give, each once; and each document that was live
+-- there before the find and is to be given stands in the column of one of them.
+pub record IsFoundBut (test : List ℕ → List ℕ → Bool) (pass : PassState) (token : Token) (left : List SlicesLayout) (found : List (ℕ × ℕ)) : Type 0 where
+  pub candidates : List (ℕ × ℕ)
+  pub each_once : AllPairs (λ (candidate other : ℕ × ℕ). candidate ≡ other → ⊥) candidates
+  pub elsewhere : (candidate : ℕ × ℕ) → Contains candidates candidate → IsLeft left candidate.0 → ⊥
+  pub given : (begun : HasToken pass.front pass.number token.opened_at) → AreGivenWhere begun.earlier (test begun.query) candidates found
+  pub all : (begun : HasToken pass.front pass.number token.opened_at) (slice column : ℕ) (document : Document) (since : ℕ) → Contains token.slices slice
+      → IsLiveOn begun.earlier slice column document since → test begun.query document.text ≡ true → IsLeft left slice ⊎ Contains candidates (slice, column)
+
+-- A find may go on from this candidate, or is at the end of them, and there is room for what is left.
+pub record CanGoOn (candidates : List (ℕ × ℕ)) (found : FoundState) (from : ℕ) : Type 0 where
   pub within : from ≤ length candidates
   pub room : length candidates ≤ found.room + from
-  pub given : (begun : HasToken pass.front pass.number token.opened_at) → AreGiven begun.earlier begun.query (take from candidates) found.found
 
--- what all candidates give is found, and they give all of the answer
-abbrev pub IsAllFound : PassState → Token → List (ℕ × ℕ) → List (ℕ × ℕ) → Type 0
-IsAllFound pass token candidates found =
-    (begun : HasToken pass.front pass.number token.opened_at) → AreGiven begun.earlier begun.query candidates found × GiveAll begun.earlier begun.query candidates
-
--- a turn of a find which isn't the last keeps its token, and comes to a later candidate
-pub record ComesTo (token : Token) (candidates : List (ℕ × ℕ)) (from : ℕ) (next : Token × ℕ) : Type 0 where
+-- A turn of a find which doesn't end it keeps its token, and comes to where the find may go on. That is a later candidate where any is left;
+-- and one is left where no other slices are.
+pub record ComesTo (token : Token) (candidates : List (ℕ × ℕ)) (last : Bool) (from : ℕ) (found : FoundState) (next : Token × ℕ) : Type 0 where
   pub same : next.0 ≡ token
-  pub further : from < next.1
-  pub more : next.1 < length candidates
+  pub can : CanGoOn candidates found next.1
+  pub further : next.1 < length candidates → from < next.1
+  pub more : last ≡ true → next.1 < length candidates
 
 -- how many candidates are looked at after a turn
 abbrev pub end_of_turn : List (ℕ × ℕ) → Option (Token × ℕ) → ℕ
 end_of_turn candidates None = length candidates
 end_of_turn candidates (Some next) = next.1
 
--- the events of a turn that looks at candidates: the last one ends the find
+-- the events of a turn that looks at candidates: one that hands no token back ends the find
 abbrev pub events_of_turn : ℕ → Option (Token × ℕ) → List Event
 events_of_turn pass None = event.End pass ∷ []
 events_of_turn pass (Some next) = []
@@ -81,6 +112,17 @@ FindBegins limits pass query before after = IsTurn pass before after (TakesCalls
 abbrev pub FindEnds : ℕ → List Event → List Event → Type 0
 FindEnds pass before after = IsTurn pass before after (λ history. Unit {0}) (event.End pass ∷ [])
 
+-- the pass has ended its find
+abbrev pub HasEnded : PoolId → PassState → PassState → Type 0
+HasEnded pool before after = FindEnds before.number before.front after.front × IsResting pool after
+
+-- After some of its slices, which are not the last ones, a find is open still, while others may have made events; after the last ones it is
+-- ended.
+abbrev pub GoesOn : PoolId → Token → Bool → PassState → PassState → Option Token → Type 0
+GoesOn pool token last before after (Some kept) =
+    (last ≡ false) × (kept ≡ token) × IsFinding pool token after × IsFrontOf before.number before.front after.front
+GoesOn pool token last before after None = (last ≡ true) × HasEnded pool before after
+
 -- a find that began and ended
 pub record EndedTurns (limits : Limits) (pass : ℕ) (query : List ℕ) (before after : List Event) : Type 0 where
   pub middle : List Event
@@ -92,10 +134,15 @@ pub record FoundTurns (limits : Limits) (pass : ℕ) (query : List ℕ) (before 
   pub turns : EndedTurns limits pass query before after
   pub found : ids ≡ answer turns.begun.earlier query
 
--- a find that did not begin: there was no memory, and nothing was done; or no call is taken any more
+-- a find that the desk refused: there was no memory for the layouts of its slices, or no call is taken any more; and it made no event
+abbrev pub RefusedTurn : Limits → ℕ → List Event → List Event → FindFault → Type 0
+RefusedTurn limits pass before after find.Memory = IsTurn pass before after (TakesCalls limits.events) []
+RefusedTurn limits pass before after (find.Spent events) = IsTurn pass before after (λ history. IsSpentAt limits.events history events) []
+
+-- a find that did not begin: the desk refused it, or there was no memory for its words, and nothing was done
 abbrev pub RefusedTurns : Limits → ℕ → List Event → List Event → FindFault → Type 0
-RefusedTurns limits pass before after find.Memory = before ≡ after
-RefusedTurns limits pass before after (find.Spent events) = IsTurn pass before after (λ history. IsSpentAt limits.events history events) []
+RefusedTurns limits pass before after find.Memory = (before ≡ after) ⊎ RefusedTurn limits pass before after find.Memory
+RefusedTurns limits pass before after (find.Spent events) = RefusedTurn limits pass before after (find.Spent events)
 
 -- A find is answered, or did not begin, or found no memory after it had begun.
 abbrev pub FindTurns : Limits → ℕ → List ℕ → List Event → List Event → Result (List ℕ) FindFault → Type 0

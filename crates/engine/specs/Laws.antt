@@ -1,34 +1,37 @@
 -- What the turns of an add say of the history, and what is left of an engine.
-use Rattle.std.specs.Prelude.{◌≡◌, ℕ, List, Contains, length, Ok, Err}
+use Rattle.std.specs.Prelude.{◌≡◌, ℕ, ◌≤◌, List, Contains, length, Ok, Err}
+use mathlib.Core.List.{IsPrefix}
 use Rattle.funnel_model.specs.declared.bit_list.Bit.{Bit}
+use Rattle.funnel_model.specs.declared.call.TheConstants.{MOST_MOVES}
 use Rattle.funnel_model.specs.declared.claim.Claim.{Claim}
 use Rattle.funnel_model.specs.declared.config.Config.{Config}
 use Rattle.funnel_model.specs.declared.event.Event.{Event}
 use Rattle.funnel_model.specs.declared.event.Event.TheVariants as event
 use Rattle.funnel_model.specs.Legal.{Limits}
-use Rattle.funnel_model.specs.Words.{words}
 use Rattle.commit_desk.specs.declared.answers.AddFault.TheVariants as add
-use Rattle.row_layout.specs.DocumentBits.{AreDocumentBits}
 use Rattle.engine.specs.Adds.{AddTurns, ClearsFirst}
 use Rattle.engine.specs.Engines.{ClosedState, IsClosed}
+use Rattle.engine.specs.Moves.{AreBitsAt, SomeMoves}
 
--- an add that found no memory made no event, and its pass saw none
-abbrev pub AddsWithoutMemoryDoNothing : Type 0
-AddsWithoutMemoryDoNothing = (config : Config) (limits : Limits) (pass id : ℕ) (text : List ℕ) (before after : List Event) →
-    AddTurns config limits pass id text before after (Err add.Memory) → before ≡ after
+-- an add that found no memory did nothing but move a few documents
+abbrev pub AddsWithoutMemoryAddNothing : Type 0
+AddsWithoutMemoryAddNothing = (config : Config) (limits : Limits) (pass id : ℕ) (text : List ℕ) (before after : List Event) →
+    AddTurns config limits pass id text before after (Err add.Memory) → (moves : ℕ) × (moves ≤ MOST_MOVES) × SomeMoves config limits pass id before after moves
 
--- the history has the add of this document to some column, with exactly the bits of its text there
-pub record HasAdd (config : Config) (history : List Event) (pass id : ℕ) (text : List ℕ) : Type 0 where
-  pub slice : ℕ
-  pub column : ℕ
+-- the history has the add of this document to some column, with exactly the bits of its text there, by the treatment that the slice had when
+-- the pass had claimed the column
+pub record HasAdd (config : Config) (limits : Limits) (history : List Event) (pass id : ℕ) (text : List ℕ) : Type 0 where
+  pub claim : Claim
   pub bits : List Bit
-  pub has : Contains history (event.Add pass id text slice column bits)
-  pub of_text : AreDocumentBits config (words text) slice column bits
+  pub claimed : List Event
+  pub grows : IsPrefix claimed history
+  pub has : Contains history (event.Add pass id text claim.slice claim.column bits)
+  pub of_text : AreBitsAt config limits claimed text claim bits
 
 -- an add that is answered by its place is in the history so
 abbrev pub AddsAreMadeWithTheirBits : Type 0
 AddsAreMadeWithTheirBits = (config : Config) (limits : Limits) (pass id place : ℕ) (text : List ℕ) (before after : List Event) →
-    AddTurns config limits pass id text before after (Ok place) → HasAdd config after pass id text
+    AddTurns config limits pass id text before after (Ok place) → HasAdd config limits after pass id text
 
 -- an add that cleared a slice took the column that it claims, which is the first
 abbrev pub ClearedSlicesAreFilledFromTheFirst : Type 0

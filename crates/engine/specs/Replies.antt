@@ -1,5 +1,5 @@
 -- The replies that a client is given for the answers of an engine: those to an add, a delete, a find, a text that is no query, a request
--- for the number of commits, and a journal.
+-- for the number of commits, a journal, a tuning, and a text that is no tuning.
 use Rattle.std.specs.Prelude.{ℕ, List, Result, Ok, Err}
 use Rattle.funnel_model.specs.declared.commit.Commit.{Commit}
 use Rattle.funnel_model.specs.declared.reply.Reply.{Reply}
@@ -10,11 +10,16 @@ use Rattle.commit_desk.specs.declared.answers.AddFault.{AddFault}
 use Rattle.commit_desk.specs.declared.answers.AddFault.TheVariants as add
 use Rattle.commit_desk.specs.declared.answers.DeleteFault.{DeleteFault}
 use Rattle.commit_desk.specs.declared.answers.DeleteFault.TheVariants as delete
+use Rattle.commit_desk.specs.declared.answers.FindFault.{FindFault}
+use Rattle.commit_desk.specs.declared.answers.FindFault.TheVariants as find
 use Rattle.commit_desk.specs.declared.answers.JournalFault.{JournalFault}
 use Rattle.commit_desk.specs.declared.answers.JournalFault.TheVariants as journal
 use Rattle.commit_desk.specs.declared.answers.Spent.{Spent}
-use Rattle.engine.specs.declared.finding.FindFault.{FindFault}
-use Rattle.engine.specs.declared.finding.FindFault.TheVariants as find
+use Rattle.engine.specs.declared.retuning.TuneFault.{TuneFault}
+use Rattle.engine.specs.declared.retuning.TuneFault.TheVariants as tune
+use Rattle.funnel_stats.specs.declared.fault.ConfigFault.{ConfigFault}
+use Rattle.funnel_stats.specs.declared.fault.ConfigFault.TheVariants as cause
+use Rattle.funnel_stats.specs.FaultNumbers.{number_of_fault}
 
 abbrev pub reply_of_add : Result ℕ AddFault → Reply
 reply_of_add (Ok place) = reply.Added place
@@ -50,3 +55,13 @@ reply_of_journal (Ok commits) = reply.Commits commits
 reply_of_journal (Err (journal.Trimmed base)) = reply.Trimmed base
 reply_of_journal (Err (journal.Spent events)) = reply.Spent
 reply_of_journal (Err journal.Memory) = reply.Memory
+
+abbrev pub reply_of_tune : Result ℕ TuneFault → Reply
+reply_of_tune (Ok count) = reply.Tuned count
+reply_of_tune (Err (tune.Wide needed room)) = reply.Wide needed room
+reply_of_tune (Err (tune.Spent events)) = reply.Spent
+reply_of_tune (Err tune.Memory) = reply.Memory
+
+abbrev pub reply_of_tuning_fault : ConfigFault → Reply
+reply_of_tuning_fault cause.Memory = reply.Memory
+reply_of_tuning_fault fault = reply.Tuning (number_of_fault fault)

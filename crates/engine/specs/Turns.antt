@@ -1,12 +1,21 @@
 -- The calls that have one turn at the desk.
-use Rattle.std.specs.Prelude.{ℕ, List, Result}
+use Rattle.std.specs.Prelude.{◌≡◌, ℕ, ◌<◌, ◌≤◌, List, [], ◌∷◌, Result, Ok, Err}
+use Rattle.funnel_model.specs.declared.call.Call.TheVariants as call
 use Rattle.funnel_model.specs.declared.commit.Commit.{Commit}
+use Rattle.funnel_model.specs.declared.config.Config.{Config}
+use Rattle.funnel_model.specs.declared.event.Event.TheVariants as event
 use Rattle.funnel_model.specs.Legal.{Limits}
-use Rattle.commit_desk.specs.Answers.{AnswersDelete, AnswersJournal, AnswersPlace, events_of_delete, events_of_journal, events_of_place}
+use Rattle.funnel_model.specs.Sizes.{words_of_slice}
+use Rattle.commit_desk.specs.Answers.{AnswersDelete, AnswersJournal, AnswersPlace, AnswersTune, IsSpentAt, events_of_delete, events_of_journal, events_of_place}
 use Rattle.commit_desk.specs.declared.answers.DeleteFault.{DeleteFault}
 use Rattle.commit_desk.specs.declared.answers.JournalFault.{JournalFault}
 use Rattle.commit_desk.specs.declared.answers.Spent.{Spent}
-use Rattle.engine.specs.Passes.{PassView}
+use Rattle.engine.specs.declared.retuning.TuneFault.{TuneFault}
+use Rattle.engine.specs.declared.retuning.TuneFault.TheVariants as tune
+use Rattle.engine.specs.Passes.{MakesCall, PassView}
+use Rattle.engine.specs.Replies.{reply_of_tune}
+use Rattle.row_layout.specs.declared.fault.LayoutFault.{LayoutFault}
+use Rattle.row_layout.specs.declared.fault.LayoutFault.TheVariants as layout
 use Rattle.slice_recycler.specs.Turns.{IsTurn}
 
 -- the desk's answer to the delete of this number
@@ -22,4 +31,34 @@ PlaceTurn limits answer before after =
 -- and to a journal
 abbrev pub JournalTurn : Limits → ℕ → Result (List Commit) JournalFault → PassView → PassView → Type 0
 JournalTurn limits from answer before after =
-    IsTurn before.number before.front after.front (λ history. AnswersJournal limits.events limits history from answer) (events_of_journal before.number from answer)
+    IsTurn before.number before.front after.front (λ history. AnswersJournal limits.events limits history from answer)
+    (events_of_journal before.number from answer)
+
+-- a slice has room for the rows of this configuration
+abbrev pub HasRoomFor : Limits → Config → Type 0
+HasRoomFor limits config = words_of_slice config ≤ limits.slice_words
+
+-- by this configuration a slice needs so many row words, and it has room for fewer
+pub record IsTooWide (limits : Limits) (config : Config) (needed room : ℕ) : Type 0 where
+  pub needed_is : needed ≡ words_of_slice config
+  pub room_is : room ≡ limits.slice_words
+  pub wide : room < needed
+
+-- what a tuning is answered whose rows were not laid out
+abbrev pub fault_of_layout : LayoutFault → TuneFault
+fault_of_layout (layout.Wide needed room) = tune.Wide needed room
+fault_of_layout layout.Memory = tune.Memory
+
+-- The answer to a tuning, whose rows have room. Where they have none, or no memory was found for their layouts, nothing was done.
+abbrev pub TuneTurn : Limits → Config → Result ℕ TuneFault → PassView → PassView → Type 0
+TuneTurn limits config (Ok count) before after = HasRoomFor limits config
+    × IsTurn before.number before.front after.front (λ history. AnswersTune limits.events history (Ok count)) (event.Tune before.number config ∷ [])
+TuneTurn limits config (Err (tune.Spent events)) before after = HasRoomFor limits config
+    × IsTurn before.number before.front after.front (λ history. IsSpentAt limits.events history events) []
+TuneTurn limits config (Err tune.Memory) before after = HasRoomFor limits config × (after ≡ before)
+TuneTurn limits config (Err (tune.Wide needed room)) before after = IsTooWide limits config needed room × (after ≡ before)
+
+-- the call of the tuning was made, unless its rows have no room
+abbrev pub MakesTuneCall : Limits → Config → Result ℕ TuneFault → PassView → PassView → Type 0
+MakesTuneCall limits config (Err (tune.Wide needed room)) before after = Unit {0}
+MakesTuneCall limits config answer before after = MakesCall limits (call.Tune config) (reply_of_tune answer) before after

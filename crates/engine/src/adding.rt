@@ -4,7 +4,7 @@ ghost use Rattle.funnel_model.specs.declared.call.Call.TheVariants as call;
 ghost use Rattle.funnel_model.specs.Legal.{IsLegal};
 ghost use Rattle.commit_desk.specs.declared.answers.Taken.TheVariants as taken;
 ghost use Rattle.commit_desk.specs.Passes.{HasWritten, IsResting, IsToWrite};
-ghost use Rattle.engine.specs.Adds.{AddTurns, ClaimTurns, IsPrepared, OwnTurns, TakeTurn, fault_of_drop};
+ghost use Rattle.engine.specs.Adds.{AddTurns, ClaimTurns, IsToBeAdded, OwnTurns, TakeTurn, fault_of_drop};
 ghost use Rattle.engine.specs.Passes.{MakesCall};
 ghost use Rattle.engine.specs.Replies.{reply_of_add};
 ghost use Rattle.row_layout.specs.declared.row.TheConstants.{MOST_ROWS};
@@ -12,7 +12,7 @@ ghost use Rattle.row_layout.specs.declared.row.TheConstants.{MOST_ROWS};
 use crate::engine::Engine;
 use crate::pass::Pass;
 use crate::work::{Direct, Work};
-use commit_desk::{AddFault, CommitFault, Taken, ToClear};
+use commit_desk::{AddFault, CommitFault, SharedLayout, Taken, ToClear};
 use document_store::Doc;
 use funnel_model::{Block, Claim, Memory, Text, WordSet};
 use row_layout::{Bits, fill_bits};
@@ -23,7 +23,8 @@ use word_cut::words;
 
 impl<N: PoolName> Engine<N> {
     /// Adds a document, and gives the place of its add. It takes all its memory at first: for the words, the text, the bits,
-    /// and what `Full` tells. Where there is none it makes no event.
+    /// and what `Full` tells. Where there is none it makes no event. Only an owner more of the layout of its slice, which takes no memory
+    /// but may be refused, comes in its first turn at the desk; then it makes no event there.
     ///
     /// With a `reserve` in the configuration it then waits for the lock to see whether fewer columns are left. While so, it moves
     /// documents out of the filled slice that holds the fewest, at most 16, so that the slice can be cleared, if the others have
@@ -31,7 +32,8 @@ impl<N: PoolName> Engine<N> {
     /// it. It takes memory for a copy of it and for its bits; where there is none it moves no more, and goes on.
     ///
     /// For its own document it waits for the lock twice, or three times where it clears a slice; where it is refused in the first
-    /// of these turns, once. The documents of a slice that it clears are dropped while the lock is free.
+    /// of these turns, once. The documents of a slice that it clears are dropped while the lock is free. Its bits are set by the
+    /// treatment of its slice.
     pub fn add<R: Wait>(
         &self,
         rt: &R,
@@ -82,7 +84,7 @@ impl<N: PoolName> Engine<N> {
         work: &mut W,
     ) -> Result<u64, AddFault>
         requires rests { IsResting N.pool pass.old }
-        requires prepared { IsPrepared doc bits }
+        requires prepared { IsToBeAdded doc bits }
         requires empty { room.items ≡ [] }
         requires enough { N.pool.limits.slices ≤ vec_capacity room }
         ensures turns { OwnTurns N.pool.config N.pool.limits pass.old.number doc.id doc.text pass.old.front pass.new.front result }
@@ -90,8 +92,9 @@ impl<N: PoolName> Engine<N> {
         ensures rests { IsResting N.pool pass.new }
         ensures number { pass.new.number ≡ pass.old.number }
     {
-        let claim = self.claim(rt, pass, &doc, room, work)?;
-        self.write(pass, &claim, doc.words(), &mut bits, work);
+        let claimed = self.claim(rt, pass, &doc, room, work)?;
+        let (claim, layout) = claimed;
+        self.write(pass, &claim, &layout, doc.words(), &mut bits, work);
         match self.commit(rt, pass, claim, doc, &bits) {
             Ok(place) => Ok(place),
             Err(fault) => Err(dropped(fault)),
@@ -102,7 +105,7 @@ impl<N: PoolName> Engine<N> {
     fn prepare(&self, alloc: Global, id: u64, text: &str) -> Result<(Doc, Bits, Vec<Block>), Memory>
         ensures id { IfOk result (λ prepared. prepared.0.id ≡ id) }
         ensures text { IfOk result (λ prepared. prepared.0.text ≡ text.now) }
-        ensures prepared { IfOk result (λ prepared. IsPrepared prepared.0 prepared.1) }
+        ensures prepared { IfOk result (λ prepared. IsToBeAdded prepared.0 prepared.1) }
         ensures empty { IfOk result (λ prepared. prepared.2.items ≡ []) }
         ensures enough { IfOk result (λ prepared. N.pool.limits.slices ≤ vec_capacity prepared.2) }
     {
@@ -115,7 +118,7 @@ impl<N: PoolName> Engine<N> {
         Ok((Doc::new(id, text, words), bits, room))
     }
 
-    // Claims a column, after it cleared a slice where there is need to.
+    // Claims a column, after it cleared a slice where there is need to, and gives the layout of its slice.
     fn claim<R: Wait, W: Work>(
         &self,
         rt: &R,
@@ -123,43 +126,51 @@ impl<N: PoolName> Engine<N> {
         doc: &Doc,
         room: Vec<Block>,
         work: &mut W,
-    ) -> Result<Claim, AddFault>
+    ) -> Result<(Claim, SharedLayout), AddFault>
         requires rests { IsResting N.pool pass.old }
         requires empty { room.items ≡ [] }
         requires enough { N.pool.limits.slices ≤ vec_capacity room }
-        ensures turns { MatchResult result (λ claim. ClaimTurns N.pool.limits pass.old.number doc.now.id doc.now.text pass.old.front pass.new.front claim)
+        ensures turns { MatchResult result (λ claimed. ClaimTurns N.pool.limits pass.old.number doc.now.id doc.now.text pass.old.front pass.new.front claimed.0)
             (λ fault. TakeTurn N.pool.limits pass.old.number doc.now.id doc.now.text pass.old.front pass.new.front (taken.Refused fault)) }
-        ensures next { MatchResult result (λ claim. IsToWrite N.pool claim pass.new) (λ _. IsResting N.pool pass.new) }
+        ensures next { MatchResult result (λ claimed. IsToWrite N.pool claimed.0 claimed.1 pass.new) (λ _. IsResting N.pool pass.new) }
         ensures legal { IsLegal N.pool.limits pass.new.front }
         ensures number { pass.new.number ≡ pass.old.number }
     {
         match self.take(rt, pass, doc, room) {
-            Taken::Claim(claim) => Ok(claim),
-            Taken::Clear(to_clear) => {
-                let ToClear { job, slots } = to_clear;
-                work.clear(&self.pool, pass, &self.layout, &job);
-                Ok(self.opened_take(rt, pass, job, slots.empty()))
+            Taken::Claim(claim, layout) => Ok((claim, layout)),
+            Taken::Clear(to_clear, layout) => {
+                let ToClear {
+                    job,
+                    slots,
+                    old_layout,
+                } = to_clear;
+                drop(old_layout);
+                work.clear(&self.pool, pass, self.room, &job);
+                Ok((self.opened_take(rt, pass, job, slots.empty()), layout))
             }
             Taken::Refused(fault) => Err(fault),
         }
     }
 
-    // Fills in the bits of these words at the column that was claimed, and sets them. There is room for them.
+    // Fills in the bits of these words at the column that was claimed, by the layout of its slice, and sets them. There is room for
+    // them.
     pub(crate) fn write<W: Work>(
         &self,
         pass: &mut PassSeat,
         claim: &Claim,
+        layout: &SharedLayout,
         words: &WordSet,
         bits: &mut Bits,
         work: &mut W,
     )
-        requires claimed { IsToWrite N.pool claim.now pass.old }
+        requires claimed { IsToWrite N.pool claim.now layout.now pass.old }
         requires no_bits { bits.old.bits ≡ [] }
         requires room { MOST_ROWS * length words.now ≤ bits.old.room }
         ensures written { HasWritten N.pool claim.now words.now bits.new.bits pass.new }
         ensures seat { pass.new ≡ record pass.old { own = pass.new.own } }
     {
-        fill_bits(&self.layout, words, claim.slice, claim.column, bits);
+        let _ = &self.pool;
+        fill_bits(layout.layout(), words, claim.slice, claim.column, bits);
         work.write(&self.pool, pass, claim, bits);
     }
 }

@@ -1,16 +1,17 @@
-//! The scans of a find for several branches: each slice is scanned for all of them before the next.
-ghost use Rattle.std.specs.Prelude.{◌≡◌, ◌+◌, ◌<◌, ◌≤◌, [], All, Contains, IfOk, length, vec_capacity};
+//! The scans of a find for several branches: each slice of a layout is scanned for all of them before the next.
+ghost use Rattle.std.specs.Prelude.{◌≡◌, ◌+◌, ◌<◌, ◌≤◌, [], All, Contains, IfOk, length};
 ghost use Rattle.commit_desk.specs.Judging.{AreScannedForAny};
-ghost use Rattle.commit_desk.specs.Passes.{IsFinding};
-ghost use Rattle.commit_desk.specs.Scans.{AreScanned};
+ghost use Rattle.commit_desk.specs.Scans.{AreScanned, token_of};
 ghost use Rattle.engine.specs.Branches.{AddsEach, AddsScan, AreScannedForAnyBelow, CanScanEach, IsMerging, IsPlanned, token_at, words_of_each};
-ghost use Rattle.engine.specs.Scans.{CanScan};
+ghost use Rattle.engine.specs.Finds.{CanLookIn};
+ghost use Rattle.engine.specs.Scans.{CanScan, IsReadable, part_of};
 ghost use Rattle.funnel_model.specs.declared.bit_list.Bit.{Bit};
-ghost use Rattle.row_read.specs.SharedRows.{CanRead, WasReadSet, kept_of};
+ghost use Rattle.row_read.specs.SharedRows.{WasReadSet, kept_of};
 
 use crate::engine::Engine;
 use crate::merged::Merged;
 use crate::work::Direct;
+use commit_desk::SlicesLayout;
 use document_store::Found;
 use funnel_model::{Branches, Candidates, Memory, Token, WordSet};
 use plan_rows::plan;
@@ -54,27 +55,26 @@ fn emptied(columns: Candidates) -> Candidates
 }
 
 impl<N: PoolName> Engine<N> {
-    // The candidates of the branches, with room for the answer.
+    // The candidates of the branches in the slices of an entry. There is room for what they give.
     pub(crate) fn scan_any(
         &self,
         alloc: Global,
         pass: &mut PassSeat,
         token: &Token,
-        branches: &[Planned<'_>],
-    ) -> Result<(Candidates, Found, Vec<u64>), Memory>
-        requires finding { IsFinding N.pool token.now pass.old }
-        requires planned { All (IsPlanned N.pool.config) branches.now }
-        ensures scanned { IfOk result (λ scanned. AreScannedForAny N.pool.config pass.new token.now (words_of_each branches.now) scanned.0) }
-        ensures none { IfOk result (λ scanned. scanned.1.found ≡ []) }
-        ensures room { IfOk result (λ scanned. length scanned.0 ≤ scanned.1.room) }
-        ensures ids { IfOk result (λ scanned. scanned.2.items ≡ []) }
-        ensures enough { IfOk result (λ scanned. length scanned.0 ≤ vec_capacity scanned.2) }
+        branches: &Branches,
+        entry: &SlicesLayout,
+        out: &mut Found,
+    ) -> Result<Candidates, Memory>
+        requires can { CanLookIn N.pool pass.old token.now entry.now }
+        ensures scanned { IfOk result (λ found. AreScannedForAny entry.now.layout.config pass.new (token_of entry.now.slices token.now) branches.now found) }
+        ensures room { IfOk result (λ found. length found ≤ out.new.room) }
+        ensures found { out.new.found ≡ out.old.found }
         ensures seat { pass.new ≡ record pass.old { own = pass.new.own; told = pass.new.told } }
     {
-        let candidates = self.scan_branches(alloc, pass, token, branches)?;
-        let found = Found::with_room(alloc, candidates.len())?;
-        let ids = Vec::with_capacity(alloc, candidates.len())?;
-        Ok((candidates, found, ids))
+        let planned = plan_each(alloc, entry.layout.layout(), branches)?;
+        let candidates = self.scan_branches(alloc, pass, token, planned.as_slice(), entry)?;
+        out.reserve(candidates.len())?;
+        Ok(candidates)
     }
 
     // Scans for the words of the branches. The candidates of one alone need no merging.
@@ -84,98 +84,112 @@ impl<N: PoolName> Engine<N> {
         pass: &mut PassSeat,
         token: &Token,
         branches: &[Planned<'_>],
+        entry: &SlicesLayout,
     ) -> Result<Candidates, Memory>
-        requires finding { IsFinding N.pool token.now pass.old }
-        requires planned { All (IsPlanned N.pool.config) branches.now }
-        ensures scanned { IfOk result (λ found. AreScannedForAny N.pool.config pass.new token.now (words_of_each branches.now) found) }
+        requires can { CanLookIn N.pool pass.old token.now entry.now }
+        requires planned { All (IsPlanned entry.now.layout.config) branches.now }
+        ensures scanned { IfOk result (λ found. AreScannedForAny entry.now.layout.config pass.new (token_of entry.now.slices token.now)
+            (words_of_each branches.now) found) }
         ensures seat { pass.new ≡ record pass.old { own = pass.new.own; told = pass.new.told } }
     {
         let mut rows = Shared::new(&self.pool, pass, token);
         if let [branch] = branches {
-            self.scan_branch(alloc, &mut rows, branch)
+            self.scan_branch(alloc, &mut rows, branch, entry)
         } else {
-            self.merge_slices(alloc, &mut rows, branches)
+            self.merge_slices(alloc, &mut rows, branches, entry)
         }
     }
 
-    // Scans all slices for one branch.
+    // Scans the slices of an entry for one branch.
     fn scan_branch(
         &self,
         alloc: Global,
         rows: &mut Shared<'_>,
         branch: &Planned<'_>,
+        entry: &SlicesLayout,
     ) -> Result<Candidates, Memory>
-        requires same { rows.old.pool.now ≡ N.pool }
-        requires can_read { CanRead N.pool rows.old.seat.now rows.old.token.now }
-        requires planned { IsPlanned N.pool.config branch.now }
-        ensures scanned { IfOk result (λ found. AreScanned N.pool.config rows.new.seat.now rows.new.token.now branch.now.words.now found) }
+        requires readable { IsReadable N.pool rows.old entry.now }
+        requires planned { IsPlanned entry.now.layout.config branch.now }
+        ensures scanned { IfOk result (λ found. AreScanned entry.now.layout.config rows.new.seat.now (part_of entry.now rows.new) branch.now.words.now found) }
         ensures kept { kept_of rows.new ≡ kept_of rows.old }
     {
         let mut found = Candidates::new(Vec::new(alloc));
-        self.scan_each(rows, branch.words, &branch.plan, &mut Direct, &mut found)?;
+        self.scan_each(
+            rows,
+            branch.words,
+            &branch.plan,
+            entry,
+            &mut Direct,
+            &mut found,
+        )?;
         Ok(found)
     }
 
-    // Scans one slice after the other for all branches.
+    // Scans one slice of an entry after the other for all branches.
     fn merge_slices(
         &self,
         alloc: Global,
         rows: &mut Shared<'_>,
         branches: &[Planned<'_>],
+        entry: &SlicesLayout,
     ) -> Result<Candidates, Memory>
-        requires scan { CanScanEach N.pool rows.old branches.now }
-        ensures scanned { IfOk result (λ found. AreScannedForAny N.pool.config rows.new.seat.now rows.new.token.now (words_of_each branches.now) found) }
+        requires scan { CanScanEach N.pool rows.old entry.now branches.now }
+        ensures scanned { IfOk result (λ found. AreScannedForAny entry.now.layout.config rows.new.seat.now (part_of entry.now rows.new)
+            (words_of_each branches.now) found) }
         ensures kept { kept_of rows.new ≡ kept_of rows.old }
     {
-        let mut merged = Merged::new(alloc, self.layout.columns())?;
+        let mut merged = Merged::new(alloc, entry.layout.layout().columns())?;
         let mut room = Candidates::new(Vec::new(alloc));
         for slice in 0..self.slices {
-            room = self.merge_slice(rows, branches, slice, room, &mut merged)?;
+            room = self.merge_slice(rows, branches, entry, slice, room, &mut merged)?;
         }
         Ok(merged.into_list())
     }
 
-    // Scans one more slice for all branches, where the token has it. What a scan finds is put into `room`, which is handed on.
+    // Scans one more slice for all branches, where the entry has it. What a scan finds is put into `room`, which is handed on.
     fn merge_slice(
         &self,
         rows: &mut Shared<'_>,
         branches: &[Planned<'_>],
+        entry: &SlicesLayout,
         slice: u32,
         room: Candidates,
         merged: &mut Merged,
     ) -> Result<Candidates, Memory>
-        requires scan { CanScanEach N.pool rows.old branches.now }
+        requires scan { CanScanEach N.pool rows.old entry.now branches.now }
         requires slice { slice < N.pool.limits.slices }
         requires columns { merged.old.columns ≡ N.pool.limits.columns }
-        requires below { AreScannedForAnyBelow N.pool.config rows.old.seat.now rows.old.token.now (words_of_each branches.now) slice merged.old.list }
-        ensures scanned { IfOk result (λ _. AreScannedForAnyBelow N.pool.config rows.new.seat.now rows.new.token.now (words_of_each branches.now) (slice + 1)
-            merged.new.list) }
+        requires below { AreScannedForAnyBelow entry.now.layout.config rows.old.seat.now (part_of entry.now rows.old) (words_of_each branches.now)
+            slice merged.old.list }
+        ensures scanned { IfOk result (λ _. AreScannedForAnyBelow entry.now.layout.config rows.new.seat.now (part_of entry.now rows.new)
+            (words_of_each branches.now) (slice + 1) merged.new.list) }
         ensures columns { merged.new.columns ≡ N.pool.limits.columns }
         ensures kept { kept_of rows.new ≡ kept_of rows.old }
     {
         let _ = &self.pool;
-        if rows.token.slices.has(slice) {
+        if entry.slices.has(slice) {
             merged.begin(slice);
-            let room = self.merge_each(rows, branches, slice, room, merged)?;
+            let room = self.merge_each(rows, branches, entry, slice, room, merged)?;
             Ok(room)
         } else {
             Ok(room)
         }
     }
 
-    // Scans a slice of the token for one branch after the other.
+    // Scans a slice of an entry for one branch after the other.
     fn merge_each(
         &self,
         rows: &mut Shared<'_>,
         branches: &[Planned<'_>],
+        entry: &SlicesLayout,
         slice: u32,
         room: Candidates,
         merged: &mut Merged,
     ) -> Result<Candidates, Memory>
-        requires scan { CanScanEach N.pool rows.old branches.now }
-        requires readable { Contains rows.old.token.now.slices slice }
+        requires scan { CanScanEach N.pool rows.old entry.now branches.now }
+        requires slice { Contains entry.now.slices slice }
         requires merging { IsMerging N.pool.limits.columns slice merged.old }
-        ensures added { IfOk result (λ _. AddsEach N.pool.config rows.new.seat.now rows.new.token.now slice (words_of_each branches.now)
+        ensures added { IfOk result (λ _. AddsEach entry.now.layout.config rows.new.seat.now (part_of entry.now rows.new) slice (words_of_each branches.now)
             merged.old.list merged.new.list) }
         ensures merging { IsMerging N.pool.limits.columns slice merged.new }
         ensures seen_stays { (bit : Bit) → WasReadSet rows.old bit → WasReadSet rows.new bit }
@@ -183,50 +197,54 @@ impl<N: PoolName> Engine<N> {
     {
         let mut room = room;
         for branch in branches {
-            room = self.merge_branch(rows, branch, slice, room, merged)?;
+            room = self.merge_branch(rows, branch, entry, slice, room, merged)?;
         }
         Ok(room)
     }
 
-    // Scans a slice of the token for one branch, and adds the columns that it finds.
+    // Scans a slice of an entry for one branch, and adds the columns that it finds.
     fn merge_branch(
         &self,
         rows: &mut Shared<'_>,
         branch: &Planned<'_>,
+        entry: &SlicesLayout,
         slice: u32,
         room: Candidates,
         merged: &mut Merged,
     ) -> Result<Candidates, Memory>
-        requires scan { CanScan N.pool rows.old branch.now.words.now branch.now.plan }
-        requires readable { Contains rows.old.token.now.slices slice }
+        requires scan { CanScan N.pool rows.old entry.now branch.now.words.now branch.now.plan }
+        requires slice { Contains entry.now.slices slice }
         requires merging { IsMerging N.pool.limits.columns slice merged.old }
-        ensures added { IfOk result (λ _. AddsScan N.pool.config rows.new.seat.now rows.new.token.now slice branch.now.words.now
+        ensures added { IfOk result (λ _. AddsScan entry.now.layout.config rows.new.seat.now (part_of entry.now rows.new) slice branch.now.words.now
             merged.old.list merged.new.list) }
         ensures merging { IsMerging N.pool.limits.columns slice merged.new }
         ensures seen_stays { (bit : Bit) → WasReadSet rows.old bit → WasReadSet rows.new bit }
         ensures kept { kept_of rows.new ≡ kept_of rows.old }
     {
-        let found = self.scan_at(rows, branch, slice, room)?;
+        let found = self.scan_at(rows, branch, entry, slice, room)?;
         merged.add_all(&found)?;
         Ok(found)
     }
 
-    // Scans a slice of the token for one branch.
+    // Scans a slice of an entry for one branch.
     fn scan_at(
         &self,
         rows: &mut Shared<'_>,
         branch: &Planned<'_>,
+        entry: &SlicesLayout,
         slice: u32,
         room: Candidates,
     ) -> Result<Candidates, Memory>
-        requires scan { CanScan N.pool rows.old branch.now.words.now branch.now.plan }
-        requires readable { Contains rows.old.token.now.slices slice }
-        ensures scanned { IfOk result (λ found. AreScanned N.pool.config rows.new.seat.now (token_at slice rows.new.token.now) branch.now.words.now found) }
+        requires scan { CanScan N.pool rows.old entry.now branch.now.words.now branch.now.plan }
+        requires slice { Contains entry.now.slices slice }
+        ensures scanned { IfOk result (λ found. AreScanned entry.now.layout.config rows.new.seat.now (token_at slice (part_of entry.now rows.new))
+            branch.now.words.now found) }
         ensures seen_stays { (bit : Bit) → WasReadSet rows.old bit → WasReadSet rows.new bit }
         ensures kept { kept_of rows.new ≡ kept_of rows.old }
     {
+        let _ = &self.pool;
         let mut found = emptied(room);
-        scan(rows, &self.layout, &branch.plan, slice, &mut found)?;
+        scan(rows, entry.layout.layout(), &branch.plan, slice, &mut found)?;
         Ok(found)
     }
 }

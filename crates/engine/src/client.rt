@@ -3,16 +3,19 @@ ghost use Rattle.std.specs.Prelude.{◌≡◌};
 ghost use Rattle.funnel_model.specs.declared.call.Call.TheVariants as call;
 ghost use Rattle.engine.specs.Clients.{caller_of};
 ghost use Rattle.engine.specs.Replies.{reply_of_add, reply_of_delete, reply_of_find, reply_of_journal, reply_of_place, reply_of_query_fault};
-ghost use Rattle.line_proto.specs.Services.{AnswersCall, AnswersQuery};
+ghost use Rattle.engine.specs.Replies.{reply_of_tune, reply_of_tuning_fault};
+ghost use Rattle.funnel_stats.specs.Tunings.{tuned};
+ghost use Rattle.line_proto.specs.Services.{AnswersCall, AnswersQuery, AnswersTuned};
 ghost use Rattle.slice_recycler.specs.Recycles.{reply_of_recycle};
 
 use crate::engine::Engine;
-use crate::finding::FindFault;
 use crate::pass::Pass;
 use crate::query_judge::read_query;
+use crate::retuning::TuneFault;
 use bool_query::QueryFault;
-use commit_desk::{AddFault, DeleteFault, JournalFault, Spent};
+use commit_desk::{AddFault, DeleteFault, FindFault, JournalFault, Spent};
 use funnel_model::{Commits, Ids, Reply};
+use funnel_stats::ConfigFault;
 use line_proto::{Request, Service};
 use slice_recycler::Recycled;
 use slice_rule::PoolName;
@@ -45,7 +48,7 @@ impl<'a, N: PoolName, R: Wait> Model for Client<'a, N, R> {
 impl<'a, N: PoolName, R: Wait> Service for Client<'a, N, R> {
     ghost use Rattle.engine.specs.Clients.{caller_of};
 
-    ghost caller = { λ pass. caller_of N.pool.limits pass };
+    ghost caller = { λ pass. caller_of N.pool.config N.pool.limits pass };
 
     ghost front = { λ pass. pass.front };
 
@@ -58,14 +61,15 @@ impl<'a, N: PoolName, R: Wait> Service for Client<'a, N, R> {
             Request::Place => self.place(),
             Request::Journal { from } => self.journal(*from),
             Request::Recycle => self.recycle(),
+            Request::Tune { text } => self.tune(text),
         }
     }
 }
 
 impl<'a, N: PoolName, R: Wait> Client<'a, N, R> {
     fn add(&mut self, id: u64, text: &str) -> Reply
-        ensures caller { caller_of N.pool.limits self.new ≡ caller_of N.pool.limits self.old }
-        ensures answers { AnswersCall (caller_of N.pool.limits self.old) self.old.front self.new.front (call.Add id text.now) result }
+        ensures caller { caller_of N.pool.config N.pool.limits self.new ≡ caller_of N.pool.config N.pool.limits self.old }
+        ensures answers { AnswersCall (caller_of N.pool.config N.pool.limits self.old) self.old.front self.new.front (call.Add id text.now) result }
     {
         reply_to_add(
             self.engine
@@ -74,23 +78,23 @@ impl<'a, N: PoolName, R: Wait> Client<'a, N, R> {
     }
 
     fn delete(&mut self, id: u64) -> Reply
-        ensures caller { caller_of N.pool.limits self.new ≡ caller_of N.pool.limits self.old }
-        ensures answers { AnswersCall (caller_of N.pool.limits self.old) self.old.front self.new.front (call.Delete id) result }
+        ensures caller { caller_of N.pool.config N.pool.limits self.new ≡ caller_of N.pool.config N.pool.limits self.old }
+        ensures answers { AnswersCall (caller_of N.pool.config N.pool.limits self.old) self.old.front self.new.front (call.Delete id) result }
     {
         reply_to_delete(self.engine.delete(self.rt, &mut self.pass, id))
     }
 
     fn find(&mut self, query: &str) -> Reply
-        ensures caller { caller_of N.pool.limits self.new ≡ caller_of N.pool.limits self.old }
-        ensures answers { AnswersCall (caller_of N.pool.limits self.old) self.old.front self.new.front (call.Find query.now) result }
+        ensures caller { caller_of N.pool.config N.pool.limits self.new ≡ caller_of N.pool.config N.pool.limits self.old }
+        ensures answers { AnswersCall (caller_of N.pool.config N.pool.limits self.old) self.old.front self.new.front (call.Find query.now) result }
     {
         reply_to_find(self.engine.find(self.rt, self.alloc, &mut self.pass, query))
     }
 
     // A text that is no query is refused, and no call is made.
     fn query(&mut self, text: &str) -> Reply
-        ensures caller { caller_of N.pool.limits self.new ≡ caller_of N.pool.limits self.old }
-        ensures answers { AnswersQuery (caller_of N.pool.limits self.old) self.old.front self.new.front text.now result }
+        ensures caller { caller_of N.pool.config N.pool.limits self.new ≡ caller_of N.pool.config N.pool.limits self.old }
+        ensures answers { AnswersQuery (caller_of N.pool.config N.pool.limits self.old) self.old.front self.new.front text.now result }
     {
         match read_query(self.alloc, text) {
             Ok((branches, judge)) => reply_to_find(
@@ -102,15 +106,15 @@ impl<'a, N: PoolName, R: Wait> Client<'a, N, R> {
     }
 
     fn place(&mut self) -> Reply
-        ensures caller { caller_of N.pool.limits self.new ≡ caller_of N.pool.limits self.old }
-        ensures answers { AnswersCall (caller_of N.pool.limits self.old) self.old.front self.new.front call.Place result }
+        ensures caller { caller_of N.pool.config N.pool.limits self.new ≡ caller_of N.pool.config N.pool.limits self.old }
+        ensures answers { AnswersCall (caller_of N.pool.config N.pool.limits self.old) self.old.front self.new.front call.Place result }
     {
         reply_to_place(self.engine.place(self.rt, &mut self.pass))
     }
 
     fn journal(&mut self, from: u64) -> Reply
-        ensures caller { caller_of N.pool.limits self.new ≡ caller_of N.pool.limits self.old }
-        ensures answers { AnswersCall (caller_of N.pool.limits self.old) self.old.front self.new.front (call.Journal from) result }
+        ensures caller { caller_of N.pool.config N.pool.limits self.new ≡ caller_of N.pool.config N.pool.limits self.old }
+        ensures answers { AnswersCall (caller_of N.pool.config N.pool.limits self.old) self.old.front self.new.front (call.Journal from) result }
     {
         reply_to_journal(
             self.engine
@@ -119,10 +123,26 @@ impl<'a, N: PoolName, R: Wait> Client<'a, N, R> {
     }
 
     fn recycle(&mut self) -> Reply
-        ensures caller { caller_of N.pool.limits self.new ≡ caller_of N.pool.limits self.old }
-        ensures answers { AnswersCall (caller_of N.pool.limits self.old) self.old.front self.new.front call.Recycle result }
+        ensures caller { caller_of N.pool.config N.pool.limits self.new ≡ caller_of N.pool.config N.pool.limits self.old }
+        ensures answers { AnswersCall (caller_of N.pool.config N.pool.limits self.old) self.old.front self.new.front call.Recycle result }
     {
         reply_to_recycle(self.engine.recycle(self.rt, &mut self.pass))
+    }
+
+    // A text that gives no configuration is refused, and no call is made.
+    fn tune(&mut self, text: &str) -> Reply
+        ensures caller { caller_of N.pool.config N.pool.limits self.new ≡ caller_of N.pool.config N.pool.limits self.old }
+        ensures answers { AnswersTuned (caller_of N.pool.config N.pool.limits self.old) self.old.front self.new.front
+            (tuned N.pool.config text.now) result }
+    {
+        let _ = self.pass.number();
+        match self.engine.read_tuning(self.alloc, text) {
+            Ok(config) => reply_to_tune(
+                self.engine
+                    .retune(self.rt, self.alloc, &mut self.pass, &config),
+            ),
+            Err(fault) => reply_to_tuning_fault(fault),
+        }
     }
 }
 
@@ -196,5 +216,25 @@ fn reply_to_recycle(answer: Recycled) -> Reply
         Recycled::NoneRetired => Reply::NothingRetired,
         Recycled::Guarded { slice, pass, .. } => Reply::Guarded { slice, pass },
         Recycled::Spent(_) => Reply::Spent,
+    }
+}
+
+fn reply_to_tune(answer: Result<u64, TuneFault>) -> Reply
+    ensures { result ≡ reply_of_tune answer }
+{
+    match answer {
+        Ok(count) => Reply::Tuned(count),
+        Err(TuneFault::Wide { needed, room }) => Reply::Wide { needed, room },
+        Err(TuneFault::Spent(_)) => Reply::Spent,
+        Err(TuneFault::Memory) => Reply::Memory,
+    }
+}
+
+fn reply_to_tuning_fault(fault: ConfigFault) -> Reply
+    ensures { result ≡ reply_of_tuning_fault fault }
+{
+    match fault {
+        ConfigFault::Memory => Reply::Memory,
+        _ => Reply::Tuning(fault.number()),
     }
 }

@@ -14,6 +14,7 @@ ghost use Rattle.slice_recycler.specs.Recycles.{RecycleTurns, reply_of_recycle};
 use crate::blank::Blank;
 use crate::closed::Closed;
 use crate::pass::{Note, Pass, end_passes, name_passes};
+use crate::reading::without_words;
 use crate::work::{Direct, Work};
 use commit_desk::{DeleteFault, Desk, JournalFault, Looks, Named, Spent};
 use funnel_model::{Commits, Config, Memory};
@@ -28,9 +29,12 @@ use std::sync::{Mutex, Wait};
 #[derive(Drop)]
 pub struct Engine<N: PoolName> {
     pub(crate) pool: Pool,
-    pub(crate) layout: Layout,
+    /// The row words of each slice.
+    pub(crate) room: u32,
     pub(crate) slices: u32,
     pub(crate) reserve: u32,
+    /// The configuration that it was opened with, without its listed words.
+    pub(crate) base: Config,
     pub(crate) desk: Mutex<Named<N>>,
 }
 
@@ -42,7 +46,7 @@ impl<N: PoolName> Model for Engine<N> {
 
     ghost view = { λ e. e.pool };
 
-    ghost invariant = { λ e. IsEngine N.pool e.pool e.layout e.slices e.reserve };
+    ghost invariant = { λ e. IsEngine N.pool e.pool e.room e.slices e.reserve e.base };
 }
 
 impl<N: PoolName> Engine<N> {
@@ -59,16 +63,19 @@ impl<N: PoolName> Engine<N> {
         ensures passes { IfOk result (λ opened. opened.1.items ≡ map new_pass (range_with_len 0 config.now.passes)) }
     {
         let layout = Layout::new(alloc, config)?;
+        let range = layout.slice_range(0);
+        let base = without_words(alloc, config);
         let Blank { pool, home, passes } = blank;
-        let desk = Desk::new(alloc, config, home, 1 << 62)?;
         let looks = Looks::new(alloc, config.slices, layout.columns())?;
-        let passes = name_passes(alloc, passes)?;
+        let desk = Desk::new(alloc, config, home, 1 << 62, layout)?;
+        let passes = name_passes(alloc, passes, config.slices)?;
         let of = PhantomData;
         let engine = Engine {
             pool,
-            layout,
+            room: range.1,
             slices: config.slices,
             reserve: config.reserve,
+            base,
             desk: Mutex::new(Named { desk, looks, of }),
         };
         Ok((engine, passes))
@@ -134,14 +141,7 @@ impl<N: PoolName> Engine<N> {
         ensures call { MakesCall N.pool.limits call.Recycle (reply_of_recycle result) pass.old pass.new }
         ensures turns { RecycleTurns N.pool.limits pass.old.number pass.old.front pass.new.front result }
     {
-        recycle_by(
-            rt,
-            &self.pool,
-            &self.desk,
-            &self.layout,
-            &mut pass.seat,
-            work,
-        )
+        recycle_by(rt, &self.pool, &self.desk, self.room, &mut pass.seat, work)
     }
 
     /// What the pass has seen, for another pass to meet. It waits for nobody, and takes no memory.
@@ -179,9 +179,10 @@ impl<N: PoolName> Engine<N> {
     {
         let Engine {
             pool,
-            layout: _,
+            room: _,
             slices: _,
             reserve: _,
+            base: _,
             desk,
         } = self;
         let Named {

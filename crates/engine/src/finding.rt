@@ -1,27 +1,32 @@
 //! Finds.
-ghost use Rattle.std.specs.Prelude.{◌≡◌, ℕ, ◌+◌, ◌<◌, List, ◌≤◌, [], IfErr, IfOk, MatchResult, length, vec_capacity};
+ghost use Rattle.std.specs.Prelude.{◌≡◌, ℕ, ◌+◌, ◌<◌, List, ◌≤◌, [], IfErr, IfOk, MatchResult, filter, length, not};
 ghost use Rattle.funnel_model.specs.declared.bit_list.Bit.{Bit};
 ghost use Rattle.funnel_model.specs.declared.call.Call.TheVariants as call;
 ghost use Rattle.funnel_model.specs.declared.event.Event.{Event};
 ghost use Rattle.funnel_model.specs.History.{answer};
 ghost use Rattle.funnel_model.specs.Legal.{IsLegal};
+ghost use Rattle.funnel_model.specs.Tokens.{HasToken};
+ghost use Rattle.funnel_model.specs.Words.{AreWordsOf};
 ghost use Rattle.commit_desk.specs.Passes.{IsResting};
-ghost use Rattle.commit_desk.specs.Scans.{AreScanned};
-ghost use Rattle.engine.specs.Finds.{FindBegins, FindEnds, FindTurns, IsAllFound, IsBegunAt, IsFoundUpTo, IsScanFor, RefusedTurns};
+ghost use Rattle.commit_desk.specs.Resolving.{IsVerifying};
+ghost use Rattle.commit_desk.specs.Scans.{AreScanned, token_of};
+ghost use Rattle.engine.specs.Finds.{AddsFound, CanLookIn, FindBegins, FindEnds, FindTurns, FindsIn, GoesOn, HasEnded, IsBegunAt};
+ghost use Rattle.engine.specs.Finds.{IsFoundBut, IsScanFor, RefusedTurns, by_query};
 ghost use Rattle.engine.specs.Passes.{BeginsCall, MakesCall, MakesNoCall, view_of};
 ghost use Rattle.engine.specs.Replies.{reply_of_find, reply_of_find_fault};
-ghost use Rattle.engine.specs.Scans.{AreScannedBelow, CanScan};
+ghost use Rattle.engine.specs.Scans.{AreScannedBelow, CanScan, IsPlanFor, part_of};
 ghost use Rattle.plan_rows.specs.Rests.{words_of_rest};
+ghost use Rattle.row_layout.specs.Owners.{is_exact};
 ghost use Rattle.row_read.specs.SharedRows.{WasReadSet, kept_of};
 
 use crate::engine::Engine;
 use crate::open_find::{Begun, OpenFind};
 use crate::pass::Pass;
 use crate::work::{Direct, Work};
-use commit_desk::Spent;
+use commit_desk::{FindFault, Layouts, SlicesLayout};
 use document_store::Found;
 use funnel_model::{Candidates, Ids, Memory, Token, WordSet};
-use plan_rows::plan;
+use plan_rows::{Rest, plan};
 use row_layout::Plan;
 use row_read::Shared;
 use slice_rule::{PassSeat, PoolName};
@@ -29,20 +34,11 @@ use std::alloc::Global;
 use std::sync::Wait;
 use word_cut::words;
 
-/// Why a find has no answer.
-#[derive(Clone, Copy, Debug, PartialEq, Eq)]
-pub enum FindFault {
-    /// The history has this many events, and no call is taken any more.
-    Spent(u64),
-    /// There was no memory: for the words and their rows, before the find began, or for the candidates and the answer, and then the
-    /// find was ended.
-    Memory,
-}
-
 impl<N: PoolName> Engine<N> {
     /// The numbers of the documents that are live when the find begins and have every word of the query, in the order of their
-    /// adds. It waits for the lock to begin, unless it has no memory for its words and their rows, and then, unless the engine is
-    /// spent, for each turn. One ends after 4,096 look-ups, or with the document at which it has looked for 256 words.
+    /// adds. It waits for the lock to begin, unless it has no memory for its words, and then, where it did begin, for each turn. One ends
+    /// after 4,096 look-ups, or with the document at which it has looked for 256 words; and where slices have several treatments,
+    /// with the last candidate in those of one.
     pub fn find<R: Wait>(
         &self,
         rt: &R,
@@ -68,16 +64,15 @@ impl<N: PoolName> Engine<N> {
         ensures call { MakesCall N.pool.limits (call.Find query.now) (reply_of_find result) pass.old pass.new }
         ensures turns { FindTurns N.pool.limits pass.old.number query.now pass.old.front pass.new.front result }
     {
-        let begun = self.begin(rt, alloc, &mut pass.seat, query)?;
-        let Ok(ids) = self.finish(rt, alloc, &mut pass.seat, begun, work) else {
+        let begun = self.begin(rt, alloc, &mut pass.seat, query, &mut pass.layouts)?;
+        let Ok(ids) = self.finish(rt, alloc, &mut pass.seat, begun, &mut pass.layouts, work) else {
             return Err(FindFault::Memory);
         };
         Ok(ids)
     }
 
     /// Begins a find, which `finish_find` answers by what is live now, whatever others do meanwhile. It waits for the lock once,
-    /// and not at all where there is no memory for its words and their rows.
-    /// A refusal hands the pass back.
+    /// and not at all where there is no memory for its words. A refusal hands the pass back.
     pub fn begin_find<R: Wait>(
         &self,
         rt: &R,
@@ -90,15 +85,24 @@ impl<N: PoolName> Engine<N> {
         ensures refused { IfErr result (λ refused. MakesCall N.pool.limits (call.Find query.now) (reply_of_find_fault refused.1) pass refused.0) }
         ensures turns { IfErr result (λ refused. RefusedTurns N.pool.limits pass.number pass.front refused.0.front refused.1) }
     {
-        let Pass { mut seat, of } = pass;
-        match self.begin(rt, alloc, &mut seat, query) {
-            Ok(begun) => Ok(OpenFind { seat, begun, of }),
-            Err(fault) => Err((Pass { seat, of }, fault)),
+        let Pass {
+            mut seat,
+            mut layouts,
+            of,
+        } = pass;
+        match self.begin(rt, alloc, &mut seat, query, &mut layouts) {
+            Ok(begun) => Ok(OpenFind {
+                seat,
+                layouts,
+                begun,
+                of,
+            }),
+            Err(fault) => Err((Pass { seat, layouts, of }, fault)),
         }
     }
 
-    /// Ends a find, and hands its pass back. Where there is no memory for its candidates or its answer, the find is ended all
-    /// the same. It waits for the lock for each turn that looks at its candidates, and for one at least.
+    /// Ends a find, and hands its pass back. Where there is no memory for the rows of its words, its candidates or its answer, the find
+    /// is ended all the same. It waits for the lock for each turn that looks at its candidates, and for one at least.
     pub fn finish_find<R: Wait>(
         &self,
         rt: &R,
@@ -111,23 +115,25 @@ impl<N: PoolName> Engine<N> {
     {
         let OpenFind {
             mut seat,
+            mut layouts,
             begun,
             of,
         } = find;
-        let answer = self.finish(rt, alloc, &mut seat, begun, &mut Direct);
-        (Pass { seat, of }, answer)
+        let answer = self.finish(rt, alloc, &mut seat, begun, &mut layouts, &mut Direct);
+        (Pass { seat, layouts, of }, answer)
     }
 
-    // Begins a find, after it took its words, planned their rows, and set aside those of them that bits don't tell.
+    // Begins a find, after it took its words. It gets the layouts by which its slices are read.
     fn begin<R: Wait>(
         &self,
         rt: &R,
         alloc: Global,
         pass: &mut PassSeat,
         query: &str,
+        layouts: &mut Layouts,
     ) -> Result<Begun, FindFault>
         requires pass { IsResting N.pool pass.old }
-        ensures begun { IfOk result (λ begun. IsScanFor N.pool pass.new begun.token begun.words (words_of_rest begun.words begun.rest) begun.plan) }
+        ensures begun { IfOk result (λ begun. IsScanFor N.pool pass.new begun.token begun.words layouts.new.entries.items) }
         ensures turns { MatchResult result (λ _. FindBegins N.pool.limits pass.old.number query.now pass.old.front pass.new.front)
             (λ fault. RefusedTurns N.pool.limits pass.old.number pass.old.front pass.new.front fault) }
         ensures rests { IfErr result (λ _. IsResting N.pool pass.new) }
@@ -138,172 +144,232 @@ impl<N: PoolName> Engine<N> {
         let Ok(words) = words(alloc, query) else {
             return Err(FindFault::Memory);
         };
-        let Ok(planned) = plan(alloc, &self.layout, &words) else {
-            return Err(FindFault::Memory);
-        };
-        let (plan, rest) = planned;
-        match self.open_find(rt, pass, query) {
-            Ok(token) => Ok(Begun {
-                token,
-                words,
-                rest,
-                plan,
-            }),
-            Err(Spent { events }) => Err(FindFault::Spent(events)),
+        match self.open_find(rt, pass, query, layouts) {
+            Ok(token) => Ok(Begun { token, words }),
+            Err(fault) => {
+                layouts.entries.clear();
+                Err(fault)
+            }
         }
     }
 
-    // Scans, and ends the find. The answer is sorted with the lock free.
+    // Looks at the slices of each layout, and ends the find. The answer is sorted with the lock free.
     fn finish<R: Wait, W: Work>(
         &self,
         rt: &R,
         alloc: Global,
         pass: &mut PassSeat,
         begun: Begun,
+        layouts: &mut Layouts,
         work: &mut W,
     ) -> Result<Ids, Memory>
-        requires begun { IsScanFor N.pool pass.old begun.token begun.words (words_of_rest begun.words begun.rest) begun.plan }
+        requires begun { IsScanFor N.pool pass.old begun.token begun.words layouts.old.entries.items }
         ensures found { IfOk result (λ ids. (earlier : List Event) (query : List ℕ) → IsBegunAt (view_of pass.old) earlier query → ids ≡ answer earlier query) }
         ensures ended { FindEnds pass.old.number pass.old.front pass.new.front }
         ensures rests { IsResting N.pool pass.new }
         ensures legal { IsLegal N.pool.limits pass.new.front }
         ensures number { pass.new.number ≡ pass.old.number }
     {
-        match self.scan(alloc, pass, &begun, work) {
-            Ok((candidates, found, ids)) => {
-                let Begun {
-                    token,
-                    words,
-                    rest,
-                    plan: _,
-                } = begun;
-                let mut found = found;
-                let rest = rest.words(&words);
-                self.resolve(rt, pass, token, &candidates, rest, &mut found);
-                found.sort();
-                Ok(found.into_ids(ids))
-            }
-            Err(Memory) => {
-                let Begun {
-                    token,
-                    words: _,
-                    rest: _,
-                    plan: _,
-                } = begun;
-                self.drop_find(rt, pass, token);
-                Err(Memory)
-            }
-        }
+        let Begun { token, words } = begun;
+        let mut found = Found::new(alloc);
+        self.find_each(rt, alloc, pass, token, &words, layouts, work, &mut found)?;
+        found.sort();
+        let ids = Vec::with_capacity(alloc, found.len())?;
+        Ok(found.into_ids(ids))
     }
 
-    // Looks at the candidates turn by turn, with the lock free between two, until the last turn ends the find.
+    // Looks at the slices of one layout after the other, until the find is ended.
+    fn find_each<R: Wait, W: Work>(
+        &self,
+        rt: &R,
+        alloc: Global,
+        pass: &mut PassSeat,
+        token: Token,
+        words: &WordSet,
+        layouts: &mut Layouts,
+        work: &mut W,
+        out: &mut Found,
+    ) -> Result<(), Memory>
+        requires begun { IsScanFor N.pool pass.old token words.now layouts.old.entries.items }
+        requires none { out.old.found ≡ [] }
+        ensures found { IfOk result (λ _. IsFoundBut by_query pass.old token [] out.new.found) }
+        ensures ended { FindEnds pass.old.number pass.old.front pass.new.front }
+        ensures rests { IsResting N.pool pass.new }
+        ensures legal { IsLegal N.pool.limits pass.new.front }
+        ensures number { pass.new.number ≡ pass.old.number }
+    {
+        let mut token = token;
+        while let Some(entry) = layouts.entries.pop() {
+            let last = layouts.entries.is_empty();
+            match self.find_in(rt, alloc, pass, token, words, &entry, last, work, out) {
+                Ok(Some(open)) => token = open,
+                Ok(None) => return Ok(()),
+                Err(Memory) => {
+                    layouts.entries.clear();
+                    return Err(Memory);
+                }
+            }
+        }
+        self.drop_find(rt, pass, token);
+        Ok(())
+    }
+
+    // Plans the query by the layout of an entry, scans its slices and looks at the candidates. It ends the find after the last
+    // candidate of the last slices, or where there is no memory; else the token comes back.
+    fn find_in<R: Wait, W: Work>(
+        &self,
+        rt: &R,
+        alloc: Global,
+        pass: &mut PassSeat,
+        token: Token,
+        words: &WordSet,
+        entry: &SlicesLayout,
+        last: bool,
+        work: &mut W,
+        out: &mut Found,
+    ) -> Result<Option<Token>, Memory>
+        requires can { CanLookIn N.pool pass.old token entry.now }
+        requires words { (begun : HasToken pass.old.front pass.old.number token.opened_at) → AreWordsOf words.now begun.query }
+        ensures found { IfOk result (λ _. AddsFound by_query pass.old token entry.now.slices out.old.found out.new.found) }
+        ensures goes_on { MatchResult result (GoesOn N.pool token last pass.old pass.new) (λ _. HasEnded N.pool pass.old pass.new) }
+        ensures legal { IsLegal N.pool.limits pass.new.front }
+        ensures number { pass.new.number ≡ pass.old.number }
+    {
+        let _ = pass.number();
+        let Ok(scanned) = self.scan(alloc, pass, &token, words, entry, work, out) else {
+            self.drop_find(rt, pass, token);
+            return Err(Memory);
+        };
+        let (candidates, rest) = scanned;
+        let rest = rest.words(words);
+        Ok(self.resolve(rt, pass, token, entry, &candidates, rest, last, out))
+    }
+
+    // Looks at the candidates turn by turn, with the lock free between two. After the last slices the last turn ends the find; after
+    // others the token comes back.
     fn resolve<R: Wait>(
         &self,
         rt: &R,
         pass: &mut PassSeat,
         token: Token,
+        entry: &SlicesLayout,
         candidates: &Candidates,
         rest: &WordSet,
+        last: bool,
         out: &mut Found,
-    )
-        requires so_far { IsFoundUpTo N.pool pass.old token rest.now candidates.now out.old 0 }
-        ensures found { IsAllFound pass.old token candidates.now out.new.found }
-        ensures ended { FindEnds pass.old.number pass.old.front pass.new.front }
-        ensures rests { IsResting N.pool pass.new }
-        ensures number { pass.new.number ≡ pass.old.number }
+    ) -> Option<Token>
+        requires verifying { IsVerifying N.pool token entry.now rest.now candidates.now pass.old }
+        requires room { length candidates.now ≤ out.old.room }
+        ensures found { FindsIn by_query pass.old token entry.now.slices candidates.now out.old.found out.new.found }
+        ensures goes_on { GoesOn N.pool token last pass.old pass.new result }
         ensures legal { IsLegal N.pool.limits pass.new.front }
+        ensures number { pass.new.number ≡ pass.old.number }
     {
         let mut token = token;
         let mut from = 0;
         while let Some((open, next)) = self.resolve_turn(
-            rt, pass, token, candidates, from, rest, out,
+            rt, pass, token, entry, candidates, from, rest, last, out,
         ) {
+            if candidates.len() <= next {
+                return Some(open);
+            }
             token = open;
             from = next;
         }
+        None
     }
 
-    // The candidates of a find, with room for its answer.
+    // The candidates in the slices of an entry, and the words that their documents are to have. There is room for what they give.
     fn scan<W: Work>(
         &self,
         alloc: Global,
         pass: &mut PassSeat,
-        begun: &Begun,
+        token: &Token,
+        words: &WordSet,
+        entry: &SlicesLayout,
         work: &mut W,
-    ) -> Result<(Candidates, Found, Vec<u64>), Memory>
-        requires begun { IsScanFor N.pool pass.old begun.now.token begun.now.words (words_of_rest begun.now.words begun.now.rest) begun.now.plan }
-        ensures scanned { IfOk result (λ scanned. AreScanned N.pool.config pass.new begun.now.token begun.now.words scanned.0) }
-        ensures none { IfOk result (λ scanned. scanned.1.found ≡ []) }
-        ensures room { IfOk result (λ scanned. length scanned.0 ≤ scanned.1.room) }
-        ensures ids { IfOk result (λ scanned. scanned.2.items ≡ []) }
-        ensures enough { IfOk result (λ scanned. length scanned.0 ≤ vec_capacity scanned.2) }
+        out: &mut Found,
+    ) -> Result<(Candidates, Rest), Memory>
+        requires can { CanLookIn N.pool pass.old token.now entry.now }
+        ensures scanned { IfOk result (λ scanned. AreScanned entry.now.layout.config pass.new (token_of entry.now.slices token.now) words.now scanned.0) }
+        ensures rest { IfOk result (λ scanned. words_of_rest words.now scanned.1 ≡ filter (λ word. not (is_exact entry.now.layout.config word)) words.now) }
+        ensures room { IfOk result (λ scanned. length scanned.0 ≤ out.new.room) }
+        ensures found { out.new.found ≡ out.old.found }
         ensures seat { pass.new ≡ record pass.old { own = pass.new.own; told = pass.new.told } }
     {
+        let planned = plan(alloc, entry.layout.layout(), words)?;
+        let (plan, rest) = planned;
         let mut candidates = Candidates::new(Vec::new(alloc));
-        self.scan_slices(pass, begun, work, &mut candidates)?;
-        let found = Found::with_room(alloc, candidates.len())?;
-        let ids = Vec::with_capacity(alloc, candidates.len())?;
-        Ok((candidates, found, ids))
+        self.scan_slices(pass, token, words, &plan, entry, work, &mut candidates)?;
+        out.reserve(candidates.len())?;
+        Ok((candidates, rest))
     }
 
-    // Scans the slices that the find may read.
+    // Scans the slices of an entry by its plan.
     fn scan_slices<W: Work>(
         &self,
         pass: &mut PassSeat,
-        begun: &Begun,
+        token: &Token,
+        words: &WordSet,
+        plan: &Plan,
+        entry: &SlicesLayout,
         work: &mut W,
         out: &mut Candidates,
     ) -> Result<(), Memory>
-        requires begun { IsScanFor N.pool pass.old begun.now.token begun.now.words (words_of_rest begun.now.words begun.now.rest) begun.now.plan }
+        requires can { CanLookIn N.pool pass.old token.now entry.now }
+        requires planned { IsPlanFor entry.now.layout.config words.now plan.now }
         requires empty { out.old ≡ [] }
-        ensures scanned { IfOk result (λ _. AreScanned N.pool.config pass.new begun.now.token begun.now.words out.new) }
+        ensures scanned { IfOk result (λ _. AreScanned entry.now.layout.config pass.new (token_of entry.now.slices token.now) words.now out.new) }
         ensures seat { pass.new ≡ record pass.old { own = pass.new.own; told = pass.new.told } }
     {
-        let mut rows = Shared::new(&self.pool, pass, &begun.token);
-        self.scan_each(&mut rows, &begun.words, &begun.plan, work, out)
+        let mut rows = Shared::new(&self.pool, pass, token);
+        self.scan_each(&mut rows, words, plan, entry, work, out)
     }
 
-    // Scans the slices of the token for these words, one after the other.
+    // Scans the slices of an entry for these words, one after the other.
     pub(crate) fn scan_each<W: Work>(
         &self,
         rows: &mut Shared<'_>,
         words: &WordSet,
         plan: &Plan,
+        entry: &SlicesLayout,
         work: &mut W,
         out: &mut Candidates,
     ) -> Result<(), Memory>
-        requires scan { CanScan N.pool rows.old words.now plan.now }
+        requires scan { CanScan N.pool rows.old entry.now words.now plan.now }
         requires empty { out.old ≡ [] }
-        ensures scanned { IfOk result (λ _. AreScanned N.pool.config rows.new.seat.now rows.new.token.now words.now out.new) }
+        ensures scanned { IfOk result (λ _. AreScanned entry.now.layout.config rows.new.seat.now (part_of entry.now rows.new) words.now out.new) }
         ensures seen_stays { (bit : Bit) → WasReadSet rows.old bit → WasReadSet rows.new bit }
         ensures kept { kept_of rows.new ≡ kept_of rows.old }
     {
         for slice in 0..self.slices {
-            self.scan_slice(rows, words, plan, slice, work, out)?;
+            self.scan_slice(rows, words, plan, entry, slice, work, out)?;
         }
         Ok(())
     }
 
-    // Scans one more slice, where the token has it.
+    // Scans one more slice, where the entry has it.
     fn scan_slice<W: Work>(
         &self,
         rows: &mut Shared<'_>,
         words: &WordSet,
         plan: &Plan,
+        entry: &SlicesLayout,
         slice: u32,
         work: &mut W,
         out: &mut Candidates,
     ) -> Result<(), Memory>
-        requires scan { CanScan N.pool rows.old words.now plan.now }
+        requires scan { CanScan N.pool rows.old entry.now words.now plan.now }
         requires slice { slice < N.pool.limits.slices }
-        requires below { AreScannedBelow N.pool.config rows.old.seat.now rows.old.token.now words.now slice out.old }
-        ensures scanned { IfOk result (λ _. AreScannedBelow N.pool.config rows.new.seat.now rows.new.token.now words.now (slice + 1) out.new) }
+        requires below { AreScannedBelow entry.now.layout.config rows.old.seat.now (part_of entry.now rows.old) words.now slice out.old }
+        ensures scanned { IfOk result (λ _. AreScannedBelow entry.now.layout.config rows.new.seat.now (part_of entry.now rows.new) words.now
+            (slice + 1) out.new) }
         ensures seen_stays { (bit : Bit) → WasReadSet rows.old bit → WasReadSet rows.new bit }
         ensures kept { kept_of rows.new ≡ kept_of rows.old }
     {
-        let layout = &self.layout;
-        if rows.token.slices.has(slice) {
-            work.scan(rows, layout, plan, slice, out)
+        let _ = &self.pool;
+        if entry.slices.has(slice) {
+            work.scan(rows, entry.layout.layout(), plan, slice, out)
         } else {
             Ok(())
         }

@@ -1,12 +1,12 @@
 //! What the turns of an add say of the history, and what is left of an engine. Each is the contract of a function that does nothing.
-ghost use Rattle.engine.specs.Laws.{AddsAreMadeWithTheirBits, AddsWithoutMemoryDoNothing, ClearedSlicesAreFilledFromTheFirst, ClosedEnginesCountTheirEvents};
+ghost use Rattle.engine.specs.Laws.{AddsAreMadeWithTheirBits, AddsWithoutMemoryAddNothing, ClearedSlicesAreFilledFromTheFirst, ClosedEnginesCountTheirEvents};
 
-/// An add that found no memory left the history as its pass had seen it.
-pub fn adds_without_memory_do_nothing()
-    ensures { AddsWithoutMemoryDoNothing }
+/// An add that found no memory did nothing but move a few documents.
+pub fn adds_without_memory_add_nothing()
+    ensures { AddsWithoutMemoryAddNothing }
 {}
 
-/// An add that is answered by its place is in the history, with exactly the bits of its text at its column.
+/// An add that is answered by its place is in the history, with exactly the bits of its text at its column, by the treatment of its slice.
 pub fn adds_are_made_with_their_bits()
     ensures { AddsAreMadeWithTheirBits }
 {}

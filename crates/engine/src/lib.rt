@@ -10,8 +10,8 @@
 //! pool, in which it opens the engine, uses it and closes it. The type of an engine, and of what it hands out, has that name: a
 //! pass is one of the engine with the same name, and rests whenever a caller has it. So `Blank::new` asks for a valid
 //! configuration, `open` for the one that its blank was made with and for the name of that blank's pool, and `find_any` for
-//! branches of which each text that its judge keeps has all words of one. No other call of an engine asks for anything but the
-//! arguments that its types say.
+//! branches of which each text that its judge keeps has all words of one, and `retune` for a configuration as `read_tuning` gives
+//! it. No other call of an engine asks for anything but the arguments that its types say.
 //!
 //! ```text
 //! ghost use Rattle.std.specs.Prelude.{◌≡◌};
@@ -95,8 +95,8 @@
 //!   for 256 words; where a judge decides, each document counts as 8 words at least. It sorts its answer afterwards. What else is
 //!   done there takes the longer the more there is of it: a journal copies its commits, an add that is refused as full looks through
 //!   the slices, and one that moves a document copies it. `Blank::new`, `open`, `note`, `meet` and `close` wait for nobody.
-//! - `Blank::new`, `open`, `add`, `find`, `find_any`, `begin_find`, `finish_find` and `journal` take memory, and answer so where there
-//!   is none; the others take none.
+//! - `Blank::new`, `open`, `add`, `find`, `find_any`, `begin_find`, `finish_find`, `journal`, `read_tuning` and `retune` take memory,
+//!   and answer so where there is none; the others take none.
 //! - A deleted document keeps its column until all columns of its slice are done with, and the slice is cleared. So one live
 //!   document keeps its whole slice, unless the configuration has a `reserve`, for which adds move documents.
 //! - `AddFault::Full` tells what keeps documents out of each slice. It may pass without a delete: where another pass clears a slice,
@@ -118,6 +118,8 @@ mod moving;
 mod open_find;
 mod pass;
 mod query_judge;
+mod reading;
+mod retuning;
 mod turns;
 mod word_expr;
 mod work;
@@ -126,10 +128,9 @@ pub use blank::Blank;
 pub use client::Client;
 pub use closed::Closed;
 pub use column_writer::write_column;
-pub use commit_desk::{AddFault, DeleteFault, JournalFault, Spent};
+pub use commit_desk::{AddFault, DeleteFault, FindFault, JournalFault, Spent};
 pub use document_store::{Doc, Judge};
 pub use engine::Engine;
-pub use finding::FindFault;
 pub use funnel_model::{
     Block, Blocked, Branches, Candidates, Claim, ClearJob, Commit, Commits, Config, Ids, Listed,
     Memory, WordSet,
@@ -138,6 +139,7 @@ pub use funnel_stats::{ConfigFault, parse_config};
 pub use open_find::OpenFind;
 pub use pass::{Note, Pass};
 pub use rank_matcher::scan;
+pub use retuning::TuneFault;
 pub use row_layout::{Bits, Layout, Plan};
 pub use row_read::Shared;
 pub use slice_recycler::{Clearer, Recycled, clear_slice};

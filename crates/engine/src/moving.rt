@@ -1,15 +1,15 @@
 //! Moves: an add first moves documents out of the slice that is to be emptied. Each call of the desk is a turn of its own.
-ghost use Rattle.std.specs.Prelude.{◌≡◌, ℕ, ◌≤◌, ◌↔◌, [], ◌∷◌, cond, IfOk, IfSome, IsTrue, MatchOption};
+ghost use Rattle.std.specs.Prelude.{◌≡◌, ℕ, ◌≤◌, ◌↔◌, [], ◌∷◌, cond, IfOk, IfSome, IsTrue};
 ghost use Rattle.commit_desk.specs.Moving.{AnswersLook, AnswersTakeMove, HoldsLook, IsThereStill, LooksState, event_of_move, events_of_take_move};
-ghost use Rattle.commit_desk.specs.Passes.{HasWritten, IsResting, IsToWrite};
-ghost use Rattle.engine.specs.Moves.{MoveTurns, SomeMoves};
+ghost use Rattle.commit_desk.specs.Passes.{HasWritten, IsResting};
+ghost use Rattle.engine.specs.Moves.{MoveTurns, SomeMoves, WritesOrRests};
 ghost use Rattle.funnel_model.specs.declared.call.TheConstants.{MOST_MOVES};
 ghost use Rattle.funnel_model.specs.History.{IsFrontOf};
 ghost use Rattle.slice_recycler.specs.Turns.{IsTurn};
 
 use crate::engine::Engine;
 use crate::work::Work;
-use commit_desk::Look;
+use commit_desk::{Look, TakenMove};
 use funnel_model::{Claim, MOST_MOVES, Memory};
 use row_layout::Bits;
 use slice_rule::{PassSeat, PoolName};
@@ -63,10 +63,15 @@ impl<N: PoolName> Engine<N> {
             self.drop_look(rt, look);
             return false;
         };
-        let Some((claim, look)) = self.take_move(rt, pass, look) else {
+        let Ok(Some(taken)) = self.take_move(rt, pass, look) else {
             return false;
         };
-        self.write(pass, &claim, look.doc.words(), &mut bits, work);
+        let TakenMove {
+            claim,
+            look,
+            layout,
+        } = taken;
+        self.write(pass, &claim, &layout, look.doc.words(), &mut bits, work);
         self.end_move(rt, pass, claim, look, &bits);
         true
     }
@@ -98,11 +103,16 @@ impl<N: PoolName> Engine<N> {
     }
 
     // The second turn of a move.
-    fn take_move<R: Wait>(&self, rt: &R, pass: &mut PassSeat, look: Look) -> Option<(Claim, Look)>
+    fn take_move<R: Wait>(
+        &self,
+        rt: &R,
+        pass: &mut PassSeat,
+        look: Look,
+    ) -> Result<Option<TakenMove>, Memory>
         requires rests { IsResting N.pool pass.old }
         ensures turn { IsTurn pass.old.number pass.old.front pass.new.front
             (λ history. AnswersTakeMove N.pool.limits.events N.pool.limits history pass.old.number look result) (events_of_take_move pass.old.number result) }
-        ensures next { MatchOption result (IsResting N.pool pass.new) (λ taken. IsToWrite N.pool taken.0 pass.new) }
+        ensures next { WritesOrRests N.pool pass.new result }
         ensures number { pass.new.number ≡ pass.old.number }
     {
         let _ = &self.pool;

@@ -1,6 +1,5 @@
+use commit_desk::Layouts;
 use funnel_model::{Token, WordSet};
-use plan_rows::Rest;
-use row_layout::Plan;
 use slice_rule::{PassSeat, PoolName};
 use std::marker::{Model, PhantomData};
 
@@ -8,6 +7,8 @@ use std::marker::{Model, PhantomData};
 /// on another thread. Contracts see the pass, whose last event began the find.
 pub struct OpenFind<N: PoolName> {
     pub(crate) seat: PassSeat,
+    /// The layouts by which its slices are read.
+    pub(crate) layouts: Layouts,
     pub(crate) begun: Begun,
     pub(crate) of: PhantomData<N>,
 }
@@ -17,7 +18,6 @@ impl<N: PoolName> Model for OpenFind<N> {
     ghost use Rattle.funnel_model.specs.contracts.expr.Expr as e;
     ghost use Rattle.engine.specs.Finds.{IsScanFor};
     ghost use Rattle.engine.specs.Passes.{PassView, view_of};
-    ghost use Rattle.plan_rows.specs.Rests.{words_of_rest};
 
     ghost Value = { PassView };
 
@@ -25,14 +25,11 @@ impl<N: PoolName> Model for OpenFind<N> {
 
     ghost view = { λ f. view_of f.seat };
 
-    ghost invariant = { λ f. IsScanFor N.pool f.seat f.begun.token f.begun.words (words_of_rest f.begun.words f.begun.rest) f.begun.plan };
+    ghost invariant = { λ f. IsScanFor N.pool f.seat f.begun.token f.begun.words f.layouts.entries.items };
 }
 
-// What an open find scans for: its token, the words of its query, those of them that are looked for in documents too, and the
-// plan of the rows of all.
+// What an open find scans for: its token, and the words of its query.
 pub(crate) struct Begun {
     pub token: Token,
     pub words: WordSet,
-    pub rest: Rest,
-    pub plan: Plan,
 }

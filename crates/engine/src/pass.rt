@@ -4,6 +4,7 @@ ghost use Rattle.commit_desk.specs.Passes.{IsResting};
 ghost use Rattle.engine.specs.Engines.{EndsIn};
 ghost use Rattle.engine.specs.Passes.{view_of};
 
+use commit_desk::Layouts;
 use funnel_model::Memory;
 use slice_rule::{Home, Note as SeatNote, PassSeat, Pool, PoolName};
 use std::alloc::Global;
@@ -14,6 +15,9 @@ use std::marker::{Model, PhantomData};
 #[derive(Drop)]
 pub struct Pass<N: PoolName> {
     pub(crate) seat: PassSeat,
+    /// Where its finds keep the layouts of their slices, with room for an entry for each. Between finds it is kept for its memory, and
+    /// has none.
+    pub(crate) layouts: Layouts,
     pub(crate) of: PhantomData<N>,
 }
 
@@ -69,18 +73,20 @@ impl<N: PoolName> Model for Note<N> {
     ghost invariant = { λ n. n.note.pool ≡ N.pool };
 }
 
-// The passes of a new engine.
+// The passes of a new engine that has so many slices.
 pub(crate) fn name_passes<N: PoolName>(
     alloc: Global,
     seats: Vec<PassSeat>,
+    slices: u32,
 ) -> Result<Vec<Pass<N>>, Memory>
     requires rest { All (IsResting N.pool) seats.items }
     ensures { IfOk result (λ passes. passes.items ≡ map view_of seats.items) }
 {
     let mut passes = Vec::with_capacity(alloc, seats.len())?;
     for seat in seats {
+        let layouts = Layouts::with_room(alloc, slices as usize)?;
         let of = PhantomData;
-        passes.push(Pass { seat, of })?;
+        passes.push(Pass { seat, layouts, of })?;
     }
     Ok(passes)
 }
@@ -105,6 +111,10 @@ fn end_pass<N: PoolName>(pool: &Pool, home: &mut Home, pass: Pass<N>)
     ensures history { home.new.history ≡ home.old.history }
     ensures pass { EndsIn home.old.history pass }
 {
-    let Pass { seat, of: _ } = pass;
+    let Pass {
+        seat,
+        layouts: _,
+        of: _,
+    } = pass;
     pool.end_pass(home, seat);
 }

@@ -1,19 +1,22 @@
-//! The turns of adds and finds at the desk. Each holds the lock for one call of the desk, and the last of a find for its end too.
-ghost use Rattle.std.specs.Prelude.{◌≡◌, ◌<◌, ◌≤◌, [], ◌∷◌, length, IfSome, MatchResult, None, vec_capacity};
+//! The turns of adds, finds and tunings at the desk. Each holds the lock for one call of the desk, and the last of a find for its end too.
+ghost use Rattle.std.specs.Prelude.{◌≡◌, ◌≤◌, true, [], ◌∷◌, length, IfOk, IfSome, MatchResult, None, vec_capacity};
 ghost use Rattle.funnel_model.specs.declared.event.Event.TheVariants as event;
 ghost use Rattle.funnel_model.specs.Legal.{IsLegal};
 ghost use Rattle.funnel_model.specs.Tokens.{HasToken};
-ghost use Rattle.commit_desk.specs.Answers.{AnswersCommit, AnswersFind, events_of_commit, events_of_find, events_of_opened_take};
+ghost use Rattle.commit_desk.specs.Answers.{AnswersCommit, AnswersFind, AnswersTune, events_of_commit, events_of_find, events_of_opened_take, events_of_tune};
+ghost use Rattle.commit_desk.specs.FindLayouts.{AreFindLayouts};
+ghost use Rattle.commit_desk.specs.Layouts.{IsLayoutOf, TunesWith};
 ghost use Rattle.commit_desk.specs.Passes.{HasCleared, HasWritten, IsFinding, IsResting, IsToDo, IsToWrite};
-ghost use Rattle.commit_desk.specs.Resolving.{LooksUpTo};
+ghost use Rattle.commit_desk.specs.Resolving.{FindsUpTo, IsVerifying};
 ghost use Rattle.engine.specs.Adds.{TakeTurn};
-ghost use Rattle.engine.specs.Finds.{ComesTo, IsAllFound, IsFoundUpTo, end_of_turn, events_of_turn};
+ghost use Rattle.engine.specs.Finds.{CanGoOn, ComesTo, by_query, end_of_turn, events_of_turn};
+ghost use Rattle.row_layout.specs.Layouts.{LayoutId};
 ghost use Rattle.slice_recycler.specs.Turns.{IsTurn};
 
 use crate::engine::Engine;
-use commit_desk::{CommitFault, Spent, Taken};
+use commit_desk::{CommitFault, FindFault, Layouts, SharedLayout, SlicesLayout, Spent, Taken};
 use document_store::{Doc, Found, FreeSlots};
-use funnel_model::{Block, Candidates, Claim, ClearJob, Token, WordSet};
+use funnel_model::{Block, Candidates, Claim, ClearJob, Config, Token, WordSet};
 use row_layout::Bits;
 use slice_rule::{PassSeat, PoolName};
 use std::sync::Wait;
@@ -45,7 +48,7 @@ impl<N: PoolName> Engine<N> {
         taken
     }
 
-    // The turn of an add that cleared a slice.
+    // The turn of an add that cleared a slice. The slice keeps the layout that it had when the pass began to clear it.
     pub(crate) fn opened_take<R: Wait>(
         &self,
         rt: &R,
@@ -55,10 +58,9 @@ impl<N: PoolName> Engine<N> {
     ) -> Claim
         requires cleared { HasCleared N.pool job pass.old }
         requires slots { slots ≡ N.pool.limits.columns }
-        ensures slice { result.slice ≡ job.slice }
-        ensures column { result.column ≡ 0 }
+        ensures claim { result ≡ record { slice = job.slice; column = 0 } }
         ensures turn { IsTurn pass.old.number pass.old.front pass.new.front (λ history. Unit {0}) (events_of_opened_take pass.old.number job.slice) }
-        ensures next { IsToWrite N.pool result pass.new }
+        ensures next { (layout : LayoutId) → IsLayoutOf N.pool.config job.slice pass.old.front layout → IsToWrite N.pool result layout pass.new }
         ensures number { pass.new.number ≡ pass.old.number }
         ensures legal { IsLegal N.pool.limits pass.new.front }
     {
@@ -92,42 +94,52 @@ impl<N: PoolName> Engine<N> {
             .commit(&self.pool, pass, claim, doc, bits)
     }
 
-    // The first turn of a find.
+    // The first turn of a find. It tells by which layouts the find reads its slices. A refused one may leave some of them.
     pub(crate) fn open_find<R: Wait>(
         &self,
         rt: &R,
         pass: &mut PassSeat,
         query: &str,
-    ) -> Result<Token, Spent>
+        layouts: &mut Layouts,
+    ) -> Result<Token, FindFault>
         requires rests { IsResting N.pool pass.old }
         ensures turn { IsTurn pass.old.number pass.old.front pass.new.front (λ history. AnswersFind N.pool.limits.events N.pool.limits history result)
             (events_of_find pass.old.number query.now result) }
         ensures next { MatchResult result (λ token. IsFinding N.pool token pass.new) (λ _. IsResting N.pool pass.new) }
+        ensures layouts { IfOk result (λ token. (begun : HasToken pass.new.front pass.new.number token.opened_at) →
+            AreFindLayouts N.pool begun.earlier token layouts.new.entries.items) }
         ensures number { pass.new.number ≡ pass.old.number }
         ensures legal { IsLegal N.pool.limits pass.new.front }
     {
         let _ = &self.pool;
-        self.desk.lock(rt).desk.open_find(&self.pool, pass, query)
+        self.desk
+            .lock(rt)
+            .desk
+            .open_find(&self.pool, pass, query, layouts)
     }
 
-    // A turn of a find that looks at its candidates from this one on, while the turn isn't over. The last turn ends the find; any
-    // other hands its token back, and tells where the next goes on.
+    // A turn of a find that looks at its candidates in the slices of one layout, from this one on, while the turn isn't over. Where
+    // these slices are the last ones, the turn that looks at the last candidate ends the find. Any other hands the token back, and
+    // tells where the next goes on.
     pub(crate) fn resolve_turn<R: Wait>(
         &self,
         rt: &R,
         pass: &mut PassSeat,
         token: Token,
+        entry: &SlicesLayout,
         candidates: &Candidates,
         from: usize,
         rest: &WordSet,
+        last: bool,
         out: &mut Found,
     ) -> Option<(Token, usize)>
-        requires so_far { IsFoundUpTo N.pool pass.old token rest.now candidates.now out.old from }
-        ensures next { IfSome result (λ next. IsFoundUpTo N.pool pass.new next.0 rest.now candidates.now out.new next.1) }
-        ensures onward { IfSome result (ComesTo token candidates.now from) }
-        ensures bounds { (begun : HasToken pass.old.front pass.old.number token.opened_at) →
-            LooksUpTo begun.earlier (length rest.now) candidates.now from (end_of_turn candidates.now result) }
-        ensures over { result ≡ None → IsAllFound pass.old token candidates.now out.new.found × IsResting N.pool pass.new }
+        requires verifying { IsVerifying N.pool token entry.now rest.now candidates.now pass.old }
+        requires can { CanGoOn candidates.now out.old from }
+        ensures found { (begun : HasToken pass.old.front pass.old.number token.opened_at) → FindsUpTo begun.earlier (by_query begun.query)
+            (length rest.now) entry.now.slices candidates.now from (end_of_turn candidates.now result) out.old.found out.new.found }
+        ensures next { IfSome result (λ next. IsVerifying N.pool next.0 entry.now rest.now candidates.now pass.new
+            × ComesTo token candidates.now last from out.new next) }
+        ensures over { result ≡ None → (last ≡ true) × IsResting N.pool pass.new }
         ensures turn { IsTurn pass.old.number pass.old.front pass.new.front (λ history. Unit {0}) (events_of_turn pass.old.number result) }
         ensures number { pass.new.number ≡ pass.old.number }
         ensures legal { IsLegal N.pool.limits pass.new.front }
@@ -135,15 +147,18 @@ impl<N: PoolName> Engine<N> {
         let _ = &self.pool;
         let mut named = self.desk.lock(rt);
         let desk = &mut named.desk;
-        let next = desk.resolve_part(&self.pool, pass, &token, candidates, from, rest, out);
+        let next = desk.resolve_part(&self.pool, pass, &token, entry, candidates, from, rest, out);
         if next < candidates.len() {
             return Some((token, next));
         }
-        desk.end_find(&self.pool, pass, token);
-        None
+        if last {
+            desk.end_find(&self.pool, pass, token);
+            return None;
+        }
+        Some((token, next))
     }
 
-    // The turn that ends a find that found no memory.
+    // The turn that ends a find that found no memory, or whose slices all have been looked at.
     pub(crate) fn drop_find<R: Wait>(&self, rt: &R, pass: &mut PassSeat, token: Token)
         requires finding { IsFinding N.pool token pass.old }
         ensures turn { IsTurn pass.old.number pass.old.front pass.new.front (λ history. Unit {0}) (event.End pass.old.number ∷ []) }
@@ -153,5 +168,29 @@ impl<N: PoolName> Engine<N> {
     {
         let _ = &self.pool;
         self.desk.lock(rt).desk.end_find(&self.pool, pass, token)
+    }
+
+    // The turn of a tuning, with the layout that each slice gets when it is cleared. The layouts before come back in its place, so that
+    // they are dropped when the lock is free again.
+    pub(crate) fn tune<R: Wait>(
+        &self,
+        rt: &R,
+        pass: &mut PassSeat,
+        config: &Config,
+        layouts: &mut Vec<Option<SharedLayout>>,
+    ) -> Result<u64, Spent>
+        requires rests { IsResting N.pool pass.old }
+        requires tunes { TunesWith N.pool config.now layouts.old.items }
+        ensures turn { IsTurn pass.old.number pass.old.front pass.new.front (λ history. AnswersTune N.pool.limits.events history result)
+            (events_of_tune pass.old.number config.now result) }
+        ensures rests { IsResting N.pool pass.new }
+        ensures number { pass.new.number ≡ pass.old.number }
+        ensures legal { IsLegal N.pool.limits pass.new.front }
+    {
+        let _ = &self.pool;
+        self.desk
+            .lock(rt)
+            .desk
+            .tune(&self.pool, pass, config, layouts)
     }
 }

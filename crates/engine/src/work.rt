@@ -57,8 +57,8 @@ pub trait Work: Clearer {
 pub struct Direct;
 
 impl Clearer for Direct {
-    fn clear(&mut self, pool: &Pool, seat: &mut PassSeat, layout: &Layout, job: &ClearJob) {
-        clear_slice(pool, seat, layout, job)
+    fn clear(&mut self, pool: &Pool, seat: &mut PassSeat, room: u32, job: &ClearJob) {
+        clear_slice(pool, seat, room, job)
     }
 }
 

@@ -1,12 +1,12 @@
 -- The events of a call, from its turns.
-use Rattle.std.proofs.Common.{◌≡◌, ℕ, List, [], ◌∷◌, Result, Ok, Err}
+use Rattle.std.proofs.Common.{◌≡◌, ℕ, List, [], ◌∷◌, Result, Ok, Err, ⊎_elim, sym, ◌∙◌, append-nil}
 use Rattle.std.specs.Prelude.{IfOk}
 use Rattle.commit_desk.specs.declared.answers.AddFault.{AddFault}
 use Rattle.commit_desk.specs.declared.answers.AddFault.TheVariants as add
-use Rattle.engine.specs.Adds.{AddTurns}
+use Rattle.engine.specs.Adds.{AddTurns, MovesFirst}
 use Rattle.engine.specs.Finds.{FindTurns}
-use Rattle.engine.specs.declared.finding.FindFault.{FindFault}
-use Rattle.engine.proofs.Moves.{none_moved_without_reserve, turn_from}
+use Rattle.commit_desk.specs.declared.answers.FindFault.{FindFault}
+use Rattle.engine.proofs.Moves.{front_refl, none_moved_without_reserve, turn_from}
 use Rattle.engine_tests.specs.Events.{EndsWith, EndsWithAdd, FindsBetween, Makes}
 use Rattle.funnel_model.specs.declared.block.Block.{Block}
 use Rattle.funnel_model.specs.declared.call.Call.TheVariants as call
@@ -16,11 +16,12 @@ use Rattle.funnel_model.specs.declared.event.Event.TheVariants as event
 use Rattle.funnel_model.specs.Legal.{Limits}
 
 pub ends_with_add : (config : Config) (limits : Limits) (pass id : ℕ) (text : List ℕ) (before after : List Event) (answer : Result ℕ AddFault) →
-    AddTurns config limits pass id text before after answer → IfOk answer (λ _. EndsWithAdd config pass id text after)
+    AddTurns config limits pass id text before after answer → IfOk answer (λ _. EndsWithAdd config limits pass id text after)
 ends_with_add config limits pass id text before after (Ok added) turns = record {
+  claimed = turns.own.middle;
   earlier = turns.own.committed.earlier;
-  slice = turns.own.claim.slice;
-  column = turns.own.claim.column;
+  seen = turns.own.committed.seen;
+  claim = turns.own.claim;
   bits = turns.own.bits;
   of_text = turns.own.of_text;
   whole = turns.own.committed.made;
@@ -37,6 +38,15 @@ module _ (config : Config) (limits : Limits) (pass id : ℕ) (text : List ℕ) (
       let refusal = event.No pass (call.Add id text) ∷ [] in
       let turn = turn_from pass before turns.middle after refusal (none_moved_without_reserve config limits pass id turns.moves before turns.middle none turns.moved) turns.own in
       record { earlier = turn.earlier; others = turn.seen; whole = turn.made }
+
+-- an add that found no memory makes no event, where no column is to be kept free
+pub makes_none : (config : Config) (limits : Limits) (pass id : ℕ) (text : List ℕ) (before after : List Event) → config.reserve ≡ 0 → AddTurns config limits pass id text before after (Err add.Memory) →
+    Makes pass before after []
+makes_none config limits pass id text before after none turns =
+    ⊎_elim (λ (same : before ≡ after). record { earlier = before; others = front_refl pass before; whole = sym same ∙ sym (append-nil before) })
+    (λ (moved : MovesFirst config limits pass id text before after (Err add.Memory)).
+    let turn = turn_from pass before moved.middle after [] (none_moved_without_reserve config limits pass id moved.moves before moved.middle none moved.moved) moved.own in
+    record { earlier = turn.earlier; others = turn.seen; whole = turn.made }) turns
 
 pub finds_between : (limits : Limits) (pass : ℕ) (query : List ℕ) (before after : List Event) (answer : Result (List ℕ) FindFault) →
     FindTurns limits pass query before after answer → IfOk answer (FindsBetween pass before after query)

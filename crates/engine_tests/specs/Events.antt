@@ -1,12 +1,13 @@
 -- Which events calls make.
 use Rattle.std.specs.Prelude.{◌≡◌, ℕ, List, [], ◌∷◌, ◌++◌}
 use Rattle.funnel_model.specs.declared.bit_list.Bit.{Bit}
+use Rattle.funnel_model.specs.declared.claim.Claim.{Claim}
 use Rattle.funnel_model.specs.declared.config.Config.{Config}
 use Rattle.funnel_model.specs.declared.event.Event.{Event}
 use Rattle.funnel_model.specs.declared.event.Event.TheVariants as event
 use Rattle.funnel_model.specs.History.{IsFrontOf, answer}
-use Rattle.funnel_model.specs.Words.{words}
-use Rattle.row_layout.specs.DocumentBits.{AreDocumentBits}
+use Rattle.funnel_model.specs.Legal.{Limits}
+use Rattle.engine.specs.Moves.{AreBitsAt}
 
 -- events of other passes came, and then these of the pass
 pub record Makes (pass : ℕ) (before after events : List Event) : Type 0 where
@@ -24,14 +25,15 @@ pub record MakesTwo (pass : ℕ) (before after : List Event) (first second : Eve
 abbrev pub EndsWith : Event → List Event → Type 0
 EndsWith e after = (earlier : List Event) × (after ≡ earlier ++ e ∷ [])
 
--- the last event adds the document, with exactly the bits of its text
-pub record EndsWithAdd (config : Config) (pass id : ℕ) (text : List ℕ) (after : List Event) : Type 0 where
+-- the last event adds the document, with exactly the bits of its text, by the treatment that the slice had when the column was claimed
+pub record EndsWithAdd (config : Config) (limits : Limits) (pass id : ℕ) (text : List ℕ) (after : List Event) : Type 0 where
+  pub claimed : List Event
   pub earlier : List Event
-  pub slice : ℕ
-  pub column : ℕ
+  pub seen : IsFrontOf pass claimed earlier
+  pub claim : Claim
   pub bits : List Bit
-  pub of_text : AreDocumentBits config (words text) slice column bits
-  pub whole : after ≡ earlier ++ event.Add pass id text slice column bits ∷ []
+  pub of_text : AreBitsAt config limits claimed text claim bits
+  pub whole : after ≡ earlier ++ event.Add pass id text claim.slice claim.column bits ∷ []
 
 -- a find began and ended, and is answered by what was live when it began
 pub record FindsBetween (pass : ℕ) (before after : List Event) (query ids : List ℕ) : Type 0 where

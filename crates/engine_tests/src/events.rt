@@ -37,7 +37,7 @@ impl Case for Events {
 }
 
 /// The last event of an add that found no room is its refusal, and it makes no other where no column is to be kept free. One
-/// that found no memory makes nothing. The last event of one that was answered by its place has the document, with exactly
+/// that found no memory makes none then. The last event of one that was answered by its place has the document, with exactly
 /// its bits.
 fn add<N: PoolName, R: Wait>(
     rt: &R,
@@ -50,8 +50,8 @@ fn add<N: PoolName, R: Wait>(
     ensures full { (blocks : _) → result ≡ Err (AddFault.Full blocks) → EndsWith (event.No pass.old.number (call.Add id text.now)) pass.new.front }
     ensures full_at_once { (blocks : _) → N.pool.config.reserve ≡ 0 → result ≡ Err (AddFault.Full blocks) →
         Makes pass.old.number pass.old.front pass.new.front (event.No pass.old.number (call.Add id text.now) ∷ []) }
-    ensures memory { result ≡ Err AddFault.Memory → pass.new.front ≡ pass.old.front }
-    ensures added { IfOk result (λ _. EndsWithAdd N.pool.config pass.old.number id text.now pass.new.front) }
+    ensures memory { N.pool.config.reserve ≡ 0 → result ≡ Err AddFault.Memory → Makes pass.old.number pass.old.front pass.new.front [] }
+    ensures added { IfOk result (λ _. EndsWithAdd N.pool.config N.pool.limits pass.old.number id text.now pass.new.front) }
 {
     engine.add(rt, alloc, pass, id, text)
 }

@@ -27,9 +27,9 @@ pub(crate) struct Hooked<H: Hook> {
 }
 
 impl<H: Hook> Clearer for Hooked<H> {
-    fn clear(&mut self, pool: &Pool, seat: &mut PassSeat, layout: &Layout, job: &ClearJob) {
+    fn clear(&mut self, pool: &Pool, seat: &mut PassSeat, room: u32, job: &ClearJob) {
         self.hook.clears();
-        Direct.clear(pool, seat, layout, job)
+        Direct.clear(pool, seat, room, job)
     }
 }
 

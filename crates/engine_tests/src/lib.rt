@@ -32,6 +32,8 @@ mod queries;
 #[cfg(test)]
 mod replacing;
 #[cfg(test)]
+mod retuning;
+#[cfg(test)]
 mod setting;
 #[cfg(test)]
 mod threads;

@@ -33,7 +33,7 @@ pub(crate) struct Opened<N: PoolName> {
     pub passes: Vec<Pass<N>>,
 }
 
-fn no_words(alloc: Global) -> Listed
+pub(crate) fn no_words(alloc: Global) -> Listed
     ensures { result ≡ [] }
 {
     Listed::new(Vec::new(alloc))

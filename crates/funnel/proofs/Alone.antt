@@ -87,17 +87,19 @@ have_done pool config passes did closed limits_are config_is some first legal ca
 -- and so was a session of it
 pub have_run : (pool : PoolId) (config : Config) (passes : List PassView) (incoming later_incoming : Incoming) (outgoing later_outgoing : Outgoing)
     (end : End) (why : Why) (closed : ClosedState) → pool.limits ≡ limits_by config → pool.config ≡ config → 1 ≤ pool.limits.passes →
-    FirstDid pool passes (λ front. Serves (first_caller pool.limits) MOST_BYTES (record { front = []; incoming = incoming; outgoing = outgoing })
+    FirstDid pool passes (λ front. Serves (first_caller pool.config pool.limits) MOST_BYTES (record { front = []; incoming = incoming; outgoing = outgoing })
     (record { front = front; incoming = later_incoming; outgoing = later_outgoing }) end) → why ≡ why_of_end end →
     IsLegal pool.limits closed.history → MovesAreCaused closed.history → IsSound pool.config closed.history → All (EndsIn closed.history) passes →
     Ran config incoming later_incoming outgoing later_outgoing why closed
 have_run pool config passes incoming later_incoming outgoing later_outgoing end why closed limits_are config_is some served answered legal caused sound ends =
-    let done = have_done pool config passes (λ front. Serves (first_caller pool.limits) MOST_BYTES (record { front = []; incoming = incoming; outgoing = outgoing })
+    let done = have_done pool config passes (λ front. Serves (first_caller pool.config pool.limits) MOST_BYTES (record { front = []; incoming = incoming; outgoing = outgoing })
     (record { front = front; incoming = later_incoming; outgoing = later_outgoing }) end) closed limits_are config_is some served legal caused sound ends in
     record {
       end = end;
       answered = answered;
-      serves = subst (λ (l : Limits). Serves (first_caller l) MOST_BYTES (record { front = []; incoming = incoming; outgoing = outgoing })
-          (record { front = closed.history; incoming = later_incoming; outgoing = later_outgoing }) end) limits_are done.0;
+      serves = subst (λ (k : Config). Serves (first_caller k (limits_by config)) MOST_BYTES (record { front = []; incoming = incoming; outgoing = outgoing })
+          (record { front = closed.history; incoming = later_incoming; outgoing = later_outgoing }) end) config_is
+          (subst (λ (l : Limits). Serves (first_caller pool.config l) MOST_BYTES (record { front = []; incoming = incoming; outgoing = outgoing })
+          (record { front = closed.history; incoming = later_incoming; outgoing = later_outgoing }) end) limits_are done.0);
       of_first = done.1;
     }

@@ -4,10 +4,10 @@ use Rattle.std.proofs.lemmas.Slice.Eq.{bytes_eq-Decides}
 use Rattle.std.specs.Str.{bytes_eq}
 use Rattle.clap.proofs.OnLiterals.{clap_on_literals}
 use Rattle.clap.specs.Takes.{takes}
-use Rattle.funnel.specs.Commands.{call_words, command_of, funnel_app}
+use Rattle.command_line.specs.Commands.{call_words, command_of, funnel_app}
 use Rattle.funnel.specs.Texts.{text_asked, text_by}
 use Rattle.funnel.specs.declared.text.Text.TheVariants as text
-use Rattle.funnel.proofs.TakenWords.{no_command}
+use Rattle.command_line.proofs.TakenWords.{no_command}
 
 pub help_refused : takes funnel_app (call_words (codes "--help" ∷ [])) ≡ false
 unfolding clap_on_literals

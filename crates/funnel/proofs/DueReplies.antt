@@ -1,5 +1,5 @@
 -- Which replies a run can have: it is too short to spend its history.
-use Rattle.std.proofs.Common.{◌≡◌, ◌+◌, ◌<◌, ◌≤◌, ℕ, Bool, true, false, cond, List, [], ◌∷◌, ◌++◌, length, refl, sym, ap, ◌∙◌, subst, inl, inr, arith, length-append}
+use Rattle.std.proofs.Common.{◌≡◌, ◌+◌, ◌<◌, ◌≤◌, ◌⊎◌, ℕ, Bool, true, false, cond, List, [], ◌∷◌, ◌++◌, length, refl, sym, ap, ◌∙◌, subst, inl, inr, arith, length-append}
 use Rattle.std.proofs.lemmas.List.{length-map}
 use Rattle.std.specs.List.{fold}
 use Rattle.std.specs.Prelude.{◌==◌}
@@ -13,12 +13,14 @@ use Rattle.funnel_model.specs.declared.call.Call.TheVariants as call
 use Rattle.funnel_model.specs.declared.config.Config.{Config}
 use Rattle.funnel_model.specs.declared.event.Event.{Event}
 use Rattle.funnel_model.specs.declared.reply.Reply.{Reply}
+use Rattle.funnel_model.specs.declared.reply.Reply.TheVariants as reply
 use Rattle.funnel_model.specs.Legal.{Limits}
 use Rattle.funnel_model.specs.Steps.{FindsNoMemory, Step}
 use Rattle.funnel_model.proofs.StepCauses.{memory_cause, spent_cause}
 use Rattle.funnel_model.proofs.StepLemmas.{linear-grows}
-use Rattle.line_proto.specs.Forms.{Item, Asks, Malformed, TooLong, Calls, Queries, item_of, items}
-use Rattle.line_proto.specs.Services.{Caller, IsUnread}
+use Rattle.funnel_stats.specs.Tunings.{Tuned, Gives, Faulty, Wide, tuned}
+use Rattle.line_proto.specs.Forms.{Item, Asks, Malformed, TooLong, Calls, Queries, Tunes, item_of, items}
+use Rattle.line_proto.specs.Services.{AnswersTuned, Caller, IsUnread}
 use Rattle.load_laws.proofs.EventCounts.{few_events_of_calls}
 use Rattle.load_laws.specs.LonePass.{IsAlone}
 use Rattle.session.proofs.SessionLaws.{calls_few, runs_calls}
@@ -81,6 +83,22 @@ due_call limits pass before after asked given step few = record {
   memory = λ is. takes_memory pass before after asked (memory_cause limits pass before after asked (subst (Step limits pass before after asked) is step));
 }
 
+-- what is refused otherwise, or for want of memory, isn't spent
+told_otherwise : (given other : Reply) → (other ≡ reply.Spent → ⊥) → (given ≡ other) ⊎ (given ≡ reply.Memory) → given ≡ reply.Spent → ⊥
+told_otherwise given other unlike (inl told) is = unlike (sym told ∙ is)
+told_otherwise given other unlike (inr told) is = let lacks = sym told ∙ is in cc
+
+-- what comes of a tuning's text
+due_tuned : (caller : Caller) (before after : List Event) (text : List ℕ) (comes : Tuned) (given : Reply) → AnswersTuned caller before after comes given →
+    length after < caller.limits.events → IsDue (Asks (Tunes text)) given
+due_tuned caller before after text (Gives config) given answers few =
+    let due = due_call caller.limits caller.pass before after (call.Tune config) given answers.step few in
+    record { unspent = due.unspent; memory = λ is. tt }
+due_tuned caller before after text (Faulty fault) given answers few =
+    record { unspent = told_otherwise given (reply.Tuning fault) (λ is. cc) answers.1; memory = λ is. tt }
+due_tuned caller before after text (Wide needed room) given answers few =
+    record { unspent = told_otherwise given (reply.Wide needed room) (λ is. cc) answers.1; memory = λ is. tt }
+
 due_item : (caller : Caller) (before after : List Event) (item : Item) (given : Reply) → AnswersItem caller before item given after →
     length after < caller.limits.events → IsDue item given
 due_item caller before after (Asks (Calls asked)) given answers few = due_call caller.limits caller.pass before after asked given answers.step few
@@ -89,6 +107,7 @@ due_item caller before after (Asks (Queries text)) given (inl read) few =
     record { unspent = due.unspent; memory = λ is. tt }
 due_item caller before after (Asks (Queries text)) given (inr unread) few =
     record { unspent = λ is. subst (IsUnread text) is unread.1; memory = λ is. tt }
+due_item caller before after (Asks (Tunes text)) given answers few = due_tuned caller before after text (tuned caller.opening text) given answers few
 due_item caller before after Malformed given answers few =
     record { unspent = λ is. let other = sym answers.0 ∙ is in cc; memory = λ is. let other = sym answers.0 ∙ is in cc }
 due_item caller before after TooLong given answers few =
@@ -106,20 +125,20 @@ due_all caller before after (item ∷ items) [] run few = absurd run
 
 module _ (config : Config) (history : List Event) (alone : IsAlone 0 history) where
   -- the replies to so few items of a pass that is alone
-  due_of_few : (asked : List Item) (replies : List Reply) → length asked ≤ MOST_BYTES → Answers (first_caller (limits_by config)) [] asked replies history →
+  due_of_few : (asked : List Item) (replies : List Reply) → length asked ≤ MOST_BYTES → Answers (first_caller config (limits_by config)) [] asked replies history →
       AreDue asked replies
   due_of_few asked replies few answers =
-      let caller = first_caller (limits_by config) in
+      let caller = first_caller config (limits_by config) in
       let runs = runs_calls caller [] history asked replies answers in
       let events = few_events_of_calls caller.limits 0 history runs.calls runs.told runs.steps alone in
-      due_all caller [] history asked replies answers (omega (arith, events, calls_few asked replies runs.calls runs.told runs.are, few))
+      due_all caller [] history asked replies answers (omega (arith, events, calls_few config asked replies runs.calls runs.told runs.are, few))
 
   due_of_items : (taken : List ℕ) (ended : Bool) (replies : List Reply) → length taken ≤ MOST_BYTES →
-      Answers (first_caller (limits_by config)) [] (items taken ended) replies history → AreDue (items taken ended) replies
+      Answers (first_caller config (limits_by config)) [] (items taken ended) replies history → AreDue (items taken ended) replies
   due_of_items taken ended replies few answers = due_of_few (items taken ended) replies (omega (arith, few, items_few taken ended)) answers
 
-  due_of_session : (taken written : List ℕ) (end : End) (session : Session (first_caller (limits_by config)) [] history taken written end) →
-      IsWithin MOST_BYTES (length taken) end → RepliesAreDue (first_caller (limits_by config)) [] history taken written end session
+  due_of_session : (taken written : List ℕ) (end : End) (session : Session (first_caller config (limits_by config)) [] history taken written end) →
+      IsWithin MOST_BYTES (length taken) end → RepliesAreDue (first_caller config (limits_by config)) [] history taken written end session
   due_of_session taken written end_of.Done session within = due_of_items taken true session.replies (omega (arith, within)) session.answers
   due_of_session taken written end_of.ReadFault session within = due_of_items taken false session.replies (omega (arith, within)) session.answers
   due_of_session taken written (end_of.ByteLimit limit) session within =
@@ -131,7 +150,7 @@ module _ (config : Config) (history : List Event) (alone : IsAlone 0 history) wh
 
 pub replies_are_due : (config : Config) (incoming later_incoming : Incoming) (outgoing later_outgoing : Outgoing) (why : Why) (closed : ClosedState)
     (ran : Ran config incoming later_incoming outgoing later_outgoing why closed) →
-    RepliesAreDue (first_caller (limits_by config)) [] closed.history ran.serves.taken ran.serves.written ran.end ran.serves.session
+    RepliesAreDue (first_caller config (limits_by config)) [] closed.history ran.serves.taken ran.serves.written ran.end ran.serves.session
 replies_are_due config incoming later_incoming outgoing later_outgoing why closed ran =
     due_of_session config closed.history ran.of_first.alone ran.serves.taken ran.serves.written ran.end ran.serves.session ran.serves.within
 

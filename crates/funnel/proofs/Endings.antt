@@ -15,11 +15,11 @@ use Rattle.funnel_model.specs.declared.config.Config.{Config}
 use Rattle.funnel_model.specs.History.{base}
 use Rattle.funnel_model.specs.Legal.{Limits}
 use Rattle.slice_rule.specs.Pools.{PoolId}
-use Rattle.funnel.specs.Commands.{command_of, is_fit}
-use Rattle.funnel.specs.declared.command.Command.{Command}
-use Rattle.funnel.specs.declared.command.Command.TheVariants as command
-use Rattle.funnel.specs.declared.command.FitCommand.{FitCommand}
-use Rattle.funnel.specs.declared.command.ServeCommand.{ServeCommand}
+use Rattle.command_line.specs.Commands.{command_of, is_fit}
+use Rattle.command_line.specs.declared.command.Command.{Command}
+use Rattle.command_line.specs.declared.command.Command.TheVariants as command
+use Rattle.command_line.specs.declared.command.FitCommand.{FitCommand}
+use Rattle.command_line.specs.declared.command.ServeCommand.{ServeCommand}
 use Rattle.funnel.specs.declared.ended.Why.{Why}
 use Rattle.funnel.specs.declared.ended.Why.TheVariants as why_of
 use Rattle.funnel.specs.Misfits.{misfit_of}

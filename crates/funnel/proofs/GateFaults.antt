@@ -19,11 +19,11 @@ use Rattle.funnel_server.specs.GateTurns.{WorksInTurns}
 use Rattle.funnel_server.specs.Workers.{WorkerState}
 use Rattle.funnel_stats.specs.declared.fault.ConfigFault.{ConfigFault}
 use Rattle.funnel_stats.specs.declared.fault.ConfigFault.TheVariants as config
-use Rattle.funnel.specs.declared.command.ServeCommand.{ServeCommand}
-use Rattle.funnel.specs.declared.command.LoadCommand.{LoadCommand}
+use Rattle.command_line.specs.declared.command.ServeCommand.{ServeCommand}
+use Rattle.command_line.specs.declared.command.LoadCommand.{LoadCommand}
 use Rattle.funnel.specs.declared.ended.Why.{Why}
 use Rattle.funnel.specs.declared.ended.Why.TheVariants as why_of
-use Rattle.funnel.specs.Commands.{command_of}
+use Rattle.command_line.specs.Commands.{command_of}
 use Rattle.funnel.specs.Ends.{why_of_config, why_of_end, why_of_fit}
 use Rattle.funnel.specs.Laws.{OneFailed}
 use Rattle.funnel.specs.LoadRuns.{EndsLoad}
@@ -133,7 +133,7 @@ module _ {G C : Type 0} (open_gives : G → Opening → G → Type 0) (next_give
     by_cause (inl memory) = let other : why_of.Memory ≡ why_of.GateFault = sym memory.0 ∙ is in cc
     by_cause (inr fails) = one_not_opened gates turns.tried laters fails.1 turns.ended
   of_serve config serve before after why (Some closed) served gates laters turns is =
-      one_failed (new_workers (limits_by config) serve 0 before) served.workers served.work turns.0 laters turns.2
+      one_failed (new_workers config (limits_by config) serve 0 before) served.workers served.work turns.0 laters turns.2
       (some_fault (list_any (λ (w : WorkerState). w.fault) served.workers) (list_any (λ (w : WorkerState). w.memory) served.workers) (sym served.cause ∙ is))
 
   module _ (words : List (List ℕ)) (before after : Streams) (why : Why) (closed : Option ClosedState) (gates laters : List G) where

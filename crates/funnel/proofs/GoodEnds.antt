@@ -22,16 +22,16 @@ use Rattle.funnel_stats.specs.Reading.{IsConfigRead, IsFaultOf}
 use Rattle.funnel_stats.specs.declared.fault.ConfigFault.{ConfigFault}
 use Rattle.funnel_stats.specs.declared.fault.ConfigFault.TheVariants as config
 use Rattle.session.specs.Ends.{Serves}
-use Rattle.funnel.specs.declared.command.Command.{Command}
-use Rattle.funnel.specs.declared.command.Command.TheVariants as command
-use Rattle.funnel.specs.declared.command.FitCommand.{FitCommand}
-use Rattle.funnel.specs.declared.command.LoadCommand.{LoadCommand}
-use Rattle.funnel.specs.declared.command.ServeCommand.{ServeCommand}
+use Rattle.command_line.specs.declared.command.Command.{Command}
+use Rattle.command_line.specs.declared.command.Command.TheVariants as command
+use Rattle.command_line.specs.declared.command.FitCommand.{FitCommand}
+use Rattle.command_line.specs.declared.command.LoadCommand.{LoadCommand}
+use Rattle.command_line.specs.declared.command.ServeCommand.{ServeCommand}
 use Rattle.funnel.specs.declared.ended.Misfit.{Misfit}
 use Rattle.funnel.specs.declared.ended.Why.{Why}
 use Rattle.funnel.specs.declared.ended.Why.TheVariants as why_of
 use Rattle.session.specs.declared.serving.TheConstants.{MOST_BYTES}
-use Rattle.funnel.specs.Commands.{command_of, is_fit}
+use Rattle.command_line.specs.Commands.{command_of, is_fit}
 use Rattle.funnel.specs.Ends.{why_of_config, why_of_end, why_of_fit}
 use Rattle.line_proto.specs.Forms.{items}
 use Rattle.session.specs.Sessions.{Answers}
@@ -208,7 +208,7 @@ same_load load other is = cc
 module _ (value : Config) (before after : Streams) (why : Why) (closed : ClosedState) (none : NoStreamFailed before after)
     (ran : Ran value before.input after.input before.output after.output why closed) where
   abbrev Served : End → Type 0
-  Served end = Serves (first_caller (limits_by value)) MOST_BYTES (record { front = []; incoming = before.input; outgoing = before.output })
+  Served end = Serves (first_caller value (limits_by value)) MOST_BYTES (record { front = []; incoming = before.input; outgoing = before.output })
       (record { front = closed.history; incoming = after.input; outgoing = after.output }) end
 
   ran_well : EndsWell why
@@ -229,7 +229,7 @@ module _ (value : Config) (before after : Streams) (why : Why) (closed : ClosedS
         record {
           of_first = ran.of_first;
           replies = replies;
-          answers = subst (λ (bs : List ℕ). Answers (first_caller (limits_by value)) [] (items bs true) replies closed.history) all serves.session.answers;
+          answers = subst (λ (bs : List ℕ). Answers (first_caller value (limits_by value)) [] (items bs true) replies closed.history) all serves.session.answers;
           writes = subst (λ (bs : List ℕ). Writes bs before.output after.output) serves.session.text serves.writes;
         }
     ran_whole end_of.ReadFault serves = absurd (none.input (raised_rose before.input.faults after.input.faults serves.faults.reads))
@@ -317,15 +317,15 @@ load_completes words before after why closed value load ends none accepted =
           (subst (λ (l : LoadCommand). EndsLoad value l before.output after.output why closed) (sym (same_load load made.load made.is)) made.ends) none.output
 
 -- where no call of a gate failed, no worker's did
-no_worker_failed : (limits : Limits) (serve : ServeCommand) (pass : ℕ) (gates : List GateState) (workers : List WorkerState) →
-    AllWork (new_workers limits serve pass gates) workers → NoneFailed gates (map (λ (worker : WorkerState). worker.gate) workers) →
+no_worker_failed : (opening : Config) (limits : Limits) (serve : ServeCommand) (pass : ℕ) (gates : List GateState) (workers : List WorkerState) →
+    AllWork (new_workers opening limits serve pass gates) workers → NoneFailed gates (map (λ (worker : WorkerState). worker.gate) workers) →
     list_any (λ (worker : WorkerState). worker.fault) workers ≡ false
-no_worker_failed limits serve pass [] [] work none = refl
-no_worker_failed limits serve pass [] (worker ∷ workers) work none = absurd work
-no_worker_failed limits serve pass (gate ∷ gates) [] work none = absurd work
-no_worker_failed limits serve pass (gate ∷ gates) (worker ∷ workers) work none =
+no_worker_failed opening limits serve pass [] [] work none = refl
+no_worker_failed opening limits serve pass [] (worker ∷ workers) work none = absurd work
+no_worker_failed opening limits serve pass (gate ∷ gates) [] work none = absurd work
+no_worker_failed opening limits serve pass (gate ∷ gates) (worker ∷ workers) work none =
     ap (λ b. b || list_any (λ (w : WorkerState). w.fault) workers) (not_failed worker.fault gate.faults worker.gate.faults work.0.serves.faults none.0)
-    ∙ no_worker_failed limits serve (pass + 1) gates workers work.1 none.1
+    ∙ no_worker_failed opening limits serve (pass + 1) gates workers work.1 none.1
 
 -- and each gate was served as far as it may be
 none_failed : (serve : ServeCommand) (why : Why) (before after : List GateState) → AllZip (IsServedUnlessFailed serve why) before after → NoneFailed before after →
@@ -348,7 +348,7 @@ of_serve : (value : Config) (serve : ServeCommand) (before after : List GateStat
 of_serve value serve before after why None (inl ends) none = subst (λ (w : Why). CompletesServe value serve before after w None) (sym ends.0) ends.1
 of_serve value serve before after why None (inr ends) none = absurd (none_did_not_open before after ends.1 none)
 of_serve value serve before after why (Some state) served none =
-    let faults = no_worker_failed (limits_by value) serve 0 before served.workers served.work (subst (NoneFailed before) served.gates none) in
+    let faults = no_worker_failed value (limits_by value) serve 0 before served.workers served.work (subst (NoneFailed before) served.gates none) in
     by_memory (list_any (λ (worker : WorkerState). worker.memory) served.workers)
     (served.cause ∙ ap (λ b. cond b why_of.GateFault (cond (list_any (λ (worker : WorkerState). worker.memory) served.workers) why_of.Memory why_of.Done)) faults) where
       all : ServesAllGates value serve before after why state

@@ -20,7 +20,7 @@ use Rattle.load_laws.specs.Workers.{HasRoomFor}
 use Rattle.row_layout.specs.Sound.{IsSound}
 use Rattle.engine.specs.Passes.{PassView}
 use Rattle.slice_rule.specs.Pools.{PoolId}
-use Rattle.funnel.specs.declared.command.LoadCommand.{LoadCommand}
+use Rattle.command_line.specs.declared.command.LoadCommand.{LoadCommand}
 use Rattle.funnel.specs.declared.ended.Why.{Why}
 use Rattle.funnel.specs.declared.ended.Why.TheVariants as why_of
 use Rattle.funnel.specs.LoadRuns.{EndsLoad, IsPartOfLoad, IsWholeLoad, Tells}
@@ -52,8 +52,8 @@ pub record IsAsTold (config : Config) (load : LoadCommand) (closed : ClosedState
 -- the load was put, or cut short, by workers that had seen nothing before, and these fronts since
 abbrev pub IsPutOrCutShort : Config → LoadCommand → (ℕ → List Event) → Result (List (ℕ × ℕ)) Memory → Type 0
 IsPutOrCutShort config load fronts answer =
-    MatchResult answer (λ results. IsPut (limits_by config) (documents load.docs load.words load.seed) load.workers (λ _. []) fronts results)
-    (λ _. IsCutShort (limits_by config) (documents load.docs load.words load.seed) load.workers (λ _. []) fronts)
+    MatchResult answer (λ results. IsPut config (limits_by config) (documents load.docs load.words load.seed) load.workers (λ _. []) fronts results)
+    (λ _. IsCutShort config (limits_by config) (documents load.docs load.words load.seed) load.workers (λ _. []) fronts)
 
 -- The workers of a load had the first passes of a new engine of this pool, which is closed now.
 pub record HasClosed (pool : PoolId) (config : Config) (load : LoadCommand) (before after : List PassView) (closed : ClosedState) : Type 0 where
@@ -95,41 +95,43 @@ module _ (pool : PoolId) (config : Config) (load : LoadCommand) (before after : 
 
   -- what the load did, told of workers that had seen nothing
   pub from_nothing : (texts : List (List ℕ)) (answer : Result (List (ℕ × ℕ)) Memory) → texts ≡ documents load.docs load.words load.seed →
-      MatchResult answer (λ results. IsPut pool.limits texts load.workers (front_at before) (front_at after) results)
-      (λ _. IsCutShort pool.limits texts load.workers (front_at before) (front_at after)) → IsPutOrCutShort config load (front_at after) answer
+      MatchResult answer (λ results. IsPut pool.config pool.limits texts load.workers (front_at before) (front_at after) results)
+      (λ _. IsCutShort pool.config pool.limits texts load.workers (front_at before) (front_at after)) → IsPutOrCutShort config load (front_at after) answer
   from_nothing texts answer made did =
-      ends_along (limits_by config) (documents load.docs load.words load.seed) load.workers (front_at before) (front_at after) (λ _. []) (front_at after)
+      ends_along config (limits_by config) (documents load.docs load.words load.seed) load.workers (front_at before) (front_at after) (λ _. []) (front_at after)
       (λ worker below. nothing worker) (λ worker below. refl) answer
-      (subst (λ (l : Limits). MatchResult answer (λ results. IsPut l (documents load.docs load.words load.seed) load.workers (front_at before) (front_at after) results)
-      (λ _. IsCutShort l (documents load.docs load.words load.seed) load.workers (front_at before) (front_at after))) ended.limits
-      (subst (λ ts. MatchResult answer (λ results. IsPut pool.limits ts load.workers (front_at before) (front_at after) results)
-      (λ _. IsCutShort pool.limits ts load.workers (front_at before) (front_at after))) made did))
+      (subst (λ (k : Config). MatchResult answer (λ results. IsPut k (limits_by config) (documents load.docs load.words load.seed) load.workers (front_at before) (front_at after) results)
+      (λ _. IsCutShort k (limits_by config) (documents load.docs load.words load.seed) load.workers (front_at before) (front_at after))) ended.config_is
+      (subst (λ (l : Limits). MatchResult answer (λ results. IsPut pool.config l (documents load.docs load.words load.seed) load.workers (front_at before) (front_at after) results)
+      (λ _. IsCutShort pool.config l (documents load.docs load.words load.seed) load.workers (front_at before) (front_at after))) ended.limits
+      (subst (λ ts. MatchResult answer (λ results. IsPut pool.config pool.limits ts load.workers (front_at before) (front_at after) results)
+      (λ _. IsCutShort pool.config pool.limits ts load.workers (front_at before) (front_at after))) made did)))
 
   -- a load that was put is whole
-  pub whole_load : (results : List (ℕ × ℕ)) → IsPut (limits_by config) (documents load.docs load.words load.seed) load.workers (λ _. []) (front_at after) results →
+  pub whole_load : (results : List (ℕ × ℕ)) → IsPut config (limits_by config) (documents load.docs load.words load.seed) load.workers (λ _. []) (front_at after) results →
       IsAsTold config load closed results
   whole_load results put = record {
     loaded = record {
       sound = sound_here;
-      replies = replies_to (limits_by config) load.docs load.words load.seed load.workers (front_at after) results closed.history ended.some room legal_here
+      replies = replies_to config (limits_by config) load.docs load.words load.seed load.workers (front_at after) results closed.history ended.some room legal_here
           ended.caused of_workers_alone seen put;
-      loaded = is_loaded (limits_by config) load.docs load.words load.seed load.workers (front_at after) results closed.history ended.some room legal_here
+      loaded = is_loaded config (limits_by config) load.docs load.words load.seed load.workers (front_at after) results closed.history ended.some room legal_here
           ended.caused of_workers_alone seen put;
-      fronts = fronts (limits_by config) load.docs load.words load.seed load.workers (front_at after) results closed.history ended.some room legal_here
+      fronts = fronts config (limits_by config) load.docs load.words load.seed load.workers (front_at after) results closed.history ended.some room legal_here
           ended.caused of_workers_alone seen put;
-      met = met (limits_by config) load.docs load.words load.seed load.workers (front_at after) results closed.history ended.some room legal_here
+      met = met config (limits_by config) load.docs load.words load.seed load.workers (front_at after) results closed.history ended.some room legal_here
           ended.caused of_workers_alone seen put;
-      calls = calls_are (limits_by config) load.docs load.words load.seed load.workers (front_at after) results closed.history ended.some room legal_here
+      calls = calls_are config (limits_by config) load.docs load.words load.seed load.workers (front_at after) results closed.history ended.some room legal_here
           ended.caused of_workers_alone seen put;
-      answers = are_answered (limits_by config) load.docs load.words load.seed load.workers (front_at after) results closed.history ended.some room legal_here
+      answers = are_answered config (limits_by config) load.docs load.words load.seed load.workers (front_at after) results closed.history ended.some room legal_here
           ended.caused of_workers_alone seen put;
     };
-    results_are = results_told (limits_by config) load.docs load.words load.seed load.workers (front_at after) results closed.history ended.some room legal_here
+    results_are = results_told config (limits_by config) load.docs load.words load.seed load.workers (front_at after) results closed.history ended.some room legal_here
         ended.caused of_workers_alone seen put;
   }
 
   -- and one that was cut short is a part of it
-  pub part_of_load : IsCutShort (limits_by config) (documents load.docs load.words load.seed) load.workers (λ _. []) (front_at after) → IsPartOfLoad config load closed
+  pub part_of_load : IsCutShort config (limits_by config) (documents load.docs load.words load.seed) load.workers (λ _. []) (front_at after) → IsPartOfLoad config load closed
   part_of_load cut = record {
     legal = legal_here;
     caused = ended.caused;

@@ -8,6 +8,7 @@ use mathlib.Core.List.{IsPrefix}
 use Rattle.funnel_model.proofs.StepCauses.{is_query, only_queries_are_judged}
 use Rattle.funnel_model.proofs.StepLemmas.{linear-answered, linear-grows, prefix_trans}
 use Rattle.funnel_model.specs.declared.call.Call.{Call}
+use Rattle.funnel_model.specs.declared.config.Config.{Config}
 use Rattle.funnel_model.specs.declared.event.Event.{Event}
 use Rattle.funnel_model.specs.declared.reply.Reply.{Reply}
 use Rattle.funnel_model.specs.declared.reply.Reply.TheVariants as reply
@@ -77,11 +78,11 @@ same_last first second third other another last same one two =
 
 -- Workers that had seen nothing put a load to an engine with room for it. The history goes on from what each of them has seen since,
 -- and no other pass has an event in it.
-module _ (limits : Limits) (docs words seed workers : ℕ) (after : ℕ → List Event) (results : List (ℕ × ℕ)) (history : List Event)
+module _ (opening : Config) (limits : Limits) (docs words seed workers : ℕ) (after : ℕ → List Event) (results : List (ℕ × ℕ)) (history : List Event)
     (some : 1 ≤ workers) (room : HasRoomFor limits docs) (legal : IsLegal limits history) (caused : MovesAreCaused history)
     (no_other : All (λ e. pass_of e < workers) history)
     (seen : (worker : ℕ) → worker < workers → IsFrontOf worker (after worker) history)
-    (put : IsPut limits (documents docs words seed) workers (λ _. []) after results) where
+    (put : IsPut opening limits (documents docs words seed) workers (λ _. []) after results) where
   abbrev texts : List (List ℕ)
   texts = documents docs words seed
 
@@ -100,9 +101,9 @@ module _ (limits : Limits) (docs words seed workers : ℕ) (after : ℕ → List
   abbrev pub replies_to : ℕ → List Reply
   replies_to worker = (put.courses worker).to_adds ++ (put.courses worker).to_deletes ++ put.to_queries worker
 
-  asks : (worker : ℕ) → worker < workers → AsksShare (worker_of limits worker) [] (after worker) texts workers (replies_to worker)
+  asks : (worker : ℕ) → worker < workers → AsksShare (worker_of opening limits worker) [] (after worker) texts workers (replies_to worker)
   asks worker below =
-      asks_share (worker_of limits worker) [] (put.queried worker) (after worker) texts workers (put.courses worker) (put.to_queries worker) (put.come.each worker below)
+      asks_share (worker_of opening limits worker) [] (put.queried worker) (after worker) texts workers (put.courses worker) (put.to_queries worker) (put.come.each worker below)
       (put.asked worker below) (put.meets_queries worker below)
 
   has_asked : (worker : ℕ) → worker < workers → HasAsked limits history worker (jobs docs words seed workers worker) (replies_to worker)
@@ -122,7 +123,7 @@ module _ (limits : Limits) (docs words seed workers : ℕ) (after : ℕ → List
 
   -- a worker's calls by the end of each part
   module _ (worker : ℕ) (below : worker < workers) where
-    comes : ComesToQueries (worker_of limits worker) [] texts workers (put.courses worker)
+    comes : ComesToQueries (worker_of opening limits worker) [] texts workers (put.courses worker)
     comes = put.come.each worker below
 
     before_queried : IsPrefix (fronts worker).queried history

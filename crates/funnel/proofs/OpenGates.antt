@@ -6,7 +6,7 @@ use Rattle.engine.specs.Engines.{ClosedState}
 use Rattle.funnel_model.specs.declared.config.Config.{Config}
 use Rattle.funnel_server.specs.Gates.{GateState}
 use Rattle.funnel_server.specs.Workers.{IsStopped, WorkerState}
-use Rattle.funnel.specs.declared.command.ServeCommand.{ServeCommand}
+use Rattle.command_line.specs.declared.command.ServeCommand.{ServeCommand}
 use Rattle.funnel.specs.Runs.{limits_by}
 use Rattle.funnel.specs.Served.{AllWork, HaveAllServed, new_workers}
 use Rattle.funnel.specs.declared.ended.Why.TheVariants as why_of
@@ -42,6 +42,6 @@ pub open_gates : (config : Config) (serve : ServeCommand) (before after : List G
     (served : HaveAllServed config serve before after why_of.Done closed) → All (λ (gate : GateState). gate.is_closed ≡ false) after →
     All (λ (worker : WorkerState). worker.left ≡ 0) served.workers
 open_gates config serve before after closed served are_open =
-    all_served_their_number (new_workers (limits_by config) serve 0 before) served.workers served.work
+    all_served_their_number (new_workers config (limits_by config) serve 0 before) served.workers served.work
     (no_fault_when_done (list_any (λ (w : WorkerState). w.fault) served.workers) (list_any (λ (w : WorkerState). w.memory) served.workers) served.cause)
     (subst (All (λ (gate : GateState). gate.is_closed ≡ false)) served.gates are_open)

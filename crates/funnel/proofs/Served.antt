@@ -23,7 +23,7 @@ use Rattle.funnel_server.specs.Workers.{HasMetNoFault, WorkerState, WorkerWithGa
 use Rattle.row_layout.specs.Sound.{IsSound}
 use Rattle.slice_rule.specs.Pools.{PoolId}
 use Rattle.funnel.proofs.Passes.{of_first_passes}
-use Rattle.funnel.specs.declared.command.ServeCommand.{ServeCommand}
+use Rattle.command_line.specs.declared.command.ServeCommand.{ServeCommand}
 use Rattle.funnel.specs.declared.ended.Why.{Why}
 use Rattle.funnel.specs.Runs.{limits_by}
 use Rattle.funnel.specs.Served.{AllWork, new_worker, new_workers, why_of_workers}
@@ -65,21 +65,21 @@ equip-one : (pool : PoolId) (serve : ServeCommand) (all : List GateState) (gate 
     (workers more : List WorkerState) (worker : WorkerState) →
     AreEquipped pool serve all (gate ∷ rest) passes workers → length all ≤ pool.config.passes →
     pass ≡ slice_index_or passes 0 pass → others ≡ remove passes 0 →
-    worker ≡ record { gate = gate; caller = caller_of pool.limits pass; front = pass.front; http = serve.http; left = serve.connections; fault = false; memory = false } →
+    worker ≡ record { gate = gate; caller = caller_of pool.config pool.limits pass; front = pass.front; http = serve.http; left = serve.connections; fault = false; memory = false } →
     more ≡ workers ++ worker ∷ [] → AreEquipped pool serve all rest others more
 equip-one pool serve all gate rest passes others pass workers more worker so_far enough is left_are made_of more_are =
     let n = length workers in
     let passes_are = so_far.passes_left ∙ next_passes pool n (omega (arith, so_far.count)) in
     let pass_is : pass ≡ new_pass n = is ∙ ap (λ xs. slice_index_or xs 0 pass) passes_are in
-    let worker_is : worker ≡ new_worker pool.limits serve n gate =
-    made_of ∙ ap (λ (p : PassView). record { gate = gate; caller = caller_of pool.limits p; front = p.front; http = serve.http; left = serve.connections; fault = false; memory = false }) pass_is in
+    let worker_is : worker ≡ new_worker pool.config pool.limits serve n gate =
+    made_of ∙ ap (λ (p : PassView). record { gate = gate; caller = caller_of pool.config pool.limits p; front = p.front; http = serve.http; left = serve.connections; fault = false; memory = false }) pass_is in
     let longer : length more ≡ n + 1 = ap length more_are ∙ length-append workers (worker ∷ []) in
     record {
       made =
-          ap (λ k. more ++ new_workers pool.limits serve k rest) longer
-          ∙ ap (λ ws. ws ++ new_workers pool.limits serve (n + 1) rest) more_are
-          ∙ append_assoc workers (worker ∷ []) (new_workers pool.limits serve (n + 1) rest)
-          ∙ ap (λ w. workers ++ w ∷ new_workers pool.limits serve (n + 1) rest) worker_is
+          ap (λ k. more ++ new_workers pool.config pool.limits serve k rest) longer
+          ∙ ap (λ ws. ws ++ new_workers pool.config pool.limits serve (n + 1) rest) more_are
+          ∙ append_assoc workers (worker ∷ []) (new_workers pool.config pool.limits serve (n + 1) rest)
+          ∙ ap (λ w. workers ++ w ∷ new_workers pool.config pool.limits serve (n + 1) rest) worker_is
           ∙ so_far.made;
       count = omega (arith, longer, so_far.count);
       passes_left =
@@ -92,13 +92,13 @@ pub equip-more : {G : Type 0} (state : G → GateState) (pool : PoolId) (serve :
     (pass : PassView) (workers more : List WorkerState) (worker : WorkerState) →
     AreEquipped pool serve (map state all) (map state gates) passes workers → length all ≤ pool.config.passes → 0 < length gates →
     gate ≡ slice_index_or gates 0 gate → rest ≡ remove gates 0 → pass ≡ slice_index_or passes 0 pass → others ≡ remove passes 0 →
-    worker ≡ record { gate = state gate; caller = caller_of pool.limits pass; front = pass.front; http = serve.http; left = serve.connections; fault = false; memory = false } →
+    worker ≡ record { gate = state gate; caller = caller_of pool.config pool.limits pass; front = pass.front; http = serve.http; left = serve.connections; fault = false; memory = false } →
     more ≡ workers ++ worker ∷ [] → AreEquipped pool serve (map state all) (map state rest) others more
 equip-more {G} state pool serve all [] rest gate passes others pass workers more worker so_far enough some first rest_are is left_are made_of more_are = absurd (omega arith)
 equip-more {G} state pool serve all (g ∷ gs) rest gate passes others pass workers more worker so_far enough some first rest_are is left_are made_of more_are =
     subst (λ (xs : List G). AreEquipped pool serve (map state all) (map state xs) others more) (sym rest_are)
     (equip-one pool serve (map state all) (state g) (map state gs) passes others pass workers more worker so_far (omega (arith, enough, length-map all state)) is left_are
-    (made_of ∙ ap (λ (x : G). record { gate = state x; caller = caller_of pool.limits pass; front = pass.front; http = serve.http; left = serve.connections; fault = false; memory = false }) first) more_are)
+    (made_of ∙ ap (λ (x : G). record { gate = state x; caller = caller_of pool.config pool.limits pass; front = pass.front; http = serve.http; left = serve.connections; fault = false; memory = false }) first) more_are)
 
 -- a gate that was the first of those that were left is the last one that has a worker
 pub moved_on : {G : Type 0} (workers more : List (WorkerWithGate G)) (worker : WorkerWithGate G) (gates rest all : List G) → gates_of workers ++ gates ≡ all →
@@ -115,28 +115,28 @@ moved_on {G} workers more worker (gate ∷ gates) rest all so_far some first res
 -- all workers are made
 pub equip-end : (pool : PoolId) (serve : ServeCommand) (all left : List GateState) (passes : List PassView) (workers : List WorkerState) →
     AreEquipped pool serve all left passes workers → left ≡ [] →
-    (workers ≡ new_workers pool.limits serve 0 all) × (passes ≡ new_passes (length all) (pool.config.passes - length all))
+    (workers ≡ new_workers pool.config pool.limits serve 0 all) × (passes ≡ new_passes (length all) (pool.config.passes - length all))
 equip-end pool serve all left passes workers so_far none =
     let count : length workers ≡ length all = omega (arith, so_far.count, ap length none) in (
-      sym (append-nil workers) ∙ ap (λ gs. workers ++ new_workers pool.limits serve (length workers) gs) (sym none) ∙ so_far.made,
+      sym (append-nil workers) ∙ ap (λ gs. workers ++ new_workers pool.config pool.limits serve (length workers) gs) (sym none) ∙ so_far.made,
       so_far.passes_left ∙ ap (λ k. new_passes k (pool.config.passes - k)) count,
     )
 
-pub length-new_workers : (limits : Limits) (serve : ServeCommand) (pass : ℕ) (gates : List GateState) → length (new_workers limits serve pass gates) ≡ length gates
-length-new_workers limits serve pass [] = refl
-length-new_workers limits serve pass (gate ∷ gates) = ap suc (length-new_workers limits serve (pass + 1) gates)
+pub length-new_workers : (opening : Config) (limits : Limits) (serve : ServeCommand) (pass : ℕ) (gates : List GateState) → length (new_workers opening limits serve pass gates) ≡ length gates
+length-new_workers opening limits serve pass [] = refl
+length-new_workers opening limits serve pass (gate ∷ gates) = ap suc (length-new_workers opening limits serve (pass + 1) gates)
 
 -- there are as many workers as gates
-pub workers_count : {G : Type 0} (state : G → GateState) (limits : Limits) (serve : ServeCommand) (gates : List G) (fresh workers : List WorkerState) →
-    fresh ≡ new_workers limits serve 0 (map state gates) → length workers ≡ length fresh → length workers ≡ length gates
-workers_count {G} state limits serve gates fresh workers made same =
-    same ∙ ap length made ∙ length-new_workers limits serve 0 (map state gates) ∙ length-map gates state
+pub workers_count : {G : Type 0} (state : G → GateState) (opening : Config) (limits : Limits) (serve : ServeCommand) (gates : List G) (fresh workers : List WorkerState) →
+    fresh ≡ new_workers opening limits serve 0 (map state gates) → length workers ≡ length fresh → length workers ≡ length gates
+workers_count {G} state opening limits serve gates fresh workers made same =
+    same ∙ ap length made ∙ length-new_workers opening limits serve 0 (map state gates) ∙ length-map gates state
 
-pub all_ready : (limits : Limits) (serve : ServeCommand) (pass : ℕ) (gates : List GateState) → All HasMetNoFault (new_workers limits serve pass gates)
-all_ready limits serve pass [] = All-nil HasMetNoFault
-all_ready limits serve pass (gate ∷ gates) =
-    All-cons HasMetNoFault (new_worker limits serve pass gate) (new_workers limits serve (pass + 1) gates) (record { no_fault = refl; no_memory = refl })
-    (all_ready limits serve (pass + 1) gates)
+pub all_ready : (opening : Config) (limits : Limits) (serve : ServeCommand) (pass : ℕ) (gates : List GateState) → All HasMetNoFault (new_workers opening limits serve pass gates)
+all_ready opening limits serve pass [] = All-nil HasMetNoFault
+all_ready opening limits serve pass (gate ∷ gates) =
+    All-cons HasMetNoFault (new_worker opening limits serve pass gate) (new_workers opening limits serve (pass + 1) gates) (record { no_fault = refl; no_memory = refl })
+    (all_ready opening limits serve (pass + 1) gates)
 
 -- what holds of some worker holds of its state
 pub any_of_states : {G : Type 0} (test : WorkerState → Bool) (workers : List (WorkerWithGate G)) → list_any (λ worker. test worker.state) workers ≡ list_any test (states_of workers)
@@ -174,7 +174,7 @@ module _ {G C : Type 0} (next_gives : G → Next C → G → Type 0) (done_gives
   -- the gates had workers, and all came back
   pub have_worked : (state : G → GateState) (pool : PoolId) (serve : ServeCommand) (gates none back : List G) (why : Why) (left passes : List PassView)
       (befores afters : List (WorkerWithGate G)) →
-      states_of befores ≡ new_workers pool.limits serve 0 (map state gates) → gates_of befores ≡ gates → none ≡ [] →
+      states_of befores ≡ new_workers pool.config pool.limits serve 0 (map state gates) → gates_of befores ≡ gates → none ≡ [] →
       left ≡ new_passes (length gates) (pool.config.passes - length gates) → length afters ≡ length befores →
       ((k : ℕ) (d : WorkerWithGate G) → k < length befores →
       WorksInTurns next_gives done_gives end_gives read_gives write_gives incoming outgoing (slice_index_or befores k d) (slice_index_or afters k d)) →
@@ -183,7 +183,7 @@ module _ {G C : Type 0} (next_gives : G → Next C → G → Type 0) (done_gives
       HaveWorkedInTurns next_gives done_gives end_gives read_gives write_gives incoming outgoing state pool serve gates back why passes
   have_worked state pool serve gates none back why left passes befores afters made theirs empty left_are same work told back_are cause come =
       let came : back ≡ gates_of afters = back_are ∙ ap (λ (gs : List G). gs ++ gates_of afters) empty in
-      let all : WorkInTurns (new_workers pool.limits serve 0 (map state gates)) (states_of afters) gates back =
+      let all : WorkInTurns (new_workers pool.config pool.limits serve 0 (map state gates)) (states_of afters) gates back =
       subst (λ (ws : List WorkerState). WorkInTurns ws (states_of afters) gates back) made
       (subst (λ (gs : List G). WorkInTurns (states_of befores) (states_of afters) gs back) theirs
       (subst (λ (gs : List G). WorkInTurns (states_of befores) (states_of afters) (gates_of befores) gs) (sym came)
@@ -269,7 +269,7 @@ pub worked_count : (pool : PoolId) (serve : ServeCommand) (before after : List G
     length after ≡ length before
 worked_count pool serve before after why passes worked =
     ap length worked.gates ∙ length-map worked.workers (λ (worker : WorkerState). worker.gate)
-    ∙ all_work-length (new_workers pool.limits serve 0 before) worked.workers worked.work ∙ length-new_workers pool.limits serve 0 before
+    ∙ all_work-length (new_workers pool.config pool.limits serve 0 before) worked.workers worked.work ∙ length-new_workers pool.config pool.limits serve 0 before
 
 -- ---- the engine is closed
 
@@ -328,9 +328,11 @@ module _ {G C : Type 0} (next_gives : G → Next C → G → Type 0) (done_gives
       let before = map state gates in
       let after = map state laters in
       let worked = did.worked in
-      let all : WorkInTurns next_gives done_gives end_gives read_gives write_gives incoming outgoing (new_workers (limits_by config) serve 0 before) worked.workers gates laters =
-      subst (λ (l : Limits). WorkInTurns next_gives done_gives end_gives read_gives write_gives incoming outgoing (new_workers l serve 0 before) worked.workers gates laters)
-      limits_are (record { work = worked.work; turns = did.in_turns }) in
+      let all : WorkInTurns next_gives done_gives end_gives read_gives write_gives incoming outgoing (new_workers config (limits_by config) serve 0 before) worked.workers gates laters =
+      subst (λ (k : Config). WorkInTurns next_gives done_gives end_gives read_gives write_gives incoming outgoing (new_workers k (limits_by config) serve 0 before) worked.workers gates laters)
+      config_is
+      (subst (λ (l : Limits). WorkInTurns next_gives done_gives end_gives read_gives write_gives incoming outgoing (new_workers pool.config l serve 0 before) worked.workers gates laters)
+      limits_are (record { work = worked.work; turns = did.in_turns })) in
       record {
         ends = record {
           legal = subst (λ (l : Limits). IsLegal l closed.history) limits_are legal;

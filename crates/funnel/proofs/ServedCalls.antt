@@ -16,7 +16,7 @@ use Rattle.funnel_server.specs.Laws.{HasSeen}
 use Rattle.funnel_server.specs.Workers.{Visit, WorkerState, Works}
 use Rattle.line_proto.specs.Services.{Caller}
 use Rattle.load_laws.proofs.FrontLemmas.{calls_in_front}
-use Rattle.funnel.specs.declared.command.ServeCommand.{ServeCommand}
+use Rattle.command_line.specs.declared.command.ServeCommand.{ServeCommand}
 use Rattle.funnel.specs.declared.ended.Why.{Why}
 use Rattle.funnel.specs.Laws.{AllCallsAreOfSessions, CallsAreOfSessions}
 use Rattle.funnel.specs.Runs.{limits_by}
@@ -46,21 +46,21 @@ calls_of_worker before after works history nothing seen =
     }
 
 -- so did each new worker
-all_calls : (limits : Limits) (serve : ServeCommand) (pass : ℕ) (gates : List GateState) (workers : List WorkerState) (history : List Event)
-    (work : AllWork (new_workers limits serve pass gates) workers) → All (λ worker. IsFrontOf worker.caller.pass worker.front history) workers →
-    AllCallsAreOfSessions history (new_workers limits serve pass gates) workers work
-all_calls limits serve pass [] [] history work fronts = tt
-all_calls limits serve pass [] (worker ∷ workers) history work fronts = absurd work
-all_calls limits serve pass (gate ∷ gates) [] history work fronts = absurd work
-all_calls limits serve pass (gate ∷ gates) (worker ∷ workers) history work fronts = (
-  calls_of_worker (new_worker limits serve pass gate) worker work.0 history refl
+all_calls : (opening : Config) (limits : Limits) (serve : ServeCommand) (pass : ℕ) (gates : List GateState) (workers : List WorkerState) (history : List Event)
+    (work : AllWork (new_workers opening limits serve pass gates) workers) → All (λ worker. IsFrontOf worker.caller.pass worker.front history) workers →
+    AllCallsAreOfSessions history (new_workers opening limits serve pass gates) workers work
+all_calls opening limits serve pass [] [] history work fronts = tt
+all_calls opening limits serve pass [] (worker ∷ workers) history work fronts = absurd work
+all_calls opening limits serve pass (gate ∷ gates) [] history work fronts = absurd work
+all_calls opening limits serve pass (gate ∷ gates) (worker ∷ workers) history work fronts = (
+  calls_of_worker (new_worker opening limits serve pass gate) worker work.0 history refl
       (All-head (λ (w : WorkerState). IsFrontOf w.caller.pass w.front history) worker workers fronts),
-  all_calls limits serve (pass + 1) gates workers history work.1
+  all_calls opening limits serve (pass + 1) gates workers history work.1
       (All-tail (λ (w : WorkerState). IsFrontOf w.caller.pass w.front history) worker workers fronts),
 )
 
 pub calls_of_a_serve : (config : Config) (serve : ServeCommand) (before after : List GateState) (why : Why) (closed : ClosedState)
     (served : HaveAllServed config serve before after why closed) →
-    AllCallsAreOfSessions closed.history (new_workers (limits_by config) serve 0 before) served.workers served.work
+    AllCallsAreOfSessions closed.history (new_workers config (limits_by config) serve 0 before) served.workers served.work
 calls_of_a_serve config serve before after why closed served =
-    all_calls (limits_by config) serve 0 before served.workers closed.history served.work served.fronts
+    all_calls config (limits_by config) serve 0 before served.workers closed.history served.work served.fronts

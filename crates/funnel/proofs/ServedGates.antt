@@ -15,7 +15,7 @@ use Rattle.funnel_server.specs.Gates.{GateState, Sides}
 use Rattle.funnel_server.specs.Laws.{FitsKept, HasCause, HasFewBytes}
 use Rattle.funnel_server.specs.Workers.{IsVisit, Visit, WorkerState, Works, is_memory, served_by, sides_before}
 use Rattle.line_proto.specs.Services.{Caller}
-use Rattle.funnel.specs.declared.command.ServeCommand.{ServeCommand}
+use Rattle.command_line.specs.declared.command.ServeCommand.{ServeCommand}
 use Rattle.funnel.specs.declared.ended.Why.{Why}
 use Rattle.funnel.specs.declared.ended.Why.TheVariants as why_of
 use Rattle.funnel.specs.Laws.{GateIsServed, IsKeptOf, IsServedUnlessFailed, KeepsGoodEnd, KeepsNoFault}
@@ -70,9 +70,9 @@ module _ (before after : WorkerState) (works : Works before after) (no_fault : a
       ∙ ap Some (append_cancel_left (map sides_before works.visits) all.rest (drop before.left waiting)
       (sym all.whole ∙ sym (take-append-drop before.left waiting) ∙ ap (λ xs. xs ++ drop before.left waiting) (sym served_first)))
 
-gate_is_served : (limits : Limits) (serve : ServeCommand) (pass : ℕ) (gate : GateState) (after : WorkerState) (works : Works (new_worker limits serve pass gate) after)
+gate_is_served : (opening : Config) (limits : Limits) (serve : ServeCommand) (pass : ℕ) (gate : GateState) (after : WorkerState) (works : Works (new_worker opening limits serve pass gate) after)
     (why : Why) → after.fault ≡ false → (why ≡ why_of.Done → after.memory ≡ false) → GateIsServed serve why gate after.gate
-gate_is_served limits serve pass gate after works why no_fault memory = let before = new_worker limits serve pass gate in record {
+gate_is_served opening limits serve pass gate after works why no_fault memory = let before = new_worker opening limits serve pass gate in record {
   gained = map served_by works.visits;
   kept = works.serves.served;
   fit = All-map FitsKept served_by works.visits (All-weaker (IsVisit before.caller) (λ (visit : Visit). FitsKept (served_by visit)) (fits_kept before.caller) works.visits works.serves.sessions);
@@ -83,18 +83,18 @@ gate_is_served limits serve pass gate after works why no_fault memory = let befo
 }
 
 -- the gates of all workers
-gates_are_served : (limits : Limits) (serve : ServeCommand) (pass : ℕ) (gates : List GateState) (workers : List WorkerState) (why : Why) →
-    AllWork (new_workers limits serve pass gates) workers → (why ≡ why_of.Done → list_any (λ worker. worker.memory) workers ≡ false) →
+gates_are_served : (opening : Config) (limits : Limits) (serve : ServeCommand) (pass : ℕ) (gates : List GateState) (workers : List WorkerState) (why : Why) →
+    AllWork (new_workers opening limits serve pass gates) workers → (why ≡ why_of.Done → list_any (λ worker. worker.memory) workers ≡ false) →
     AllZip (IsServedUnlessFailed serve why) gates (map (λ worker. worker.gate) workers)
-gates_are_served limits serve pass [] [] why work memory = tt
-gates_are_served limits serve pass [] (worker ∷ workers) why work memory = absurd work
-gates_are_served limits serve pass (gate ∷ gates) [] why work memory = absurd work
-gates_are_served limits serve pass (gate ∷ gates) (worker ∷ workers) why work memory =
+gates_are_served opening limits serve pass [] [] why work memory = tt
+gates_are_served opening limits serve pass [] (worker ∷ workers) why work memory = absurd work
+gates_are_served opening limits serve pass (gate ∷ gates) [] why work memory = absurd work
+gates_are_served opening limits serve pass (gate ∷ gates) (worker ∷ workers) why work memory =
     let parts = λ (done : why ≡ why_of.Done). or_parts worker.memory (list_any (λ (w : WorkerState). w.memory) workers) (memory done) in (
       λ none.
-          gate_is_served limits serve pass gate worker work.0 why
+          gate_is_served opening limits serve pass gate worker work.0 why
           (not_failed worker.fault gate.faults worker.gate.faults work.0.serves.faults none) (λ done. (parts done).0),
-      gates_are_served limits serve (pass + 1) gates workers why work.1 (λ done. (parts done).1),
+      gates_are_served opening limits serve (pass + 1) gates workers why work.1 (λ done. (parts done).1),
     )
 
 -- a serve that is done found memory for each session
@@ -107,7 +107,7 @@ pub gates_without_a_fault : (config : Config) (serve : ServeCommand) (before aft
     HaveAllServed config serve before after why closed → AllZip (IsServedUnlessFailed serve why) before after
 gates_without_a_fault config serve before after why closed served =
     subst (AllZip (IsServedUnlessFailed serve why) before) (sym served.gates)
-    (gates_are_served (limits_by config) serve 0 before served.workers why served.work
+    (gates_are_served config (limits_by config) serve 0 before served.workers why served.work
     (λ done.
     done_found_memory (list_any (λ (worker : WorkerState). worker.fault) served.workers) (list_any (λ (worker : WorkerState). worker.memory) served.workers)
     (sym served.cause ∙ done)))

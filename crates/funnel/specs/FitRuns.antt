@@ -4,7 +4,7 @@ use Rattle.fit.specs.Ends.{Fits}
 use Rattle.fit.specs.declared.ends.FitEnd.{FitEnd}
 use Rattle.funnel_io.specs.Streams.{Incoming, Outgoing}
 use Rattle.funnel.specs.Ends.{why_of_fit}
-use Rattle.funnel.specs.declared.command.FitCommand.{FitCommand}
+use Rattle.command_line.specs.declared.command.FitCommand.{FitCommand}
 use Rattle.funnel.specs.declared.ended.Why.{Why}
 use Rattle.session.specs.declared.serving.TheConstants.{MOST_BYTES}
 

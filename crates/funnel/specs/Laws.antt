@@ -26,20 +26,20 @@ use Rattle.funnel_server.specs.Gates.{GateState, Sides}
 use Rattle.funnel_server.specs.Laws.{FitsKept, HasCause, HasFewBytes, HasSeen, MakesCalls}
 use Rattle.funnel_server.specs.Workers.{Visit, WorkerState}
 use Rattle.funnel_stats.specs.Configurations.{configuration}
-use Rattle.line_proto.specs.Forms.{Item, Asks, Calls, Queries, items}
+use Rattle.line_proto.specs.Forms.{Item, Asks, Calls, Queries, Tunes, items}
 use Rattle.line_proto.specs.Services.{Caller}
 use Rattle.line_proto.specs.Texts.{texts}
 use Rattle.load_gen.specs.Summary.{summary}
 use Rattle.session.specs.Sessions.{Answers, Session}
-use Rattle.funnel.specs.Commands.{command_of}
+use Rattle.command_line.specs.Commands.{command_of}
 use Rattle.funnel.specs.LoadRuns.{IsWholeLoad}
 use Rattle.funnel.specs.Misfits.{misfit_of}
 use Rattle.funnel.specs.Programs.{Streams}
 use Rattle.funnel.specs.Runs.{IsOfFirst, first_caller, limits_by}
 use Rattle.funnel.specs.Served.{AllWork, HaveAllServed}
-use Rattle.funnel.specs.declared.command.Command.{Command}
-use Rattle.funnel.specs.declared.command.LoadCommand.{LoadCommand}
-use Rattle.funnel.specs.declared.command.ServeCommand.{ServeCommand}
+use Rattle.command_line.specs.declared.command.Command.{Command}
+use Rattle.command_line.specs.declared.command.LoadCommand.{LoadCommand}
+use Rattle.command_line.specs.declared.command.ServeCommand.{ServeCommand}
 use Rattle.session.specs.declared.serving.TheConstants.{MOST_BYTES}
 use Rattle.funnel.specs.declared.ended.Misfit.TheVariants as misfit
 use Rattle.funnel.specs.declared.ended.Why.{Why}
@@ -82,10 +82,11 @@ CallTakesMemory (call.Journal from) = ⊤
 CallTakesMemory (call.Tune config) = ⊤
 CallTakesMemory _ = ⊥
 
--- an item that takes memory: one that asks for such a call, and each that asks what a text finds, whether it is a query or not
+-- an item that takes memory: one that asks for such a call, and each with a text to be read, whether it is a query or a tuning, or not
 abbrev pub TakesMemory : Item → Type 0
 TakesMemory (Asks (Calls asked)) = CallTakesMemory asked
 TakesMemory (Asks (Queries text)) = ⊤
+TakesMemory (Asks (Tunes text)) = ⊤
 TakesMemory _ = ⊥
 
 -- the reply to an item is never that the history is spent, and is a want of memory only where the item takes some
@@ -112,7 +113,7 @@ RepliesAreDue caller before after taken written end_of.Memory session = ⊤
 pub record AnswersInput (config : Config) (bytes : List ℕ) (before after : Outgoing) (closed : ClosedState) : Type 0 where
   pub of_first : IsOfFirst config closed
   pub replies : List Reply
-  pub answers : Answers (first_caller (limits_by config)) [] (items bytes true) replies closed.history
+  pub answers : Answers (first_caller config (limits_by config)) [] (items bytes true) replies closed.history
   pub writes : Writes (texts replies) before after
 
 -- a run is done when its whole input is answered, and ends otherwise for want of memory alone

@@ -1,4 +1,3 @@
-pub mod Commands
 pub mod Ends
 pub mod FitRuns
 pub mod Laws

@@ -14,9 +14,9 @@ use Rattle.load_gen.specs.Jobs.{jobs}
 use Rattle.load_gen.specs.Summary.{summary}
 use Rattle.load_laws.specs.Workers.{Fronts, HaveMet, IsAnsweredAsTold, IsLoaded}
 use Rattle.row_layout.specs.Sound.{IsSound}
-use Rattle.funnel.specs.Commands.{IsLoadInRange}
+use Rattle.command_line.specs.Commands.{IsLoadInRange}
 use Rattle.funnel.specs.Misfits.{misfit_of_load}
-use Rattle.funnel.specs.declared.command.LoadCommand.{LoadCommand}
+use Rattle.command_line.specs.declared.command.LoadCommand.{LoadCommand}
 use Rattle.funnel.specs.declared.ended.Why.{Why}
 use Rattle.funnel.specs.declared.ended.Why.TheVariants as why_of
 use Rattle.funnel.specs.Runs.{limits_by}
@@ -55,7 +55,7 @@ pub record IsPartOfLoad (config : Config) (load : LoadCommand) (closed : ClosedS
   pub no_other : All (λ e. pass_of e < load.workers) closed.history
   pub fronts : ℕ → List Event
   pub seen : (worker : ℕ) → worker < load.workers → IsFrontOf worker (fronts worker) closed.history
-  pub cut : IsCutShort (limits_by config) (documents load.docs load.words load.seed) load.workers (λ _. []) fronts
+  pub cut : IsCutShort config (limits_by config) (documents load.docs load.words load.seed) load.workers (λ _. []) fronts
 
 -- A load is made, and its summary told. For want of memory it may end before it is begun, with some of its calls, or where its
 -- summary is to be told; then nothing is written.

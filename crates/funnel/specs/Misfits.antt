@@ -2,11 +2,11 @@
 use Rattle.std.specs.Prelude.{ℕ, ◌+◌, ◌-◌, ◌==◌, nat_lt, Option, Some, None, if◌then◌else◌}
 use Rattle.funnel_model.specs.declared.config.Config.{Config}
 use Rattle.funnel_model.specs.Sizes.{columns_of_pool}
-use Rattle.funnel.specs.declared.command.Command.{Command}
-use Rattle.funnel.specs.declared.command.Command.TheVariants as command
-use Rattle.funnel.specs.declared.command.LoadCommand.{LoadCommand}
-use Rattle.funnel.specs.declared.command.ServeCommand.{ServeCommand}
-use Rattle.funnel.specs.declared.command.TheConstants.{MOST_PORT}
+use Rattle.command_line.specs.declared.command.Command.{Command}
+use Rattle.command_line.specs.declared.command.Command.TheVariants as command
+use Rattle.command_line.specs.declared.command.LoadCommand.{LoadCommand}
+use Rattle.command_line.specs.declared.command.ServeCommand.{ServeCommand}
+use Rattle.command_line.specs.declared.command.TheConstants.{MOST_PORT}
 use Rattle.funnel.specs.declared.ended.Misfit.{Misfit}
 use Rattle.funnel.specs.declared.ended.Misfit.TheVariants as misfit
 

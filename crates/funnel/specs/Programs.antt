@@ -7,18 +7,18 @@ use Rattle.funnel_model.specs.declared.config.Config.{Config}
 use Rattle.funnel_server.specs.Gates.{GateState}
 use Rattle.funnel_stats.specs.declared.fault.ConfigFault.{ConfigFault}
 use Rattle.funnel_stats.specs.Reading.{IsConfigRead, is_failed_read}
-use Rattle.funnel.specs.Commands.{command_of, is_fit}
+use Rattle.command_line.specs.Commands.{command_of, is_fit}
 use Rattle.funnel.specs.Ends.{why_of_config}
 use Rattle.funnel.specs.FitRuns.{EndsFit}
 use Rattle.funnel.specs.LoadRuns.{EndsLoad}
 use Rattle.funnel.specs.Misfits.{misfit_of}
 use Rattle.funnel.specs.Runs.{KeepsLast, RanOrNot}
 use Rattle.funnel.specs.Served.{EndsServe}
-use Rattle.funnel.specs.declared.command.Command.{Command}
-use Rattle.funnel.specs.declared.command.Command.TheVariants as command
-use Rattle.funnel.specs.declared.command.FitCommand.{FitCommand}
-use Rattle.funnel.specs.declared.command.LoadCommand.{LoadCommand}
-use Rattle.funnel.specs.declared.command.ServeCommand.{ServeCommand}
+use Rattle.command_line.specs.declared.command.Command.{Command}
+use Rattle.command_line.specs.declared.command.Command.TheVariants as command
+use Rattle.command_line.specs.declared.command.FitCommand.{FitCommand}
+use Rattle.command_line.specs.declared.command.LoadCommand.{LoadCommand}
+use Rattle.command_line.specs.declared.command.ServeCommand.{ServeCommand}
 use Rattle.funnel.specs.declared.ended.Misfit.{Misfit}
 use Rattle.funnel.specs.declared.ended.Why.{Why}
 use Rattle.funnel.specs.declared.ended.Why.TheVariants as why_of

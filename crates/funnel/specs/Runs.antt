@@ -39,9 +39,9 @@ pub record HoldTheSame {S K : Type 0} (input_borrowed : S → Borrowed) (output_
 abbrev pub KeepsLast : Config → ClosedState → Type 0
 KeepsLast config closed = closed.base ≡ base config.commits closed.history
 
--- the engine's first pass, which the session is on
-abbrev pub first_caller : Limits → Caller
-first_caller limits = record { limits = limits; pass = 0 }
+-- the first pass of an engine with this opening configuration and these limits, which the session is on
+abbrev pub first_caller : Config → Limits → Caller
+first_caller opening limits = record { opening = opening; limits = limits; pass = 0 }
 
 -- the history is legal, each move has its cause, each document has exactly its own bits, and all events are the first pass's
 pub record IsOfFirst (config : Config) (closed : ClosedState) : Type 0 where
@@ -54,7 +54,7 @@ pub record IsOfFirst (config : Config) (closed : ClosedState) : Type 0 where
 pub record Ran (config : Config) (incoming later_incoming : Incoming) (outgoing later_outgoing : Outgoing) (why : Why) (closed : ClosedState) : Type 0 where
   pub end : End
   pub answered : why ≡ why_of_end end
-  pub serves : Serves (first_caller (limits_by config)) MOST_BYTES
+  pub serves : Serves (first_caller config (limits_by config)) MOST_BYTES
       (record { front = []; incoming = incoming; outgoing = outgoing })
       (record { front = closed.history; incoming = later_incoming; outgoing = later_outgoing }) end
   pub of_first : IsOfFirst config closed

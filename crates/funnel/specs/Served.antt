@@ -11,15 +11,15 @@ use Rattle.funnel_server.specs.Gates.{GateState}
 use Rattle.funnel_server.specs.Workers.{WorkerState, Works}
 use Rattle.row_layout.specs.Sound.{IsSound}
 use Rattle.funnel.specs.Runs.{limits_by}
-use Rattle.funnel.specs.declared.command.ServeCommand.{ServeCommand}
+use Rattle.command_line.specs.declared.command.ServeCommand.{ServeCommand}
 use Rattle.funnel.specs.declared.ended.Why.{Why}
 use Rattle.funnel.specs.declared.ended.Why.TheVariants as why_of
 
 -- the worker of a gate before its first connection
-abbrev pub new_worker : Limits → ServeCommand → ℕ → GateState → WorkerState
-new_worker limits serve pass gate = record {
+abbrev pub new_worker : Config → Limits → ServeCommand → ℕ → GateState → WorkerState
+new_worker opening limits serve pass gate = record {
   gate = gate;
-  caller = record { limits = limits; pass = pass };
+  caller = record { opening = opening; limits = limits; pass = pass };
   front = [];
   http = serve.http;
   left = serve.connections;
@@ -28,9 +28,9 @@ new_worker limits serve pass gate = record {
 }
 
 -- the workers of the gates, each on a pass of its own, from this one up
-abbrev pub new_workers : Limits → ServeCommand → ℕ → List GateState → List WorkerState
-new_workers limits serve pass [] = []
-new_workers limits serve pass (gate ∷ gates) = new_worker limits serve pass gate ∷ new_workers limits serve (pass + 1) gates
+abbrev pub new_workers : Config → Limits → ServeCommand → ℕ → List GateState → List WorkerState
+new_workers opening limits serve pass [] = []
+new_workers opening limits serve pass (gate ∷ gates) = new_worker opening limits serve pass gate ∷ new_workers opening limits serve (pass + 1) gates
 
 -- each worker did its work, and there is no other one
 abbrev pub AllWork : List WorkerState → List WorkerState → Type 0
@@ -53,7 +53,7 @@ pub record HaveAllServed (config : Config) (serve : ServeCommand) (before after 
   pub sound : IsSound config closed.history
   pub passes : All (λ e. pass_of e < length before) closed.history
   pub workers : List WorkerState
-  pub work : AllWork (new_workers (limits_by config) serve 0 before) workers
+  pub work : AllWork (new_workers config (limits_by config) serve 0 before) workers
   pub fronts : All (λ worker. IsFrontOf worker.caller.pass worker.front closed.history) workers
   pub gates : after ≡ map (λ worker. worker.gate) workers
   pub cause : why ≡ why_of_workers workers

@@ -14,7 +14,7 @@ use Rattle.funnel_server.specs.GateTurns.{CallsInTurns}
 use Rattle.funnel_server.specs.Workers.{WorkerState}
 use Rattle.session.specs.Turns.{StopsReading, line_by_line}
 use Rattle.session.specs.declared.serving.TheConstants.{MOST_BYTES}
-use Rattle.funnel.specs.declared.command.ServeCommand.{ServeCommand}
+use Rattle.command_line.specs.declared.command.ServeCommand.{ServeCommand}
 use Rattle.funnel.specs.declared.ended.Why.{Why}
 use Rattle.funnel.specs.declared.ended.Why.TheVariants as why_of
 use Rattle.funnel.specs.Programs.{EndsAfterServe, EndsBy, Streams}
@@ -51,7 +51,7 @@ abbrev pub OpenGatesGoInTurns : {G C : Type 0} → (G → Next C → G → Type 
     → (config : Config) (serve : ServeCommand) (before after : List GateState) (why : Why) (closed : Option ClosedState)
     → EndsServe config serve before after why closed → List G → List G → Type 0
 OpenGatesGoInTurns next_gives done_gives end_gives read_gives write_gives incoming outgoing config serve before after why (Some closed) served gates laters =
-    GatesGoInTurns next_gives done_gives end_gives read_gives write_gives incoming outgoing (new_workers (limits_by config) serve 0 before) served.workers served.work
+    GatesGoInTurns next_gives done_gives end_gives read_gives write_gives incoming outgoing (new_workers config (limits_by config) serve 0 before) served.workers served.work
     gates laters
 OpenGatesGoInTurns next_gives done_gives end_gives read_gives write_gives incoming outgoing config serve before after why None served gates laters = ⊤
 

@@ -16,7 +16,7 @@ use Rattle.slice_rule.specs.Pools.{PoolId}
 use Rattle.funnel.specs.Served.{AllWork, EndsServe, OneDidNotOpen, new_workers, why_of_workers}
 use Rattle.funnel.specs.Serving.{new_passes}
 use Rattle.funnel.specs.Turns.{GatesGoInTurns, OpenGatesGoInTurns, ServeGoesInTurns}
-use Rattle.funnel.specs.declared.command.ServeCommand.{ServeCommand}
+use Rattle.command_line.specs.declared.command.ServeCommand.{ServeCommand}
 use Rattle.funnel.specs.declared.ended.Why.{Why}
 
 -- the pass of a worker
@@ -46,7 +46,7 @@ pub record ArePassedOn {G : Type 0} (gates left : List G) (workers : List (Worke
 
 -- some of the gates and passes of a new engine have a worker, the first ones of each, and these are left
 pub record AreEquipped (pool : PoolId) (serve : ServeCommand) (all left : List GateState) (passes : List PassView) (workers : List WorkerState) : Type 0 where
-  pub made : workers ++ new_workers pool.limits serve (length workers) left ≡ new_workers pool.limits serve 0 all
+  pub made : workers ++ new_workers pool.config pool.limits serve (length workers) left ≡ new_workers pool.config pool.limits serve 0 all
   pub count : length workers + length left ≡ length all
   pub passes_left : passes ≡ new_passes (length workers) (pool.config.passes - length workers)
 
@@ -60,7 +60,7 @@ pub record GaveBack (workers left : List WorkerState) (before after : List GateS
 -- each gate had a worker, each on a pass of its own, and the gates and all passes came back, those of the workers behind the others
 pub record HaveWorked (pool : PoolId) (serve : ServeCommand) (before after : List GateState) (why : Why) (passes : List PassView) : Type 0 where
   pub workers : List WorkerState
-  pub work : AllWork (new_workers pool.limits serve 0 before) workers
+  pub work : AllWork (new_workers pool.config pool.limits serve 0 before) workers
   pub gates : after ≡ map (λ worker. worker.gate) workers
   pub cause : why ≡ why_of_workers workers
   pub back : passes ≡ new_passes (length before) (pool.config.passes - length before) ++ map pass_of_worker workers
@@ -71,7 +71,7 @@ pub record HaveWorkedInTurns {G C : Type 0} (next_gives : G → Next C → G →
     (state : G → GateState) (pool : PoolId) (serve : ServeCommand) (gates laters : List G) (why : Why) (passes : List PassView) : Type 0 where
   pub worked : HaveWorked pool serve (map state gates) (map state laters) why passes
   pub in_turns : GatesGoInTurns next_gives done_gives end_gives read_gives write_gives incoming outgoing
-      (new_workers pool.limits serve 0 (map state gates)) worked.workers worked.work gates laters
+      (new_workers pool.config pool.limits serve 0 (map state gates)) worked.workers worked.work gates laters
 
 -- a serve of gates that were opened ended so, and the calls on them are those of the sessions that its end tells of
 pub record EndsOpenServeInTurns {G C : Type 0} (next_gives : G → Next C → G → Type 0) (done_gives : G → C → End → G → Type 0) (end_gives : G → G → Type 0)

@@ -1,10 +1,10 @@
 ghost use Rattle.std.specs.Prelude.{◌≡◌};
 ghost use Rattle.funnel_model.specs.Configuration.{IsInRange};
-ghost use Rattle.funnel.specs.Commands.{HasNumbersInRange, IsServeInRange};
+ghost use Rattle.command_line.specs.Commands.{HasNumbersInRange, IsServeInRange};
 ghost use Rattle.funnel.specs.Misfits.{last_port_of, misfit_of, misfit_of_load, misfit_of_serve};
 
-use crate::command::{Command, LoadCommand, MOST_PORT, ServeCommand};
 use crate::ended::Misfit;
+use command_line::{Command, LoadCommand, MOST_PORT, ServeCommand};
 use funnel_model::Config;
 use treatment::sizes;
 

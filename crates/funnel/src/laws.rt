@@ -8,12 +8,12 @@ ghost use Rattle.funnel_server.specs.Gates.{GateState, Sides};
 ghost use Rattle.funnel_server.specs.Laws.{HasFewBytes};
 ghost use Rattle.line_proto.specs.Forms.{items};
 ghost use Rattle.session.specs.declared.serving.TheConstants.{MOST_BYTES};
-ghost use Rattle.funnel.specs.declared.command.Command.TheVariants as command;
-ghost use Rattle.funnel.specs.declared.command.FitCommand.{FitCommand};
-ghost use Rattle.funnel.specs.declared.command.LoadCommand.{LoadCommand};
-ghost use Rattle.funnel.specs.declared.command.ServeCommand.{ServeCommand};
+ghost use Rattle.command_line.specs.declared.command.Command.TheVariants as command;
+ghost use Rattle.command_line.specs.declared.command.FitCommand.{FitCommand};
+ghost use Rattle.command_line.specs.declared.command.LoadCommand.{LoadCommand};
+ghost use Rattle.command_line.specs.declared.command.ServeCommand.{ServeCommand};
 ghost use Rattle.funnel.specs.declared.ended.Why.{Why};
-ghost use Rattle.funnel.specs.Commands.{command_of};
+ghost use Rattle.command_line.specs.Commands.{command_of};
 ghost use Rattle.funnel.specs.Laws.{AllCallsAreOfSessions, AnswersInput, AreDue, CompletesFit, CompletesLoad, CompletesRun, CompletesServe};
 ghost use Rattle.funnel.specs.Laws.{EndsWell, GateIsServed, IsAccepted, IsServedUnlessFailed, KeepsNoFault, NoStreamFailed, OneFailed, RepliesAreDue, TellsFew};
 ghost use Rattle.funnel.specs.Programs.{Ends, Streams};
@@ -46,12 +46,12 @@ pub fn programs_without_a_fault_end_well()
 {}
 
 /// No reply of a run is that the history is spent, since a run can't take so many bytes. Only the lines that ask for an add, a
-/// find, a query or a journal can be refused for want of memory; every other reply is the one of its event in the history, what a
-/// query's expression keeps of the documents live at its find, or that of a line which is no call.
+/// find, a query, a journal or a tuning can be refused for want of memory; every other reply is the one of its event in the history,
+/// what a query's expression keeps of the documents live at its find, or that of a line which is no call.
 pub fn runs_take_every_call()
     ensures any { (config : Config) (incoming later_incoming : Incoming) (outgoing later_outgoing : Outgoing) (why : Why) (closed : ClosedState)
         (ran : Ran config incoming later_incoming outgoing later_outgoing why closed) →
-        RepliesAreDue (first_caller (limits_by config)) [] closed.history ran.serves.taken ran.serves.written ran.end ran.serves.session }
+        RepliesAreDue (first_caller config (limits_by config)) [] closed.history ran.serves.taken ran.serves.written ran.end ran.serves.session }
     ensures whole { (config : Config) (bytes : List ℕ) (before after : Outgoing) (closed : ClosedState)
         (answers : AnswersInput config bytes before after closed) →
         length bytes < MOST_BYTES → AreDue (items bytes true) answers.replies }
@@ -61,7 +61,7 @@ pub fn runs_take_every_call()
 pub fn the_calls_of_a_serve_are_those_of_its_sessions()
     ensures { (config : Config) (serve : ServeCommand) (before after : List GateState) (why : Why) (closed : ClosedState)
         (served : HaveAllServed config serve before after why closed) →
-        AllCallsAreOfSessions closed.history (new_workers (limits_by config) serve 0 before) served.workers served.work }
+        AllCallsAreOfSessions closed.history (new_workers config (limits_by config) serve 0 before) served.workers served.work }
 {}
 
 /// Each gate of a serve, unless a call of it failed, had the first of its connections served, up to the stated number. Where it tells

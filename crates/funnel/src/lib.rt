@@ -11,7 +11,6 @@
 //! neither is a [`UsageFault`].
 #![tactic(auto)]
 
-mod command;
 mod ended;
 mod first_pass;
 mod fitting;
@@ -23,12 +22,12 @@ mod running;
 mod sampling;
 mod serving;
 mod text;
-mod usage;
 mod workload;
 
-pub use command::{
+pub use command_line::{
     Command, CommandFault, FitCommand, LoadCommand, MOST_CONNECTIONS, MOST_FITTED, MOST_IDLE,
-    MOST_PORT, ServeCommand, read_command, words_are_a_command_where_clap_takes_them,
+    MOST_PORT, ServeCommand, UsageFault, read_command, usage_fault,
+    words_are_a_command_where_clap_takes_them,
 };
 pub use ended::{Ended, Misfit, Why};
 pub use laws::{
@@ -42,4 +41,3 @@ pub use listening::{gates_on, idle, ports, shares_port};
 pub use port_list::Ports;
 pub use program::funnel_main;
 pub use text::{HELP, Text, VERSION, tell_asked, text_asked, words_for_a_text_are_no_command};
-pub use usage::{UsageFault, usage_fault};

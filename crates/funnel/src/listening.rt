@@ -2,10 +2,10 @@
 ghost use Rattle.std.specs.Prelude.{◌≡◌, ◌+◌, ◌<◌, map, IfOk};
 ghost use Rattle.std.specs.List.{range_with_len};
 ghost use Rattle.funnel_io.specs.Std.{new_gate};
-ghost use Rattle.funnel.specs.Commands.{IsServeInRange, command_of, idle_of, ports_of, ports_of_serve, shares_port};
+ghost use Rattle.command_line.specs.Commands.{IsServeInRange, command_of, idle_of, ports_of, ports_of_serve, shares_port};
 
-use crate::command::{Command, CommandFault, ServeCommand, read_command};
 use crate::port_list::Ports;
+use command_line::{Command, CommandFault, ServeCommand, read_command};
 use funnel_io::{SharedPort, TcpGate};
 use funnel_model::Memory;
 use std::alloc::{AllocError, Global};

@@ -1,18 +1,18 @@
 ghost use Rattle.std.specs.Prelude.{◌≡◌, ◌⊎◌, Some, true, false, length, map, IfNone, IfSome};
 ghost use Rattle.engine.specs.Engines.{IsClosed};
 ghost use Rattle.funnel_server.specs.Gates.{gate_state};
-ghost use Rattle.funnel.specs.Commands.{command_of, is_fit, is_serve};
+ghost use Rattle.command_line.specs.Commands.{command_of, is_fit, is_serve};
 ghost use Rattle.funnel.specs.Turns.{AreOpenedInVain, EndsInTurns, RunsInTurns};
-ghost use Rattle.funnel.specs.declared.command.Command.TheVariants as command;
-ghost use Rattle.funnel.specs.declared.command.LoadCommand.{LoadCommand};
+ghost use Rattle.command_line.specs.declared.command.Command.TheVariants as command;
+ghost use Rattle.command_line.specs.declared.command.LoadCommand.{LoadCommand};
 
-use crate::command::{Command, CommandFault, read_command};
 use crate::ended::{Ended, Why};
 use crate::fitting::misfit;
 use crate::running::run_command;
 use crate::sampling::fit_command;
 use crate::serving::serve_command;
 use crate::workload::load_command;
+use command_line::{Command, CommandFault, read_command};
 use funnel_io::{Gate, Sink, Source};
 use funnel_stats::read_config;
 use std::alloc::Global;
@@ -22,8 +22,9 @@ use std::thread::Threads;
 /// Runs the command that the words are, by an engine with the configuration. `run` answers the lines of `input` on `output`.
 /// `serve` opens the gates, and answers the lines of the connections of each, or with `--http` their requests, by a pass and a
 /// thread of its own. `load` makes its documents, has its workers add, delete and find them, each by a pass and a thread of its
-/// own, and writes its summary on `output`. These two read nothing from `input`. `fit` reads lines of `input`, and writes the configuration that is fitted to the add lines among them on
-/// `output`; it needs no configuration and no engine. `gates` come back in their order.
+/// own, and writes its summary on `output`. These two read nothing from `input`. `fit` reads lines of `input`, and writes the
+/// configuration that is fitted to the add lines among them on `output`; it needs no configuration and no engine. `gates` come back
+/// in their order.
 ///
 /// The words are judged first, then, unless they are a fit, the configuration, then whether the command's numbers fit it and the
 /// gates, and then a serve opens its gates, all or none. Nothing is left of an engine where one of these is refused or fails, or

@@ -32,7 +32,7 @@ pub(crate) fn run_command<R: Wait, S: Source, K: Sink>(
     ensures in_turns { RunsInTurns S.read_gives K.write_gives (result.0 ≡ Why.Done) (input.old, output.old) (input.new, output.new) }
     ensures closed { IfSome result.1 IsClosed }
     ensures kept { IfSome result.1 (KeepsLast config.now) }
-    ensures untouched { result.0 ≡ Why.Memory → (input.new ≡ input.old) × (output.new ≡ output.old) }
+    ensures without_memory { result.0 ≡ Why.Memory → (input.new ≡ input.old) × (output.new ≡ output.old) }
     ensures borrowed { HoldTheSame S.borrowed K.borrowed (input.old, output.old) (input.new, output.new) }
 {
     let Ok(blank) = Blank::new(alloc, config) else {
@@ -56,7 +56,7 @@ fn run<N: PoolName, R: Wait, S: Source, K: Sink>(
     ensures in_turns { RunsInTurns S.read_gives K.write_gives (result.0 ≡ Why.Done) (input.old, output.old) (input.new, output.new) }
     ensures closed { IfSome result.1 IsClosed }
     ensures kept { IfSome result.1 (KeepsLast config.now) }
-    ensures untouched { result.0 ≡ Why.Memory → (input.new ≡ input.old) × (output.new ≡ output.old) }
+    ensures without_memory { result.0 ≡ Why.Memory → (input.new ≡ input.old) × (output.new ≡ output.old) }
     ensures borrowed { HoldTheSame S.borrowed K.borrowed (input.old, output.old) (input.new, output.new) }
 {
     let Ok((engine, passes)) = Engine::<N>::open(alloc, config, blank) else {
@@ -78,12 +78,12 @@ fn serve<N: PoolName, R: Wait, S: Source, K: Sink>(
     requires some { 1 ≤ N.pool.limits.passes }
     requires counted { N.pool.limits.passes ≡ N.pool.config.passes }
     requires new { passes.items ≡ new_passes 0 N.pool.config.passes }
-    ensures served { FirstDid N.pool result.1.items (λ front. Serves (first_caller N.pool.limits) MOST_BYTES
+    ensures served { FirstDid N.pool result.1.items (λ front. Serves (first_caller N.pool.config N.pool.limits) MOST_BYTES
         record { front = []; incoming = S.incoming input.old; outgoing = K.outgoing output.old }
         record { front = front; incoming = S.incoming input.new; outgoing = K.outgoing output.new }
         result.0) }
     ensures in_turns { RunsInTurns S.read_gives K.write_gives (result.0 ≡ End.Done) (input.old, output.old) (input.new, output.new) }
-    ensures untouched { result.0 ≡ End.Memory → (input.new ≡ input.old) × (output.new ≡ output.old) }
+    ensures without_memory { result.0 ≡ End.Memory → (input.new ≡ input.old) × (output.new ≡ output.old) }
     ensures borrowed { HoldTheSame S.borrowed K.borrowed (input.old, output.old) (input.new, output.new) }
 {
     let (mut client, others) = first_client(rt, alloc, engine, passes);

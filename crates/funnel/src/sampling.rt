@@ -1,10 +1,10 @@
 //! A fit: a configuration that is fitted to a sample of documents.
-ghost use Rattle.funnel.specs.Commands.{IsFitInRange};
+ghost use Rattle.command_line.specs.Commands.{IsFitInRange};
 ghost use Rattle.funnel.specs.FitRuns.{EndsFit};
 ghost use Rattle.funnel.specs.Runs.{HoldTheSame};
 
-use crate::command::FitCommand;
 use crate::ended::Why;
+use command_line::FitCommand;
 use fit::fit;
 use funnel_io::{Sink, Source};
 use session::MOST_BYTES;

@@ -12,8 +12,8 @@ ghost use Rattle.funnel.specs.Turns.{AreOpened, AreOpenedInVain, AreOpenedUntilO
 ghost use Rattle.funnel.specs.Workers.{gates_of, pass_of_worker, states_of};
 ghost use Rattle.funnel.specs.Workers.{ArePassedOn, EndsOpenServeInTurns, EndsServeInTurns, HaveWorkedInTurns, TellOfOpening, TellTheSame};
 
-use crate::command::ServeCommand;
 use crate::ended::{Ended, Why};
+use command_line::ServeCommand;
 use engine::{Blank, Client, Engine, Pass, PoolName};
 use funnel_io::{Gate, Opening};
 use funnel_model::Config;
@@ -201,7 +201,7 @@ fn equip<'a, N: PoolName, R: Wait, G: Gate + Drop>(
     requires enough { length gates.old.items ≤ N.pool.config.passes }
     requires empty { workers.old.items ≡ [] }
     requires room { length gates.old.items ≤ vec_capacity workers.old }
-    ensures workers { states_of workers.new.items ≡ new_workers N.pool.limits serve 0
+    ensures workers { states_of workers.new.items ≡ new_workers N.pool.config N.pool.limits serve 0
         (map (gate_state G.is_closed G.gate_faults G.waiting G.Conn.incoming G.Conn.outgoing G.served) gates.old.items) }
     ensures gates { ArePassedOn gates.old.items gates.new.items workers.new.items }
     ensures passes { passes.new.items ≡ new_passes (length gates.old.items)

@@ -1,7 +1,7 @@
 //! What the program tells of itself.
 ghost use Rattle.std.specs.Prelude.{◌≡◌, ℕ, List, IsSome, MatchOption, None, map};
 ghost use Rattle.std.specs.Option.{IsSomeAnd};
-ghost use Rattle.funnel.specs.Commands.{command_of};
+ghost use Rattle.command_line.specs.Commands.{command_of};
 ghost use Rattle.funnel.specs.Texts.{IsWritten, text_asked, text_by, text_of};
 
 use crate::ended::Why;

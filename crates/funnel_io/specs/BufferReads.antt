@@ -14,7 +14,8 @@ pub record TellsRead {S : Type 0} (incoming : S → Incoming) (answer : Got) (be
   pub at_end : MatchGot answer (λ _. ⊤) (IsAtEnd (incoming after).left) ⊤
   pub faults : (incoming after).faults ≡ counted (read_failed answer) (incoming before).faults
 
--- a read into a buffer from its end on left what is before it, and gave no more bytes than it may, all of them within the buffer
+-- a read into a buffer from its end on left what is before it, and gave one byte or more, but no more than it may, all of them within the
+-- buffer
 pub record FillsFrom (end may : ℕ) (answer : Got) (old new : List ℕ) : Type 0 where
   pub kept : take end new ≡ take end old
   pub count : MatchGot answer (λ n. (1 ≤ n) × (n ≤ may) × (end + n ≤ length new)) ⊤ ⊤

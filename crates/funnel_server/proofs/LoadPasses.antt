@@ -6,6 +6,7 @@ use Rattle.std.specs.List.{range_with_len}
 use Rattle.std.specs.Prelude.{MatchResult, drop}
 use mathlib.Core.List.{IsPrefix}
 use Rattle.engine.specs.Passes.{PassView}
+use Rattle.funnel_model.specs.declared.config.Config.{Config}
 use Rattle.funnel_model.specs.declared.event.Event.{Event}
 use Rattle.funnel_model.specs.declared.memory.Memory.{Memory}
 use Rattle.funnel_model.specs.History.{IsFrontOf}
@@ -84,16 +85,16 @@ front_before (pass ∷ passes) others zero small = refl
 front_before (pass ∷ passes) others (suc k) small = front_before passes others k (omega (arith, small))
 
 -- and what a load says of them doesn't either
-module _ (limits : Limits) (texts : List (List ℕ)) (workers : ℕ) (before after first last : ℕ → List Event)
+module _ (opening : Config) (limits : Limits) (texts : List (List ℕ)) (workers : ℕ) (before after first last : ℕ → List Event)
     (begins : (k : ℕ) → k < workers → before k ≡ first k) (ends : (k : ℕ) → k < workers → after k ≡ last k) where
-  come_along : (courses : ℕ → Course) → AllComeToQueries limits texts workers before courses → AllComeToQueries limits texts workers first courses
+  come_along : (courses : ℕ → Course) → AllComeToQueries opening limits texts workers before courses → AllComeToQueries opening limits texts workers first courses
   come_along courses come = record {
-    each = λ k small. subst (λ (h : List Event). ComesToQueries (worker_of limits k) h texts workers (courses k)) (begins k small) (come.each k small);
+    each = λ k small. subst (λ (h : List Event). ComesToQueries (worker_of opening limits k) h texts workers (courses k)) (begins k small) (come.each k small);
     met_adds = come.met_adds;
     met_deletes = come.met_deletes;
   }
 
-  put_along : (results : List (ℕ × ℕ)) → IsPut limits texts workers before after results → IsPut limits texts workers first last results
+  put_along : (results : List (ℕ × ℕ)) → IsPut opening limits texts workers before after results → IsPut opening limits texts workers first last results
   put_along results put = record {
     courses = put.courses;
     come = come_along put.courses put.come;
@@ -106,22 +107,22 @@ module _ (limits : Limits) (texts : List (List ℕ)) (workers : ℕ) (before aft
     results_are = put.results_are;
   }
 
-  cut_along : IsCutShort limits texts workers before after → IsCutShort limits texts workers first last
+  cut_along : IsCutShort opening limits texts workers before after → IsCutShort opening limits texts workers first last
   cut_along (inl same) = inl (λ k small. sym (begins k small) ∙ same k small ∙ ends k small)
-  cut_along (inr (inl early)) = inr (inl (early_along limits workers (adds_of texts workers) before after first last begins ends early))
+  cut_along (inr (inl early)) = inr (inl (early_along opening limits workers (adds_of texts workers) before after first last begins ends early))
   cut_along (inr (inr early)) = inr (inr (record {
     courses = early.courses;
     come = come_along early.courses early.come;
-    ends = early_along limits workers (queries_of workers) (λ k. (early.courses k).met_deleted) after (λ k. (early.courses k).met_deleted) last
+    ends = early_along opening limits workers (queries_of workers) (λ k. (early.courses k).met_deleted) after (λ k. (early.courses k).met_deleted) last
         (λ k small. refl) ends early.ends;
   }))
 
   pub ends_along : (answer : Result (List (ℕ × ℕ)) Memory) →
-      MatchResult answer (λ results. IsPut limits texts workers before after results) (λ _. IsCutShort limits texts workers before after) →
-      MatchResult answer (λ results. IsPut limits texts workers first last results) (λ _. IsCutShort limits texts workers first last)
+      MatchResult answer (λ results. IsPut opening limits texts workers before after results) (λ _. IsCutShort opening limits texts workers before after) →
+      MatchResult answer (λ results. IsPut opening limits texts workers first last results) (λ _. IsCutShort opening limits texts workers first last)
   ends_along (Ok results) put = put_along results put
   ends_along (Err memory) cut = cut_along cut
 
 -- where there was no memory for the workers none of them made a call
-pub nothing_put : (limits : Limits) (texts : List (List ℕ)) (workers : ℕ) (fronts : ℕ → List Event) → IsCutShort limits texts workers fronts fronts
-nothing_put limits texts workers fronts = inl (λ k small. refl)
+pub nothing_put : (opening : Config) (limits : Limits) (texts : List (List ℕ)) (workers : ℕ) (fronts : ℕ → List Event) → IsCutShort opening limits texts workers fronts fronts
+nothing_put opening limits texts workers fronts = inl (λ k small. refl)

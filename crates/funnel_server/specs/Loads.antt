@@ -4,6 +4,7 @@ use Rattle.std.specs.List.{All}
 use Rattle.std.specs.Option.{option_map_or}
 use mathlib.Core.List.{IsPrefix}
 use Rattle.funnel_model.specs.declared.call.Call.{Call}
+use Rattle.funnel_model.specs.declared.config.Config.{Config}
 use Rattle.funnel_model.specs.declared.event.Event.{Event}
 use Rattle.funnel_model.specs.declared.reply.Reply.{Reply}
 use Rattle.funnel_model.specs.declared.reply.Reply.TheVariants as reply
@@ -21,9 +22,9 @@ pub record AreAsked (caller : Caller) (before after : List Event) (calls : List 
   pub run : Linear caller.limits caller.pass before after calls replies
   pub memory : All (λ r. r ≢ reply.Memory) replies
 
--- the worker with this number, by the pass of the same number
-abbrev pub worker_of : Limits → ℕ → Caller
-worker_of limits worker = record { limits = limits; pass = worker }
+-- the worker with this number, by the pass of the same number, of an engine with these limits that was opened with this configuration
+abbrev pub worker_of : Config → Limits → ℕ → Caller
+worker_of opening limits worker = record { opening = opening; limits = limits; pass = worker }
 
 -- how a worker of a load fared until it was to run its queries: what its pass had seen after its adds, and once it had then met the others,
 -- and the same of its deletes; and the replies to both
@@ -43,20 +44,20 @@ pub record ComesToQueries (caller : Caller) (before : List Event) (texts : List 
   pub meets_deletes : IsFrontOf caller.pass course.deleted course.met_deleted
 
 -- so did each worker; and it had seen all adds of every other one before it deleted, and all deletes before it was to run its queries
-pub record AllComeToQueries (limits : Limits) (texts : List (List ℕ)) (workers : ℕ) (before : ℕ → List Event) (courses : ℕ → Course) : Type 0 where
-  pub each : (worker : ℕ) → worker < workers → ComesToQueries (worker_of limits worker) (before worker) texts workers (courses worker)
+pub record AllComeToQueries (opening : Config) (limits : Limits) (texts : List (List ℕ)) (workers : ℕ) (before : ℕ → List Event) (courses : ℕ → Course) : Type 0 where
+  pub each : (worker : ℕ) → worker < workers → ComesToQueries (worker_of opening limits worker) (before worker) texts workers (courses worker)
   pub met_adds : (worker other : ℕ) → worker < workers → other < workers → IsPrefix (courses other).added (courses worker).met_added
   pub met_deletes : (worker other : ℕ) → worker < workers → other < workers → IsPrefix (courses other).deleted (courses worker).met_deleted
 
 -- the whole load was put, and these are the results of its eight queries: those that the replies to each worker's queries tell; and after
 -- its queries each worker saw what every other one had seen after its own, and did nothing else
-pub record IsPut (limits : Limits) (texts : List (List ℕ)) (workers : ℕ) (before after : ℕ → List Event) (results : List (ℕ × ℕ)) : Type 0 where
+pub record IsPut (opening : Config) (limits : Limits) (texts : List (List ℕ)) (workers : ℕ) (before after : ℕ → List Event) (results : List (ℕ × ℕ)) : Type 0 where
   pub courses : ℕ → Course
-  pub come : AllComeToQueries limits texts workers before courses
+  pub come : AllComeToQueries opening limits texts workers before courses
   pub queried : ℕ → List Event
   pub to_queries : ℕ → List Reply
   pub asked : (worker : ℕ) → worker < workers →
-      AreAsked (worker_of limits worker) (courses worker).met_deleted (queried worker) (queries_of workers worker) (to_queries worker)
+      AreAsked (worker_of opening limits worker) (courses worker).met_deleted (queried worker) (queries_of workers worker) (to_queries worker)
   pub meets_queries : (worker : ℕ) → worker < workers → IsFrontOf worker (queried worker) (after worker)
   pub met_queries : (worker other : ℕ) → worker < workers → other < workers → IsPrefix (queried other) (after worker)
   pub count : length results ≡ length queries
@@ -76,28 +77,28 @@ pub record StopsAfter (caller : Caller) (before after : List Event) (asked left 
   pub ends : GoesNoFurther caller middle after left
 
 -- a part of the load ended early: each worker asked the first ones of its calls, or all, and some worker has calls left
-pub record EndsPartEarly (limits : Limits) (workers : ℕ) (calls : ℕ → List Call) (before after : ℕ → List Event) : Type 0 where
+pub record EndsPartEarly (opening : Config) (limits : Limits) (workers : ℕ) (calls : ℕ → List Call) (before after : ℕ → List Event) : Type 0 where
   pub asked : ℕ → List Call
   pub left : ℕ → List Call
   pub calls_are : (worker : ℕ) → worker < workers → calls worker ≡ asked worker ++ left worker
-  pub stops : (worker : ℕ) → worker < workers → StopsAfter (worker_of limits worker) (before worker) (after worker) (asked worker) (left worker)
+  pub stops : (worker : ℕ) → worker < workers → StopsAfter (worker_of opening limits worker) (before worker) (after worker) (asked worker) (left worker)
   pub stopped : ℕ
   pub is_worker : stopped < workers
   pub some_left : left stopped ≢ []
 
 -- the load ended early in its last part
-pub record EndsEarlyInQueries (limits : Limits) (texts : List (List ℕ)) (workers : ℕ) (before after : ℕ → List Event) : Type 0 where
+pub record EndsEarlyInQueries (opening : Config) (limits : Limits) (texts : List (List ℕ)) (workers : ℕ) (before after : ℕ → List Event) : Type 0 where
   pub courses : ℕ → Course
-  pub come : AllComeToQueries limits texts workers before courses
-  pub ends : EndsPartEarly limits workers (queries_of workers) (λ worker. (courses worker).met_deleted) after
+  pub come : AllComeToQueries opening limits texts workers before courses
+  pub ends : EndsPartEarly opening limits workers (queries_of workers) (λ worker. (courses worker).met_deleted) after
 
 -- the load was cut short: it was not begun, or it ended early in its first part or its last one. A delete takes no memory, so where
 -- deletes are begun all are asked
-abbrev pub IsCutShort : Limits → List (List ℕ) → ℕ → (ℕ → List Event) → (ℕ → List Event) → Type 0
-IsCutShort limits texts workers before after =
+abbrev pub IsCutShort : Config → Limits → List (List ℕ) → ℕ → (ℕ → List Event) → (ℕ → List Event) → Type 0
+IsCutShort opening limits texts workers before after =
     ((worker : ℕ) → worker < workers → before worker ≡ after worker)
-    ⊎ EndsPartEarly limits workers (adds_of texts workers) before after
-    ⊎ EndsEarlyInQueries limits texts workers before after
+    ⊎ EndsPartEarly opening limits workers (adds_of texts workers) before after
+    ⊎ EndsEarlyInQueries opening limits texts workers before after
 
 -- what the pass at this place of a list has seen, and nothing where there is none
 abbrev pub front_at : List PassView → ℕ → List Event

@@ -5,6 +5,7 @@ use mathlib.Core.List.{IsPrefix}
 use Rattle.engine.specs.Clients.{caller_of}
 use Rattle.engine.specs.Passes.{PassView}
 use Rattle.funnel_model.specs.declared.call.Call.{Call}
+use Rattle.funnel_model.specs.declared.config.Config.{Config}
 use Rattle.funnel_model.specs.declared.event.Event.{Event}
 use Rattle.funnel_model.specs.History.{IsFrontOf}
 use Rattle.funnel_model.specs.Legal.{Limits}
@@ -32,22 +33,22 @@ pub record AreWorkers (workers : ℕ) (loaders : List LoaderState) : Type 0 wher
   pub numbers : (k : ℕ) (d : LoaderState) → k < workers → (slice_index_or loaders k d).pass.number ≡ k
 
 -- a worker came to the end of its first part or its last one: it asked all its calls, or it stopped for want of memory
-pub record EndsPart (limits : Limits) (calls : List Call) (before after : LoaderState) : Type 0 where
+pub record EndsPart (opening : Config) (limits : Limits) (calls : List Call) (before after : LoaderState) : Type 0 where
   pub number : after.pass.number ≡ before.pass.number
   pub outcome :
       MatchBool after.stopped
-      (EndsEarly (caller_of limits before.pass) before.pass.front after.pass.front calls)
-      (IsDone (caller_of limits before.pass) before.pass.front after.pass.front calls)
+      (EndsEarly (caller_of opening limits before.pass) before.pass.front after.pass.front calls)
+      (IsDone (caller_of opening limits before.pass) before.pass.front after.pass.front calls)
 
 -- and in the last part, where it asked all, it has the results of its queries
-pub record EndsLastPart (limits : Limits) (workers worker : ℕ) (before after : LoaderState) : Type 0 where
-  pub part : EndsPart limits (queries_of workers worker) before after
-  pub found : after.stopped ≡ false → HasResults (caller_of limits before.pass) before.pass.front after.pass.front workers worker after.results
+pub record EndsLastPart (opening : Config) (limits : Limits) (workers worker : ℕ) (before after : LoaderState) : Type 0 where
+  pub part : EndsPart opening limits (queries_of workers worker) before after
+  pub found : after.stopped ≡ false → HasResults (caller_of opening limits before.pass) before.pass.front after.pass.front workers worker after.results
 
 -- a worker came to the end of its second part: it asked all its calls, and did nothing else
-pub record EndsDeletes (limits : Limits) (calls : List Call) (before after : LoaderState) : Type 0 where
+pub record EndsDeletes (opening : Config) (limits : Limits) (calls : List Call) (before after : LoaderState) : Type 0 where
   pub number : after.pass.number ≡ before.pass.number
-  pub done : IsDone (caller_of limits before.pass) before.pass.front after.pass.front calls
+  pub done : IsDone (caller_of opening limits before.pass) before.pass.front after.pass.front calls
   pub results : after.results ≡ before.results
   pub stopped : after.stopped ≡ before.stopped
 

@@ -49,5 +49,5 @@ abbrev pub AreItsCalls : (http : Bool) (caller : Caller) (old new : Stand) (end 
 AreItsCalls true caller old new end served calls replies =
     AreAsked (exchanges_in caller old.front new.front served.taken served.written end served.session) calls replies
 AreItsCalls false caller old new end served calls replies =
-    AreCalls (answered caller old.front new.front served.taken served.written end served.session)
+    AreCalls caller.opening (answered caller old.front new.front served.taken served.written end served.session)
     (replies_in caller old.front new.front served.taken served.written end served.session) calls replies

@@ -39,7 +39,7 @@ impl<'a, N: PoolName, R: Wait> Loader<'a, N, R> {
     /// Adds its documents.
     pub(crate) fn add(&mut self, load: &Load, workers: u32, worker: u32)
         requires one_of_them { worker < workers }
-        ensures { EndsPart N.pool.limits (adds_of load.now workers worker) self.old self.new }
+        ensures { EndsPart N.pool.config N.pool.limits (adds_of load.now workers worker) self.old self.new }
     {
         let alloc = self.client.alloc;
         self.stopped = match add_share(alloc, &mut self.client, load, workers, worker) {
@@ -51,7 +51,7 @@ impl<'a, N: PoolName, R: Wait> Loader<'a, N, R> {
     /// Deletes those of its documents that are to be deleted.
     pub(crate) fn delete(&mut self, load: &Load, workers: u32, worker: u32)
         requires one_of_them { worker < workers }
-        ensures { EndsDeletes N.pool.limits (deletes_of load.now workers worker) self.old self.new }
+        ensures { EndsDeletes N.pool.config N.pool.limits (deletes_of load.now workers worker) self.old self.new }
     {
         delete_share(&mut self.client, load, workers, worker);
     }
@@ -59,7 +59,7 @@ impl<'a, N: PoolName, R: Wait> Loader<'a, N, R> {
     /// Runs its queries, and keeps their results.
     pub(crate) fn find(&mut self, workers: u32, worker: u32)
         requires one_of_them { worker < workers }
-        ensures { EndsLastPart N.pool.limits workers worker self.old self.new }
+        ensures { EndsLastPart N.pool.config N.pool.limits workers worker self.old self.new }
     {
         self.stopped = match find_share(&mut self.client, workers, worker, &mut self.results) {
             Ok(()) => false,

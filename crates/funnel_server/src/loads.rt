@@ -40,8 +40,8 @@ pub fn run_load<'a, N: PoolName + Send + Sync, R: Threads + Wait + Sync>(
     ensures numbers { map (λ pass. pass.number) result.0.items ≡ map (λ pass. pass.number) passes.items }
     ensures others { drop workers result.0.items ≡ drop workers passes.items }
     ensures put { MatchResult result.1
-        (λ results. IsPut N.pool.limits load.now workers (front_at passes.items) (front_at result.0.items) results)
-        (λ _. IsCutShort N.pool.limits load.now workers (front_at passes.items) (front_at result.0.items)) }
+        (λ results. IsPut N.pool.config N.pool.limits load.now workers (front_at passes.items) (front_at result.0.items) results)
+        (λ _. IsCutShort N.pool.config N.pool.limits load.now workers (front_at passes.items) (front_at result.0.items)) }
 {
     let Ok(mut loaders) = Vec::with_capacity(alloc, workers as usize) else {
         return (passes, Err(Memory));

@@ -25,8 +25,8 @@ pub(crate) fn run_parts<N: PoolName + Send + Sync, R: Threads + Wait + Sync>(
     requires workers { AreWorkers workers loaders.old }
     ensures workers { AreWorkers workers loaders.new }
     ensures put { MatchResult result
-        (λ results. IsPut N.pool.limits load.now workers (front_at (passes_of loaders.old)) (front_at (passes_of loaders.new)) results)
-        (λ _. IsCutShort N.pool.limits load.now workers (front_at (passes_of loaders.old)) (front_at (passes_of loaders.new))) }
+        (λ results. IsPut N.pool.config N.pool.limits load.now workers (front_at (passes_of loaders.old)) (front_at (passes_of loaders.new)) results)
+        (λ _. IsCutShort N.pool.config N.pool.limits load.now workers (front_at (passes_of loaders.old)) (front_at (passes_of loaders.new))) }
 {
     add_all(rt, load, workers, loaders)?;
     meet_all(engine, loaders);
@@ -47,7 +47,7 @@ fn add_all<N: PoolName + Send + Sync, R: Threads + Wait + Sync>(
     requires count { length loaders.old ≡ workers }
     requires some { 1 ≤ workers }
     ensures count { length loaders.new ≡ length loaders.old }
-    ensures each { EachEnds (λ k. EndsPart N.pool.limits (adds_of load.now workers k)) loaders.old loaders.new }
+    ensures each { EachEnds (λ k. EndsPart N.pool.config N.pool.limits (adds_of load.now workers k)) loaders.old loaders.new }
     ensures stopped { MatchResult result (λ _. any_stopped loaders.new ≡ false) (λ _. any_stopped loaders.new ≡ true) }
 {
     let threads = loaders.len();
@@ -57,7 +57,7 @@ fn add_all<N: PoolName + Send + Sync, R: Threads + Wait + Sync>(
         threads,
         &|number, loader: &mut Loader<N, R>|
             requires { number < workers }
-            ensures { EndsPart N.pool.limits (adds_of load.entry.now workers number) loader.old loader.new }
+            ensures { EndsPart N.pool.config N.pool.limits (adds_of load.entry.now workers number) loader.old loader.new }
         { loader.add(load, workers, number as u32) },
     );
     none_stopped(loaders)
@@ -73,7 +73,7 @@ fn delete_all<N: PoolName + Send + Sync, R: Threads + Wait + Sync>(
     requires count { length loaders.old ≡ workers }
     requires some { 1 ≤ workers }
     ensures count { length loaders.new ≡ length loaders.old }
-    ensures each { EachEnds (λ k. EndsDeletes N.pool.limits (deletes_of load.now workers k)) loaders.old loaders.new }
+    ensures each { EachEnds (λ k. EndsDeletes N.pool.config N.pool.limits (deletes_of load.now workers k)) loaders.old loaders.new }
 {
     let threads = loaders.len();
     thread::for_each_mut(
@@ -82,7 +82,7 @@ fn delete_all<N: PoolName + Send + Sync, R: Threads + Wait + Sync>(
         threads,
         &|number, loader: &mut Loader<N, R>|
             requires { number < workers }
-            ensures { EndsDeletes N.pool.limits (deletes_of load.entry.now workers number) loader.old loader.new }
+            ensures { EndsDeletes N.pool.config N.pool.limits (deletes_of load.entry.now workers number) loader.old loader.new }
         { loader.delete(load, workers, number as u32) },
     );
 }
@@ -96,7 +96,7 @@ fn find_all<N: PoolName + Send + Sync, R: Threads + Wait + Sync>(
     requires count { length loaders.old ≡ workers }
     requires some { 1 ≤ workers }
     ensures count { length loaders.new ≡ length loaders.old }
-    ensures each { EachEnds (EndsLastPart N.pool.limits workers) loaders.old loaders.new }
+    ensures each { EachEnds (EndsLastPart N.pool.config N.pool.limits workers) loaders.old loaders.new }
     ensures stopped { MatchResult result (λ _. any_stopped loaders.new ≡ false) (λ _. any_stopped loaders.new ≡ true) }
 {
     let threads = loaders.len();
@@ -106,7 +106,7 @@ fn find_all<N: PoolName + Send + Sync, R: Threads + Wait + Sync>(
         threads,
         &|number, loader: &mut Loader<N, R>|
             requires { number < workers }
-            ensures { EndsLastPart N.pool.limits workers number loader.old loader.new }
+            ensures { EndsLastPart N.pool.config N.pool.limits workers number loader.old loader.new }
         { loader.find(workers, number as u32) },
     );
     none_stopped(loaders)

@@ -45,7 +45,7 @@ impl<'a, G: Gate, N: PoolName, R: Wait> Model for Worker<'a, G, N, R> {
       gate = w.gate;
       state = record {
         gate = gate_state G.is_closed G.gate_faults G.waiting G.Conn.incoming G.Conn.outgoing G.served w.gate;
-        caller = caller_of N.pool.limits w.client;
+        caller = caller_of N.pool.config N.pool.limits w.client;
         front = w.client.front;
         http = w.http;
         left = w.left;
@@ -107,8 +107,8 @@ fn answer<N: PoolName, R: Wait, C: Connection>(
     client: &mut Client<'_, N, R>,
     conn: &mut C,
 ) -> End
-    ensures caller { caller_of N.pool.limits client.new ≡ caller_of N.pool.limits client.old }
-    ensures serves { IsServed http (caller_of N.pool.limits client.old)
+    ensures caller { caller_of N.pool.config N.pool.limits client.new ≡ caller_of N.pool.config N.pool.limits client.old }
+    ensures serves { IsServed http (caller_of N.pool.config N.pool.limits client.old)
         record { front = client.old.front; incoming = C.incoming conn.old; outgoing = C.outgoing conn.old }
         record { front = client.new.front; incoming = C.incoming conn.new; outgoing = C.outgoing conn.new }
         result }

@@ -1,6 +1,6 @@
 -- The tuning of a text, by the object that it is.
-use Rattle.std.proofs.Common.{◌≡◌, ◌≤◌, ◌<◌, ℕ, List, [], ◌∷◌, map, Option, Some, None, Ok, Err, option_map, refl, subst, arith}
-use Rattle.std.proofs.lemmas.Bool.{le-ltb, lt-ltb}
+use Rattle.std.proofs.Common.{◌≡◌, ◌≤◌, ◌<◌, ℕ, Bool, true, false, cond, List, [], ◌∷◌, map, nat_lt, Option, Some, None, Result, Ok, Err, option_map, refl, ap, ◌∙◌, subst, arith}
+use Rattle.std.proofs.lemmas.Bool.{le-ltb, lt-ltb, ltb-false}
 use Rattle.std.specs.Bool.{⊤}
 use Rattle.std.specs.Option.{option_map_or, option_or}
 use Rattle.funnel_model.specs.Configuration.{IsBetween, with_statistics}
@@ -12,7 +12,7 @@ use Rattle.funnel_stats.specs.FaultNumbers.{number_of_fault}
 use Rattle.funnel_stats.specs.Faults.{unknown_key, bad_value, not_word, word_count}
 use Rattle.funnel_stats.specs.Keys.{keys, statistic_keys}
 use Rattle.funnel_stats.specs.Values.{entries, kept, listed_at, number_at, whole_number}
-use Rattle.funnel_stats.specs.Tunings.{Faulty, Gives, Wide, tuned, tuning, tuning_fault}
+use Rattle.funnel_stats.specs.Tunings.{Faulty, Gives, Wide, fitted, tuned, tuning, tuning_fault}
 use Rattle.funnel_stats.specs.declared.fault.ConfigFault.{ConfigFault}
 use Rattle.funnel_stats.specs.declared.fault.ConfigFault.TheVariants.{BadValue, NotJson, NotWord, UnknownKey, WordCount}
 use Rattle.funnel_stats.specs.declared.key.Key.{Key}
@@ -43,6 +43,14 @@ tuning-keeps opening config text is = go (object_of text) is where
       → config ≡ with_statistics opening config
   go None is = absurd (let e : Err NotJson ≡ Ok config = is in cc)
   go (Some object) is = kept_unless opening (config_of object) config (tuning_fault object) is
+
+-- which is asked for nothing else
+same_base : (opening base : Config) (text : List ℕ) → tuning (with_statistics opening base) text ≡ tuning opening text
+unfolding tuning
+same_base opening base text = refl
+
+pub tuning-afresh : (opening base : Config) (text : List ℕ) → base ≡ with_statistics opening base → tuning base text ≡ tuning opening text
+tuning-afresh opening base text kept = ap (λ (k : Config). tuning k text) kept ∙ same_base opening base text
 
 -- the fault, if there is one, has a number from 4 to 7
 abbrev IsNumbered : Option ConfigFault → Type 0
@@ -120,6 +128,25 @@ tuned-wide opening config text is wide = rw (is, lt-ltb (words_of_slice opening)
 pub tuned-faulty : (opening : Config) (text : List ℕ) (fault : ConfigFault) → tuning opening text ≡ Err fault → tuned opening text ≡ Faulty (number_of_fault fault)
 unfolding tuned
 tuned-faulty opening text fault is = rw is
+
+-- a configuration comes of a text that gives it, and has room
+given_by : (room : ℕ) (found config : Config) (over : Bool) → nat_lt room (words_of_slice found) ≡ over → cond over (Wide (words_of_slice found) room) (Gives found) ≡ Gives config
+    → (found ≡ config) × (words_of_slice found ≤ room)
+given_by room found config true test is = absurd (let e : Wide (words_of_slice found) room ≡ Gives config = is in cc)
+given_by room found config false test is =
+    let e : Gives found ≡ Gives config = is in
+    let same : found ≡ config = cc in
+    (same, ltb-false room (words_of_slice found) test)
+
+given_answer : (room : ℕ) (config : Config) (answer : Result Config ConfigFault) → fitted room answer ≡ Gives config → (answer ≡ Ok config) × (words_of_slice config ≤ room)
+given_answer room config (Ok found) is =
+    let parts = given_by room found config (nat_lt room (words_of_slice found)) refl is in
+    (ap Ok parts.0, subst (λ (k : Config). words_of_slice k ≤ room) parts.0 parts.1)
+given_answer room config (Err fault) is = absurd (let e : Faulty (number_of_fault fault) ≡ Gives config = is in cc)
+
+pub tuned-given : (opening config : Config) (text : List ℕ) → tuned opening text ≡ Gives config → (tuning opening text ≡ Ok config) × (words_of_slice config ≤ words_of_slice opening)
+unfolding tuned
+tuned-given opening config text is = given_answer (words_of_slice opening) config (tuning opening text) is
 
 -- without a text each statistic has its default
 pub tuning-empty : (opening : Config) → tuning opening [] ≡ Ok (with_statistics opening (config_of no_members))

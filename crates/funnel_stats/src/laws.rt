@@ -16,11 +16,13 @@ pub fn entries_are_in_byte_order()
     ensures { EntriesAreInByteOrder }
 {}
 
-/// A tuning changes statistics alone, so the columns stay as they are.
+/// A tuning changes statistics alone, so the columns stay as they are. What a text gives doesn't hang on the statistics that there
+/// were, so one tuning after another gives what the last one gives.
 pub fn tunings_change_statistics_alone()
     ensures kept { (opening config : Config) (text : List ℕ) → tuning opening text ≡ Ok config → config ≡ with_statistics opening config }
     ensures columns { (opening config : Config) (text : List ℕ) → tuning opening text ≡ Ok config →
         columns_of_pool config ≡ columns_of_pool opening }
+    ensures afresh { (opening base : Config) (text : List ℕ) → base ≡ with_statistics opening base → tuning base text ≡ tuning opening text }
 {}
 
 /// The empty text gives every statistic its default.
@@ -36,7 +38,7 @@ pub fn the_empty_text_gives_defaults()
 {}
 
 /// What comes of a text is the configuration that it gives, where a slice needs no more words than the opening gave it; how many
-/// it needs, where these are more; or the number of its fault, which is from 3 to 7.
+/// it needs, where these are more; or the number of its fault, which is from 3 to 7. No other configuration comes of it.
 pub fn texts_are_tuned_by_what_they_give()
     ensures gives { (opening config : Config) (text : List ℕ) → tuning opening text ≡ Ok config →
         words_of_slice config ≤ words_of_slice opening → tuned opening text ≡ Gives config }
@@ -46,4 +48,6 @@ pub fn texts_are_tuned_by_what_they_give()
         tuned opening text ≡ Faulty (number_of_fault fault) }
     ensures numbers { (opening : Config) (text : List ℕ) (fault : ConfigFault) → tuning opening text ≡ Err fault →
         IsBetween 3 7 (number_of_fault fault) }
+    ensures given { (opening config : Config) (text : List ℕ) → tuned opening text ≡ Gives config →
+        (tuning opening text ≡ Ok config) × (words_of_slice config ≤ words_of_slice opening) }
 {}

@@ -375,6 +375,7 @@ fn end_of_turn(
 {
     let candidates = every_column(alloc)?;
     let mut out = Found::with_room(alloc, 8)?;
+    let cost = cost.max(words.len());
     Ok(resolve_part(
         &columns.records,
         &candidates,
@@ -395,7 +396,7 @@ static TURNS: [(usize, usize, usize); 7] = [
     (7, 256, 8),
     (0, 100, 3),
     (2, 100, 8),
-    (0, 0, 8),
+    (0, 1, 8),
 ];
 
 /// The first of these turns that ends elsewhere: its first candidate, what a document costs, and where it ends.

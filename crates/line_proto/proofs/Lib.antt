@@ -4,3 +4,4 @@ pub mod Replies
 pub mod Words
 pub mod Readings
 pub mod Rendering
+pub mod Tunings

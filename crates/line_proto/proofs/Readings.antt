@@ -11,7 +11,7 @@ use Rattle.std.proofs.lemmas.Str.{IsUtf8-append, IsUtf8-from_ascii, IsUtf8-from_
 use Rattle.funnel_model.specs.declared.call.Call.{Call}
 use Rattle.funnel_model.specs.declared.call.Call.TheVariants.{Add, Delete, Find, Query, Place, Journal, Recycle, Tune}
 use Rattle.funnel_io.specs.declared.line_reader.TheConstants.{MAX_LINE_LEN}
-use Rattle.line_proto.specs.Forms.{Asked, Calls, Queries, without_return, word_of, after_space, number_of, add_of, delete_of, journal_of, query_of, asked_of_word, asked_of_text, form_of}
+use Rattle.line_proto.specs.Forms.{Asked, Calls, Queries, Tunes, without_return, word_of, after_space, number_of, add_of, delete_of, journal_of, query_of, tune_of, asked_of_word, asked_of_text, form_of}
 use Rattle.line_proto.specs.Grammar.{WritesNumber, EndsWithText, IsForm, IsFormOfCall, DropsReturn, HasForm, IsReadByForms}
 use Rattle.line_proto.proofs.Lines.{form_of-text}
 use Rattle.line_proto.proofs.Numbers.{number_of-writes, number_of-written}
@@ -137,10 +137,11 @@ past_test : (b : Bool) (o : Option Asked) (asked : Asked) → cond b None o ≡ 
 past_test true o asked h = absurd (cc)
 past_test false o asked h = (false≢true, h)
 
--- a space stands behind the word, since alone it has no form
-query-form-at : (bytes end : List ℕ) → (bytes ≡ codes "query" → ⊥) → bytes ≡ codes "query" ++ end → EndsWithText end (after_space bytes) → IsForm bytes (Queries (after_space bytes))
-query-form-at bytes end not_alone whole (inl e) = absurd (not_alone (whole ∙ ap (λ (x : List ℕ). codes "query" ++ x) e.0))
-query-form-at bytes end not_alone whole (inr e) = (whole ∙ ap (λ (x : List ℕ). codes "query" ++ x) e.0, e.1)
+-- a space stands behind a word that alone has no form
+behind-word : (word bytes end : List ℕ) → (bytes ≡ word ++ [] → ⊥) → bytes ≡ word ++ end → EndsWithText end (after_space bytes) →
+    (bytes ≡ word ++ (32 ∷ after_space bytes)) × IsUtf8 (after_space bytes)
+behind-word word bytes end not_alone whole (inl e) = absurd (not_alone (whole ∙ ap (λ (x : List ℕ). word ++ x) e.0))
+behind-word word bytes end not_alone whole (inr e) = (whole ∙ ap (λ (x : List ℕ). word ++ x) e.0, e.1)
 
 -- a text with the word `query` and more is a form of what is behind the space
 query-form : (bytes : List ℕ) (asked : Asked) → IsUtf8 bytes → word_of bytes ≡ codes "query" → query_of bytes ≡ Some asked → IsForm bytes asked
@@ -149,15 +150,28 @@ query-form bytes asked u word h =
     let split = splits bytes u in
     let read = past_test (bytes_eq bytes (codes "query")) (Some (Queries (after_space bytes))) asked h in
     subst (IsForm bytes) (same_asked (Queries (after_space bytes)) asked read.1)
-    (query-form-at bytes split.0 (λ alone. read.0 ((bytes_eq-Decides bytes (codes "query")).1 alone)) (subst (λ (w : List ℕ). bytes ≡ w ++ split.0) word split.1) split.2)
+    (behind-word (codes "query") bytes split.0 (λ alone. read.0 ((bytes_eq-Decides bytes (codes "query")).1 alone)) (subst (λ (w : List ℕ). bytes ≡ w ++ split.0) word split.1) split.2)
 
--- what a text asks for whose word is not `add`, `del`, `find` or `query`
+-- so is one with the word `tune` and more
+tune-form : (bytes : List ℕ) (asked : Asked) → IsUtf8 bytes → word_of bytes ≡ codes "tune" → tune_of bytes ≡ Some asked → IsForm bytes asked
+unfolding tune_of
+tune-form bytes asked u word h =
+    let split = splits bytes u in
+    let read = past_test (bytes_eq bytes (codes "tune")) (Some (Tunes (after_space bytes))) asked h in
+    subst (IsForm bytes) (same_asked (Tunes (after_space bytes)) asked read.1)
+    (behind-word (codes "tune") bytes split.0 (λ alone. read.0 ((bytes_eq-Decides bytes (codes "tune")).1 alone)) (subst (λ (w : List ℕ). bytes ≡ w ++ split.0) word split.1) split.2)
+
+-- what a text asks for whose word is not `add`, `del`, `find`, `query` or `tune`
 abbrev journal_or_later : List ℕ → Option Asked
 journal_or_later bytes = cond (bytes_eq (word_of bytes) (codes "journal")) (journal_of (after_space bytes)) (asked_of_word bytes)
 
+-- what a text asks for whose word is not `add`, `del`, `find` or `query`
+abbrev tune_or_later : List ℕ → Option Asked
+tune_or_later bytes = cond (bytes_eq (word_of bytes) (codes "tune")) (tune_of bytes) (journal_or_later bytes)
+
 -- what a text asks for whose word is not `add`, `del` or `find`
 abbrev query_or_later : List ℕ → Option Asked
-query_or_later bytes = cond (bytes_eq (word_of bytes) (codes "query")) (query_of bytes) (journal_or_later bytes)
+query_or_later bytes = cond (bytes_eq (word_of bytes) (codes "query")) (query_of bytes) (tune_or_later bytes)
 
 -- what a text asks for whose word is not `add` or `del`
 abbrev find_or_later : List ℕ → Option Asked
@@ -184,7 +198,7 @@ word-form bytes asked h =
       | inr found ↦ recycle-form bytes asked found
     ]
 
--- a text whose word is not `add`, `del`, `find` or `query` is a form of what it asks for
+-- a text whose word is not `add`, `del`, `find`, `query` or `tune` is a form of what it asks for
 journal-form-or-later : (bytes : List ℕ) (asked : Asked) → IsUtf8 bytes → journal_or_later bytes ≡ Some asked → IsForm bytes asked
 journal-form-or-later bytes asked u h =
     elim (by_word bytes (codes "journal") (journal_of (after_space bytes)) (asked_of_word bytes) asked h) [
@@ -192,12 +206,20 @@ journal-form-or-later bytes asked u h =
       | inr found ↦ word-form bytes asked found
     ]
 
+-- so is a text whose word is not `add`, `del`, `find` or `query`
+tune-form-or-later : (bytes : List ℕ) (asked : Asked) → IsUtf8 bytes → tune_or_later bytes ≡ Some asked → IsForm bytes asked
+tune-form-or-later bytes asked u h =
+    elim (by_word bytes (codes "tune") (tune_of bytes) (journal_or_later bytes) asked h) [
+      | inl found ↦ tune-form bytes asked u found.0 found.1
+      | inr found ↦ journal-form-or-later bytes asked u found
+    ]
+
 -- so is a text whose word is not `add`, `del` or `find`
 query-form-or-later : (bytes : List ℕ) (asked : Asked) → IsUtf8 bytes → query_or_later bytes ≡ Some asked → IsForm bytes asked
 query-form-or-later bytes asked u h =
-    elim (by_word bytes (codes "query") (query_of bytes) (journal_or_later bytes) asked h) [
+    elim (by_word bytes (codes "query") (query_of bytes) (tune_or_later bytes) asked h) [
       | inl found ↦ query-form bytes asked u found.0 found.1
-      | inr found ↦ journal-form-or-later bytes asked u found
+      | inr found ↦ tune-form-or-later bytes asked u found
     ]
 
 -- so is a text whose word is not `add` or `del`
@@ -272,6 +294,10 @@ query-is-text : IsUtf8 (codes "query ")
 unfolding lib.Utf8.encode
 query-is-text = (codes "query ", (refl, refl))
 
+tune-is-text : IsUtf8 (codes "tune ")
+unfolding lib.Utf8.encode
+tune-is-text = (codes "tune ", (refl, refl))
+
 -- an end with a text is UTF-8
 end-is-text : (end text : List ℕ) → EndsWithText end text → IsUtf8 end
 end-is-text end text (inl e) = subst IsUtf8 (sym e.0) IsUtf8-nil
@@ -293,10 +319,11 @@ call-is-text bytes Recycle f = subst IsUtf8 (sym f) recycle-is-text
 call-is-text bytes (Query expr) f = absurd f
 call-is-text bytes (Tune config) f = absurd f
 
--- so is one of a query
+-- so is one of a query or a tuning
 form-is-text : (bytes : List ℕ) (asked : Asked) → IsForm bytes asked → IsUtf8 bytes
 form-is-text bytes (Calls call) f = call-is-text bytes call f
 form-is-text bytes (Queries text) f = subst IsUtf8 (sym f.0) (IsUtf8-append (codes "query ") text query-is-text f.1)
+form-is-text bytes (Tunes text) f = subst IsUtf8 (sym f.0) (IsUtf8-append (codes "tune ") text tune-is-text f.1)
 
 -- behind `add` and a space stands what tells the add
 call-of-add : (rest : List ℕ) → asked_of_text (codes "add " ++ rest) ≡ add_of rest
@@ -352,6 +379,11 @@ asked-of-query : (text : List ℕ) → asked_of_text (codes "query " ++ text) �
 unfolding asked_of_text query_of
 asked-of-query text = refl
 
+-- so it does behind `tune`
+asked-of-tune : (text : List ℕ) → asked_of_text (codes "tune " ++ text) ≡ Some (Tunes text)
+unfolding asked_of_text tune_of
+asked-of-tune text = refl
+
 -- a form of a call is read as the call
 call-of-form : (bytes : List ℕ) (call : Call) → IsFormOfCall bytes call → asked_of_text bytes ≡ Some (Calls call)
 call-of-form bytes (Add id text) f =
@@ -368,6 +400,7 @@ call-of-form bytes (Tune config) f = absurd f
 asked-of-form : (bytes : List ℕ) (asked : Asked) → IsForm bytes asked → asked_of_text bytes ≡ Some asked
 asked-of-form bytes (Calls call) f = call-of-form bytes call f
 asked-of-form bytes (Queries text) f = ap asked_of_text f.0 ∙ asked-of-query text
+asked-of-form bytes (Tunes text) f = ap asked_of_text f.0 ∙ asked-of-tune text
 
 -- a line with a form is read as that of which it has one
 read-form : (line : List ℕ) (asked : Asked) → HasForm line asked → form_of line ≡ Some asked

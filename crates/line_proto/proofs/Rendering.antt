@@ -14,8 +14,9 @@ use Rattle.funnel_model.specs.Legal.{Limits}
 use Rattle.funnel_model.specs.Steps.{AddsCall, FindsNoMemory, IsReply, IsReplyToRecycle, IsReplyToRefused, Step}
 use Rattle.funnel_model.specs.Tunings.{tunings}
 use Rattle.funnel_model.proofs.ReplyLemmas.{dropped_at}
-use Rattle.line_proto.specs.Forms.{Asked, Calls, Queries}
-use Rattle.line_proto.specs.Services.{AnswersAsked, AnswersCall, Caller}
+use Rattle.funnel_stats.specs.Tunings.{Tuned, Gives, Faulty, Wide, tuned}
+use Rattle.line_proto.specs.Forms.{Asked, Calls, Queries, Tunes}
+use Rattle.line_proto.specs.Services.{AnswersAsked, AnswersCall, AnswersTuned, Caller}
 use Rattle.line_proto.specs.Texts.{is_list}
 
 -- a reply that is none of the lists is no list
@@ -114,10 +115,18 @@ call_without_memory caller before after asked given long answers = record {
   spent = λ many. record { reply = inr refl; call = (answers.spent many).call };
 }
 
--- so it is with what is asked
+-- so it is with what comes of a tuning's text
+tuned_without_memory : (caller : Caller) (before after : List Event) (comes : Tuned) (given : Reply) → is_list given ≡ true → AnswersTuned caller before after comes given →
+    AnswersTuned caller before after comes reply.Memory
+tuned_without_memory caller before after (Gives config) given long answers = call_without_memory caller before after (call.Tune config) given long answers
+tuned_without_memory caller before after (Faulty fault) given long answers = (answers.0, inr refl)
+tuned_without_memory caller before after (Wide needed room) given long answers = (answers.0, inr refl)
+
+-- and with what is asked
 pub asked_without_memory : (caller : Caller) (before after : List Event) (asked : Asked) (given : Reply) → is_list given ≡ true → AnswersAsked caller before after asked given →
     AnswersAsked caller before after asked reply.Memory
 asked_without_memory caller before after (Calls asked) given long answers = call_without_memory caller before after asked given long answers
 asked_without_memory caller before after (Queries text) given long (inl read) =
     inl (record { expr = read.expr; reads = read.reads; answers = call_without_memory caller before after (call.Query read.expr) given long read.answers })
 asked_without_memory caller before after (Queries text) given long (inr unread) = inr (unread.0, tt)
+asked_without_memory caller before after (Tunes text) given long answers = tuned_without_memory caller before after (tuned caller.opening text) given long answers

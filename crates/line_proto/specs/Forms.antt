@@ -32,10 +32,12 @@ is_number word = nat_lt 0 (length word) && nat_le (length word) 20 && all_ascii_
 abbrev pub number_of : List ℕ → Option ℕ
 number_of word = if is_number word then Some (digits_value 10 word) else None
 
--- what a line of a form asks for: a call, or what a text finds that is yet to be read as a boolean query
+-- what a line of a form asks for: a call, what a text finds that is yet to be read as a boolean query, or the tuning by a text that is
+-- yet to be read as a configuration
 pub data Asked : Type 0 where
   Calls : Call → Asked
   Queries : List ℕ → Asked
+  Tunes : List ℕ → Asked
 
 -- a number and then, after a space, the document's text
 unfoldable pub add_of : List ℕ → Option Asked
@@ -53,6 +55,10 @@ journal_of bytes = option_map (λ from. Calls (Journal from)) (number_of bytes)
 unfoldable pub query_of : List ℕ → Option Asked
 query_of text = if bytes_eq text (codes "query") then None else Some (Queries (after_space text))
 
+-- so it is with a text whose word is `tune`
+unfoldable pub tune_of : List ℕ → Option Asked
+tune_of text = if bytes_eq text (codes "tune") then None else Some (Tunes (after_space text))
+
 -- what a text asks for that is one word
 unfoldable pub asked_of_word : List ℕ → Option Asked
 asked_of_word text =
@@ -66,8 +72,9 @@ asked_of_text text =
     else (if bytes_eq (word_of text) (codes "del") then delete_of (after_space text)
     else (if bytes_eq (word_of text) (codes "find") then Some (Calls (Find (after_space text)))
     else (if bytes_eq (word_of text) (codes "query") then query_of text
+    else (if bytes_eq (word_of text) (codes "tune") then tune_of text
     else (if bytes_eq (word_of text) (codes "journal") then journal_of (after_space text)
-    else asked_of_word text))))
+    else asked_of_word text)))))
 
 -- what a line asks for, or nothing where the line has no form: it is too long, or no text, or of another shape
 unfoldable pub form_of : List ℕ → Option Asked

@@ -5,7 +5,7 @@ use Rattle.std.specs.Str.Parse.{IsNumeral, digits_value}
 use Rattle.funnel_model.specs.declared.call.Call.{Call}
 use Rattle.funnel_model.specs.declared.call.Call.TheVariants.{Add, Delete, Find, Query, Place, Journal, Recycle, Tune}
 use Rattle.funnel_io.specs.declared.line_reader.TheConstants.{MAX_LINE_LEN}
-use Rattle.line_proto.specs.Forms.{Asked, Calls, Queries, form_of}
+use Rattle.line_proto.specs.Forms.{Asked, Calls, Queries, Tunes, form_of}
 
 -- 1 to 20 digits, with leading zeros or without, write a number below 2 ^ 64
 pub record WritesNumber (digits : List ℕ) (number : ℕ) : Type 0 where
@@ -18,7 +18,7 @@ pub record WritesNumber (digits : List ℕ) (number : ℕ) : Type 0 where
 abbrev pub EndsWithText : List ℕ → List ℕ → Type 0
 EndsWithText end text = ((end ≡ []) × (text ≡ [])) ⊎ ((end ≡ 32 ∷ text) × IsUtf8 text)
 
--- the bytes are a form of the call; no form asks for a tuning, nor for the query of an expression that is read already
+-- the bytes are a form of the call; no form asks for the query of an expression, or the tuning by a configuration, that is read already
 abbrev pub IsFormOfCall : List ℕ → Call → Type 0
 IsFormOfCall bytes (Add id text) = (digits : List ℕ) × (end : List ℕ) × (bytes ≡ codes "add " ++ (digits ++ end)) × WritesNumber digits id × EndsWithText end text
 IsFormOfCall bytes (Delete id) = (digits : List ℕ) × (bytes ≡ codes "del " ++ digits) × WritesNumber digits id
@@ -29,10 +29,11 @@ IsFormOfCall bytes Recycle = bytes ≡ codes "recycle"
 IsFormOfCall bytes (Query expr) = ⊥
 IsFormOfCall bytes (Tune config) = ⊥
 
--- the bytes are a form of what is asked: a call's, or `query`, a space and a text
+-- the bytes are a form of what is asked: a call's, or `query` or `tune`, a space and a text
 abbrev pub IsForm : List ℕ → Asked → Type 0
 IsForm bytes (Calls asked) = IsFormOfCall bytes asked
 IsForm bytes (Queries text) = (bytes ≡ codes "query " ++ text) × IsUtf8 text
+IsForm bytes (Tunes text) = (bytes ≡ codes "tune " ++ text) × IsUtf8 text
 
 -- the line is these bytes and a carriage return, or it is these bytes and doesn't end with one
 abbrev pub DropsReturn : List ℕ → List ℕ → Type 0

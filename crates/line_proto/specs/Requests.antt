@@ -1,8 +1,8 @@
 -- What a request asks of the engine.
 use Rattle.funnel_model.specs.declared.call.Call.TheVariants as call
 use Rattle.line_proto.specs.declared.request.Request.{Request}
-use Rattle.line_proto.specs.declared.request.Request.TheVariants.{Add, Delete, Find, Query, Place, Journal, Recycle}
-use Rattle.line_proto.specs.Forms.{Asked, Calls, Queries}
+use Rattle.line_proto.specs.declared.request.Request.TheVariants.{Add, Delete, Find, Query, Place, Journal, Recycle, Tune}
+use Rattle.line_proto.specs.Forms.{Asked, Calls, Queries, Tunes}
 
 -- what a request stands for, with its text's bytes
 abbrev pub requested : Request → Asked
@@ -13,3 +13,4 @@ requested (Query text) = Queries text.now
 requested Place = Calls call.Place
 requested (Journal from) = Calls (call.Journal from)
 requested Recycle = Calls call.Recycle
+requested (Tune text) = Tunes text.now

@@ -2,6 +2,7 @@
 use Rattle.std.specs.Prelude.{ℕ, ◌≤◌, ◌≡◌, ◌⊎◌, ⊤, List, length}
 use Rattle.funnel_model.specs.declared.call.Call.{Call}
 use Rattle.funnel_model.specs.declared.call.Call.TheVariants as call
+use Rattle.funnel_model.specs.declared.config.Config.{Config}
 use Rattle.funnel_model.specs.declared.event.Event.{Event}
 use Rattle.funnel_model.specs.declared.expr.Expr.{Expr}
 use Rattle.funnel_model.specs.declared.reply.Reply.{Reply}
@@ -10,10 +11,12 @@ use Rattle.funnel_model.specs.Expressions.{tree_of}
 use Rattle.funnel_model.specs.Legal.{Limits}
 use Rattle.funnel_model.specs.Queries.{IsMalformed, IsQuery, IsTooDeep}
 use Rattle.funnel_model.specs.Steps.{AddsNone, Step}
-use Rattle.line_proto.specs.Forms.{Asked, Calls, Queries}
+use Rattle.funnel_stats.specs.Tunings.{Tuned, Gives, Faulty, Wide, tuned}
+use Rattle.line_proto.specs.Forms.{Asked, Calls, Queries, Tunes}
 
--- who calls: a pass of an engine with these limits
+-- who calls: a pass of an engine with these limits, which was opened with this configuration
 pub record Caller : Type 0 where
+  pub opening : Config
   pub limits : Limits
   pub pass : ℕ
 
@@ -44,7 +47,20 @@ IsUnread text _ = ⊥
 abbrev pub AnswersQuery : Caller → List Event → List Event → List ℕ → Reply → Type 0
 AnswersQuery caller before after text given = AnswersExpr caller before after text given ⊎ ((before ≡ after) × IsUnread text given)
 
--- what is asked is answered
+-- what comes of a text that gives no configuration is refused so, before anything is called: by the number of its fault, or by the words
+-- that it needs in a slice and those for which there is room; or for want of memory
+abbrev pub RefusesTuning : Tuned → Reply → Type 0
+RefusesTuning (Gives config) given = ⊥
+RefusesTuning (Faulty fault) given = (given ≡ reply.Tuning fault) ⊎ (given ≡ reply.Memory)
+RefusesTuning (Wide needed room) given = (given ≡ reply.Wide needed room) ⊎ (given ≡ reply.Memory)
+
+-- what comes of a text is answered: a configuration as the call of the tuning by it, and else there is its refusal and no step
+abbrev pub AnswersTuned : Caller → List Event → List Event → Tuned → Reply → Type 0
+AnswersTuned caller before after (Gives config) given = AnswersCall caller before after (call.Tune config) given
+AnswersTuned caller before after comes given = (before ≡ after) × RefusesTuning comes given
+
+-- what is asked is answered; what comes of a tuning's text is what the opening configuration makes of it
 abbrev pub AnswersAsked : Caller → List Event → List Event → Asked → Reply → Type 0
 AnswersAsked caller before after (Calls asked) given = AnswersCall caller before after asked given
 AnswersAsked caller before after (Queries text) given = AnswersQuery caller before after text given
+AnswersAsked caller before after (Tunes text) given = AnswersTuned caller before after (tuned caller.opening text) given

@@ -1,6 +1,6 @@
 ghost use Rattle.std.specs.Prelude.{◌≡◌, MatchOption, Some, None};
 ghost use Rattle.line_proto.specs.Forms.{without_return, word_of, after_space, number_of};
-ghost use Rattle.line_proto.specs.Forms.{add_of, delete_of, journal_of, query_of, asked_of_word, asked_of_text, form_of};
+ghost use Rattle.line_proto.specs.Forms.{add_of, delete_of, journal_of, query_of, tune_of, asked_of_word, asked_of_text, form_of};
 ghost use Rattle.line_proto.specs.Requests.{requested};
 
 use crate::request::Request;
@@ -36,6 +36,7 @@ fn parse_text(text: &str) -> Option<Request<'_>>
         "del" => parse_delete(rest),
         "find" => Some(Request::Find { query: rest }),
         "query" => parse_query(text, rest),
+        "tune" => parse_tune(text, rest),
         "journal" => parse_journal(rest),
         _ => parse_word(text),
     }
@@ -91,6 +92,18 @@ fn parse_query<'a>(text: &'a str, rest: &'a str) -> Option<Request<'a>>
         return None;
     }
     Some(Request::Query { text: rest })
+}
+
+/// The request of a text whose word is `tune`, and of what follows its space.
+#[tactic(auto, unfolding(crate::specs::Forms::tune_of))]
+fn parse_tune<'a>(text: &'a str, rest: &'a str) -> Option<Request<'a>>
+    requires { rest.now ≡ after_space text.now }
+    ensures { MatchOption result (tune_of text.now ≡ None) (λ r. tune_of text.now ≡ Some (requested r)) }
+{
+    if text == "tune" {
+        return None;
+    }
+    Some(Request::Tune { text: rest })
 }
 
 /// The number that 1 to 20 digits write, if it is below 2^64.

@@ -37,6 +37,16 @@ fn a_query_stands_behind_a_space(rt: HostRuntime) -> Result<(), Fail> {
 }
 
 #[test]
+fn a_tuning_stands_behind_a_space(rt: HostRuntime) -> Result<(), Fail> {
+    let wanted = Request::Tune { text: " {} " };
+    assert_eq!(rt; parse_line(b"tune  {} "), Some(wanted));
+    let wanted = Request::Tune { text: "" };
+    assert_eq!(rt; parse_line(b"tune \r"), Some(wanted));
+    assert!(rt; parse_line(b"tune\r").is_none());
+    Ok(())
+}
+
+#[test]
 fn a_reply_is_one_line(rt: HostRuntime) -> Result<(), Fail> {
     let mut out = Vec::with_capacity(rt.alloc(), 64)?;
     expect_texts(&rt, &mut out);

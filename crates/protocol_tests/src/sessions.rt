@@ -7,7 +7,7 @@ use std::alloc::Global;
 use std::process::Abort;
 use std::test::Fail;
 
-// A pass of an engine that takes no event any more, and that finds no memory to read a query.
+// A pass of an engine that takes no event any more, and that finds no memory to read a query or a tuning.
 #[derive(Drop)]
 pub(crate) struct SpentPass;
 
@@ -15,6 +15,20 @@ impl Service for SpentPass {
     ghost use Rattle.std.specs.Prelude.{[]};
 
     ghost caller = { λ _. record {
+      opening = record {
+        passes = 1;
+        slices = 1;
+        blocks = 1;
+        max_rank = 0;
+        commits = 1;
+        reserve = 0;
+        one_in = 10;
+        snr = 10;
+        documents = 1;
+        tail = 0;
+        max_rows = 1;
+        words = [];
+      };
       limits = record { passes = 1; slices = 1; columns = 64; slice_words = 1; commits = 1; events = 0 };
       pass = 0;
     } };
@@ -24,6 +38,7 @@ impl Service for SpentPass {
     fn call(&mut self, request: &Request<'_>) -> Reply {
         match request {
             Request::Query { .. } => Reply::Memory,
+            Request::Tune { .. } => Reply::Memory,
             _ => Reply::Spent,
         }
     }

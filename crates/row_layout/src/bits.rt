@@ -29,7 +29,7 @@ impl Model for Bits {
 }
 
 impl Bits {
-    /// None, with room for n. Only this takes memory.
+    /// None, with room for n. Of the calls on bits this and `for_words` alone take memory.
     pub fn with_room(alloc: Global, n: usize) -> Result<Bits, Memory>
         ensures empty { IfOk result (λ bits. bits.bits ≡ []) }
         ensures room { IfOk result (λ bits. bits.room ≡ n) }

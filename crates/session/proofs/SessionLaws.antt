@@ -10,6 +10,7 @@ use Rattle.funnel_model.proofs.NextEvents.{busy}
 use Rattle.funnel_model.proofs.StepCauses.{query_not_made}
 use Rattle.funnel_model.specs.declared.call.Call.{Call}
 use Rattle.funnel_model.specs.declared.call.Call.TheVariants as call
+use Rattle.funnel_model.specs.declared.config.Config.{Config}
 use Rattle.funnel_model.specs.declared.event.Event.{Event}
 use Rattle.funnel_model.specs.declared.event.Event.TheVariants as event
 use Rattle.funnel_model.specs.declared.expr.Expr.{Expr}
@@ -17,13 +18,40 @@ use Rattle.funnel_model.specs.declared.reply.Reply.{Reply}
 use Rattle.funnel_model.specs.declared.reply.Reply.TheVariants as reply
 use Rattle.funnel_model.specs.History.{own}
 use Rattle.funnel_model.specs.Steps.{AddsCall, AddsNone, IsJudged, IsMade, IsSpent, LacksMemory, Linear}
-use Rattle.line_proto.specs.Forms.{Item, Asks, Malformed, TooLong, Calls, Queries, item_of}
-use Rattle.line_proto.specs.Services.{AnswersCall, Caller, IsNotTaken, IsUnread}
+use Rattle.funnel_stats.specs.Tunings.{Tuned, Gives, Faulty, Wide, tuned}
+use Rattle.line_proto.specs.Forms.{Item, Asks, Malformed, TooLong, Calls, Queries, Tunes, item_of}
+use Rattle.line_proto.specs.Services.{AnswersCall, AnswersTuned, Caller, IsNotTaken, IsUnread, RefusesTuning}
 use Rattle.line_proto.specs.Texts.{text_of, texts}
 use Rattle.session.proofs.Progress.{texts-push}
 use Rattle.session.specs.Ends.{Serves, Stand}
-use Rattle.session.specs.Laws.{AreCalls, RunsCalls, IsRefusedAs, TakesNone, IsProperFront, EndsByCount, FindIsOver}
+use Rattle.session.specs.Laws.{AreCalls, RunsCalls, IsRefusedAs, IsTunedInVain, TakesNone, IsProperFront, EndsByCount, FindIsOver}
 use Rattle.session.specs.Sessions.{Answers, AnswersItem, CutsLast}
+
+-- a text that gives no configuration is no call
+runs_untuned : (caller : Caller) (before middle after : List Event) (text : List ℕ) (given : Reply) (items : List Item) (replies : List Reply)
+    → before ≡ middle → RefusesTuning (tuned caller.opening text) given → RunsCalls caller middle after items replies
+    → RunsCalls caller before after (Asks (Tunes text) ∷ items) (given ∷ replies)
+runs_untuned caller before middle after text given items replies same untuned run = record {
+  calls = run.calls;
+  told = run.told;
+  are = inl (untuned, run.are);
+  steps = subst (λ h. Linear caller.limits caller.pass h after run.calls run.told) (sym same) run.steps;
+}
+
+-- and one that gives one is the first call
+runs_tuned : (caller : Caller) (before middle after : List Event) (text : List ℕ) (comes : Tuned) (given : Reply) (items : List Item) (replies : List Reply)
+    → tuned caller.opening text ≡ comes → AnswersTuned caller before middle comes given → RunsCalls caller middle after items replies
+    → RunsCalls caller before after (Asks (Tunes text) ∷ items) (given ∷ replies)
+runs_tuned caller before middle after text (Gives config) given items replies is answers run = record {
+  calls = call.Tune config ∷ run.calls;
+  told = given ∷ run.told;
+  are = inr (call.Tune config, run.calls, run.told, (config, is, refl), run.are, refl, refl);
+  steps = (middle, answers.step, run.steps);
+}
+runs_tuned caller before middle after text (Faulty fault) given items replies is answers run =
+    runs_untuned caller before middle after text given items replies answers.0 (subst (λ (comes : Tuned). RefusesTuning comes given) (sym is) answers.1) run
+runs_tuned caller before middle after text (Wide needed room) given items replies is answers run =
+    runs_untuned caller before middle after text given items replies answers.0 (subst (λ (comes : Tuned). RefusesTuning comes given) (sym is) answers.1) run
 
 -- an item with its reply is the first call, or no call
 runs_one : (caller : Caller) (before middle after : List Event) (item : Item) (given : Reply) (items : List Item) (replies : List Reply)
@@ -46,6 +74,8 @@ runs_one caller before middle after (Asks (Queries text)) given items replies (i
   are = inl (unread.1, run.are);
   steps = subst (λ h. Linear caller.limits caller.pass h after run.calls run.told) (sym unread.0) run.steps;
 }
+runs_one caller before middle after (Asks (Tunes text)) given items replies answers run =
+    runs_tuned caller before middle after text (tuned caller.opening text) given items replies refl answers run
 runs_one caller before middle after Malformed given items replies answers run = record {
   calls = run.calls;
   told = run.told;
@@ -68,19 +98,20 @@ runs_calls caller before after [] (given ∷ replies) run = absurd run
 runs_calls caller before after (item ∷ items) [] run = absurd run
 
 -- so items have at most as many calls
-pub calls_few : (items : List Item) (replies : List Reply) (calls : List Call) (told : List Reply) → AreCalls items replies calls told → length calls ≤ length items
-calls_few [] [] calls told are = let none = ap length are.0 in omega arith
-calls_few (item ∷ items) (given ∷ replies) calls told (inl no_call) = let few = calls_few items replies calls told no_call.1 in omega arith
-calls_few (item ∷ items) (given ∷ replies) calls told (inr one) =
-    let few = calls_few items replies one.1 one.2 one.4 in
+pub calls_few : (opening : Config) (items : List Item) (replies : List Reply) (calls : List Call) (told : List Reply) → AreCalls opening items replies calls told →
+    length calls ≤ length items
+calls_few opening [] [] calls told are = let none = ap length are.0 in omega arith
+calls_few opening (item ∷ items) (given ∷ replies) calls told (inl no_call) = let few = calls_few opening items replies calls told no_call.1 in omega arith
+calls_few opening (item ∷ items) (given ∷ replies) calls told (inr one) =
+    let few = calls_few opening items replies one.1 one.2 one.4 in
     let same = ap length one.5 in
     omega arith
-calls_few [] (given ∷ replies) calls told are = absurd are
-calls_few (item ∷ items) [] calls told are = absurd are
+calls_few opening [] (given ∷ replies) calls told are = absurd are
+calls_few opening (item ∷ items) [] calls told are = absurd are
 
 -- one item over a spent front
 record OneRefused (caller : Caller) (before middle : List Event) (item : Item) (given : Reply) : Type 0 where
-  pub refusal : IsRefusedAs item given
+  pub refusal : IsRefusedAs caller.opening item given
   pub none : AddsNone caller.pass before middle
   pub spent : caller.limits.events ≤ length middle
 
@@ -90,6 +121,27 @@ still_spent : (caller : Caller) (before middle : List Event) (asked : Call) (giv
 still_spent caller before middle asked given many answers =
     let grows = answers.step.grows in
     omega (arith, many, length-append before grows.0, ap length grows.1)
+
+-- what comes of a tuning's text over it
+tuned_in_vain : (caller : Caller) (before middle : List Event) (text : List ℕ) (comes : Tuned) (given : Reply) → caller.limits.events ≤ length before
+    → tuned caller.opening text ≡ comes → AnswersTuned caller before middle comes given → OneRefused caller before middle (Asks (Tunes text)) given
+tuned_in_vain caller before middle text (Gives config) given many is answers =
+    let not_taken : IsNotTaken caller before middle given = answers.spent many in
+    record {
+      refusal = subst (λ (comes : Tuned). IsTunedInVain comes given) (sym is) not_taken.reply;
+      none = not_taken.call;
+      spent = still_spent caller before middle (call.Tune config) given many answers;
+    }
+tuned_in_vain caller before middle text (Faulty fault) given many is answers = record {
+  refusal = subst (λ (comes : Tuned). IsTunedInVain comes given) (sym is) answers.1;
+  none = ap (own caller.pass) (sym answers.0);
+  spent = subst (λ h. caller.limits.events ≤ length h) answers.0 many;
+}
+tuned_in_vain caller before middle text (Wide needed room) given many is answers = record {
+  refusal = subst (λ (comes : Tuned). IsTunedInVain comes given) (sym is) answers.1;
+  none = ap (own caller.pass) (sym answers.0);
+  spent = subst (λ h. caller.limits.events ≤ length h) answers.0 many;
+}
 
 one_refused : (caller : Caller) (before middle : List Event) (item : Item) (given : Reply) → caller.limits.events ≤ length before
     → AnswersItem caller before item given middle → OneRefused caller before middle item given
@@ -105,13 +157,15 @@ one_refused caller before middle (Asks (Queries text)) given many (inl read) =
     }
 one_refused caller before middle (Asks (Queries text)) given many (inr unread) =
     record { refusal = inr unread.1; none = ap (own caller.pass) (sym unread.0); spent = subst (λ h. caller.limits.events ≤ length h) unread.0 many }
+one_refused caller before middle (Asks (Tunes text)) given many answers =
+    tuned_in_vain caller before middle text (tuned caller.opening text) given many refl answers
 one_refused caller before middle Malformed given many answers =
     record { refusal = answers.0; none = ap (own caller.pass) (sym answers.1); spent = subst (λ h. caller.limits.events ≤ length h) answers.1 many }
 one_refused caller before middle TooLong given many answers =
     record { refusal = answers.0; none = ap (own caller.pass) (sym answers.1); spent = subst (λ h. caller.limits.events ≤ length h) answers.1 many }
 
 pub takes_none : (caller : Caller) (before after : List Event) (asked : List Item) (replies : List Reply) → caller.limits.events ≤ length before
-    → Answers caller before asked replies after → TakesNone caller.pass before after asked replies
+    → Answers caller before asked replies after → TakesNone caller before after asked replies
 takes_none caller before after [] [] many run = record { refused = tt; none = ap (own caller.pass) (sym run) }
 takes_none caller before after (item ∷ items) (given ∷ replies) many run =
     let one = one_refused caller before run.0 item given many run.1 in

@@ -8,6 +8,7 @@ use Rattle.funnel_io.specs.declared.end.End.TheVariants as end_of
 use Rattle.funnel_io.specs.declared.source.Got.TheVariants as got
 use Rattle.funnel_model.specs.declared.call.Call.{Call}
 use Rattle.funnel_model.specs.declared.call.Call.TheVariants as call
+use Rattle.funnel_model.specs.declared.config.Config.{Config}
 use Rattle.funnel_model.specs.declared.event.Event.{Event}
 use Rattle.funnel_model.specs.declared.expr.Expr.{Expr}
 use Rattle.funnel_model.specs.declared.reply.Reply.{Reply}
@@ -16,53 +17,64 @@ use Rattle.funnel_model.specs.Expressions.{tree_of}
 use Rattle.funnel_model.specs.Queries.{IsQuery}
 use Rattle.funnel_model.specs.Steps.{AddsCall, AddsNone, Linear}
 use Rattle.funnel_model.specs.Tokens.{HasToken}
-use Rattle.line_proto.specs.Services.{Caller, IsUnread}
-use Rattle.line_proto.specs.Forms.{Item, Asks, Malformed, TooLong, Calls, Queries}
+use Rattle.funnel_stats.specs.Tunings.{Tuned, Gives, tuned}
+use Rattle.line_proto.specs.Services.{Caller, IsUnread, RefusesTuning}
+use Rattle.line_proto.specs.Forms.{Item, Asks, Malformed, TooLong, Calls, Queries, Tunes}
 use Rattle.session.specs.Ends.{Serves, Stand}
 
--- the call that an item asks for; where it asks for what a text finds, the query of the expression that the text is the query of
-abbrev pub AsksFor : Item → Call → Type 0
-AsksFor (Asks (Calls asked)) made = made ≡ asked
-AsksFor (Asks (Queries text)) made = (expr : Expr) × IsQuery text (tree_of expr) × (made ≡ call.Query expr)
-AsksFor Malformed made = ⊥
-AsksFor TooLong made = ⊥
+-- the call that an item asks for, of an engine that was opened with this configuration; where it asks for what a text finds, the query of
+-- the expression that the text is the query of; and for a tuning, the one by the configuration that its text gives
+abbrev pub AsksFor : Config → Item → Call → Type 0
+AsksFor opening (Asks (Calls asked)) made = made ≡ asked
+AsksFor opening (Asks (Queries text)) made = (expr : Expr) × IsQuery text (tree_of expr) × (made ≡ call.Query expr)
+AsksFor opening (Asks (Tunes text)) made = (config : Config) × (tuned opening text ≡ Gives config) × (made ≡ call.Tune config)
+AsksFor opening Malformed made = ⊥
+AsksFor opening TooLong made = ⊥
 
 -- an item that is answered so is no call: a line of no form, one that is too long, or a text that was refused before anything was called
-abbrev pub IsNoCall : Item → Reply → Type 0
-IsNoCall (Asks (Calls asked)) given = ⊥
-IsNoCall (Asks (Queries text)) given = IsUnread text given
-IsNoCall Malformed given = ⊤
-IsNoCall TooLong given = ⊤
+abbrev pub IsNoCall : Config → Item → Reply → Type 0
+IsNoCall opening (Asks (Calls asked)) given = ⊥
+IsNoCall opening (Asks (Queries text)) given = IsUnread text given
+IsNoCall opening (Asks (Tunes text)) given = RefusesTuning (tuned opening text) given
+IsNoCall opening Malformed given = ⊤
+IsNoCall opening TooLong given = ⊤
 
 -- of items and the replies to them, these are the calls in order, with the replies to those
-abbrev pub AreCalls : List Item → List Reply → List Call → List Reply → Type 0
-AreCalls [] [] calls told = (calls ≡ []) × (told ≡ [])
-AreCalls (item ∷ items) (given ∷ replies) calls told =
-    (IsNoCall item given × AreCalls items replies calls told)
-    ⊎ ((made : Call) × (rest : List Call) × (others : List Reply) × AsksFor item made × AreCalls items replies rest others
+abbrev pub AreCalls : Config → List Item → List Reply → List Call → List Reply → Type 0
+AreCalls opening [] [] calls told = (calls ≡ []) × (told ≡ [])
+AreCalls opening (item ∷ items) (given ∷ replies) calls told =
+    (IsNoCall opening item given × AreCalls opening items replies calls told)
+    ⊎ ((made : Call) × (rest : List Call) × (others : List Reply) × AsksFor opening item made × AreCalls opening items replies rest others
     × (calls ≡ made ∷ rest) × (told ≡ given ∷ others))
-AreCalls [] (given ∷ replies) calls told = ⊥
-AreCalls (item ∷ items) [] calls told = ⊥
+AreCalls opening [] (given ∷ replies) calls told = ⊥
+AreCalls opening (item ∷ items) [] calls told = ⊥
 
 -- the items are answered by one run of calls: those of the items lead from front to front, one step for each
 pub record RunsCalls (caller : Caller) (before after : List Event) (asked : List Item) (replies : List Reply) : Type 0 where
   pub calls : List Call
   pub told : List Reply
-  pub are : AreCalls asked replies calls told
+  pub are : AreCalls caller.opening asked replies calls told
   pub steps : Linear caller.limits caller.pass before after calls told
 
+-- over a spent front what comes of a tuning's text is refused so: a configuration as each call is, as spent or for want of memory, and else
+-- as over each front
+abbrev pub IsTunedInVain : Tuned → Reply → Type 0
+IsTunedInVain (Gives config) given = (given ≡ reply.Spent) ⊎ (given ≡ reply.Memory)
+IsTunedInVain comes given = RefusesTuning comes given
+
 -- over a spent front an item is refused so: a call as spent or for want of memory, a text that is to be read as a query as spent or
--- before anything is called, and any other line as over each front
-abbrev pub IsRefusedAs : Item → Reply → Type 0
-IsRefusedAs (Asks (Calls asked)) given = (given ≡ reply.Spent) ⊎ (given ≡ reply.Memory)
-IsRefusedAs (Asks (Queries text)) given = (given ≡ reply.Spent) ⊎ IsUnread text given
-IsRefusedAs Malformed given = given ≡ reply.Line
-IsRefusedAs TooLong given = given ≡ reply.Long
+-- before anything is called, a tuning by what comes of its text, and any other line as over each front
+abbrev pub IsRefusedAs : Config → Item → Reply → Type 0
+IsRefusedAs opening (Asks (Calls asked)) given = (given ≡ reply.Spent) ⊎ (given ≡ reply.Memory)
+IsRefusedAs opening (Asks (Queries text)) given = (given ≡ reply.Spent) ⊎ IsUnread text given
+IsRefusedAs opening (Asks (Tunes text)) given = IsTunedInVain (tuned opening text) given
+IsRefusedAs opening Malformed given = given ≡ reply.Line
+IsRefusedAs opening TooLong given = given ≡ reply.Long
 
 -- every item is refused so, and no call of the pass came into the history
-pub record TakesNone (pass : ℕ) (before after : List Event) (asked : List Item) (replies : List Reply) : Type 0 where
-  pub refused : AllZip IsRefusedAs asked replies
-  pub none : AddsNone pass before after
+pub record TakesNone (caller : Caller) (before after : List Event) (asked : List Item) (replies : List Reply) : Type 0 where
+  pub refused : AllZip (IsRefusedAs caller.opening) asked replies
+  pub none : AddsNone caller.pass before after
 
 -- the bytes begin with these, and are more
 pub record IsProperFront (front bytes : List ℕ) : Type 0 where

@@ -20,7 +20,8 @@ ghost use Rattle.session.specs.Turns.{AreTurns, StopsReading, Turn, answers_of, 
 use funnel_io::Connection;
 
 /// The calls of a session lead from front to front, one step for each, and their replies are those that were given. A line's call is
-/// the one of which it has a form, or the query of the expression that its text is the query of. No other line is a call.
+/// the one of which it has a form, the query of the expression that its text is the query of, or the tuning by the configuration that
+/// its text gives. No other line is a call.
 pub fn a_session_is_one_run_of_calls()
     ensures { (caller : Caller) (before after : List Event) (asked : List Item) (replies : List Reply) →
         Answers caller before asked replies after →
@@ -28,11 +29,11 @@ pub fn a_session_is_one_run_of_calls()
 {}
 
 /// Over a front that is spent every call is refused, as spent or for want of memory, and is in no history; every other line is
-/// refused as it is over any front, a text that is no query among them.
+/// refused as it is over any front, a text that is no query or gives no configuration among them.
 pub fn spent_fronts_take_no_call()
     ensures { (caller : Caller) (before after : List Event) (asked : List Item) (replies : List Reply) →
         caller.limits.events ≤ length before → Answers caller before asked replies after →
-        TakesNone caller.pass before after asked replies }
+        TakesNone caller before after asked replies }
 {}
 
 /// Where a write failed, the text of the replies is not written to its end.

@@ -21,7 +21,7 @@ use Rattle.commit_desk.specs.declared.answers.ClearRefusal.TheVariants as clear
 use Rattle.commit_desk.specs.declared.answers.ToClear.{ToClear}
 use Rattle.commit_desk.proofs.CallEnds.{seated_still}
 use Rattle.slice_recycler.specs.Cleared.{IsZeroOf}
-use Rattle.slice_recycler.specs.Recycles.{IsRefusedTurn, RecycleTurns, refused_as, reply_of_recycle}
+use Rattle.slice_recycler.specs.Recycles.{IsRefusedTurn, RecycleTurns, refused_as, reply_of_recycle, work_on}
 use Rattle.slice_recycler.specs.declared.recycling.Recycled.TheVariants as recycled
 use Rattle.slice_recycler.specs.Turns.{IsTurn}
 use Rattle.slice_recycler.proofs.Steps.{own-unanswered, quiet_turn, step_made_after, step_made_by_turn, step_spent_turn}
@@ -80,7 +80,7 @@ pub done_turns : (limits : Limits) (pass : ℕ) (before middle after : List Even
     slice ≡ to_clear.job.slice → IsTurn pass middle after (λ history. Unit {0}) (event.Opened pass to_clear.job.slice true ∷ []) → RecycleTurns limits pass before after (recycled.Done slice)
 done_turns limits pass before middle after to_clear slice first slots same second = (
   middle,
-  subst (λ (s : ℕ). IsTurn pass before middle (λ history. AnswersClear limits.events limits history pass (Ok (record { job = record { slice = s }; slots = limits.columns }))) (event.Clear pass s ∷ [])) (sym same)
+  subst (λ (s : ℕ). IsTurn pass before middle (λ history. AnswersClear limits.events limits history pass (Ok (work_on limits s))) (event.Clear pass s ∷ [])) (sym same)
       (subst (λ (n : ℕ). IsTurn pass before middle (λ history. AnswersClear limits.events limits history pass (Ok (record to_clear { slots = n }))) (event.Clear pass to_clear.job.slice ∷ [])) slots first),
   subst (λ (s : ℕ). IsTurn pass middle after (λ history. Unit {0}) (event.Opened pass s true ∷ [])) (sym same) second,
 )

@@ -1,5 +1,5 @@
 -- What a recycle is answered, and its turns at the desk.
-use Rattle.std.specs.Prelude.{ℕ, true, List, [], ◌∷◌, Ok, Err}
+use Rattle.std.specs.Prelude.{ℕ, true, List, [], ◌∷◌, Ok, Err, None}
 use Rattle.funnel_model.specs.declared.event.Event.{Event}
 use Rattle.funnel_model.specs.declared.event.Event.TheVariants as event
 use Rattle.funnel_model.specs.declared.reply.Reply.{Reply}
@@ -8,6 +8,7 @@ use Rattle.funnel_model.specs.Legal.{Limits}
 use Rattle.commit_desk.specs.Answers.{AnswersClear, events_of_clear}
 use Rattle.commit_desk.specs.declared.answers.ClearRefusal.{ClearRefusal}
 use Rattle.commit_desk.specs.declared.answers.ClearRefusal.TheVariants as clear
+use Rattle.commit_desk.specs.declared.answers.ToClear.{ToClear}
 use Rattle.slice_recycler.specs.declared.recycling.Recycled.{Recycled}
 use Rattle.slice_recycler.specs.declared.recycling.Recycled.TheVariants as recycled
 use Rattle.slice_recycler.specs.Turns.{IsTurn}
@@ -30,10 +31,14 @@ abbrev pub IsRefusedTurn : Limits → ℕ → List Event → List Event → Clea
 IsRefusedTurn limits pass before after refusal =
     IsTurn pass before after (λ history. AnswersClear limits.events limits history pass (Err refusal)) (events_of_clear pass (Err refusal))
 
+-- the slice is to be cleared, with as many old slots as it has columns, whatever layout it had
+abbrev pub work_on : Limits → ℕ → ToClear
+work_on limits slice = record { job = record { slice = slice }; slots = limits.columns; old_layout = None }
+
 -- A recycle clears the slice that the desk names in a first turn, and opens it in a second one; a refused one has one turn.
 abbrev pub RecycleTurns : Limits → ℕ → List Event → List Event → Recycled → Type 0
 RecycleTurns limits pass before after (recycled.Done slice) =
-    (middle : List Event) × IsTurn pass before middle (λ history. AnswersClear limits.events limits history pass (Ok (record { job = record { slice = slice }; slots = limits.columns }))) (event.Clear pass slice ∷ [])
+    (middle : List Event) × IsTurn pass before middle (λ history. AnswersClear limits.events limits history pass (Ok (work_on limits slice))) (event.Clear pass slice ∷ [])
     × IsTurn pass middle after (λ history. Unit {0}) (event.Opened pass slice true ∷ [])
 RecycleTurns limits pass before after recycled.NoneRetired = IsRefusedTurn limits pass before after clear.NoneRetired
 RecycleTurns limits pass before after (recycled.Guarded slice guard opened_at) = IsRefusedTurn limits pass before after (clear.Guarded slice guard opened_at)

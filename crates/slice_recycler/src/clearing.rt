@@ -1,19 +1,19 @@
-ghost use Rattle.std.specs.Prelude.{◌≡◌, ◌↔◌, ◌⊎◌, Contains};
-ghost use Rattle.slice_recycler.specs.Cleared.{IsPoolOf, IsZeroOf};
+ghost use Rattle.std.specs.Prelude.{◌≡◌, ◌+◌, ◌*◌, ◌≤◌, ◌↔◌, ◌⊎◌, Contains};
+ghost use Rattle.funnel_model.specs.declared.config.TheConstants.{MOST_ROW_WORDS};
+ghost use Rattle.slice_recycler.specs.Cleared.{IsRoomOf, IsZeroOf};
 ghost use Rattle.slice_rule.specs.declared.view.Fact.{Fact};
 ghost use Rattle.slice_rule.specs.Numbers.{last_number};
 ghost use Rattle.slice_rule.specs.Seats.{HasNoneOutstanding, HoldsJob};
 
 use funnel_model::ClearJob;
-use row_layout::Layout;
 use slice_rule::{PassSeat, Pool};
 
 /// Makes the words of a slice zero, while its pass holds no lock.
 pub trait Clearer {
-    /// Makes every word of the slice zero. It waits for nobody.
-    fn clear(&mut self, pool: &Pool, seat: &mut PassSeat, layout: &Layout, job: &ClearJob)
+    /// Makes every word of the slice zero, of which there are `room`. It waits for nobody.
+    fn clear(&mut self, pool: &Pool, seat: &mut PassSeat, room: u32, job: &ClearJob)
         requires pool { seat.old.pool ≡ pool.now }
-        requires laid_out { IsPoolOf layout.now pool.now }
+        requires room { IsRoomOf room pool.now }
         requires job { HoldsJob seat.old job.now }
         requires none_outstanding { HasNoneOutstanding seat.old }
         ensures seat { seat.new ≡ record seat.old { own = seat.new.own } }
@@ -21,11 +21,11 @@ pub trait Clearer {
             (Contains seat.old.own f ⊎ IsZeroOf pool.now.limits.slice_words job.now.slice (last_number seat.old.number seat.old.front) f) };
 }
 
-/// Makes every word of the slice that the pass clears zero. Other passes may read and write other slices beside it. It
+/// Makes every word of the slice that the pass clears zero, of which there are `room`. Other passes may read and write other slices beside it. It
 /// takes no memory and waits for nobody.
-pub fn clear_slice(pool: &Pool, seat: &mut PassSeat, layout: &Layout, job: &ClearJob)
+pub fn clear_slice(pool: &Pool, seat: &mut PassSeat, room: u32, job: &ClearJob)
     requires pool { seat.old.pool ≡ pool.now }
-    requires laid_out { IsPoolOf layout.now pool.now }
+    requires room { IsRoomOf room pool.now }
     requires job { HoldsJob seat.old job.now }
     requires none_outstanding { HasNoneOutstanding seat.old }
     ensures seat { seat.new ≡ record seat.old { own = seat.new.own } }
@@ -33,8 +33,17 @@ pub fn clear_slice(pool: &Pool, seat: &mut PassSeat, layout: &Layout, job: &Clea
         (Contains seat.old.own f ⊎ IsZeroOf pool.now.limits.slice_words job.now.slice (last_number seat.old.number seat.old.front) f) }
 {
     let _ = seat.number();
-    let (first, count) = layout.slice_range(job.slice);
-    for word in first..first + count {
+    let first = first_word(job.slice, room);
+    for word in first..first + room {
         pool.clear_word(seat, job, word);
     }
+}
+
+// The first word of a slice, each of which has room for so many.
+fn first_word(slice: u32, room: u32) -> u32
+    requires { slice * room + room ≤ MOST_ROW_WORDS }
+    ensures first { result ≡ slice * room }
+    ensures end { result + room ≤ MOST_ROW_WORDS }
+{
+    slice * room
 }

@@ -2,14 +2,13 @@ ghost use Rattle.std.specs.Prelude.{◌≡◌};
 ghost use Rattle.funnel_model.specs.declared.call.Call.TheVariants as call;
 ghost use Rattle.funnel_model.specs.Steps.{Step};
 ghost use Rattle.commit_desk.specs.Passes.{IsResting};
-ghost use Rattle.slice_recycler.specs.Cleared.{IsPoolOf};
+ghost use Rattle.slice_recycler.specs.Cleared.{IsRoomOf};
 ghost use Rattle.slice_recycler.specs.Recycles.{RecycleTurns, refused_as, reply_of_recycle};
 
 use crate::clearing::{Clearer, clear_slice};
 use crate::turns::{open, start};
 use commit_desk::{ClearRefusal, Named, ToClear};
 use funnel_model::ClearJob;
-use row_layout::Layout;
 use slice_rule::{PassSeat, Pool, PoolName};
 use std::sync::{Mutex, Wait};
 
@@ -57,18 +56,18 @@ pub fn recycle<N: PoolName, R: Wait>(
     rt: &R,
     pool: &Pool,
     desk: &Mutex<Named<N>>,
-    layout: &Layout,
+    room: u32,
     seat: &mut PassSeat,
 ) -> Recycled
     requires named { pool.now ≡ N.pool }
-    requires laid_out { IsPoolOf layout.now pool.now }
+    requires room { IsRoomOf room pool.now }
     requires seat { IsResting pool.now seat.old }
     ensures step { Step pool.now.limits seat.old.number seat.old.front seat.new.front call.Recycle (reply_of_recycle result) }
     ensures turns { RecycleTurns pool.now.limits seat.old.number seat.old.front seat.new.front result }
     ensures rests { IsResting pool.now seat.new }
     ensures number { seat.new.number ≡ seat.old.number }
 {
-    recycle_by(rt, pool, desk, layout, seat, &mut InPlace)
+    recycle_by(rt, pool, desk, room, seat, &mut InPlace)
 }
 
 /// A recycle whose slice's words are cleared by `work`, while the pass does not hold the lock.
@@ -76,12 +75,12 @@ pub fn recycle_by<N: PoolName, R: Wait, W: Clearer>(
     rt: &R,
     pool: &Pool,
     desk: &Mutex<Named<N>>,
-    layout: &Layout,
+    room: u32,
     seat: &mut PassSeat,
     work: &mut W,
 ) -> Recycled
     requires named { pool.now ≡ N.pool }
-    requires laid_out { IsPoolOf layout.now pool.now }
+    requires room { IsRoomOf room pool.now }
     requires seat { IsResting pool.now seat.old }
     ensures step { Step pool.now.limits seat.old.number seat.old.front seat.new.front call.Recycle (reply_of_recycle result) }
     ensures turns { RecycleTurns pool.now.limits seat.old.number seat.old.front seat.new.front result }
@@ -90,8 +89,13 @@ pub fn recycle_by<N: PoolName, R: Wait, W: Clearer>(
 {
     match start(rt, pool, desk, seat) {
         Ok(to_clear) => {
-            let ToClear { job, slots } = to_clear;
-            work.clear(pool, seat, layout, &job);
+            let ToClear {
+                job,
+                slots,
+                old_layout,
+            } = to_clear;
+            drop(old_layout);
+            work.clear(pool, seat, room, &job);
             Recycled::Done(open(rt, pool, desk, seat, job, slots.empty()))
         }
         Err(refusal) => Recycled::from(refusal),
@@ -103,7 +107,7 @@ pub fn recycle_by<N: PoolName, R: Wait, W: Clearer>(
 struct InPlace;
 
 impl Clearer for InPlace {
-    fn clear(&mut self, pool: &Pool, seat: &mut PassSeat, layout: &Layout, job: &ClearJob) {
-        clear_slice(pool, seat, layout, job)
+    fn clear(&mut self, pool: &Pool, seat: &mut PassSeat, room: u32, job: &ClearJob) {
+        clear_slice(pool, seat, room, job)
     }
 }

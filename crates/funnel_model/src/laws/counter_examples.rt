@@ -143,9 +143,9 @@ pub fn steps_have_their_cause()
 {}
 
 /// No step is answered as a malformed or a too long line, as a tuning that has a fault or is too wide, or as a text that is no
-/// query, and no place that is read by Spent. The second add of a number is not answered by the reply to the first, and no step
-/// makes both adds.
-pub fn steps_are_of_one_call()
+/// query, no place that is read by Spent, and no call by Spent where nothing was done yet. The second add of a number is not
+/// answered by the reply to the first, and no step makes both adds.
+pub fn steps_have_no_other_reply()
     ensures unread { (limits : Limits) (pass : ℕ) (before after : List Event) (asked : Call) →
         Step limits pass before after asked reply.Line ⊎ Step limits pass before after asked reply.Long → ⊥ }
     ensures untuned { (limits : Limits) (pass fault needed room : ℕ) (before after : List Event) (asked : Call) →

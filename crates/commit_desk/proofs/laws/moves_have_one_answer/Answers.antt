@@ -1,4 +1,4 @@
-use Rattle.std.proofs.Common.{◌≡◌, ℕ, List, Some, None, length, refl, sym, ◌∙◌, ap, ap₂, arith, subst, ⊎_elim}
+use Rattle.std.proofs.Common.{◌≡◌, ℕ, List, Ok, Some, None, length, refl, sym, ◌∙◌, ap, ap₂, arith, subst, ⊎_elim}
 use Rattle.std.proofs.lemmas.Bool.{cases_order}
 use Rattle.funnel_model.specs.declared.claim.Claim.{Claim}
 use Rattle.funnel_model.specs.declared.event.Event.{Event}
@@ -7,8 +7,10 @@ use Rattle.funnel_model.specs.Legal.{Limits, MayTake}
 use Rattle.funnel_model.specs.Slices.{IsInState, Live, claimed}
 use Rattle.funnel_model.proofs.Columns.{one_state}
 use Rattle.funnel_model.proofs.ReserveLemmas.{one_source}
-use Rattle.commit_desk.specs.Laws.{NextLookIsOne, TakeOfMoveIsOne}
+use Rattle.commit_desk.specs.Answers.{TakesCalls}
+use Rattle.commit_desk.specs.Laws.{NextLookIsOne, TakeOfMoveIsOne, TakeOfMoveWantsMemory}
 use Rattle.commit_desk.specs.Moving.{AnswersTakeMove, IsLowestFree, IsLowestLive, IsNamedAgain, IsNextToMove, LooksState}
+use Rattle.commit_desk.specs.declared.answers.TakenMove.{TakenMove}
 use Rattle.commit_desk.specs.declared.look.Look.{Look}
 use Rattle.commit_desk.proofs.laws.moves_have_one_answer.Goals as goal
 
@@ -76,25 +78,34 @@ one_column limits history pass slice column other at is is_too =
     is.next ∙ ap (λ s. length (claimed s history)) slices ∙ sym is_too.next
 
 -- where a column is taken, it is not refused
-none_refused : (most : ℕ) (limits : Limits) (history : List Event) (pass : ℕ) (look : Look) (taken : Claim × Look) →
-    AnswersTakeMove most limits history pass look (Some taken) → AnswersTakeMove most limits history pass look None → ⊥
-none_refused most limits history pass look taken is refused = ⊎_elim
-    (λ many. absurd (omega (arith, is.0, many)))
+none_refused : (most : ℕ) (limits : Limits) (history : List Event) (pass : ℕ) (look : Look) (slice column : ℕ) → TakesCalls most history →
+    MayTake limits history pass slice column → (slice ≡ look.slice → ⊥) → AnswersTakeMove most limits history pass look (Ok None) → ⊥
+none_refused most limits history pass look slice column takes may apart refused = ⊎_elim
+    (λ many. absurd (omega (arith, takes, many)))
     (λ others. ⊎_elim
-    (λ no_room. no_room taken.0.slice is.1.in_range is.1.room)
-    (λ its_own. is.2 (one_slice limits history pass taken.0.slice taken.0.column look.slice its_own.0 is.1 its_own.1))
+    (λ no_room. no_room slice may.in_range may.room)
+    (λ its_own. apart (one_slice limits history pass slice column look.slice its_own.0 may its_own.1))
     others)
     refused
 
+taken_not_refused : (most : ℕ) (limits : Limits) (history : List Event) (pass : ℕ) (look : Look) (taken : TakenMove) →
+    AnswersTakeMove most limits history pass look (Ok (Some taken)) → AnswersTakeMove most limits history pass look (Ok None) → ⊥
+taken_not_refused most limits history pass look taken is refused =
+    none_refused most limits history pass look taken.claim.slice taken.claim.column is.0 is.1 is.2 refused
+
 take_is_one : TakeOfMoveIsOne
-take_is_one most limits history pass look (Some (claim, held)) (Some (another, kept)) is is_too =
-    let slices = one_slice limits history pass claim.slice claim.column another.slice another.column is.1 is_too.1 in
-    let columns = one_column limits history pass claim.slice claim.column another.slice another.column is.1 is_too.1 in
-    let claims : claim ≡ another = ap₂ (λ s c. record { slice = s; column = c }) slices columns in
-    ap₂ (λ c l. Some (c, l)) claims (is.3 ∙ sym is_too.3)
-take_is_one most limits history pass look (Some taken) None is is_too = absurd (none_refused most limits history pass look taken is is_too)
-take_is_one most limits history pass look None (Some other) is is_too = absurd (none_refused most limits history pass look other is_too is)
+take_is_one most limits history pass look (Some taken) (Some other) is is_too =
+    let slices = one_slice limits history pass taken.claim.slice taken.claim.column other.claim.slice other.claim.column is.1 is_too.1 in
+    let columns = one_column limits history pass taken.claim.slice taken.claim.column other.claim.slice other.claim.column is.1 is_too.1 in
+    let claims : taken.claim ≡ other.claim = ap₂ (λ s c. let k : Claim = record { slice = s; column = c } in k) slices columns in
+    ap₂ (λ (c : Claim) (l : Look). Some (c, l)) claims (is.3 ∙ sym is_too.3)
+take_is_one most limits history pass look (Some taken) None is is_too = absurd (taken_not_refused most limits history pass look taken is is_too)
+take_is_one most limits history pass look None (Some other) is is_too = absurd (taken_not_refused most limits history pass look other is_too is)
 take_is_one most limits history pass look None None is is_too = refl
 
+-- where memory is wanting, a column may be taken
+wants_memory : TakeOfMoveWantsMemory
+wants_memory most limits history pass look memory is refused = none_refused most limits history pass look is.1 is.2 is.0 is.3 is.4 refused
+
 pub returns : goal.returns
-returns c = (next_is_one, take_is_one)
+returns c = (next_is_one, take_is_one, wants_memory)

@@ -26,7 +26,7 @@ take : (history : List Event) (pass id : ℕ) (text : List ℕ) (fault : AddFaul
 take history pass id text (add.Spent events) = none history
 take history pass id text (add.Present added) = refusal history pass (call.Add id text)
 take history pass id text (add.Full blocks) = refusal history pass (call.Add id text)
-take history pass id text add.Memory = refusal history pass (call.Add id text)
+take history pass id text add.Memory = none history
 
 deleting : (history : List Event) (pass id : ℕ) (fault : DeleteFault) → KeepsDocuments history (events_of_delete pass id (Err fault))
 deleting history pass id (delete.Spent events) = none history

@@ -1,11 +1,11 @@
 use Rattle.std.proofs.Common.{rules, ◌≡◌, false, List, length, map, Some, None, inl, inr, refl, sym, ap, ◌∙◌, subst}
 use Rattle.std.proofs.lemmas.List.{length-map}
 use Rattle.funnel_server.specs.Gates.{gate_state}
-use Rattle.funnel.specs.Commands.{command_of, is_fit}
+use Rattle.command_line.specs.Commands.{command_of, is_fit}
 use Rattle.funnel.specs.Ends.{why_of_config}
 use Rattle.funnel.specs.Misfits.{misfit_of}
 use Rattle.funnel.specs.Programs.{Streams}
-use Rattle.funnel.specs.declared.command.Command.TheVariants as command
+use Rattle.command_line.specs.declared.command.Command.TheVariants as command
 use Rattle.funnel.specs.declared.ended.Why.TheVariants as why_of
 use Rattle.funnel.proofs.Endings.{are_no_fit, serve_in_turns, without_memory}
 use Rattle.funnel.proofs.Turns.{refused_not_done, runs_nowhere}
@@ -76,8 +76,8 @@ returns-in-Load-clause-ends g c =
 
 pub returns-in-Run-clause-input_untouched : goal.returns-in-Run-clause-input_untouched
 returns-in-Run-clause-input_untouched g c no_fit =
-    without_memory _ _ _ _ _ _ _ c.run_command-why.ensures.ran (λ memory. (c.run_command-why.ensures.untouched memory).0)
+    without_memory _ _ _ _ _ _ _ c.run_command-why.ensures.ran (λ memory. (c.run_command-why.ensures.without_memory memory).0)
 
 pub returns-in-Run-clause-output_untouched : goal.returns-in-Run-clause-output_untouched
 returns-in-Run-clause-output_untouched g c no_fit =
-    without_memory _ _ _ _ _ _ _ c.run_command-why.ensures.ran (λ memory. (c.run_command-why.ensures.untouched memory).1)
+    without_memory _ _ _ _ _ _ _ c.run_command-why.ensures.ran (λ memory. (c.run_command-why.ensures.without_memory memory).1)

@@ -13,12 +13,12 @@ use Rattle.funnel.proofs.serving.answer_all.Goals as goal
 
 pub run_workers-workers-requires-clause-ready : goal.run_workers-workers-requires-clause-ready
 run_workers-workers-requires-clause-ready g c κs within =
-    all_with_gate c.equip.new.workers.items (subst (All HasMetNoFault) (sym c.equip.ensures.workers) (all_ready g.N.PoolName.pool.limits c.args.serve 0 _))
+    all_with_gate c.equip.new.workers.items (subst (All HasMetNoFault) (sym c.equip.ensures.workers) (all_ready g.N.PoolName.pool.config g.N.PoolName.pool.limits c.args.serve 0 _))
 
 pub take_back-requires-clause-room_of_gates : goal.take_back-requires-clause-room_of_gates
 take_back-requires-clause-room_of_gates g c =
     let fits : length c.args.gates.items ≤ vec_capacity c.args.gates = search rules in
-    let count = workers_count (gate_state g.G.Gate.is_closed g.G.Gate.gate_faults g.G.Gate.waiting g.G.Conn.Source.incoming g.G.Conn.Sink.outgoing g.G.Gate.served) g.N.PoolName.pool.limits c.args.serve c.args.gates.items (states_of c.equip.new.workers.items) (states_of c.run_workers-workers.result.items) c.equip.ensures.workers (as_many c.equip.new.workers.items c.run_workers-workers.result.items c.run_workers-workers.ensures.all) in
+    let count = workers_count (gate_state g.G.Gate.is_closed g.G.Gate.gate_faults g.G.Gate.waiting g.G.Conn.Source.incoming g.G.Conn.Sink.outgoing g.G.Gate.served) g.N.PoolName.pool.config g.N.PoolName.pool.limits c.args.serve c.args.gates.items (states_of c.equip.new.workers.items) (states_of c.run_workers-workers.result.items) c.equip.ensures.workers (as_many c.equip.new.workers.items c.run_workers-workers.result.items c.run_workers-workers.ensures.all) in
     omega (arith, fits, count, length-map c.run_workers-workers.result.items (λ (worker : WorkerWithGate _). worker.state), ap length c.equip.ensures.gates.none_left, c.equip.ensures.room.0)
 
 pub take_back-requires-clause-room_of_passes : goal.take_back-requires-clause-room_of_passes
@@ -27,7 +27,7 @@ take_back-requires-clause-room_of_passes g c =
     let fits : length c.args.passes.items ≤ vec_capacity c.args.passes = search rules in
     let all = ap length c.requires.new ∙ length-map-range_with_len new_pass 0 passes in
     let left = ap length c.equip.ensures.passes ∙ length-map-range_with_len new_pass (length c.args.gates.items) (passes - length c.args.gates.items) in
-    let count = workers_count (gate_state g.G.Gate.is_closed g.G.Gate.gate_faults g.G.Gate.waiting g.G.Conn.Source.incoming g.G.Conn.Sink.outgoing g.G.Gate.served) g.N.PoolName.pool.limits c.args.serve c.args.gates.items (states_of c.equip.new.workers.items) (states_of c.run_workers-workers.result.items) c.equip.ensures.workers (as_many c.equip.new.workers.items c.run_workers-workers.result.items c.run_workers-workers.ensures.all) in
+    let count = workers_count (gate_state g.G.Gate.is_closed g.G.Gate.gate_faults g.G.Gate.waiting g.G.Conn.Source.incoming g.G.Conn.Sink.outgoing g.G.Gate.served) g.N.PoolName.pool.config g.N.PoolName.pool.limits c.args.serve c.args.gates.items (states_of c.equip.new.workers.items) (states_of c.run_workers-workers.result.items) c.equip.ensures.workers (as_many c.equip.new.workers.items c.run_workers-workers.result.items c.run_workers-workers.ensures.all) in
     omega (arith, fits, count, length-map c.run_workers-workers.result.items (λ (worker : WorkerWithGate _). worker.state), all, left, c.requires.enough, c.equip.ensures.room.1)
 
 pub returns : goal.returns

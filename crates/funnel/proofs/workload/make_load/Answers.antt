@@ -58,8 +58,8 @@ returns-in-Ok-results-clause-ends g c =
     } in
     let did = from_nothing pool c.args.config.now c.args.command before after c.close-closed.result ended c.in-Ok.load c.run_load-passes.result.1 c.in-Ok.ensures
     c.run_load-passes.ensures.put in
-    let put = on_ok (λ results. IsPut (limits_by config) texts workers (λ _. []) (front_at after) results)
-    (λ _. IsCutShort (limits_by config) texts workers (λ _. []) (front_at after)) c.run_load-passes.result.1 c.in-Ok-results.results c.in-Ok-results.is did in
+    let put = on_ok (λ results. IsPut config (limits_by config) texts workers (λ _. []) (front_at after) results)
+    (λ _. IsCutShort config (limits_by config) texts workers (λ _. []) (front_at after)) c.run_load-passes.result.1 c.in-Ok-results.results c.in-Ok-results.is did in
     ends_load c.args.config.now c.args.command (g.K.Sink.outgoing c.args.output.now) (g.K.Sink.outgoing c.tell.new.output) c.tell.result c.close-closed.result c.in-Ok-results.results
     (whole_load pool c.args.config.now c.args.command before after c.close-closed.result ended c.in-Ok-results.results put) c.tell.ensures.told
 
@@ -91,8 +91,8 @@ returns-clause-ends g c =
     } in
     let did = from_nothing pool c.args.config.now c.args.command before after c.close-closed.result ended c.in-Ok.load c.run_load-passes.result.1 c.in-Ok.ensures
     c.run_load-passes.ensures.put in
-    let cut = on_fault (λ results. IsPut (limits_by config) texts workers (λ _. []) (front_at after) results)
-    (λ _. IsCutShort (limits_by config) texts workers (λ _. []) (front_at after)) c.run_load-passes.result.1 c.in-Err.field-0 c.in-Err.is did in
+    let cut = on_fault (λ results. IsPut config (limits_by config) texts workers (λ _. []) (front_at after) results)
+    (λ _. IsCutShort config (limits_by config) texts workers (λ _. []) (front_at after)) c.run_load-passes.result.1 c.in-Err.field-0 c.in-Err.is did in
     (refl, inl (part_of_load pool c.args.config.now c.args.command before after c.close-closed.result ended cut))
 
 pub returns-in-Ok-results-clause-kept : goal.returns-in-Ok-results-clause-kept

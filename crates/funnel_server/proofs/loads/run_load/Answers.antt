@@ -35,7 +35,7 @@ returns-clause-put g c =
     c.take_back.ensures.passes ∙ ap (λ (ls : List LoaderState). passes_of ls ++ others) (take_at after _ c.equip.new.loaders.len all) in
     let given = c.deref_mut.ensures.value in
     let many : length c.deref_mut.result.now ≡ workers = ap length given ∙ c.equip.ensures.count in
-    ends_along g.N.PoolName.pool.limits c.args.load.now workers (front_at (passes_of c.deref_mut.result.now)) (front_at (passes_of after)) (front_at c.args.passes.items)
+    ends_along g.N.PoolName.pool.config g.N.PoolName.pool.limits c.args.load.now workers (front_at (passes_of c.deref_mut.result.now)) (front_at (passes_of after)) (front_at c.args.passes.items)
     (front_at c.take_back.new.passes.items)
     (λ k small.
     sym (front_before (passes_of c.deref_mut.result.now) others k (omega (arith, small, many, length-map c.deref_mut.result.now (λ (l : LoaderState). l.pass))))
@@ -46,4 +46,4 @@ returns-clause-put g c =
     c.run_parts-results.result c.run_parts-results.ensures.put
 
 pub returns-in_default-clause-put : goal.returns-in_default-clause-put
-returns-in_default-clause-put g c = nothing_put g.N.PoolName.pool.limits c.args.load.now c.args.workers (front_at c.args.passes.items)
+returns-in_default-clause-put g c = nothing_put g.N.PoolName.pool.config g.N.PoolName.pool.limits c.args.load.now c.args.workers (front_at c.args.passes.items)

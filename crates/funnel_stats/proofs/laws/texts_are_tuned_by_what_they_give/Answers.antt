@@ -1,4 +1,4 @@
-use Rattle.funnel_stats.proofs.TuningLemmas.{tuned-gives, tuned-wide, tuned-faulty, tuning-numbers}
+use Rattle.funnel_stats.proofs.TuningLemmas.{tuned-gives, tuned-given, tuned-wide, tuned-faulty, tuning-numbers}
 use Rattle.funnel_stats.proofs.laws.texts_are_tuned_by_what_they_give.Goals as goal
 
 pub returns-clause-gives : goal.returns-clause-gives
@@ -12,3 +12,6 @@ returns-clause-faulty c = tuned-faulty
 
 pub returns-clause-numbers : goal.returns-clause-numbers
 returns-clause-numbers c = tuning-numbers
+
+pub returns-clause-given : goal.returns-clause-given
+returns-clause-given c = tuned-given

@@ -1,4 +1,5 @@
-use Rattle.std.proofs.Common.{◌≡◌, ◌+◌, ◌*◌, ◌<◌, List, ◌∷◌, ap, sym, subst, ◌∙◌, arith}
+use Rattle.std.proofs.Common.{◌≡◌, ℕ, suc, ◌+◌, ◌*◌, ◌<◌, ◌≤◌, List, ◌∷◌, ap, sym, subst, ◌∙◌, arith}
+use Rattle.std.proofs.lemmas.Nat.{mul-le}
 use Rattle.funnel_model.proofs.NextEvents.{clears_in_range}
 use Rattle.slice_rule.specs.declared.view.Fact.{Fact}
 use Rattle.slice_rule.specs.declared.view.Fact.TheVariants as fact
@@ -8,18 +9,27 @@ use Rattle.slice_rule.specs.Seats.{PassState, after_own}
 use Rattle.slice_recycler.proofs.ZeroWords.{HasZeroed, zeroed_all, zeroed_more}
 use Rattle.slice_recycler.proofs.clearing.clear_slice.Goals as goal
 
-pub slice_range-first-requires : goal.slice_range-first-requires
-slice_range-first-requires c =
+suc_times : (a b : ℕ) → suc a * b ≡ a * b + b
+suc_times a b = omega arith
+
+pub first_word-first-requires : goal.first_word-first-requires
+first_word-first-requires c =
     let seat = c.args.seat.now in
-    let slices = ap (λ (p : PoolId). p.limits.slices) c.requires.pool ∙ c.requires.laid_out.slices in
-    subst (λ n. c.args.job.now.slice < n) slices (clears_in_range seat.pool.limits seat.front c.number.ensures.legal seat.number c.args.job.now.slice c.requires.job)
+    let slice = c.args.job.now.slice in
+    let room = c.args.room in
+    let slices = c.args.pool.now.limits.slices in
+    let in' : slice < slices =
+    subst (λ (p : PoolId). slice < p.limits.slices) c.requires.pool (clears_in_range seat.pool.limits seat.front c.number.ensures.legal seat.number slice c.requires.job) in
+    let more : suc slice * room ≤ slices * room = mul-le (suc slice) room slices room in' (omega arith) in
+    let small = c.requires.room.small in
+    omega (arith, more, small, suc_times slice room)
 
 pub loop-word-preserved : goal.loop-word-preserved
 loop-word-preserved c =
     let old = c.args.seat.now in
     let seat = c.loop-word.seat in
     let after = c.clear_word.new.seat in
-    let first = c.slice_range-first.result.0 in
+    let first = c.first_word-first.result in
     let word = c.loop-word.word in
     let k = last_number old.number old.front in
     let same = c.loop-word.invariant.seat in
@@ -38,10 +48,9 @@ loop-word-preserved c =
 pub returns-clause-zeros : goal.returns-clause-zeros
 returns-clause-zeros c =
     let old = c.args.seat.now in
-    let range = c.slice_range-first.ensures in
-    let first = c.slice_range-first.result.0 in
-    let words : c.args.pool.now.limits.slice_words ≡ c.slice_range-first.result.1 = c.requires.laid_out.words ∙ sym range.words in
-    let begins = range.first ∙ ap (λ n. c.args.job.now.slice * n) (sym c.requires.laid_out.words) in
+    let words = c.requires.room.words in
+    let first = c.first_word-first.result in
+    let begins = c.first_word-first.ensures.first ∙ ap (λ n. c.args.job.now.slice * n) words in
     let over = c.loop-word-test.false in
     let to = c.loop-word.invariant.to in
     let ends : c.loop-word.word ≡ first + c.args.pool.now.limits.slice_words = omega (arith, words, over, to) in

@@ -11,11 +11,12 @@ use Rattle.token_manager.specs.Guarding.{IsOldest}
 use Rattle.commit_desk.specs.Answers.{TakesCalls}
 use Rattle.commit_desk.specs.Desks.{DeskState, Makes}
 use Rattle.commit_desk.specs.Kept.{Books, IsDesk}
+use Rattle.commit_desk.specs.Layouts.{with_cleared}
 use Rattle.commit_desk.proofs.Few.{few-start}
 use Rattle.commit_desk.proofs.Inside.{books_of}
 use Rattle.commit_desk.proofs.MadeEvents.{desk_at, made_one, number_is}
 use Rattle.commit_desk.proofs.Marks.{IsLowestClearable, IsNextMark, desk-look, lowest_clearable}
-use Rattle.commit_desk.proofs.SliceEvents.{books_after, desk-with, kept-as, kept-clear}
+use Rattle.commit_desk.proofs.SliceEvents.{books_after, desk-with, kept-as, kept-clear, layouts-as}
 use Rattle.commit_desk.proofs.desk.Desk.begin_clear.Goals as goal
 use Rattle.commit_desk.proofs.desk.Desk.begin_clear.Goals.{in-Some, in-None, After-clearable, After-number-pass}
 
@@ -94,13 +95,19 @@ take_out-slots-requires-clause-there c =
     let slices_are = recorded.slices_are in
     recorded.out c.in-Some-clearable.slice (omega (arith, in', slices_are)) ∙ may.can_clear.retired.not_clearing
 
+pub renew-old_layout-requires : goal.renew-old_layout-requires
+renew-old_layout-requires c =
+    let in' = (may_now c.before.before.before.before.before.before.before.before.before.before.before).in_range in
+    let count = c.self.invariant.kept.layouts_are.count in
+    omega (arith, in', count)
+
 pub invariant_of-self-2 : goal.invariant_of-self-2
 invariant_of-self-2 c =
     let i = c.self.inside in
     let e = event.Clear c.number-pass.result c.in-Some-clearable.slice in
     let made = c.make_event-self-inside.ensures in
     let home = c.make_event-self-inside.new.home in
-    let number = c.before.before.before.before.before.before.before.before.before.before in
+    let number = c.before.before.before.before.before.before.before.before.before.before.before.before in
     let desk = desk_now number.before.before in
     let before = looked number.before.before in
     let few = few-start i.events_limit i.home.pool.limits.passes i.home.history e
@@ -108,15 +115,19 @@ invariant_of-self-2 c =
     let slice = c.in-Some-clearable.slice in
     let stages = with_stage c.look.new.self slice (stage.Clearing c.number-pass.result) in
     let table = without_slice i.records slice in
-    desk-with i.home.pool home.pool i.events_limit i.home.history i.home.history home.history before (books_after before c.make_event-self-inside.result c.take_out-slots.new.self c.clear.new.self) e
+    let cleared : Books = record before { layouts = with_cleared i.layouts slice } in
+    desk-with i.home.pool home.pool i.events_limit i.home.history i.home.history home.history before
+    (record (books_after before c.make_event-self-inside.result c.take_out-slots.new.self c.clear.new.self) { layouts = c.renew-old_layout.new.self }) e
     made.home.pool made.home.history refl desk
-    (kept-as i.home.pool.config i.home.pool.limits i.events_limit (i.home.history ++ e ∷ []) home.history (books_after before (length i.home.history + 1) table stages)
+    (layouts-as i.home.pool.config i.home.pool.limits i.events_limit home.history (books_after cleared c.make_event-self-inside.result c.take_out-slots.new.self c.clear.new.self) c.renew-old_layout.new.self
+    c.renew-old_layout.ensures.cleared
+    (kept-as i.home.pool.config i.home.pool.limits i.events_limit (i.home.history ++ e ∷ []) home.history (books_after cleared (length i.home.history + 1) table stages)
     c.make_event-self-inside.result c.take_out-slots.new.self c.clear.new.self made.home.history (number_is i.home home e c.make_event-self-inside.result made.home made.number) c.take_out-slots.ensures.table c.clear.ensures
-    (kept-clear i.home.pool.config i.home.pool.limits i.events_limit i.home.history before desk.kept c.number-pass.result c.in-Some-clearable.slice (allowed_now number) few))
+    (kept-clear i.home.pool.config i.home.pool.limits i.events_limit i.home.history before desk.kept c.number-pass.result c.in-Some-clearable.slice (allowed_now number) few)))
 
 pub returns-clause-may : goal.returns-clause-may
 returns-clause-may c =
-    let number = c.before.before.before.before.before.before.before.before.before.before in
+    let number = c.before.before.before.before.before.before.before.before.before.before.before.before in
     subst (λ n. MayClear c.args.self.now.pool.limits c.args.self.now.history n c.in-Some-clearable.slice) c.number-pass.ensures.number
     (subst (λ (d : DeskState). MayClear d.pool.limits d.history c.number-pass.result c.in-Some-clearable.slice) c.self.view_is (may_now number))
 
@@ -127,7 +138,7 @@ returns-clause-made c =
     let made = c.make_event-self-inside.ensures in
     let home = c.make_event-self-inside.new.home in
     let seat = c.make_event-self-inside.new.seat in
-    let number = c.before.before.before.before.before.before.before.before.before.before in
+    let number = c.before.before.before.before.before.before.before.before.before.before.before.before in
     subst (λ n. Makes (event.Clear n c.in-Some-clearable.slice ∷ []) c.args.self.now (desk_at home i.events_limit) c.args.seat.now seat) c.number-pass.ensures.number
     (made_one c.args.self.now i.home home i.events_limit c.args.seat.now seat e c.self.view_is c.requires.caught_up made.home
     (legal-push i.home.pool.limits i.home.history e c.self.invariant.kept.legal (allowed_now number)) made.seat)

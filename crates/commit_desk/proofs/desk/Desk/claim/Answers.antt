@@ -150,4 +150,4 @@ returns-clause-nothing_yet c =
     let next = c.make_event-self-inside.new.seat in
     let home = c.make_event-self-inside.new.home in
     unwritten next c.args.seat.now.front (event.Take c.number-pass.result c.args.slice c.claim-column.result) c.make_event-self-inside.result home.history
-    (c.number-pass.ensures.number ∙ sym made.seat.number) made.seat.front (returns-clause-made c).front made.number made.nothing_yet (invariant_of-self c).kept.untuned
+    (c.number-pass.ensures.number ∙ sym made.seat.number) made.seat.front (returns-clause-made c).front made.number made.nothing_yet

@@ -1,6 +1,7 @@
 use Rattle.std.proofs.Common.{◌≡◌, sym, ap, ◌∙◌, subst}
 use Rattle.std.specs.List.{list_any}
 use Rattle.funnel_model.specs.Events.{deletes_or_drops}
+use Rattle.funnel_model.specs.Legal.{IsLegal}
 use Rattle.slice_rule.specs.Pools.{PoolId}
 use Rattle.commit_desk.specs.Desks.{DeskState}
 use Rattle.commit_desk.specs.Passes.{HasWritten}
@@ -12,8 +13,11 @@ make_move-requires-clause-written c =
     let up = c.catch_up.ensures in
     let home = c.catch_up.new.home in
     let pool : c.args.self.now.pool ≡ home.pool = sym (up.home.pool ∙ ap (λ (d : DeskState). d.pool) c.self.view_is) in
+    let whole : c.args.self.now.history ≡ c.catch_up.new.seat.front = sym (ap (λ (d : DeskState). d.history) c.self.view_is) ∙ sym (up.front ∙ up.home.history) in
+    let legal : IsLegal c.args.self.now.pool.limits c.catch_up.new.seat.front =
+    subst (IsLegal c.args.self.now.pool.limits) whole (subst (λ (d : DeskState). IsLegal d.pool.limits d.history) c.self.view_is c.self.invariant.kept.legal) in
     subst (λ (p : PoolId). HasWritten p c.args.claim c.args.look.doc.words c.args.bits.now.bits c.catch_up.new.seat) pool
-    (written_held c.args.seat.now c.catch_up.new.seat up.seat up.none_since c.args.self.now.pool c.args.claim c.args.look.doc.words c.args.bits.now.bits up.none_outstanding c.requires.written)
+    (written_held c.args.seat.now c.catch_up.new.seat up.seat up.none_since c.args.self.now.pool c.args.claim c.args.look.doc.words c.args.bits.now.bits legal up.none_outstanding c.requires.written)
 
 pub make_void-requires-clause-claim : goal.make_void-requires-clause-claim
 make_void-requires-clause-claim c = let up = c.catch_up.ensures in claim_held c.args.seat.now c.catch_up.new.seat up.seat up.none_since c.args.claim c.requires.written.holds

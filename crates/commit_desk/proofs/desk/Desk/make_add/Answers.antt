@@ -10,7 +10,6 @@ use Rattle.funnel_model.specs.declared.event.Event.TheVariants as event
 use Rattle.funnel_model.specs.History.{is_live, last_by, place}
 use Rattle.funnel_model.specs.Legal.{IsAllowed, IsInSlice}
 use Rattle.funnel_model.proofs.Progress.{allowed_by}
-use Rattle.row_layout.specs.DocumentBits.{AreDocumentBits}
 use Rattle.slice_rule.specs.declared.view.Fact.TheVariants as fact
 use Rattle.slice_rule.specs.Numbers.{last_number}
 use Rattle.slice_rule.specs.Pools.{PoolId}
@@ -18,7 +17,8 @@ use Rattle.commit_desk.specs.Desks.{DeskState, IsCaughtUp, Makes}
 use Rattle.commit_desk.specs.Journals.{with_commit}
 use Rattle.commit_desk.specs.Kept.{Books}
 use Rattle.commit_desk.proofs.DocumentEvents.{desk-add, desk-as, taken_column}
-use Rattle.commit_desk.proofs.Inside.{books_of}
+use Rattle.commit_desk.proofs.HeldClaims.{bits_now}
+use Rattle.commit_desk.proofs.Inside.{books_of, desk_of}
 use Rattle.commit_desk.proofs.Journals.{journal_fits}
 use Rattle.commit_desk.proofs.RecordFacts.{no_entry, none_live_in_pending, taken_is_pending}
 use Rattle.commit_desk.proofs.Turns.{makes_one}
@@ -39,6 +39,7 @@ books c =
       table = i.records;
       live = i.live;
       tokens = i.tokens;
+      layouts = i.layouts;
       stages = i.stages;
     }
 
@@ -141,11 +142,12 @@ invariant_of-self c =
       table = with_slot i.records s k (record { column = became.Live (place i.home.history + 1) (length i.home.history + 1); doc = Some doc });
       live = c.add.new.self;
       tokens = i.tokens;
+      layouts = i.layouts;
       stages = i.stages;
     })
     c.make_event-number.result c.push.new.self c.live.new.self c.add.new.self i.stages
     (desk-add i.home.pool i.events_limit i.home.history (books earlier) c.self.invariant pass s k doc bits c.add.new.self (allowed_now earlier) c.words.ensures.of_text
-    (subst (λ (d : DeskState). AreDocumentBits d.pool.config doc.words s k bits) (sym c.self.view_is) c.requires.written.document)
+    (bits_now c.args.self.now (desk_of i) c.args.seat.now doc.words s k bits c.self.view_is c.requires.caught_up.front c.requires.written.document)
     (λ other. c.add.ensures.columns other ∙ ap (λ n. cond (other == n) (Some (s, k)) (column_of i.live other)) id)
     c.add.ensures.slices c.add.ensures.slice_columns)
     made.home.pool made.home.history

@@ -45,6 +45,7 @@ books c =
       table = i.records;
       live = i.live;
       tokens = i.tokens;
+      layouts = i.layouts;
       stages = i.stages;
     }
 
@@ -132,6 +133,7 @@ invariant_of-self c =
       table = with_slot i.records s k (record { column = became.Over e.live.added e.live.since (length i.home.history + 1); doc = Some doc });
       live = c.remove.new.self;
       tokens = i.tokens;
+      layouts = i.layouts;
       stages = with_stage i.stages s ended;
     })
     c.make_event-number.result c.push.new.self c.delete.new.self c.remove.new.self c.end_column.new.self

@@ -9,14 +9,14 @@ use Rattle.document_store.specs.declared.column.Column.TheVariants as became
 use Rattle.funnel_model.specs.declared.bit_list.Bit.{Bit}
 use Rattle.funnel_model.specs.declared.event.Event.TheVariants as event
 use Rattle.funnel_model.specs.Legal.{IsAllowed}
-use Rattle.row_layout.specs.DocumentBits.{AreDocumentBits}
 use Rattle.slice_rule.specs.Pools.{PoolId}
 use Rattle.slice_rule.specs.declared.view.Fact.TheVariants as fact
 use Rattle.slice_rule.specs.Numbers.{last_number}
 use Rattle.slice_stages.specs.Stages.{IsUsed, after_end, with_stage}
 use Rattle.commit_desk.specs.Desks.{DeskState, IsCaughtUp, Makes}
 use Rattle.commit_desk.proofs.DocumentEvents.{desk-as, none_retired_later}
-use Rattle.commit_desk.proofs.Inside.{books_of}
+use Rattle.commit_desk.proofs.HeldClaims.{bits_now}
+use Rattle.commit_desk.proofs.Inside.{books_of, desk_of}
 use Rattle.commit_desk.proofs.MoveEvents.{desk-move}
 use Rattle.commit_desk.proofs.MovedRecords.{moved_slot, moved_table, over_slot}
 use Rattle.commit_desk.proofs.MoveTurns.{allowed_now, cause_now, column_then, from_now, id_now, none_there, pending_then, same_now, stage_now, to_now}
@@ -122,7 +122,7 @@ invariant_of-self c =
     let allowed = subst (λ n. IsAllowed i.home.pool.limits i.home.history (event.Move pass n s k bits)) same_id (allowed_now c.args.self.now i.home i.events_limit (books_of i) c.self.invariant c.self.view_is c.args.seat.now c.requires.caught_up c.number-pass.result c.number-pass.ensures.number c.args.claim c.requires.written.holds c.args.look c.requires.look c.requires.there bits c.requires.written.inside c.requires.of_words) in
     let moved = desk-move i.home.pool i.events_limit i.home.history (books_of i) c.self.invariant pass s k look.slice look.column st.0 st.1 look.place at.doc look.doc bits at.lives c.remove.new.self c.add.new.self
     allowed (cause_now c.args.self.now i.home i.events_limit (books_of i) c.self.invariant c.self.view_is c.args.seat.now c.requires.caught_up c.number-pass.result c.number-pass.ensures.number c.args.claim c.requires.written.holds c.args.look c.requires.look c.requires.there) at.from (same_now c.args.self.now i.home i.events_limit (books_of i) c.self.invariant c.self.view_is c.args.seat.now c.requires.caught_up c.number-pass.result c.number-pass.ensures.number c.args.claim c.requires.written.holds c.args.look c.requires.look c.requires.there) c.requires.look.of_text
-    (subst (λ (d : DeskState). AreDocumentBits d.pool.config look.doc.words s k bits) (sym c.self.view_is) c.requires.written.document)
+    (bits_now c.args.self.now (desk_of i) c.args.seat.now look.doc.words s k bits c.self.view_is c.requires.caught_up.front c.requires.written.document)
     (λ other. c.remove.ensures.columns other ∙ ap (λ n. cond (other == n) None (column_of i.live other)) (c.id-id.ensures ∙ same_id)) c.remove.ensures.slices c.remove.ensures.slice_columns
     (λ other. c.add.ensures.columns other ∙ ap (λ n. cond (other == n) (Some (s, k)) (column_of c.remove.new.self other)) c.id-id.ensures) c.add.ensures.slices c.add.ensures.slice_columns st.2 in
     let gone = c.delete.ensures at.lives.added at.lives.since at.lives.column in
@@ -135,6 +135,7 @@ invariant_of-self c =
       table = table;
       live = c.add.new.self;
       tokens = i.tokens;
+      layouts = i.layouts;
       stages = stages;
     })
     c.make_event-number.result i.journal c.live.new.self c.add.new.self c.end_column.new.self moved

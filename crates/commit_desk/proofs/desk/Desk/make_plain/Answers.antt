@@ -29,6 +29,7 @@ invariant_of-self g c =
       live = i.live;
       tokens = i.tokens;
       stages = i.stages;
+      layouts = i.layouts;
     } in
     let home = c.make_event-self-inside.new.home in
     let made = c.make_event-self-inside.ensures in

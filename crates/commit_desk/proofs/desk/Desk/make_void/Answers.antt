@@ -30,6 +30,7 @@ books c =
       table = i.records;
       live = i.live;
       tokens = i.tokens;
+      layouts = i.layouts;
       stages = i.stages;
     }
 
@@ -112,6 +113,7 @@ invariant_of-self c =
       table = with_slot i.records s k (record { column = became.Dropped; doc = None });
       live = i.live;
       tokens = i.tokens;
+      layouts = i.layouts;
       stages = with_stage i.stages s ended;
     })
     c.make_event-number.result i.journal c.drop_column.new.self i.live c.end_column.new.self

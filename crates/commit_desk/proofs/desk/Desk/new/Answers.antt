@@ -4,8 +4,10 @@ use Rattle.funnel_model.specs.Configuration.{IsInRange}
 use Rattle.funnel_model.specs.declared.config.Config.{Config}
 use Rattle.funnel_model.specs.declared.event.Event.{Event}
 use Rattle.funnel_model.specs.Legal.{Limits, awaited}
+use Rattle.funnel_model.specs.Sizes.{words_of_slice}
 use Rattle.slice_rule.specs.Pools.{limits_of}
 use Rattle.commit_desk.specs.Kept.{Books, AreBooksOf}
+use Rattle.commit_desk.specs.Layouts.{first_layouts}
 use Rattle.commit_desk.proofs.KeptNew.{columns_as_made, few_columns, kept-new, some_columns}
 use Rattle.commit_desk.proofs.desk.Desk.new.Goals as goal
 
@@ -13,7 +15,7 @@ pub invariant_of-result : goal.invariant_of-result
 invariant_of-result c =
     let pool = c.args.home.pool in
     let config = c.args.config.now in
-    let limits = limits_of config pool.limits.slice_words in
+    let limits = limits_of config (words_of_slice config) in
     let columns = columns_as_made config c.requires.config in
     let books : Books = record {
       slices = config.slices;
@@ -24,21 +26,26 @@ invariant_of-result c =
       live = c.in_ok-new-3.field-0;
       tokens = c.in_ok-new-4.field-0;
       stages = c.in_ok-new-5.field-0;
+      layouts = c.in_ok-new-6.field-0;
     } in
     record {
       in_range = subst IsInRange (sym c.requires.made_with) c.requires.config;
-      sizes = c.requires.sizes ∙ ap (λ k. limits_of k pool.limits.slice_words) (sym c.requires.made_with);
+      sizes = c.requires.sizes ∙ ap (λ (k : Config). limits_of k (words_of_slice k)) (sym c.requires.made_with);
       some = c.requires.some;
       bounded = c.requires.bounded;
       none_awaited = ap awaited c.requires.empty;
       kept = subst (λ (k : Config). AreBooksOf k pool.limits c.args.events_limit c.args.home.history books) (sym c.requires.made_with)
           (subst (λ (l : Limits). AreBooksOf config l c.args.events_limit c.args.home.history books) (sym c.requires.sizes)
           (subst (λ (h : List Event). AreBooksOf config limits c.args.events_limit h books) (sym c.requires.empty)
-          (kept-new config limits c.args.events_limit books (some_columns config c.requires.config) refl columns refl c.in_ok-new.ensures
+          (kept-new config limits c.args.events_limit books c.requires.config (some_columns config c.requires.config) refl columns refl c.in_ok-new.ensures
           c.in_ok-new-2.ensures.slices (c.in_ok-new-2.ensures.columns ∙ columns) (c.in_ok-new-2.ensures.free ∙ ap (λ n. replicate (config.slices * n) free_slot) columns) c.in_ok-new-2.ensures.all_there c.in_ok-new-3.ensures.empty c.in_ok-new-3.ensures.slices (c.in_ok-new-3.ensures.slice_columns ∙ columns)
-          c.in_ok-new-4.ensures (c.in_ok-new-5.ensures.columns ∙ columns) c.in_ok-new-5.ensures.stages c.in_ok-new-5.ensures.mark)));
+          c.in_ok-new-4.ensures (c.in_ok-new-5.ensures.columns ∙ columns) c.in_ok-new-5.ensures.stages c.in_ok-new-5.ensures.mark
+          (c.in_ok-new-6.ensures ∙ ap (first_layouts config.slices) c.requires.laid))));
     }
 
 pub new-requires-3 : goal.new-requires-3
 new-requires-3 c =
     subst (λ n. c.args.config.now.slices * n < 2 ^ 32) (sym (columns_as_made c.args.config.now c.requires.config)) (few_columns c.args.config.now c.requires.config)
+
+pub new-requires-6 : goal.new-requires-6
+new-requires-6 c = c.requires.config.slices.1

@@ -1,6 +1,7 @@
 use Rattle.std.proofs.Common.{Ok, subst}
 use Rattle.commit_desk.specs.Answers.{AnswersFind}
 use Rattle.commit_desk.specs.Desks.{DeskState}
+use Rattle.commit_desk.specs.FindLayouts.{AreFindLayouts}
 use Rattle.commit_desk.proofs.FindTurns.{desk_is}
 use Rattle.commit_desk.proofs.Turns.{idle_now}
 use Rattle.commit_desk.proofs.desk.Desk.open_find.Goals as goal
@@ -15,3 +16,10 @@ pub returns-clause-answer : goal.returns-clause-answer
 returns-clause-answer c =
     let same = desk_is c.args.self.now c.self.inside.home c.catch_up.new.home c.self.inside.events_limit c.self.view_is c.catch_up.ensures.home in
     subst (λ (d : DeskState). AnswersFind d.events_limit d.pool.limits d.history (Ok c.make_find.result)) same c.make_find.ensures.answer
+
+-- the token has the slices in use, which were shared out
+pub returns-clause-layouts : goal.returns-clause-layouts
+returns-clause-layouts c =
+    let same = desk_is c.args.self.now c.self.inside.home c.catch_up.new.home c.self.inside.events_limit c.self.view_is c.catch_up.ensures.home in
+    subst (λ (d : DeskState). AreFindLayouts d.pool d.history c.make_find.result c.share_layouts.new.layouts.entries.items) same
+    (c.in-Ok.ensures c.make_find.result c.make_find.ensures.answer.3)

@@ -9,6 +9,7 @@ use Rattle.commit_desk.proofs.Inside.{books_of}
 use Rattle.commit_desk.proofs.JobTurns.{JobTurn, job_turn, opened_allowed, opened_kept, opened_made, pool_now, slice_clearing, slice_in_range, slice_out, slots_back, some_column}
 use Rattle.commit_desk.proofs.MadeEvents.{caught_after, desk_at, made_one, number_is, unwritten}
 use Rattle.commit_desk.proofs.SliceEvents.{books_after, desk-with, kept-as, kept-take}
+use Rattle.commit_desk.proofs.TakenRoom.{laid_by_reuse}
 use Rattle.commit_desk.proofs.Turns.{makes_later, makes_more}
 use Rattle.std.proofs.lemmas.List.{get_or-set_same}
 use Rattle.std.specs.Prelude.{IfSome}
@@ -226,11 +227,13 @@ returns-clause-events c =
     (makes_later (opens ∷ takes ∷ []) now after seat up second.new.seat turn.same turn.goes turn.caught_up.front
     (makes_more (opens ∷ []) (takes ∷ []) now middle after up first.new.seat second.new.seat one two)))
 
-pub returns-clause-nothing_yet : goal.returns-clause-nothing_yet
-returns-clause-nothing_yet c =
+pub returns-clause-prepared : goal.returns-clause-prepared
+returns-clause-prepared c =
     let made = c.make_event-self-inside-2.ensures in
     let next = c.make_event-self-inside-2.new.seat in
     let home = c.make_event-self-inside-2.new.home in
-    unwritten next c.make_event-self-inside.new.seat.front (event.Take c.number-pass.result c.args.job.slice c.claim-column.result) c.make_event-self-inside-2.result home.history
-    (c.number-pass.ensures.number ∙ sym (made.seat.number ∙ c.make_event-self-inside.ensures.seat.number)) made.seat.front (returns-clause-events c).front made.number made.nothing_yet
-    (invariant_of-self c).kept.untuned
+    record {
+      unwritten = unwritten next c.make_event-self-inside.new.seat.front (event.Take c.number-pass.result c.args.job.slice c.claim-column.result) c.make_event-self-inside-2.result home.history
+          (c.number-pass.ensures.number ∙ sym (made.seat.number ∙ c.make_event-self-inside.ensures.seat.number)) made.seat.front (returns-clause-events c).front made.number made.nothing_yet;
+      laid = λ layout is. laid_by_reuse c.args.self.now (desk_at home c.self.inside.events_limit) c.args.seat.now next layout c.args.job c.requires.cleared.holds (returns-clause-events c) is;
+    }

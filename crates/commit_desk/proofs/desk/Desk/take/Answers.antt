@@ -1,7 +1,10 @@
-use Rattle.std.proofs.Common.{subst}
-use Rattle.commit_desk.specs.Answers.{MayEnter, RefusesAdd, TakesCalls}
-use Rattle.commit_desk.proofs.Checks.{takes_calls}
-use Rattle.commit_desk.proofs.Refused.{add_is_refused}
+use Rattle.std.proofs.Common.{◌≡◌, true, false, inl, sym, ap, subst}
+use Rattle.std.specs.Option.{is_some}
+use Rattle.funnel_model.specs.History.{is_live}
+use Rattle.commit_desk.specs.Answers.{IsPresent, TakesCalls}
+use Rattle.commit_desk.specs.Desks.{DeskState}
+use Rattle.commit_desk.proofs.Checks.{absent_by_place, live_by_place, takes_calls}
+use Rattle.commit_desk.proofs.FindTurns.{desk_is}
 use Rattle.commit_desk.proofs.Turns.{idle_now}
 use Rattle.commit_desk.proofs.desk.Desk.take.Goals as goal
 
@@ -11,7 +14,10 @@ take_room-requires-clause-may c =
     let home = c.catch_up.new.home in
     record {
       idle = idle_now c.args.seat.now c.catch_up.new.seat home.history e.seat e.none_since e.front c.requires.idle;
-      enters = subst (MayEnter c.self.inside.events_limit home.history) c.id.ensures c.in-Ok.ensures;
+      enters = record {
+        takes_calls = takes_calls c.self.inside.events_limit home.history c.if-is_spent.ensures.spent.1;
+        absent = subst (λ n. is_live n home.history ≡ false) c.id.ensures (absent_by_place home.history c.id.result (ap is_some (sym c.in_default.ensures)));
+      };
     }
 
 pub refuse_add-requires-clause-idle : goal.refuse_add-requires-clause-idle
@@ -21,6 +27,14 @@ refuse_add-requires-clause-idle c =
 pub refuse_add-requires-clause-refused : goal.refuse_add-requires-clause-refused
 refuse_add-requires-clause-refused c =
     let home = c.catch_up.new.home in
-    let takes : TakesCalls c.self.inside.events_limit home.history = takes_calls c.self.inside.events_limit home.history c.if-is_spent.ensures.spent.1 in
-    add_is_refused c.self.inside.events_limit home.pool.limits home.history c.args.doc.now.id c.args.doc.now.text c.in-Err.fault takes
-    (subst (λ n. RefusesAdd c.self.inside.events_limit home.pool.limits home.history n c.in-Err.fault) c.id.ensures c.in-Err.ensures)
+    inl (subst (λ n. is_live n home.history ≡ true) c.id.ensures (live_by_place home.history c.id.result (ap is_some (sym c.in-Some.ensures))))
+
+pub returns-in-Some-clause-answer : goal.returns-in-Some-clause-answer
+returns-in-Some-clause-answer c =
+    let i = c.self.inside in
+    let home = c.catch_up.new.home in
+    let same = desk_is c.args.self.now i.home home i.events_limit c.self.view_is c.catch_up.ensures.home in
+    subst (λ (d : DeskState). TakesCalls d.events_limit d.history × IsPresent d.history c.args.doc.now.id c.in-Some.place) same (
+      takes_calls i.events_limit home.history c.if-is_spent.ensures.spent.1,
+      subst (λ n. IsPresent home.history n c.in-Some.place) c.id.ensures (record { live = sym c.in-Some.ensures }),
+    )

@@ -7,6 +7,7 @@ use Rattle.engine.proofs.client.Client.query.Goals as goal
 
 pub returns-in-Ok-clause-answers : goal.returns-in-Ok-clause-answers
 returns-in-Ok-clause-answers g c =
+    let opening = g.N.PoolName.pool.config in
     let limits = g.N.PoolName.pool.limits in
     let pass = c.self.inside.pass in
     let next = c.find_any.new.pass in
@@ -16,8 +17,8 @@ returns-in-Ok-clause-answers g c =
       expr = read.0;
       reads = read.1;
       answers =
-          subst (λ (given : Reply). AnswersCall (record { limits = limits; pass = pass.number }) pass.front next.front (call.Query read.0) given) (sym c.reply_to_find.ensures)
-          (answers limits pass.number read.0 c.in-Ok.judge.expr read.2 pass.front next.front next.number c.find_any.result c.find_any.ensures.call c.find_any.ensures.turns);
+          subst (λ (given : Reply). AnswersCall (record { opening = opening; limits = limits; pass = pass.number }) pass.front next.front (call.Query read.0) given) (sym c.reply_to_find.ensures)
+          (answers opening limits pass.number read.0 c.in-Ok.judge.expr read.2 pass.front next.front next.number c.find_any.result c.find_any.ensures.call c.find_any.ensures.turns);
     }))
 
 pub returns-in-Err-clause-answers : goal.returns-in-Err-clause-answers

@@ -1,4 +1,4 @@
-use Rattle.std.proofs.Common.{ℕ, List, subst, ◌∙◌}
+use Rattle.std.proofs.Common.{ℕ, List, inl, refl, subst, ◌∙◌}
 use Rattle.funnel_model.specs.Legal.{IsIdle}
 use Rattle.engine.specs.Adds.{OwnTurns}
 use Rattle.engine.proofs.AddSteps.{moved_step, moved_turns}
@@ -40,3 +40,7 @@ returns-in-Ok-clause-call g c =
           c.pass.invariant.idle (subst (λ (n : ℕ). IsIdle n start.front) c.move_some.ensures.number c.move_some.ensures.rests.idle) c.add_prepared.ensures.legal;
       number = c.add_prepared.ensures.number ∙ c.move_some.ensures.number;
     })
+
+-- no memory was found, and nothing was done
+pub returns-in-Err-clause-turns : goal.returns-in-Err-clause-turns
+returns-in-Err-clause-turns g c = inl refl

@@ -1,9 +1,17 @@
-use Rattle.std.proofs.Common.{◌≡◌, sym, ◌∙◌, subst, inr}
+use Rattle.std.proofs.Common.{◌≡◌, List, ap, sym, ◌∙◌, subst, inl, inr}
+use Rattle.commit_desk.specs.Layouts.{IsLayoutOf}
 use Rattle.commit_desk.specs.Passes.{HasCleared, IsToClear}
+use Rattle.funnel_model.specs.declared.claim.Claim.{Claim}
+use Rattle.funnel_model.specs.declared.event.Event.{Event}
 use Rattle.slice_recycler.proofs.Recycles.{has_cleared}
 use Rattle.slice_rule.specs.Pools.{PoolId}
+use Rattle.slice_rule.specs.Seats.{PassState}
 use Rattle.engine.proofs.Claims.{cleared_first}
+use Rattle.engine.proofs.Sizes.{is_room_of}
 use Rattle.engine.proofs.engine.Engine.claim.Goals as goal
+
+pub clear-requires-clause-room : goal.clear-requires-clause-room
+clear-requires-clause-room g c = is_room_of c.self.inside.pool c.self.inside.room c.self.invariant.of_config c.self.invariant.room_is
 
 pub opened_take-requires : goal.opened_take-requires
 opened_take-requires g c =
@@ -17,10 +25,22 @@ opened_take-requires g c =
       slots = c.empty.ensures ∙ c.in-Clear.ensures.next.1;
     }
 
+pub returns-in-Claim-clause-turns : goal.returns-in-Claim-clause-turns
+returns-in-Claim-clause-turns g c = inl (record { layout = c.in-Claim.layout; took = c.in-Claim.ensures.turn })
+
 pub returns-in-Clear-clause-turns : goal.returns-in-Clear-clause-turns
 returns-in-Clear-clause-turns g c =
     let pass = c.args.pass.now in
     let doc = c.args.doc.now in
     let opened = c.opened_take.ensures in
-    inr (cleared_first g.N.PoolName.pool.limits pass.number doc.id doc.text pass.front c.opened_take.new.pass.front c.in-Clear.to_clear c.opened_take.result c.take.new.pass c.clear.new.seat
-    c.in-Clear.ensures.turn c.in-Clear.ensures.next.1 c.take.ensures.number c.clear.ensures.seat opened.turn opened.slice opened.column)
+    inr (cleared_first g.N.PoolName.pool.limits pass.number doc.id doc.text pass.front c.opened_take.new.pass.front c.in-Clear.to_clear c.in-Clear.layout c.opened_take.result c.take.new.pass c.clear.new.seat
+    c.in-Clear.ensures.turn c.in-Clear.ensures.next.1 c.take.ensures.number c.clear.ensures.seat opened.turn (ap (λ (k : Claim). k.slice) opened.claim) (ap (λ (k : Claim). k.column) opened.claim))
+
+-- the slice has the layout that it had as the pass began to clear it
+pub returns-in-Clear-clause-next : goal.returns-in-Clear-clause-next
+returns-in-Clear-clause-next g c =
+    let pool = g.N.PoolName.pool in
+    let slice = c.in-Clear.to_clear.job.slice in
+    let layout = c.in-Clear.layout in
+    let front = ap (λ (p : PassState). p.front) c.clear.ensures.seat in
+    c.opened_take.ensures.next layout (subst (λ (h : List Event). IsLayoutOf pool.config slice h layout) (sym front) c.in-Clear.ensures.next.2)

@@ -1,28 +1,35 @@
-use Rattle.std.proofs.Common.{◌≡◌, All, ap, sym, subst, ◌∙◌}
-use Rattle.commit_desk.specs.Judging.{HasSomeBranch}
-use Rattle.engine.proofs.JudgedFinds.{kept_turns}
-use Rattle.engine.specs.Branches.{IsPlanned, words_of_each}
-use Rattle.funnel_model.specs.declared.config.Config.{Config}
-use Rattle.funnel_model.specs.Legal.{IsLegal}
-use Rattle.row_layout.specs.Layouts.{LayoutId}
-use Rattle.slice_rule.specs.Pools.{PoolId}
+use Rattle.engine.proofs.Finds.{just_begun, kept_turns, refused_find}
+use Rattle.commit_desk.specs.declared.answers.FindFault.{FindFault}
+use Rattle.commit_desk.specs.declared.answers.FindFault.TheVariants as find
+use Rattle.std.proofs.Common.{[], List, Err, inl, Bool, ℕ}
+use Rattle.engine.specs.Finds.{RefusedTurn}
+use Rattle.engine.specs.Judged.{JudgedTurns}
+use Rattle.funnel_model.specs.declared.event.Event.{Event}
+use Rattle.funnel_model.specs.Legal.{Limits}
 use Rattle.engine.proofs.engine.Engine.find_kept.Goals as goal
 
-pub returns-in_default-clause-legal : goal.returns-in_default-clause-legal
-returns-in_default-clause-legal g c = subst (λ (p : PoolId). IsLegal p.limits c.args.pass.now.front) c.requires.pass.seated.same c.number.ensures.legal
+-- a find that the desk refused is refused so
+refused_turn : (limits : Limits) (pass : ℕ) (test : List ℕ → Bool) (before after : List Event) (fault : FindFault) → RefusedTurn limits pass before after fault →
+    JudgedTurns limits pass test before after (Err fault)
+refused_turn limits pass test before after find.Memory refused = inl refused
+refused_turn limits pass test before after (find.Spent events) refused = refused
 
-pub finish_kept-requires-clause-planned : goal.finish_kept-requires-clause-planned
-finish_kept-requires-clause-planned g c =
-    let laid_out : c.self.inside.layout.config ≡ g.N.PoolName.pool.config = ap (λ (l : LayoutId). l.config) c.self.invariant.laid_out ∙ ap (λ (p : PoolId). p.config) c.self.invariant.of_name in
-    subst (All (IsPlanned g.N.PoolName.pool.config)) (sym c.as_slice.ensures.value) (subst (λ (config : Config). All (IsPlanned config) c.in-Ok.planned.items) laid_out c.in-Ok.ensures.planned)
+pub returns-in-Err-clause-turns : goal.returns-in-Err-clause-turns
+returns-in-Err-clause-turns g c =
+    let limits = g.N.PoolName.pool.limits in
+    let pass = c.args.pass.now in
+    let after = c.open_find.new.pass.front in
+    refused_turn limits pass.number (g.J.Judge.test c.args.judge.now) pass.front after c.in-Err.fault (refused_find limits pass.number [] pass.front after c.in-Err.fault c.in-Err.ensures.turn)
 
-pub finish_kept-requires-clause-judge : goal.finish_kept-requires-clause-judge
-finish_kept-requires-clause-judge g c =
-    subst (HasSomeBranch (g.J.Judge.test c.args.judge.now)) (sym (ap words_of_each c.as_slice.ensures.value ∙ c.in-Ok.ensures.words)) c.requires.judge
+pub finish_kept-requires-clause-begun : goal.finish_kept-requires-clause-begun
+finish_kept-requires-clause-begun g c =
+    let opened = c.in-Ok.ensures in
+    just_begun g.N.PoolName.pool.limits c.args.pass.now.number [] c.args.pass.now.front g.N.PoolName.pool c.open_find.new.pass c.in-Ok.token c.open_find.new.layouts.entries.items opened.number
+    (record { earlier = opened.turn.earlier; seen = opened.turn.seen; answer = opened.turn.answer.0; made = opened.turn.made }) opened.next opened.layouts
 
 pub returns-in-Ok-finish_kept-clause-turns : goal.returns-in-Ok-finish_kept-clause-turns
 returns-in-Ok-finish_kept-clause-turns g c =
-    let opened = c.in-Ok-open_find.ensures in
+    let opened = c.in-Ok.ensures in
     let did = c.in-Ok-finish_kept.ensures in
     kept_turns g.N.PoolName.pool.limits c.args.pass.now.number (g.J.Judge.test c.args.judge.now) c.args.pass.now.front c.open_find.new.pass opened.number
     (record { earlier = opened.turn.earlier; seen = opened.turn.seen; answer = opened.turn.answer.0; made = opened.turn.made }) c.finish_kept.new.pass.front did.ended c.in-Ok-finish_kept.ids did.kept

@@ -1,12 +1,29 @@
-use Rattle.std.proofs.Common.{refl, ◌∙◌, subst}
-use Rattle.engine.proofs.FoundUpTo.{ends_from}
-use Rattle.engine.proofs.JudgedFinds.{all_judged_later}
+use Rattle.std.proofs.Common.{◌<◌, ◌≤◌, ℕ, Option, length, refl, ◌∙◌, subst, arith}
+use Rattle.std.proofs.lemmas.Bool.{false_from_ne_true}
+use Rattle.commit_desk.specs.Passes.{IsFinding}
+use Rattle.commit_desk.specs.Resolving.{FindsUpTo}
+use Rattle.engine.proofs.FindParts.{ends_from, found_from, found_in, found_to}
 use Rattle.engine.proofs.Moves.{front_goes_on, front_refl, silent_turn}
+use Rattle.document_store.specs.Finding.{judged_cost}
+use Rattle.engine.specs.Finds.{end_of_turn}
+use Rattle.engine.specs.Judged.{by_judge}
+use Rattle.funnel_model.specs.declared.claim.Token.{Token}
 use Rattle.funnel_model.specs.History.{IsFrontOf}
+use Rattle.funnel_model.specs.Tokens.{HasToken}
 use Rattle.engine.proofs.engine.Engine.judge_each.Goals as goal
 
 pub loop-open-init : goal.loop-open-init
-loop-open-init g c = record { so_far = c.requires.so_far; same = refl; seen = front_refl c.args.pass.now.number c.args.pass.now.front; number = refl }
+loop-open-init g c = record {
+  judging = c.requires.judging;
+  can = record { within = omega arith; room = omega (arith, c.requires.room) };
+  so_far = found_from (by_judge (g.J.Judge.test c.args.judge.now)) c.args.pass.now c.args.token c.args.candidates.now c.args.out.now.found;
+  same = refl;
+  seen = front_refl c.args.pass.now.number c.args.pass.now.front;
+  number = refl;
+}
+
+pub judge_turn-requires : goal.judge_turn-requires
+judge_turn-requires g c = record { judging = c.loop-open.invariant.judging; can = c.loop-open.invariant.can }
 
 pub loop-open-preserved : goal.loop-open-preserved
 loop-open-preserved g c =
@@ -15,24 +32,78 @@ loop-open-preserved g c =
     let next = c.judge_turn.new.pass in
     let inv = c.loop-open.invariant in
     let did = c.in-Some.ensures in
+    let comes = did.next.1 in
+    let onward = (did.found inv.judging.holds.begun).turn.2.onward in
     record {
-      so_far = did.next;
-      same = did.onward.same ∙ inv.same;
+      judging = did.next.0;
+      can = comes.can;
+      so_far = found_to (by_judge (g.J.Judge.test c.args.judge.now)) pass before c.args.token (judged_cost (g.J.Judge.cost c.args.judge.now)) c.args.entry.now.slices c.args.candidates.now c.loop-open.from c.in-Some.next c.args.out.now.found c.loop-open.out.found
+          c.judge_turn.new.out.found inv.number inv.seen onward inv.so_far
+          (subst (λ (t : Token). (begun : HasToken before.front before.number t.opened_at) → FindsUpTo begun.earlier (g.J.Judge.test c.args.judge.now) (judged_cost (g.J.Judge.cost c.args.judge.now)) c.args.entry.now.slices c.args.candidates.now
+          c.loop-open.from c.in-Some.next c.loop-open.out.found c.judge_turn.new.out.found) inv.same did.found);
+      same = comes.same ∙ inv.same;
       seen = front_goes_on pass.number pass.front before.front next.front inv.seen
           (subst (λ n. IsFrontOf n before.front next.front) inv.number (silent_turn {answers = λ history. Unit {0}} before.number before.front next.front did.turn));
       number = did.number ∙ inv.number;
     }
 
+pub loop-open-smaller : goal.loop-open-smaller
+loop-open-smaller g c =
+    let less : c.in-Some.next < length c.args.candidates.now = omega (arith, c.if-len-next.false, c.len.ensures) in
+    omega (arith, less, c.in-Some.ensures.next.1.further less)
+
+-- the slices are not the last ones
+pub returns-then-len-next-clause-found : goal.returns-then-len-next-clause-found
+returns-then-len-next-clause-found g c =
+    let pass = c.args.pass.now in
+    let before = c.loop-open.pass in
+    let inv = c.loop-open.invariant in
+    let did = c.in-Some.ensures in
+    let onward = (did.found inv.judging.holds.begun).turn.2.onward in
+    let last : length c.args.candidates.now ≤ c.in-Some.next = omega (arith, c.if-len-next.true, c.len.ensures) in
+    found_in (by_judge (g.J.Judge.test c.args.judge.now)) pass before c.args.token (judged_cost (g.J.Judge.cost c.args.judge.now)) c.args.entry.now.slices c.args.candidates.now c.loop-open.from c.in-Some.next c.args.out.now.found c.loop-open.out.found
+    c.judge_turn.new.out.found inv.number inv.seen onward inv.so_far
+    (subst (λ (t : Token). (begun : HasToken before.front before.number t.opened_at) → FindsUpTo begun.earlier (g.J.Judge.test c.args.judge.now) (judged_cost (g.J.Judge.cost c.args.judge.now)) c.args.entry.now.slices c.args.candidates.now
+    c.loop-open.from c.in-Some.next c.loop-open.out.found c.judge_turn.new.out.found) inv.same did.found) last
+
+pub returns-then-len-next-clause-goes_on : goal.returns-then-len-next-clause-goes_on
+returns-then-len-next-clause-goes_on g c =
+    let pass = c.args.pass.now in
+    let before = c.loop-open.pass in
+    let next = c.judge_turn.new.pass in
+    let inv = c.loop-open.invariant in
+    let did = c.in-Some.ensures in
+    let same = did.next.1.same ∙ inv.same in
+    let over : length c.args.candidates.now ≤ c.in-Some.next = omega (arith, c.if-len-next.true, c.len.ensures) in (
+      false_from_ne_true c.args.last (λ is. let less = did.next.1.more is in omega (arith, less, over)),
+      same,
+      subst (λ (t : Token). IsFinding g.N.PoolName.pool t next) same (record { seated = did.next.0.seated; holds = did.next.0.holds }),
+      front_goes_on pass.number pass.front before.front next.front inv.seen
+          (subst (λ n. IsFrontOf n before.front next.front) inv.number (silent_turn {answers = λ history. Unit {0}} before.number before.front next.front did.turn)),
+    )
+
+-- the last turn ended the find
 pub returns-clause-found : goal.returns-clause-found
 returns-clause-found g c =
+    let before = c.loop-open.pass in
     let inv = c.loop-open.invariant in
-    all_judged_later c.args.pass.now c.loop-open.pass c.args.token c.loop-open.token (g.J.Judge.test c.args.judge.now) c.args.candidates.now c.judge_turn.new.out.found inv.same inv.number inv.seen
-    (c.judge_turn.ensures.over c.in_default.is).0
+    let candidates = c.args.candidates.now in
+    let turn : (begun : HasToken before.front before.number c.loop-open.token.opened_at) → FindsUpTo begun.earlier (g.J.Judge.test c.args.judge.now) (judged_cost (g.J.Judge.cost c.args.judge.now)) c.args.entry.now.slices candidates c.loop-open.from
+    (length candidates) c.loop-open.out.found c.judge_turn.new.out.found =
+    subst (λ (o : Option (Token × ℕ)). (begun : HasToken before.front before.number c.loop-open.token.opened_at) → FindsUpTo begun.earlier (g.J.Judge.test c.args.judge.now) (judged_cost (g.J.Judge.cost c.args.judge.now)) c.args.entry.now.slices
+    candidates c.loop-open.from (end_of_turn candidates o) c.loop-open.out.found c.judge_turn.new.out.found) c.in_default.is c.judge_turn.ensures.found in
+    found_in (by_judge (g.J.Judge.test c.args.judge.now)) c.args.pass.now before c.args.token (judged_cost (g.J.Judge.cost c.args.judge.now)) c.args.entry.now.slices candidates c.loop-open.from (length candidates) c.args.out.now.found c.loop-open.out.found
+    c.judge_turn.new.out.found inv.number inv.seen inv.can.within inv.so_far
+    (subst (λ (t : Token). (begun : HasToken before.front before.number t.opened_at) → FindsUpTo begun.earlier (g.J.Judge.test c.args.judge.now) (judged_cost (g.J.Judge.cost c.args.judge.now)) c.args.entry.now.slices candidates c.loop-open.from
+    (length candidates) c.loop-open.out.found c.judge_turn.new.out.found) inv.same turn) (omega arith)
 
-pub returns-clause-ended : goal.returns-clause-ended
-returns-clause-ended g c =
+pub returns-clause-goes_on : goal.returns-clause-goes_on
+returns-clause-goes_on g c =
     let inv = c.loop-open.invariant in
-    ends_from c.args.pass.now c.loop-open.pass c.judge_turn.new.pass.front c.judge_turn.result inv.number inv.seen c.in_default.is c.judge_turn.ensures.turn
-
-pub returns-clause-rests : goal.returns-clause-rests
-returns-clause-rests g c = (c.judge_turn.ensures.over c.in_default.is).1
+    let over = c.judge_turn.ensures.over c.in_default.is in (
+      over.0,
+      (
+        ends_from c.args.pass.now c.loop-open.pass c.judge_turn.new.pass.front c.judge_turn.result inv.number inv.seen c.in_default.is c.judge_turn.ensures.turn,
+        over.1,
+      ),
+    )

@@ -4,16 +4,16 @@ use Rattle.engine.proofs.engine.Engine.merge_branch.Goals as goal
 
 pub add_all-requires-clause-slice : goal.add_all-requires-clause-slice
 add_all-requires-clause-slice g c candidate has =
-    let pool = g.N.PoolName.pool in
     let found = c.in_ok-found in
-    of_slice pool.config pool c.args.rows.now c.scan_at.new.rows found.ensures.kept c.requires.scan.can_read c.args.slice c.args.branch.now.words.now found.found found.ensures.scanned candidate has ∙ sym c.requires.merging.at
+    of_slice g.N.PoolName.pool c.args.entry.now c.args.rows.now c.scan_at.new.rows found.ensures.kept c.requires.scan.readable c.args.slice c.args.branch.now.words.now found.found found.ensures.scanned candidate has
+    ∙ sym c.requires.merging.at
 
 pub add_all-requires-clause-columns : goal.add_all-requires-clause-columns
 add_all-requires-clause-columns g c candidate has =
-    let pool = g.N.PoolName.pool in
     let found = c.in_ok-found in
     subst (λ n. candidate.1 < n) (sym c.requires.merging.columns_are)
-    (column_below pool.config pool c.args.rows.now c.scan_at.new.rows found.ensures.kept c.requires.scan.can_read c.args.slice c.args.branch.now.words.now found.found found.ensures.scanned candidate has)
+    (column_below g.N.PoolName.pool c.args.entry.now c.args.rows.now c.scan_at.new.rows found.ensures.kept c.requires.scan.readable c.args.slice c.args.branch.now.words.now found.found found.ensures.scanned candidate
+    has)
 
 pub returns-in_err-add_all-clause-merging : goal.returns-in_err-add_all-clause-merging
 returns-in_err-add_all-clause-merging g c =

@@ -2,13 +2,14 @@ use Rattle.std.proofs.Common.{◌++◌, ◌∷◌, [], ℕ, List, take, refl, sy
 use Rattle.engine.proofs.BranchScans.{adds_more, adds_none, can_scan, words_more}
 use Rattle.engine.specs.declared.branch_scans.Planned.{Planned}
 use Rattle.engine.specs.Branches.{AddsEach, IsPlanned, words_of_each}
+use Rattle.engine.specs.Scans.{part_of}
 use Rattle.engine.proofs.engine.Engine.merge_each.Goals as goal
 
 pub loop-branch-init : goal.loop-branch-init
 loop-branch-init g c =
     let rows = c.args.rows.now in
     record {
-      added = adds_none g.N.PoolName.pool.config rows.seat.now rows.token.now c.args.slice c.args.merged.now.list;
+      added = adds_none c.args.entry.now.layout.config rows.seat.now (part_of c.args.entry.now rows) c.args.slice c.args.merged.now.list;
       merging = c.requires.merging;
       seen = λ bit was. was;
       kept = refl;
@@ -16,14 +17,14 @@ loop-branch-init g c =
 
 pub merge_branch-requires-clause-scan : goal.merge_branch-requires-clause-scan
 merge_branch-requires-clause-scan g c =
-    let pool = g.N.PoolName.pool in
+    let entry = c.args.entry.now in
     let one = c.branch-item.result in
-    let planned = subst (IsPlanned pool.config) (sym c.branch-item.is) (c.requires.scan.planned c.loop-branch.branch-index one c.loop-branch-test.true) in
-    can_scan pool c.args.rows.now c.loop-branch.rows one c.loop-branch.invariant.kept c.requires.scan.same c.requires.scan.can_read planned
+    let planned = subst (IsPlanned entry.layout.config) (sym c.branch-item.is) (c.requires.scan.planned c.loop-branch.branch-index one c.loop-branch-test.true) in
+    can_scan g.N.PoolName.pool c.args.rows.now c.loop-branch.rows entry one c.loop-branch.invariant.kept c.requires.scan.readable planned
 
 pub loop-branch-preserved : goal.loop-branch-preserved
 loop-branch-preserved g c =
-    let config = g.N.PoolName.pool.config in
+    let entry = c.args.entry.now in
     let branches = c.args.branches.now in
     let at = c.loop-branch.branch-index in
     let inv = c.loop-branch.invariant in
@@ -35,9 +36,9 @@ loop-branch-preserved g c =
     let new = c.merge_branch.new.merged.list in
     record {
       added =
-          subst (λ (bs : List (List (List ℕ))). AddsEach config next.seat.now next.token.now c.args.slice bs start new)
+          subst (λ (bs : List (List (List ℕ))). AddsEach entry.layout.config next.seat.now (part_of entry next) c.args.slice bs start new)
           (sym (words_more branches at one c.loop-branch-test.true ∙ ap (λ (b : Planned). words_of_each (take at branches) ++ b.words.now ∷ []) (sym c.branch-item.is)))
-          (adds_more config rows next did.kept did.seen_stays c.args.slice (words_of_each (take at branches)) one.words.now start c.loop-branch.merged.list new inv.added did.added);
+          (adds_more entry rows next did.kept did.seen_stays c.args.slice (words_of_each (take at branches)) one.words.now start c.loop-branch.merged.list new inv.added did.added);
       merging = did.merging;
       seen = λ bit was. did.seen_stays bit (inv.seen bit was);
       kept = did.kept ∙ inv.kept;

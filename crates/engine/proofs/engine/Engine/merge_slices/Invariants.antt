@@ -1,12 +1,13 @@
 use Rattle.std.proofs.Common.{◌≡◌}
 use Rattle.engine.specs.Branches.{AreScannedForAnyBelow, words_of_each}
+use Rattle.engine.specs.Scans.{part_of}
 use Rattle.row_read.specs.SharedRows.{kept_of}
 use Rattle.engine.proofs.engine.Engine.merge_slices.Given as goal
 
 -- the slices before this one are scanned
 abbrev pub invariant-loop-slice : goal.invariant-loop-slice
 invariant-loop-slice g l = record {
-  scanned : AreScannedForAnyBelow g.N.PoolName.pool.config l.rows.seat.now l.rows.token.now (words_of_each l.branches) l.slice l.merged.list;
+  scanned : AreScannedForAnyBelow l.entry.layout.config l.rows.seat.now (part_of l.entry l.rows) (words_of_each l.branches) l.slice l.merged.list;
   columns : l.merged.columns ≡ g.N.PoolName.pool.limits.columns;
   kept : kept_of l.rows ≡ kept_of l.fn.rows;
 }

@@ -1,4 +1,4 @@
-use Rattle.std.proofs.Common.{◌≡◌, ◌*◌, false, length, map, sym, ap, ap₂, ◌∙◌}
+use Rattle.std.proofs.Common.{◌≡◌, ◌*◌, false, [], length, map, sym, ap, ap₂, ◌∙◌, arith}
 use Rattle.std.proofs.lemmas.List.{length-replicate}
 use Rattle.std.specs.List.{range_with_len}
 use Rattle.row_layout.specs.Layouts.{LayoutId, own_layout}
@@ -45,6 +45,12 @@ returns-clause-passes g c =
     c.in_ok-passes.ensures ∙ ap (map view_of) c.blank.invariant.new_passes ∙ new_views c.blank.inside.pool (range_with_len 0 c.blank.inside.pool.config.passes)
     ∙ ap (λ (k : Config). map new_pass (range_with_len 0 k.passes)) config_is
 
+pub slice_range-range-requires : goal.slice_range-range-requires
+slice_range-range-requires g c =
+    let config_is : c.args.config.now ≡ c.blank.inside.pool.config = sym (ap (λ (p : PoolId). p.config) c.blank.view_is ∙ c.requires.made_with) in
+    let slices : c.in_ok-layout.layout.config.slices ≡ c.blank.inside.pool.config.slices = ap (λ (l : LayoutId). l.config.slices) c.in_ok-layout.ensures ∙ ap (λ (k : Config). k.slices) config_is in
+    omega (arith, slices, c.blank.invariant.of_config.valid.in_range.slices.0)
+
 pub invariant_of-engine : goal.invariant_of-engine
 invariant_of-engine g c =
     let of_config = c.blank.invariant.of_config in
@@ -52,7 +58,8 @@ invariant_of-engine g c =
     record {
       of_name = c.blank.view_is ∙ c.requires.named;
       of_config = of_config;
-      laid_out = c.in_ok-layout.ensures ∙ ap own_layout config_is;
+      room_is = c.slice_range-range.ensures.words ∙ ap (λ (l : LayoutId). l.room) (c.in_ok-layout.ensures ∙ ap own_layout config_is) ∙ sym (ap (λ (l : Limits). l.slice_words) of_config.limits);
       count = ap (λ (k : Config). k.slices) config_is;
       kept_free = ap (λ (k : Config). k.reserve) config_is;
+      based = c.without_words-base.ensures ∙ ap (λ (k : Config). record k { words = [] }) config_is;
     }

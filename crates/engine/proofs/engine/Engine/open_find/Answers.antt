@@ -1,4 +1,5 @@
 use Rattle.commit_desk.proofs.CallEnds.{finds_or_rests}
+use Rattle.engine.proofs.Finds.{layouts_then}
 use Rattle.engine.proofs.engine.Engine.open_find.Goals as goal
 
 pub returns-clause-next : goal.returns-clause-next
@@ -7,3 +8,9 @@ returns-clause-next g c =
     let found = c.open_find.ensures in
     finds_or_rests g.N.PoolName.pool c.deref_mut.result.now.desk c.open_find.new.self c.args.pass.now c.open_find.new.seat rests.seated.same found.none_outstanding rests.idle c.args.query.now
     c.open_find.result found.token found.events
+
+pub returns-clause-layouts : goal.returns-clause-layouts
+returns-clause-layouts g c =
+    let found = c.open_find.ensures in
+    let named = c.deref_mut.result.now in
+    layouts_then g.N.PoolName.pool named.desk c.open_find.new.self c.args.pass.now c.open_find.new.seat c.args.query.now c.open_find.result c.open_find.new.layouts.entries.items named.of_pool found.events found.layouts

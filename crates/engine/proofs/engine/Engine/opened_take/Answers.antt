@@ -1,11 +1,15 @@
-use Rattle.std.proofs.Common.{ap}
-use Rattle.funnel_model.specs.declared.claim.Claim.{Claim}
-use Rattle.engine.proofs.DeskTurns.{claims_first}
+use Rattle.std.proofs.Common.{sym, subst}
+use Rattle.commit_desk.specs.Layouts.{IsLayoutOf}
+use Rattle.commit_desk.proofs.CallEnds.{taken_after}
+use Rattle.slice_rule.specs.Pools.{PoolId}
 use Rattle.engine.proofs.engine.Engine.opened_take.Goals as goal
 
 pub returns-clause-next : goal.returns-clause-next
-returns-clause-next g c =
+returns-clause-next g c layout laid =
     let opened = c.opened_take.ensures in
+    let seat = c.args.pass.now in
+    let job = c.args.job in
     let start = c.requires.cleared.to_clear in
-    claims_first g.N.PoolName.pool c.deref_mut.result.now.desk c.opened_take.new.self c.args.pass.now c.opened_take.new.seat c.args.job.slice c.opened_take.result start.seated.same opened.none_outstanding
-    c.deref_mut.result.now.of_pool start.in_range (ap (λ (k : Claim). k.slice) opened.claim) (ap (λ (k : Claim). k.column) opened.claim) opened.nothing_yet opened.events
+    taken_after g.N.PoolName.pool c.deref_mut.result.now.desk c.opened_take.new.self seat c.opened_take.new.seat job c.opened_take.result layout start.seated opened.none_outstanding
+    c.deref_mut.result.now.of_pool start.in_range opened.claim opened.events opened.prepared
+    (subst (λ (p : PoolId). IsLayoutOf p.config job.slice seat.front layout) (sym start.seated.same) laid)

@@ -1,7 +1,11 @@
 use Rattle.std.proofs.Common.{subst}
 use Rattle.slice_recycler.specs.Recycles.{RecycleTurns}
 use Rattle.slice_rule.specs.Pools.{PoolId}
+use Rattle.engine.proofs.Sizes.{is_room_of}
 use Rattle.engine.proofs.engine.Engine.recycle_by.Goals as goal
+
+pub recycle_by-requires-clause-room : goal.recycle_by-requires-clause-room
+recycle_by-requires-clause-room g c = is_room_of c.self.inside.pool c.self.inside.room c.self.invariant.of_config c.self.invariant.room_is
 
 pub returns-clause-turns : goal.returns-clause-turns
 returns-clause-turns g c =

@@ -1,5 +1,5 @@
 use Rattle.std.proofs.Common.{◌≡◌}
-use Rattle.engine.specs.Scans.{AreScannedBelow}
+use Rattle.engine.specs.Scans.{AreScannedBelow, part_of}
 use Rattle.funnel_model.specs.declared.bit_list.Bit.{Bit}
 use Rattle.row_read.specs.SharedRows.{WasReadSet, kept_of}
 use Rattle.engine.proofs.engine.Engine.scan_each.Given as goal
@@ -9,5 +9,5 @@ abbrev pub invariant-loop-slice : goal.invariant-loop-slice
 invariant-loop-slice g l = record {
   kept : kept_of l.rows ≡ kept_of l.fn.rows;
   seen : (bit : Bit) → WasReadSet l.fn.rows bit → WasReadSet l.rows bit;
-  scanned : AreScannedBelow g.N.PoolName.pool.config l.rows.seat.now l.rows.token.now l.words l.slice l.out;
+  scanned : AreScannedBelow l.entry.layout.config l.rows.seat.now (part_of l.entry l.rows) l.words l.slice l.out;
 }

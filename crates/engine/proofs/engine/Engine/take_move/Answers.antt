@@ -6,4 +6,4 @@ returns-clause-next g c =
     let desk = c.deref_mut-named.result.now.desk in
     let took = c.take_move.ensures in
     writes_or_rests g.N.PoolName.pool desk c.take_move.new.self c.args.pass.now c.take_move.new.seat took.none_outstanding
-    c.deref_mut-named.result.now.of_pool c.requires.rests desk.events_limit c.args.look c.take_move.result took.answer took.nothing_yet took.events
+    c.deref_mut-named.result.now.of_pool c.requires.rests desk.events_limit c.args.look c.take_move.result took.answer took.fresh took.events

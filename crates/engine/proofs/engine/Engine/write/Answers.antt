@@ -1,25 +1,49 @@
-use Rattle.std.proofs.Common.{◌≡◌, ap, ◌∙◌, subst}
+use Rattle.std.proofs.Common.{◌≡◌, ◌<◌, ap, sym, ◌∙◌, subst}
 use Rattle.std.specs.List.{All}
 use Rattle.funnel_model.specs.Legal.{IsInSlice, Limits}
+use Rattle.funnel_model.specs.Sizes.{columns_of_slice}
+use Rattle.funnel_model.specs.declared.config.Config.{Config}
 use Rattle.row_layout.specs.DocumentBits.{AreDocumentBitsIn}
-use Rattle.row_layout.specs.Layouts.{LayoutId, own_layout}
+use Rattle.row_layout.specs.Layouts.{LayoutId}
 use Rattle.slice_rule.specs.Pools.{PoolId}
 use Rattle.engine.specs.Engines.{IsOfConfig}
 use Rattle.row_layout.specs.Owners.{IsOwnedOnlyAt}
 use Rattle.commit_desk.proofs.CallEnds.{keep_to_column}
-use Rattle.engine.proofs.Claims.{has_written}
+use Rattle.engine.proofs.Claims.{has_written, room_is}
 use Rattle.engine.proofs.engine.Engine.write.Goals as goal
+
+pub fill_bits-requires-clause-slice : goal.fill_bits-requires-clause-slice
+fill_bits-requires-clause-slice g c =
+    let start = c.requires.claimed in
+    let of_config = subst IsOfConfig c.self.invariant.of_name c.self.invariant.of_config in
+    let in_pool : c.args.claim.now.slice < g.N.PoolName.pool.config.slices = subst (λ n. c.args.claim.now.slice < n) (ap (λ (l : Limits). l.slices) of_config.limits) start.in_range in
+    subst (λ n. c.args.claim.now.slice < n) (sym (ap (λ (l : LayoutId). l.config.slices) c.layout.ensures ∙ ap (λ (k : Config). k.slices) start.laid.suits.sized)) in_pool
+
+pub fill_bits-requires-clause-column : goal.fill_bits-requires-clause-column
+fill_bits-requires-clause-column g c =
+    let start = c.requires.claimed in
+    let of_config = subst IsOfConfig c.self.invariant.of_name c.self.invariant.of_config in
+    subst (λ n. c.args.claim.now.column < n)
+    (ap (λ (l : Limits). l.columns) of_config.limits ∙ sym (ap (λ (l : LayoutId). columns_of_slice l.config) c.layout.ensures ∙ ap columns_of_slice start.laid.suits.sized)) start.column
+
+pub write-requires-clause-inside : goal.write-requires-clause-inside
+write-requires-clause-inside g c =
+    let pool = g.N.PoolName.pool in
+    let claim = c.args.claim.now in
+    let bits = c.fill_bits.new.bits.bits in
+    let view : c.self.inside.pool ≡ pool = c.self.invariant.of_name in
+    let of_config = subst IsOfConfig view c.self.invariant.of_config in
+    let inside = subst (λ (l : LayoutId). All (λ b. IsInSlice l.room claim.slice b.word) bits) c.layout.ensures c.fill_bits.ensures.inside in
+    subst (λ n. All (λ b. IsInSlice n claim.slice b.word) bits) (room_is pool claim c.args.layout.now c.args.pass.now of_config c.requires.claimed ∙ sym (ap (λ (p : PoolId). p.limits.slice_words) view)) inside
 
 pub write-requires-clause-owners : goal.write-requires-clause-owners
 write-requires-clause-owners g c =
     let pool = g.N.PoolName.pool in
     let claim = c.args.claim.now in
     let bits = c.fill_bits.new.bits.bits in
-    let view : c.self.inside.pool ≡ pool = c.self.invariant.of_name in
-    let laid : c.self.inside.layout ≡ own_layout pool.config = c.self.invariant.laid_out ∙ ap (λ (p : PoolId). own_layout p.config) view in
-    let of_config = subst IsOfConfig view c.self.invariant.of_config in
-    keep_to_column pool claim bits c.args.pass.now (ap (λ (l : Limits). l.slice_words) of_config.limits) c.requires.claimed
-    (subst (λ (l : LayoutId). All (IsOwnedOnlyAt l.room l.config claim.slice claim.column) bits) laid c.fill_bits.ensures.own)
+    let of_config = subst IsOfConfig c.self.invariant.of_name c.self.invariant.of_config in
+    keep_to_column pool claim c.args.layout.now bits c.args.pass.now (ap (λ (l : Limits). l.slice_words) of_config.limits) c.requires.claimed
+    (subst (λ (l : LayoutId). All (IsOwnedOnlyAt l.room l.config claim.slice claim.column) bits) c.layout.ensures c.fill_bits.ensures.own)
 
 pub returns-clause-written : goal.returns-clause-written
 returns-clause-written g c =
@@ -27,8 +51,7 @@ returns-clause-written g c =
     let claim = c.args.claim.now in
     let set = c.args.words.now in
     let bits = c.fill_bits.new.bits.bits in
-    let view : c.self.inside.pool ≡ pool = c.self.invariant.of_name in
-    let laid : c.self.inside.layout ≡ own_layout pool.config = c.self.invariant.laid_out ∙ ap (λ (p : PoolId). own_layout p.config) view in
-    has_written pool claim set bits c.args.pass.now c.write.new.seat (subst IsOfConfig view c.self.invariant.of_config) c.requires.claimed c.write.ensures.seat c.write.ensures.bits
-    (subst (λ (l : LayoutId). AreDocumentBitsIn l.room l.config set claim.slice claim.column bits) laid c.fill_bits.ensures.document_bits)
-    (subst (λ (l : LayoutId). All (λ b. IsInSlice l.room claim.slice b.word) bits) laid c.fill_bits.ensures.inside)
+    let of_config = subst IsOfConfig c.self.invariant.of_name c.self.invariant.of_config in
+    has_written pool claim c.args.layout.now set bits c.args.pass.now c.write.new.seat of_config c.requires.claimed c.write.ensures.seat c.write.ensures.bits
+    (subst (λ (l : LayoutId). AreDocumentBitsIn l.room l.config set claim.slice claim.column bits) c.layout.ensures c.fill_bits.ensures.document_bits)
+    (subst (λ (l : LayoutId). All (λ b. IsInSlice l.room claim.slice b.word) bits) c.layout.ensures c.fill_bits.ensures.inside)

@@ -17,7 +17,7 @@ returns g c =
     } in
     let worker : GateState → WorkerState = λ told. record {
       gate = told;
-      caller = caller_of g.N.PoolName.pool.limits c.self.inside.client;
+      caller = caller_of g.N.PoolName.pool.config g.N.PoolName.pool.limits c.self.inside.client;
       front = c.self.inside.client.front;
       http = c.self.inside.http;
       left = c.self.inside.left;

@@ -1,0 +1,5 @@
+pub mod Faultless
+pub mod FoundValues
+pub mod NumberLemmas
+pub mod TakenNames
+pub mod TakenWords

@@ -1,0 +1,10 @@
+use Rattle.std.proofs.Common.{◌≡◌, ◌∙◌, ap, codes, [], ◌∷◌}
+use Rattle.clap.specs.Words.{Rule, rule_of}
+use Rattle.command_line.specs.declared.command.TheConstants.{MOST_IDLE}
+use Rattle.command_line.specs.Commands.{number_option, numbers_between}
+use Rattle.command_line.proofs.command.idle_option.Goals as goal
+
+pub returns-clause-rule : goal.returns-clause-rule
+returns-clause-rule c =
+    let numbers : c.range-numbers.result ≡ numbers_between 0 MOST_IDLE = rw (c.value_parser.ensures, c.new.ensures.start, c.new.ensures.end, c.from.ensures) at c.range-numbers.ensures in
+    ap rule_of c.default_value.ensures ∙ ap (λ (r : Rule). record r { defaults = codes "0" ∷ [] }) (c.number_option.ensures.rule ∙ ap (number_option (codes "idle")) numbers)

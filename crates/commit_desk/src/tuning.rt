@@ -1,0 +1,67 @@
+ghost use Rattle.std.specs.Prelude.{◌≡◌, ◌+◌, [], ◌∷◌, length};
+ghost use Rattle.funnel_model.specs.declared.event.Event.TheVariants as event;
+ghost use Rattle.funnel_model.specs.Legal.{IsIdle};
+ghost use Rattle.funnel_model.specs.Tunings.{tunings};
+ghost use Rattle.slice_rule.specs.Seats.{HasNoneOutstanding, IsSeated};
+ghost use Rattle.commit_desk.specs.Answers.{AnswersTune, TakesCalls, events_of_tune};
+ghost use Rattle.commit_desk.specs.Desks.{IsCaughtUp, Makes};
+ghost use Rattle.commit_desk.specs.Layouts.{TunesWith};
+
+use crate::answers::Spent;
+use crate::desk::Desk;
+use crate::entries::Tunes;
+use crate::shared_layout::SharedLayout;
+use funnel_model::Config;
+use slice_rule::{PassSeat, Pool};
+
+impl Desk {
+    /// Gives the engine this configuration, and tells how many tunings there were with this one. Each slice keeps its layout until it is
+    /// cleared. `layouts` has the configuration's layout once for each slice, and gets what was kept before, for its owner to drop where
+    /// the desk is free. It takes no memory.
+    pub fn tune(
+        &mut self,
+        pool: &Pool,
+        seat: &mut PassSeat,
+        config: &Config,
+        layouts: &mut Vec<Option<SharedLayout>>,
+    ) -> Result<u64, Spent>
+        requires pool { pool.now ≡ self.old.pool }
+        requires seat { IsSeated self.old.pool seat.old }
+        requires idle { IsIdle seat.old.number seat.old.front }
+        requires tunes { TunesWith self.old.pool config.now layouts.old.items }
+        ensures answer { AnswersTune self.old.events_limit self.old.history result }
+        ensures events { Makes (events_of_tune seat.old.number config.now result) self.old self.new seat.old seat.new }
+        ensures none_outstanding { HasNoneOutstanding seat.new }
+    {
+        pool.catch_up(&mut self.home, seat);
+        if self.is_spent() {
+            return Err(Spent {
+                events: self.events,
+            });
+        }
+        Ok(self.make_tune(pool, seat, config, layouts))
+    }
+
+    // Makes the event of a tuning, and gives its number.
+    fn make_tune(
+        &mut self,
+        pool: &Pool,
+        seat: &mut PassSeat,
+        config: &Config,
+        layouts: &mut Vec<Option<SharedLayout>>,
+    ) -> u64
+        requires pool { pool.now ≡ self.old.pool }
+        requires caught_up { IsCaughtUp self.old seat.old }
+        requires idle { IsIdle seat.old.number self.old.history }
+        requires takes_calls { TakesCalls self.old.events_limit self.old.history }
+        requires tunes { TunesWith self.old.pool config.now layouts.old.items }
+        ensures count { result ≡ length (tunings self.old.history) + 1 }
+        ensures made { Makes (event.Tune seat.old.number config.now ∷ []) self.old self.new seat.old seat.new }
+        ensures none_outstanding { HasNoneOutstanding seat.new }
+    {
+        let pass = seat.number();
+        self.events = pool.make_event(&mut self.home, seat, &Tunes { pass, config });
+        self.layouts.tune(layouts);
+        self.layouts.tunings()
+    }
+}

@@ -1,0 +1,21 @@
+use Rattle.std.proofs.Common.{◌≡◌, ℕ, AllPairs, Contains, length}
+use Rattle.commit_desk.specs.declared.layouts.SlicesLayout.{SlicesLayout}
+use Rattle.commit_desk.specs.Passes.{IsFinding}
+use Rattle.engine.specs.Finds.{IsFoundBut, by_query}
+use Rattle.funnel_model.specs.History.{IsFrontOf}
+use Rattle.engine.proofs.engine.Engine.find_each.Given as goal
+
+-- what is found is that of the slices but those of the entries that are left
+abbrev pub invariant-loop-entry : goal.invariant-loop-entry
+invariant-loop-entry g l = record {
+  found : IsFoundBut by_query l.fn.pass l.fn.token l.layouts.entries.items l.out.found;
+  among : (entry : SlicesLayout) → Contains l.layouts.entries.items entry → Contains l.fn.layouts.entries.items entry;
+  apart : AllPairs (λ (one other : SlicesLayout). (slice : ℕ) → Contains one.slices slice → Contains other.slices slice → ⊥) l.layouts.entries.items;
+  finding : IsFinding g.N.PoolName.pool l.fn.token l.pass;
+  same : l.token ≡ l.fn.token;
+  seen : IsFrontOf l.fn.pass.number l.fn.pass.front l.pass.front;
+  number : l.pass.number ≡ l.fn.pass.number;
+}
+
+abbrev pub decreases-loop-entry : goal.decreases-loop-entry
+decreases-loop-entry g l = length l.layouts.entries.items

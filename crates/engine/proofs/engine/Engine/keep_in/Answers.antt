@@ -1,0 +1,68 @@
+use Rattle.std.proofs.Common.{List, ℕ, ap, sym, subst, ◌∙◌}
+use Rattle.engine.proofs.FindParts.{any_of_slices, any_scanned_then, entry_of, goes_on_from, look_still}
+use Rattle.engine.specs.Finds.{CanLookIn, FindEnds, FindsIn}
+use Rattle.engine.specs.Judged.{by_judge}
+use Rattle.funnel_model.specs.Legal.{IsLegal}
+use Rattle.slice_rule.specs.Pools.{PoolId}
+use Rattle.slice_rule.specs.Seats.{PassState}
+use Rattle.engine.proofs.engine.Engine.keep_in.Goals as goal
+
+pub drop_find-requires : goal.drop_find-requires
+drop_find-requires g c = record {
+  finding = (look_still g.N.PoolName.pool c.args.token c.args.entry.now c.args.pass.now c.scan_any.new.pass c.scan_any.ensures.seat c.requires.can).finding;
+}
+
+pub returns-in_default-clause-goes_on : goal.returns-in_default-clause-goes_on
+returns-in_default-clause-goes_on g c = (
+  subst (λ (p : PassState). FindEnds p.number p.front c.drop_find.new.pass.front) c.scan_any.ensures.seat c.drop_find.ensures.turn,
+  c.drop_find.ensures.rests,
+)
+
+pub returns-in_default-clause-number : goal.returns-in_default-clause-number
+returns-in_default-clause-number g c = c.drop_find.ensures.number ∙ ap (λ (p : PassState). p.number) c.scan_any.ensures.seat
+
+pub judge_each-requires-clause-judging : goal.judge_each-requires-clause-judging
+judge_each-requires-clause-judging g c =
+    let pool = g.N.PoolName.pool in
+    let pass = c.args.pass.now in
+    let next = c.scan_any.new.pass in
+    let token = c.args.token in
+    let entry = c.args.entry.now in
+    let seat = c.scan_any.ensures.seat in
+    let can : CanLookIn pool next token entry = look_still pool token entry pass next seat c.requires.can in
+    let legal : IsLegal pool.limits next.front =
+    subst (λ (p : PassState). IsLegal pool.limits p.front) (sym seat)
+    (subst (λ (p : PoolId). IsLegal p.limits pass.front) c.requires.can.finding.seated.same c.number.ensures.legal) in
+    record {
+      seated = can.finding.seated;
+      holds = can.finding.holds;
+      of_token = entry_of pool token entry next can;
+      scanned = λ begun. (
+        c.args.branches.now,
+        c.requires.judge,
+        any_scanned_then pool entry.layout.config next token entry.slices can.finding legal can.among begun c.args.branches.now c.in-Ok.candidates c.in-Ok.ensures.scanned,
+      );
+    }
+
+pub returns-clause-found : goal.returns-clause-found
+returns-clause-found g c =
+    let token = c.args.token in
+    let entry = c.args.entry.now in
+    let test = by_judge (g.J.Judge.test c.args.judge.now) in
+    let candidates = c.in-Ok.candidates in
+    let scanned = c.in-Ok.ensures.scanned in
+    let after = c.judge_each.new.out.found in
+    record {
+      candidates = candidates;
+      each_once = scanned.each_once;
+      in_slices = any_of_slices entry.layout.config c.scan_any.new.pass token entry.slices c.args.branches.now candidates scanned;
+      finds = subst (λ (before : List (ℕ × ℕ)). FindsIn test c.args.pass.now token entry.slices candidates before after) c.scan_any.ensures.found
+          (subst (λ (p : PassState). FindsIn test p token entry.slices candidates c.scan_any.new.out.found after) c.scan_any.ensures.seat c.judge_each.ensures.found);
+    }
+
+pub returns-clause-goes_on : goal.returns-clause-goes_on
+returns-clause-goes_on g c =
+    goes_on_from g.N.PoolName.pool c.args.token c.args.last c.args.pass.now c.scan_any.new.pass c.judge_each.new.pass c.scan_any.ensures.seat c.judge_each.result c.judge_each.ensures.goes_on
+
+pub returns-clause-number : goal.returns-clause-number
+returns-clause-number g c = c.judge_each.ensures.number ∙ ap (λ (p : PassState). p.number) c.scan_any.ensures.seat

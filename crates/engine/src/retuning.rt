@@ -1,0 +1,83 @@
+//! Tunings: an engine gets new statistics while it serves.
+ghost use Rattle.std.specs.Prelude.{◌≡◌};
+ghost use Rattle.funnel_model.specs.Configuration.{IsTuning};
+ghost use Rattle.engine.specs.Turns.{HasRoomFor, MakesTuneCall, TuneTurn, fault_of_layout};
+
+use crate::engine::Engine;
+use crate::pass::Pass;
+use commit_desk::next_layouts;
+use funnel_model::Config;
+use row_layout::{Layout, LayoutFault};
+use slice_rule::PoolName;
+use std::alloc::Global;
+use std::sync::Wait;
+
+/// Why an engine did not take new statistics.
+#[derive(Clone, Copy, Debug, PartialEq, Eq)]
+pub enum TuneFault {
+    /// By these statistics a slice would need so many row words, and it has room for fewer.
+    Wide { needed: u64, room: u64 },
+    /// The history has this many events, and no call is taken any more.
+    Spent(u64),
+    /// There was no memory for the layout of the rows.
+    Memory,
+}
+
+impl<N: PoolName> Engine<N> {
+    /// Gives the engine new statistics, and tells how many tunings there were with this one. Each slice is treated by them once it is
+    /// cleared, and till then as before: so nothing is written anew, and finds go on. It lays out the rows first, and takes all its
+    /// memory then; where they don't fit into the slices it does no more. It waits for the lock once. The layouts of the tuning before
+    /// are dropped when the lock is free again.
+    pub fn retune<R: Wait>(
+        &self,
+        rt: &R,
+        alloc: Global,
+        pass: &mut Pass<N>,
+        config: &Config,
+    ) -> Result<u64, TuneFault>
+        requires tuning { IsTuning N.pool.config config.now }
+        ensures call { MakesTuneCall N.pool.limits config.now result pass.old pass.new }
+        ensures turn { TuneTurn N.pool.limits config.now result pass.old pass.new }
+    {
+        let _ = pass.seat.number();
+        match Layout::within(alloc, config, self.room) {
+            Ok(layout) => self.tune_by(rt, alloc, pass, config, layout),
+            Err(fault) => Err(unfit(fault)),
+        }
+    }
+
+    // A tuning whose rows are laid out within the slices.
+    fn tune_by<R: Wait>(
+        &self,
+        rt: &R,
+        alloc: Global,
+        pass: &mut Pass<N>,
+        config: &Config,
+        layout: Layout,
+    ) -> Result<u64, TuneFault>
+        requires tuning { IsTuning N.pool.config config.now }
+        requires fits { HasRoomFor N.pool.limits config.now }
+        requires laid { layout ≡ record { config = config.now; room = N.pool.limits.slice_words } }
+        ensures call { MakesTuneCall N.pool.limits config.now result pass.old pass.new }
+        ensures turn { TuneTurn N.pool.limits config.now result pass.old pass.new }
+    {
+        let _ = pass.seat.number();
+        let Ok(mut layouts) = next_layouts(alloc, layout, self.slices) else {
+            return Err(TuneFault::Memory);
+        };
+        match self.tune(rt, &mut pass.seat, config, &mut layouts) {
+            Ok(count) => Ok(count),
+            Err(spent) => Err(TuneFault::Spent(spent.events)),
+        }
+    }
+}
+
+// What a tuning is answered whose rows were not laid out.
+fn unfit(fault: LayoutFault) -> TuneFault
+    ensures { result ≡ fault_of_layout fault }
+{
+    match fault {
+        LayoutFault::Wide { needed, room } => TuneFault::Wide { needed, room },
+        LayoutFault::Memory => TuneFault::Memory,
+    }
+}

@@ -1,9 +1,0 @@
-use Rattle.std.proofs.Common.{◌∙◌, ap, codes, [], ◌∷◌}
-use Rattle.clap.specs.Words.{Rule, rule_of}
-use Rattle.funnel.specs.Commands.{number_option}
-use Rattle.funnel.proofs.command.seed_option.Goals as goal
-
-pub returns-clause-rule : goal.returns-clause-rule
-returns-clause-rule c =
-    ap rule_of c.default_value.ensures
-    ∙ ap (λ (r : Rule). record r { defaults = codes "0" ∷ [] }) (c.number_option.ensures.rule ∙ ap (number_option (codes "seed")) c.value_parser.ensures)
