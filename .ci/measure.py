@@ -17,13 +17,23 @@ TICKS = os.sysconf("SC_CLK_TCK")
 KINDS = ["proof", "tests", "edits"]
 
 
-def look(seconds):
-    """Notes how many seconds of a processor each check has taken that runs now."""
+def is_below(process, gate):
+    """Whether the gate began this process, or one of those that began it."""
+    while int(process) > 1:
+        with open(f"/proc/{process}/stat", encoding="utf-8", errors="replace") as file:
+            process = file.read().rpartition(")")[2].split()[1]
+        if int(process) == gate:
+            return True
+    return False
+
+
+def look(seconds, gate):
+    """Notes how many seconds of a processor each check of the gate has taken that runs now."""
     for process in filter(str.isdigit, os.listdir("/proc")):
         try:
             with open(f"/proc/{process}/cmdline", encoding="utf-8", errors="replace") as file:
                 words = file.read().split("\0")
-            if "--crate-name" not in words:
+            if "--crate-name" not in words or not is_below(process, gate):
                 continue
             kind = "edits" if "rt-edit-" in os.readlink(f"/proc/{process}/cwd") else "tests" if "--test" in words else "proof"
             with open(f"/proc/{process}/stat", encoding="utf-8", errors="replace") as file:
@@ -38,14 +48,14 @@ def run_gate():
     """Runs the gate, and gives what it wrote, its status and the seconds of a processor that each check took."""
     seconds, ended = {}, threading.Event()
 
-    def watch():
+    def watch(gate):
         while not ended.wait(0.5):
-            look(seconds)
+            look(seconds, gate)
 
-    watcher = threading.Thread(target=watch)
-    watcher.start()
     lines = []
     with subprocess.Popen(["bash", f"{ROOT}/.ci/run"], stdin=subprocess.DEVNULL, stdout=subprocess.PIPE, stderr=subprocess.STDOUT) as gate:
+        watcher = threading.Thread(target=watch, args=[gate.pid])
+        watcher.start()
         for line in gate.stdout:
             lines.append(line.decode(errors="replace"))
             print(lines[-1], end="", flush=True)
