@@ -28,7 +28,7 @@ use Rattle.slice_rule.specs.declared.view.Fact.TheVariants as fact
 use Rattle.slice_rule.specs.Pools.{PoolId}
 use Rattle.slice_rule.specs.Seats.{HasNoneOutstanding, HoldsToken, IsSamePass, PassState, WasReadUnder}
 use Rattle.commit_desk.specs.Records.{AreRecorded}
-use Rattle.commit_desk.specs.declared.layouts.SlicesLayout.{SlicesLayout}
+use Rattle.commit_desk.specs.declared.find_layouts.FindLayout.{FindLayout}
 use Rattle.commit_desk.specs.Judging.{GiveAllIn}
 use Rattle.commit_desk.specs.Layouts.{SuitsOpening}
 use Rattle.commit_desk.specs.Resolving.{AreGiven, AreLookedFor, IsEntryOf, IsRestOf, IsVerifying}
@@ -172,7 +172,7 @@ were_scanned config seat next token candidates same goes first scanned begun =
     )
 
 -- the entry is one of the token's slices still
-pub entry_still : (pool : PoolId) (seat next : PassState) (token : Token) (entry : SlicesLayout) → IsSamePass seat next → IsFrontOf seat.number seat.front next.front →
+pub entry_still : (pool : PoolId) (seat next : PassState) (token : Token) (entry : FindLayout) → IsSamePass seat next → IsFrontOf seat.number seat.front next.front →
     HoldsToken seat token → IsEntryOf pool token entry seat → IsEntryOf pool token entry next
 entry_still pool seat next token entry same goes holds is = record {
   among = is.among;
@@ -183,7 +183,7 @@ entry_still pool seat next token entry same goes holds is = record {
 }
 
 -- so the pass verifies them still
-pub verifying_still : (pool : PoolId) (seat next : PassState) (token : Token) (entry : SlicesLayout) (rest : List (List ℕ)) (candidates : List (ℕ × ℕ)) → IsSamePass seat next →
+pub verifying_still : (pool : PoolId) (seat next : PassState) (token : Token) (entry : FindLayout) (rest : List (List ℕ)) (candidates : List (ℕ × ℕ)) → IsSamePass seat next →
     IsFrontOf seat.number seat.front next.front → HasNoneOutstanding next → IsVerifying pool token entry rest candidates seat → IsVerifying pool token entry rest candidates next
 verifying_still pool seat next token entry rest candidates same goes none is = record {
   seated = record { same = same.pool ∙ is.seated.same; none_outstanding = none };

@@ -42,7 +42,7 @@ use Rattle.row_layout.specs.Sound.{IsSound}
 use Rattle.slice_rule.specs.Seats.{PassState}
 use Rattle.commit_desk.specs.Records.{AreRecorded, document_added_at, state_in, state_of}
 use Rattle.commit_desk.specs.Judging.{AreGivenWhere, GiveAllIn, GivesWhere}
-use Rattle.commit_desk.specs.Resolving.{AreGiven, AreLookedFor, Gives, IsRestOf}
+use Rattle.commit_desk.specs.Resolving.{AreGiven, AreLookedFor, IsRestOf}
 use Rattle.commit_desk.specs.Scans.{AreScanned}
 use Rattle.commit_desk.proofs.LaterStates.{not_cleared_since}
 
@@ -260,7 +260,7 @@ module _ (opening : Config) (limits : Limits) (history : List Event) (table : Ta
 
   -- what a candidate gives by the rest it gives by the query, where each document that was live there has the exact words
   rest_gives : (config : Config) (rest : List (List ℕ)) (slice column : ℕ) → IsRestOf config token.query rest → HasExactWords config slice column → (given : Option (ℕ × ℕ)) →
-      GivesWhere token.earlier (has_words rest) (slice, column) given → Gives token.earlier token.query (slice, column) given
+      GivesWhere token.earlier (has_words rest) (slice, column) given → GivesWhere token.earlier (λ text. meets text token.query) (slice, column) given
   rest_gives config rest slice column is_rest exact (Some found) (d, since, lives, has, is) =
       (d, since, lives, sym (rest_decides config rest d.text is_rest (λ word is_word asked. exact word is_word asked d since lives)) ∙ has, is)
   rest_gives config rest slice column is_rest exact None none = λ d since lives.

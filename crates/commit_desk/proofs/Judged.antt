@@ -22,7 +22,7 @@ use Rattle.commit_desk.specs.Judging.{AreGivenWhere, AreScannedForAny, GiveAllIn
 use Rattle.commit_desk.specs.Records.{AreRecorded}
 use Rattle.commit_desk.specs.Resolving.{AreLookedFor, IsJudging}
 use Rattle.commit_desk.specs.Scans.{IsOfToken, token_of}
-use Rattle.commit_desk.specs.declared.layouts.SlicesLayout.{SlicesLayout}
+use Rattle.commit_desk.specs.declared.find_layouts.FindLayout.{FindLayout}
 use Rattle.commit_desk.proofs.FindEnds.{begun_once, begun_still, entry_still, scanned_as, scanned_in_table}
 use Rattle.commit_desk.proofs.FindTurns.{begun_later, token_kept}
 use Rattle.commit_desk.proofs.Found.{bits_committed, live_below, table_keeps_each, table_looks}
@@ -120,7 +120,7 @@ were_scanned_for_any config seat next token test candidates same goes first scan
     )
 
 -- so the pass judges them still
-pub judging_still : (pool : PoolId) (seat next : PassState) (token : Token) (entry : SlicesLayout) (test : List ℕ → Bool) (candidates : List (ℕ × ℕ)) → IsSamePass seat next →
+pub judging_still : (pool : PoolId) (seat next : PassState) (token : Token) (entry : FindLayout) (test : List ℕ → Bool) (candidates : List (ℕ × ℕ)) → IsSamePass seat next →
     IsFrontOf seat.number seat.front next.front → HasNoneOutstanding next → IsJudging pool token entry test candidates seat → IsJudging pool token entry test candidates next
 judging_still pool seat next token entry test candidates same goes none is = record {
   seated = record { same = same.pool ∙ is.seated.same; none_outstanding = none };

@@ -28,7 +28,7 @@ use Rattle.commit_desk.specs.Kept.{AreStages, AreTokens, Books, IsAtStage, AreBo
 use Rattle.commit_desk.specs.Records.{AreListed, AreRecorded, IsLiveIn, IsRecorded}
 use Rattle.commit_desk.proofs.Few.{few-new}
 use Rattle.commit_desk.proofs.Journals.{journal-new}
-use Rattle.commit_desk.specs.Layouts.{first_layouts}
+use Rattle.commit_desk.specs.Layouts.{AreFirst}
 use Rattle.commit_desk.proofs.LayoutEvents.{layouts-new}
 use Rattle.commit_desk.proofs.Slots.{none_over}
 
@@ -145,7 +145,7 @@ pub kept-new : (config : Config) (limits : Limits) (most : ℕ) (books : Books) 
     books.table.slices ≡ limits.slices → books.table.columns ≡ limits.columns → books.table.slots ≡ replicate (limits.slices * limits.columns) free_slot → books.table.out ≡ replicate limits.slices false →
     ((id : ℕ) → entry_of books.live id ≡ None) → books.live.slices ≡ limits.slices → books.live.columns ≡ limits.columns → books.tokens ≡ replicate limits.passes None →
     books.stages.columns ≡ limits.columns → books.stages.stages ≡ replicate limits.slices empty_stage → books.stages.mark ≡ 0 →
-    books.layouts ≡ first_layouts limits.slices (own_layout config) → AreBooksOf config limits most [] books
+    AreFirst limits.slices (own_layout config) books.layouts → AreBooksOf config limits most [] books
 kept-new config limits most books in_range some slices columns events journal ts tc free there no_entry ls lc tokens sc stages mark layouts = record {
   few = few-new most limits.passes;
   legal = tt;

@@ -9,6 +9,7 @@ pub mod Emptying
 pub mod FindEnds
 pub mod FindEvents
 pub mod FindTurns
+pub mod EntriesKept
 pub mod ExactWords
 pub mod Found
 pub mod Given

@@ -21,7 +21,8 @@ use Rattle.slice_stages.specs.Stages.{StageTable, empty_stage, stage_of, with_st
 use Rattle.slice_stages.specs.declared.stage.Stage.{Stage}
 use Rattle.slice_stages.specs.declared.stage.Stage.TheVariants as stage
 use Rattle.commit_desk.specs.Kept.{Books, HasFew, IsDesk, AreBooksOf}
-use Rattle.commit_desk.specs.Layouts.{AreLayoutsOf, LayoutsState, with_cleared}
+use Rattle.commit_desk.specs.Layouts.{AreLayoutsOf, LayoutsState}
+use Rattle.commit_desk.specs.Treatments.{IsRenewed}
 use Rattle.commit_desk.specs.Records.{AreListed, AreRecorded}
 use Rattle.commit_desk.proofs.Journals.{journal-silent}
 use Rattle.commit_desk.proofs.LayoutEvents.{layouts-clear, layouts-quiet}
@@ -92,10 +93,11 @@ module _ (config : Config) (limits : Limits) (most : ℕ) (history : List Event)
       books.layouts (layouts-quiet config limits.slices history e books.layouts refl (λ slice. refl) is.layouts_are)
 
   -- a pass begins to clear a slice
-  pub kept-clear : (pass s : ℕ) → IsAllowed limits history (event.Clear pass s) → HasFew most limits.passes (history ++ event.Clear pass s ∷ []) →
+  pub kept-clear : (pass s : ℕ) (layouts : LayoutsState) → IsRenewed books.layouts s layouts → IsAllowed limits history (event.Clear pass s) →
+      HasFew most limits.passes (history ++ event.Clear pass s ∷ []) →
       AreBooksOf config limits most (history ++ event.Clear pass s ∷ [])
-      (books_after (record books { layouts = with_cleared books.layouts s }) (length history + 1) (without_slice books.table s) (with_stage books.stages s (stage.Clearing pass)))
-  kept-clear pass s allowed few =
+      (books_after (record books { layouts = layouts }) (length history + 1) (without_slice books.table s) (with_stage books.stages s (stage.Clearing pass)))
+  kept-clear pass s layouts renewed allowed few =
       let e = event.Clear pass s in
       let in' = allowed.rule.in_range in
       let within : s < books.table.slices = let h = is.recorded.slices_are in omega arith in
@@ -105,7 +107,7 @@ module _ (config : Config) (limits : Limits) (most : ℕ) (history : List Event)
       (λ column doc below l. none_live_to_clear limits history books.table is.legal is.recorded s column doc (record { slice_in_range = within; column_in_range = below }) allowed.rule.can_clear l))
       (size-with s (stage.Clearing pass)) is.staged.columns_are refl
       (stages-clear limits history books.table books.stages is.legal is.recorded is.staged.count is.staged.each pass s allowed)
-      (with_cleared books.layouts s) (layouts-clear config limits.slices history pass s books.layouts in' is.layouts_are)
+      layouts (layouts-clear config limits.slices history pass s books.layouts layouts in' renewed is.layouts_are)
 
   -- a pass opens the slice that it cleared
   pub kept-opened : (pass s : ℕ) (alone : Bool) → 0 < limits.columns → IsAllowed limits history (event.Opened pass s alone) → HasFew most limits.passes (history ++ event.Opened pass s alone ∷ []) →
@@ -129,12 +131,6 @@ kept-as config limits most history later books events table stages grown events_
     (subst (λ n. AreBooksOf config limits most history (books_after books n table stages)) (sym events_are)
     (subst (λ (t : Table). AreBooksOf config limits most history (books_after books books.events t stages)) (sym table_is)
     (subst (λ (s : StageTable). AreBooksOf config limits most history (books_after books books.events books.table s)) (sym stages_are) is)))
-
--- and under another name for the layouts
-pub layouts-as : (config : Config) (limits : Limits) (most : ℕ) (history : List Event) (books : Books) (layouts : LayoutsState) → layouts ≡ books.layouts →
-    AreBooksOf config limits most history books → AreBooksOf config limits most history (record books { layouts = layouts })
-layouts-as config limits most history books layouts same is =
-    subst (λ (l : LayoutsState). AreBooksOf config limits most history (record books { layouts = l })) (sym same) is
 
 -- a desk with other books after an event that asks for no other
 pub desk-with : (pool next : PoolId) (most : ℕ) (was history later : List Event) (books books_now : Books) (e : Event) → next ≡ pool → later ≡ history ++ e ∷ [] → next_after e ≡ None →

@@ -16,10 +16,10 @@ use Rattle.row_layout.proofs.SoundHistories.{sound-push}
 use Rattle.row_layout.specs.Layouts.{LayoutId}
 use Rattle.slice_rule.specs.Pools.{PoolId}
 use Rattle.commit_desk.specs.Kept.{Books, IsDesk}
-use Rattle.commit_desk.specs.Layouts.{AreNext, LayoutsState, SuitsOpening, TunesWith, with_tuning}
+use Rattle.commit_desk.specs.Layouts.{AreLayoutsOf, LayoutsState, SuitsOpening, TunesWith, with_tuning}
 use Rattle.commit_desk.proofs.Few.{few-start}
 use Rattle.commit_desk.proofs.Journals.{journal-silent}
-use Rattle.commit_desk.proofs.LayoutEvents.{layouts-tune}
+use Rattle.commit_desk.proofs.LayoutEvents.{layout_in, layouts-tune}
 use Rattle.commit_desk.proofs.Marks.{mark-same}
 use Rattle.commit_desk.proofs.RecordsKept.{recorded-same}
 use Rattle.commit_desk.proofs.StagesKept.{stages-same}
@@ -34,7 +34,7 @@ pub few_tunings : (history : List Event) → length (tunings history) ≤ length
 few_tunings [] = omega arith
 few_tunings (e ∷ history) = let few = few_some (tuning_of e) (tunings history) (length history) (few_tunings history) in omega (arith, few)
 
-module _ (pool : PoolId) (most : ℕ) (history : List Event) (books : Books) (is : IsDesk pool most history books) (pass : ℕ) (config : Config) (next : List (Option LayoutId))
+module _ (pool : PoolId) (most : ℕ) (history : List Event) (books : Books) (is : IsDesk pool most history books) (pass : ℕ) (config : Config) (next : Option LayoutId)
     (tunes : TunesWith pool config next) where
   rows : pool.limits.slice_words ≡ words_of_slice pool.config
   rows = ap (λ (l : Limits). l.slice_words) is.sizes
@@ -46,8 +46,8 @@ module _ (pool : PoolId) (most : ℕ) (history : List Event) (books : Books) (is
     fits = subst (λ n. words_of_slice config ≤ n) rows tunes.fits;
   }
 
-  laid : AreNext pool.limits.slices (record { config = config; room = words_of_slice pool.config }) next
-  laid = subst (λ n. AreNext pool.limits.slices (record { config = config; room = n }) next) rows tunes.laid
+  laid : next ≡ Some (layout_in pool.config config)
+  laid = tunes.laid ∙ ap (λ n. let l : LayoutId = record { config = config; room = n } in Some l) rows
 
   -- the desk after the tuning
   desk-tune : IsAllowed pool.limits history (event.Tune pass config) → length history < most →
@@ -80,7 +80,8 @@ module _ (pool : PoolId) (most : ℕ) (history : List Event) (books : Books) (is
             mark_within = mark-same history e books.stages.mark kept.staged.mark_within;
             none_before = kept.staged.none_before;
           };
-          layouts_are = layouts-tune pool.config pool.limits.slices history pass config books.layouts next suits laid kept.layouts_are;
+          layouts_are = subst (λ (o : Option LayoutId). AreLayoutsOf pool.config pool.limits.slices (history ++ e ∷ []) (with_tuning books.layouts o)) (sym laid)
+              (layouts-tune pool.config pool.limits.slices history pass config books.layouts suits kept.layouts_are);
         };
       }
 

@@ -55,7 +55,7 @@ pub record AreStages (limits : Limits) (history : List Event) (table : Table) (t
   pub mark_within : stages.mark ≤ length history
   pub none_before : (pass number : ℕ) → HasOpened tokens pass number → stages.mark ≤ number
 
--- refusals and reads change nothing that is kept
+-- refusals and reads change nothing that is kept but the number of events
 abbrev pub IsPlain : Event → Type 0
 IsPlain (event.No pass asked) = Unit {0}
 IsPlain (event.Read pass asked) = Unit {0}

@@ -41,7 +41,7 @@ use Rattle.commit_desk.specs.declared.answers.Taken.TheVariants as taken
 use Rattle.commit_desk.specs.declared.look.Look.{Look}
 use Rattle.commit_desk.specs.Judging.{answer_where}
 use Rattle.commit_desk.specs.Kept.{Books, AreBooksOf}
-use Rattle.commit_desk.specs.Layouts.{first_layouts}
+use Rattle.commit_desk.specs.Layouts.{AreFirst}
 use Rattle.commit_desk.specs.Moving.{AnswersTakeMove, HoldsLook, IsNextLook, IsThereStill, LooksState, document_of}
 use Rattle.commit_desk.specs.Resolving.{AreLookedFor, LooksUpTo}
 
@@ -63,7 +63,7 @@ pub record AreNew (config : Config) (limits : Limits) (books : Books) : Type 0 w
   pub stage_columns : books.stages.columns ≡ limits.columns
   pub empty : books.stages.stages ≡ replicate limits.slices empty_stage
   pub mark : books.stages.mark ≡ 0
-  pub layouts : books.layouts ≡ first_layouts limits.slices (own_layout config)
+  pub layouts : AreFirst limits.slices (own_layout config) books.layouts
 
 -- that is what a desk keeps of the history without events
 abbrev pub NewDesksAreKept : Type 0
@@ -139,7 +139,7 @@ TurnsJudgeFewDocuments =
 
 -- A pass began a find after these events, and read as set, under a find's number, the bit of a word's row at a column of a slice that it may
 -- read; the word is exact under the slice's treatment.
-pub record ReadsWordAt (limits : Limits) (opening : Config) (earlier : List Event) (pass : PassState) (opened_at slice column : ℕ) (word : List ℕ) : Type 0 where
+pub record HasReadWord (limits : Limits) (opening : Config) (earlier : List Event) (pass : PassState) (opened_at slice column : ℕ) (word : List ℕ) : Type 0 where
   pub limits_are : pass.pool.limits ≡ limits
   pub opening_is : pass.pool.config ≡ opening
   pub query : List ℕ
@@ -159,5 +159,5 @@ pub record ReadsWordAt (limits : Limits) (opening : Config) (earlier : List Even
 abbrev pub ReadBitsTellWords : Type 0
 ReadBitsTellWords =
     (limits : Limits) (opening : Config) (earlier : List Event) (pass : PassState) (opened_at slice column : ℕ) (word : List ℕ) (document : Document) (since : ℕ) →
-    IsLegal limits earlier → IsSound opening earlier → ReadsWordAt limits opening earlier pass opened_at slice column word →
+    IsLegal limits earlier → IsSound opening earlier → HasReadWord limits opening earlier pass opened_at slice column word →
     IsLiveOn earlier slice column document since → Contains (words document.text) word

@@ -1,5 +1,5 @@
 -- The layouts of slices: what they are after a history, and what the desk keeps of them.
-use Rattle.std.specs.Prelude.{◌≡◌, ℕ, ◌+◌, ◌<◌, ◌≤◌, List, [], fold, length, replicate, slice_index_or, slice_set, unwrap_or, Option, None, Some, if◌then◌else◌}
+use Rattle.std.specs.Prelude.{◌≡◌, ℕ, ◌+◌, ◌<◌, ◌≤◌, List, fold, length, Contains, MatchOption, Option, None, Some, if◌then◌else◌}
 use Rattle.std.specs.Option.{option_map_or}
 use Rattle.funnel_model.specs.Configuration.{IsInRange, IsTuning, with_statistics}
 use Rattle.funnel_model.specs.declared.config.Config.{Config}
@@ -10,6 +10,7 @@ use Rattle.funnel_model.specs.Tunings.{current, tunings}
 use Rattle.row_layout.specs.Layouts.{LayoutId}
 use Rattle.row_layout.specs.Sound.{slice_layout}
 use Rattle.slice_rule.specs.Pools.{PoolId}
+use Rattle.commit_desk.specs.declared.find_layouts.FindLayout.{FindLayout}
 
 -- the layout that a slice gets when it is cleared after these events: that of the current configuration, in the room of the opening
 abbrev pub current_layout : Config → List Event → LayoutId
@@ -41,85 +42,52 @@ tunings_and_number slice history =
 abbrev pub treatment_number : ℕ → List Event → ℕ
 treatment_number slice history = (tunings_and_number slice history).1
 
--- no layout: it stands for that of a slice which there is not
-unfoldable pub no_layout : LayoutId
-no_layout = record {
-  config = record {
-    passes = 0;
-    slices = 0;
-    blocks = 0;
-    max_rank = 0;
-    commits = 0;
-    reserve = 0;
-    one_in = 0;
-    snr = 0;
-    documents = 0;
-    tail = 0;
-    max_rows = 0;
-    words = [];
-  };
-  room = 0;
-}
-
--- What is kept: the layout of each slice, and the number of its treatment; for each slice of an older treatment the current layout, which
--- it gets when it is cleared; and how many tunings there were.
+-- What is kept: an entry for each treatment that some slice has, with its number, its layout and its slices; the current layout, while no
+-- slice has the current treatment; and how many tunings there were.
 pub record LayoutsState : Type 0 where
-  pub layouts : List LayoutId
-  pub numbers : List ℕ
-  pub next : List (Option LayoutId)
+  pub treatments : List FindLayout
+  pub next : Option LayoutId
   pub tunings : ℕ
 
--- this layout for each of so many slices, before any tuning
-abbrev pub first_layouts : ℕ → LayoutId → LayoutsState
-first_layouts slices layout =
-    record { layouts = replicate slices layout; numbers = replicate slices 0; next = replicate slices None; tunings = 0 }
+-- the slice is in this entry
+pub record IsEntryOf (kept : LayoutsState) (slice : ℕ) (entry : FindLayout) : Type 0 where
+  pub among : Contains kept.treatments entry
+  pub has : Contains entry.slices slice
 
--- the layout of a slice
-abbrev pub layout_of : LayoutsState → ℕ → LayoutId
-layout_of kept slice = slice_index_or kept.layouts slice no_layout
+-- the layout is that of the slice's treatment
+abbrev pub IsLaidBy : LayoutsState → ℕ → LayoutId → Type 0
+IsLaidBy kept slice layout = (entry : FindLayout) × IsEntryOf kept slice entry × (layout ≡ entry.layout)
 
--- the number of its treatment
-abbrev pub number_of : LayoutsState → ℕ → ℕ
-number_of kept slice = slice_index_or kept.numbers slice 0
+-- the layout is the current one: that which is kept beside the entries, or else that of the entry with the newest number
+abbrev pub IsNewest : LayoutsState → LayoutId → Type 0
+IsNewest kept layout =
+    MatchOption kept.next ((entry : FindLayout) × Contains kept.treatments entry × (entry.number ≡ kept.tunings) × (layout ≡ entry.layout)) (λ next. layout ≡ next)
 
--- the layout that is kept for a slice of an older treatment
-abbrev pub next_of : LayoutsState → ℕ → Option LayoutId
-next_of kept slice = slice_index_or kept.next slice None
+-- before any tuning each of so many slices has this layout, and the number of its treatment is 0
+pub record AreFirst (slices : ℕ) (layout : LayoutId) (kept : LayoutsState) : Type 0 where
+  pub every : (slice : ℕ) → slice < slices → (entry : FindLayout) × IsEntryOf kept slice entry
+  pub within : (slice : ℕ) (entry : FindLayout) → IsEntryOf kept slice entry → slice < slices
+  pub number : (entry : FindLayout) → Contains kept.treatments entry → entry.number ≡ 0
+  pub laid : (entry : FindLayout) → Contains kept.treatments entry → entry.layout ≡ layout
+  pub none_beside : kept.next ≡ None
+  pub none_yet : kept.tunings ≡ 0
 
--- the layout that a slice has once it is cleared: the one that is kept for it, and else its own
-abbrev pub layout_after : LayoutsState → ℕ → LayoutId
-layout_after kept slice = unwrap_or (next_of kept slice) (layout_of kept slice)
-
--- the layouts once a slice is cleared: it has the current treatment, and none is kept for it any more
-abbrev pub with_cleared : LayoutsState → ℕ → LayoutsState
-with_cleared kept slice = record kept {
-  layouts = option_map_or (slice_set kept.layouts slice) (next_of kept slice) kept.layouts;
-  numbers = slice_set kept.numbers slice kept.tunings;
-  next = slice_set kept.next slice None;
-}
-
--- the layouts after one more tuning, with what it keeps for each slice
-abbrev pub with_tuning : LayoutsState → List (Option LayoutId) → LayoutsState
+-- what is kept after one more tuning, whose layout no slice has yet
+abbrev pub with_tuning : LayoutsState → Option LayoutId → LayoutsState
 with_tuning kept next = record kept { next = next; tunings = kept.tunings + 1 }
 
--- the same layout for each of so many slices
-pub record AreNext (slices : ℕ) (layout : LayoutId) (next : List (Option LayoutId)) : Type 0 where
-  pub count : length next ≡ slices
-  pub each : (slice : ℕ) → slice < slices → slice_index_or next slice None ≡ Some layout
-
--- an engine with this pool may be given the configuration, whose rows have room in a slice, and whose layout is there for each slice
-pub record TunesWith (pool : PoolId) (config : Config) (next : List (Option LayoutId)) : Type 0 where
+-- an engine with this pool may be given the configuration, whose rows have room in a slice, and whose layout is there
+pub record TunesWith (pool : PoolId) (config : Config) (next : Option LayoutId) : Type 0 where
   pub tuning : IsTuning pool.config config
   pub fits : words_of_slice config ≤ pool.limits.slice_words
-  pub laid : AreNext pool.limits.slices (record { config = config; room = pool.limits.slice_words }) next
+  pub laid : next ≡ Some (record { config = config; room = pool.limits.slice_words })
 
--- so many layouts are kept, those of the slices after these events, with the numbers of their treatments, and each slice gets the current
--- one when it is cleared
+-- Each of so many slices is in an entry, and no other slice is. The entry has the layout of each of its slices after these events, and the
+-- number of its treatment. The current layout is the one that a slice gets when it is cleared now.
 pub record AreLayoutsOf (opening : Config) (slices : ℕ) (history : List Event) (kept : LayoutsState) : Type 0 where
-  pub count : length kept.layouts ≡ slices
-  pub number_count : length kept.numbers ≡ slices
-  pub next_count : length kept.next ≡ slices
-  pub laid : (slice : ℕ) → slice < slices → IsLayoutOf opening slice history (layout_of kept slice)
-  pub numbered : (slice : ℕ) → slice < slices → number_of kept slice ≡ treatment_number slice history
-  pub after : (slice : ℕ) → slice < slices → IsCurrentLayout opening history (layout_after kept slice)
+  pub every : (slice : ℕ) → slice < slices → (entry : FindLayout) × IsEntryOf kept slice entry
+  pub within : (slice : ℕ) (entry : FindLayout) → IsEntryOf kept slice entry → slice < slices
+  pub laid : (slice : ℕ) (entry : FindLayout) → IsEntryOf kept slice entry → IsLayoutOf opening slice history entry.layout
+  pub numbered : (slice : ℕ) (entry : FindLayout) → IsEntryOf kept slice entry → treatment_number slice history ≡ entry.number
+  pub current : (layout : LayoutId) → IsNewest kept layout → IsCurrentLayout opening history layout
   pub tunings_are : kept.tunings ≡ length (tunings history)

@@ -7,8 +7,8 @@ pub mod Kept
 pub mod Laws
 pub mod Layouts
 pub mod Moving
-pub mod Numbered
 pub mod Passes
 pub mod Records
 pub mod Resolving
 pub mod Scans
+pub mod Treatments

@@ -1,5 +1,5 @@
 -- What a find finds of its candidates, turn by turn. It is told by the history before the find, which later events don't change.
-use Rattle.std.specs.Prelude.{◌≡◌, ◌⊎◌, ℕ, Bool, true, List, ◌++◌, Option, Contains}
+use Rattle.std.specs.Prelude.{◌≡◌, ◌⊎◌, ℕ, Bool, true, List, ◌++◌, Contains}
 use Rattle.std.specs.List.{slice_range}
 use Rattle.document_store.specs.Finding.{EndsTurn}
 use Rattle.funnel_model.specs.declared.event.Event.{Event}
@@ -12,10 +12,10 @@ use Rattle.funnel_model.specs.declared.config.Config.{Config}
 use Rattle.row_layout.specs.Owners.{is_exact}
 use Rattle.slice_rule.specs.Pools.{PoolId}
 use Rattle.slice_rule.specs.Seats.{HoldsToken, IsSeated, PassState}
-use Rattle.commit_desk.specs.declared.layouts.SlicesLayout.{SlicesLayout}
+use Rattle.commit_desk.specs.declared.find_layouts.FindLayout.{FindLayout}
 use Rattle.commit_desk.specs.FindLayouts.{AreOfTreatment}
 use Rattle.commit_desk.specs.Layouts.{SuitsOpening}
-use Rattle.commit_desk.specs.Judging.{AreGivenWhere, GiveAllIn, GiveAllWhere, GivesWhere, WereScannedForAny}
+use Rattle.commit_desk.specs.Judging.{AreGivenWhere, GiveAllIn, WereScannedForAny}
 use Rattle.commit_desk.specs.Scans.{WereScanned, token_of}
 
 -- the rest of a query, which is looked for in the documents: words of it, of which each other one is exact under the configuration
@@ -23,18 +23,10 @@ pub record IsRestOf (config : Config) (query : List ℕ) (rest : List (List ℕ)
   pub part : (word : List ℕ) → Contains rest word → Contains (words query) word
   pub others_exact : (word : List ℕ) → Contains (words query) word → Contains rest word ⊎ (is_exact config word ≡ true)
 
--- what a candidate gives: the place and the number of the document that was live in the column before the find and meets the query,
--- where there was one
-abbrev pub Gives : List Event → List ℕ → ℕ × ℕ → Option (ℕ × ℕ) → Type 0
-Gives earlier query = GivesWhere earlier (λ text. meets text query)
-
--- what several candidates give, in their order
+-- what several candidates give, in their order: the place and the number of the document that was live in each column before the find and
+-- meets the query, where there was one
 abbrev pub AreGiven : List Event → List ℕ → List (ℕ × ℕ) → List (ℕ × ℕ) → Type 0
 AreGiven earlier query = AreGivenWhere earlier (λ text. meets text query)
-
--- each document of the answer is given by one of the candidates
-abbrev pub GiveAll : List Event → List ℕ → List (ℕ × ℕ) → Type 0
-GiveAll earlier query = GiveAllWhere earlier (λ text. meets text query)
 
 -- so many words are looked for in each candidate: as many as in each document, where one was live in the column before the find, and else
 -- none
@@ -60,14 +52,14 @@ pub record FindsUpTo (earlier : List Event) (test : List ℕ → Bool) (cost : �
 
 -- the slices of the entry are some of those of the pass's token, and its configuration, which the engine may have, treated each of them
 -- before the find
-pub record IsEntryOf (pool : PoolId) (token : Token) (entry : SlicesLayout) (seat : PassState) : Type 0 where
+pub record IsEntryOf (pool : PoolId) (token : Token) (entry : FindLayout) (seat : PassState) : Type 0 where
   pub among : (slice : ℕ) → Contains entry.slices slice → Contains token.slices slice
   pub suits : SuitsOpening pool.config entry.layout.config
   pub treated : (begun : HasToken seat.front seat.number token.opened_at) → AreOfTreatment pool.config begun.earlier entry.layout.config entry.slices
 
 -- The pass has a find open. The candidates were scanned in the slices of an entry of its layouts for the words of its query, of which this
 -- is the rest.
-pub record IsVerifying (pool : PoolId) (token : Token) (entry : SlicesLayout) (rest : List (List ℕ)) (candidates : List (ℕ × ℕ)) (seat : PassState) : Type 0 where
+pub record IsVerifying (pool : PoolId) (token : Token) (entry : FindLayout) (rest : List (List ℕ)) (candidates : List (ℕ × ℕ)) (seat : PassState) : Type 0 where
   pub seated : IsSeated pool seat
   pub holds : HoldsToken seat token
   pub of_token : IsEntryOf pool token entry seat
@@ -76,7 +68,7 @@ pub record IsVerifying (pool : PoolId) (token : Token) (entry : SlicesLayout) (r
 
 -- The pass has a find open. The candidates were scanned in the slices of an entry of its layouts for branches, one of which each text that
 -- passes the test has.
-pub record IsJudging (pool : PoolId) (token : Token) (entry : SlicesLayout) (test : List ℕ → Bool) (candidates : List (ℕ × ℕ)) (seat : PassState) : Type 0 where
+pub record IsJudging (pool : PoolId) (token : Token) (entry : FindLayout) (test : List ℕ → Bool) (candidates : List (ℕ × ℕ)) (seat : PassState) : Type 0 where
   pub seated : IsSeated pool seat
   pub holds : HoldsToken seat token
   pub of_token : IsEntryOf pool token entry seat

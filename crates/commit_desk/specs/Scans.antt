@@ -1,4 +1,4 @@
--- What a find hands in when it ends: the candidates that it scanned for.
+-- What a find hands in turn by turn: the candidates that it scanned for.
 use Rattle.std.specs.Prelude.{◌≡◌, ℕ, ◌<◌, List, [], ◌∷◌, ◌++◌, Contains}
 use Rattle.std.specs.List.{AllPairs}
 use Rattle.funnel_model.specs.declared.bit_list.Bit.{Bit}

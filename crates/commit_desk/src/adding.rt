@@ -171,8 +171,8 @@ impl Desk {
         ensures prepared { IsPrepared result seat.new }
     {
         let _ = &self.home;
-        if let Some(slice) = self.clearable() {
-            return match self.clear_laid(pool, seat, slice) {
+        if self.clearable().is_some() {
+            return match self.clear_laid(pool, seat) {
                 Ok((work, layout)) => Taken::Clear(work, layout),
                 Err(Memory) => Taken::Refused(AddFault::Memory),
             };
@@ -216,12 +216,11 @@ impl Desk {
         &mut self,
         pool: &Pool,
         seat: &mut PassSeat,
-        slice: u32,
     ) -> Result<(ToClear, SharedLayout), Memory>
         requires pool { pool.now ≡ self.old.pool }
         requires caught_up { IsCaughtUp self.old seat.old }
         requires takes_calls { TakesCalls self.old.events_limit self.old.history }
-        requires may { MayClear self.old.pool.limits self.old.history seat.old.number slice }
+        requires may { (slice : ℕ) × MayClear self.old.pool.limits self.old.history seat.old.number slice }
         ensures work { IfOk result (λ begun. MayClear self.old.pool.limits self.old.history seat.old.number begun.0.job.slice
             × (begun.0.slots ≡ self.old.pool.limits.columns)) }
         ensures made { MatchResult result (λ begun. Makes (event.Clear seat.old.number begun.0.job.slice ∷ []) self.old self.new seat.old seat.new)
@@ -230,7 +229,7 @@ impl Desk {
         ensures laid { IfOk result (λ begun. IsLayoutOf seat.new.pool.config begun.0.job.slice seat.new.front begun.1) }
     {
         let _ = &self.home;
-        let Ok(layout) = self.layout_after(slice) else {
+        let Ok(layout) = self.current_layout() else {
             return Err(Memory);
         };
         let Some(work) = self.begin_clear(pool, seat) else {
@@ -255,12 +254,11 @@ impl Desk {
     }
 
     // The layout that a slice has once it is cleared now.
-    fn layout_after(&self, slice: u32) -> Result<SharedLayout, Memory>
-        requires { slice < self.now.pool.limits.slices }
+    fn current_layout(&self) -> Result<SharedLayout, Memory>
         ensures { IfOk result (λ layout. IsCurrentLayout self.now.pool.config self.now.history layout) }
     {
         let _ = &self.home;
-        self.layouts.after_clear(slice)
+        self.layouts.current()
     }
 
     // The layout of a slice.

@@ -14,7 +14,7 @@ ghost use Rattle.commit_desk.specs.Resolving.{FindsUpTo, IsVerifying};
 use crate::answers::FindFault;
 use crate::desk::Desk;
 use crate::entries::Finds;
-use crate::layouts::{Layouts, SlicesLayout};
+use crate::find_layouts::{FindLayout, FindLayouts};
 use document_store::{Found, resolve_part};
 use funnel_model::{Candidates, Event, Memory, Token, WordSet};
 use slice_rule::{PassSeat, Pool};
@@ -28,7 +28,7 @@ impl Desk {
         pool: &Pool,
         seat: &mut PassSeat,
         query: &str,
-        layouts: &mut Layouts,
+        layouts: &mut FindLayouts,
     ) -> Result<Token, FindFault>
         requires pool { pool.now ≡ self.old.pool }
         requires seat { IsSeated self.old.pool seat.old }
@@ -59,7 +59,7 @@ impl Desk {
         pool: &Pool,
         seat: &mut PassSeat,
         token: &Token,
-        entry: &SlicesLayout,
+        entry: &FindLayout,
         candidates: &Candidates,
         from: usize,
         rest: &WordSet,
@@ -101,7 +101,7 @@ impl Desk {
     }
 
     // Puts the slices that a find may read into entries with their layouts, in place of what there was.
-    fn share_layouts(&self, layouts: &mut Layouts) -> Result<(), Memory>
+    fn share_layouts(&self, layouts: &mut FindLayouts) -> Result<(), Memory>
         ensures { IfOk result (λ _. (token : Token) →
             ((slice : ℕ) → Contains token.slices slice ↔
             ((slice < self.now.pool.limits.slices) × IsInUse self.now.pool.limits.columns slice self.now.history)) →

@@ -5,7 +5,7 @@ ghost use Rattle.commit_desk.specs.Resolving.{FindsUpTo, IsJudging};
 ghost use Rattle.document_store.specs.Finding.{judged_cost};
 
 use crate::desk::Desk;
-use crate::layouts::SlicesLayout;
+use crate::find_layouts::FindLayout;
 use document_store::{Found, Judge, LEAST_COST, resolve_part};
 use funnel_model::{Candidates, Token};
 use slice_rule::{PassSeat, Pool};
@@ -20,7 +20,7 @@ impl Desk {
         pool: &Pool,
         seat: &mut PassSeat,
         token: &Token,
-        entry: &SlicesLayout,
+        entry: &FindLayout,
         candidates: &Candidates,
         from: usize,
         judge: &J,

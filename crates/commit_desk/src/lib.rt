@@ -14,11 +14,11 @@ mod clearing;
 mod deleting;
 mod desk;
 mod entries;
+mod find_layouts;
 mod finding;
 mod journal;
 mod judging;
 pub mod laws;
-mod layouts;
 mod look;
 mod making;
 mod moving;
@@ -34,7 +34,7 @@ pub use answers::{
     TakenMove, ToClear,
 };
 pub use desk::Desk;
-pub use layouts::{Layouts, SlicesLayout};
+pub use find_layouts::{FindLayout, FindLayouts};
 pub use look::{Look, Looks};
 pub use named::Named;
-pub use shared_layout::{SharedLayout, next_layouts};
+pub use shared_layout::SharedLayout;

@@ -1,4 +1,4 @@
-//! Events that change nothing that the desk keeps.
+//! Events that change nothing that the desk keeps but their number.
 ghost use Rattle.std.specs.Prelude.{◌≡◌, [], ◌∷◌};
 ghost use Rattle.funnel_model.specs.Events.{pass_of};
 ghost use Rattle.funnel_model.specs.Legal.{MayFollow};

@@ -1,4 +1,4 @@
-//! What the refusals for want of room say: they walk over the slices.
+//! What the refusals of adds for want of room, and of recycles, say: they walk over the slices.
 ghost use Rattle.std.specs.Prelude.{◌≡◌, ◌<◌, ◌≤◌, false, [], vec_capacity};
 ghost use Rattle.funnel_model.specs.Blocks.{AreBlocks, IsBlock};
 ghost use Rattle.funnel_model.specs.Legal.{IsFull, NoneCanClear};

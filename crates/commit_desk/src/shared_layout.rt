@@ -1,6 +1,5 @@
 //! A layout with several owners.
 ghost use Rattle.std.specs.Prelude.{◌≡◌, IfOk};
-ghost use Rattle.commit_desk.specs.Layouts.{AreNext};
 
 use funnel_model::Memory;
 use row_layout::Layout;
@@ -46,20 +45,4 @@ impl SharedLayout {
     {
         &*self.layout
     }
-}
-
-/// The layout once for each of so many slices, as a tuning takes them.
-pub fn next_layouts(
-    alloc: Global,
-    layout: Layout,
-    slices: u32,
-) -> Result<Vec<Option<SharedLayout>>, Memory>
-    ensures { IfOk result (λ next. AreNext slices layout next.items) }
-{
-    let shared = SharedLayout::new(alloc, layout)?;
-    let mut next = Vec::with_capacity(alloc, slices as usize)?;
-    for _ in 0..slices {
-        next.push_reserved(Some(shared.share()?));
-    }
-    Ok(next)
 }

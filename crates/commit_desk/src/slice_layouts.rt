@@ -1,12 +1,12 @@
 //! The layouts of slices.
-ghost use Rattle.std.specs.Prelude.{◌≡◌, ℕ, ◌^◌, ◌<◌, ◌≤◌, ◌↔◌, List, [], length, Contains, IfOk};
-ghost use Rattle.std.specs.Option.{option_map};
+ghost use Rattle.std.specs.Prelude.{◌≡◌, ℕ, ◌+◌, ◌^◌, ◌<◌, ◌≤◌, ◌↔◌, [], Some, None, length, slice_index_or, vec_capacity, Contains, IfOk, IfSome};
 ghost use Rattle.funnel_model.specs.declared.config.TheConstants.{MOST_SLICES};
 ghost use Rattle.row_layout.specs.Layouts.{LayoutId};
-ghost use Rattle.commit_desk.specs.Layouts.{AreNext, first_layouts, layout_after, layout_of, next_of, number_of, with_cleared, with_tuning};
-ghost use Rattle.commit_desk.specs.Numbered.{AreByNumber, AreByNumberBut};
+ghost use Rattle.commit_desk.specs.declared.find_layouts.FindLayout.{FindLayout};
+ghost use Rattle.commit_desk.specs.Layouts.{AreFirst, IsEntryOf, IsLaidBy, IsNewest, with_tuning};
+ghost use Rattle.commit_desk.specs.Treatments.{AddsShare, AreShared, IsRenewed, TakesNewest};
 
-use crate::layouts::{Layouts, SlicesLayout};
+use crate::find_layouts::{FindLayout, FindLayouts};
 use crate::shared_layout::SharedLayout;
 use funnel_model::{Memory, SliceSet};
 use row_layout::Layout;
@@ -14,59 +14,53 @@ use std::alloc::Global;
 use std::marker::Model;
 use std::mem;
 
-/// The layout of each slice. After a tuning a slice keeps its layout until it is cleared, and the current one is kept for it until then.
-/// Contracts see the layouts, the numbers of the treatments, the layouts that are kept for slices, and how many tunings there were.
+/// The layouts of slices, by their treatments. After a tuning a slice keeps its treatment until it is cleared.
+/// Contracts see the entries of the treatments, the layout that is kept beside them, and how many tunings there were.
 #[derive(Debug, Drop)]
 pub struct SliceLayouts {
-    /// The layout of each slice.
-    layouts: Vec<SharedLayout>,
-    /// For each slice of an older treatment the current layout, which it gets when it is cleared.
-    next: Vec<Option<SharedLayout>>,
+    /// An entry for each treatment that some slice has. Its number is that of the tunings up to it.
+    treatments: Vec<FindLayout>,
+    /// The current layout, while no slice has the current treatment.
+    next: Option<SharedLayout>,
     /// How many tunings there were.
     tunings: u64,
-    /// The number of each slice's treatment: of the tunings up to it.
-    numbers: Vec<u64>,
-    /// The slices of an older treatment.
-    behind: SliceSet,
 }
 
 impl Model for SliceLayouts {
+    ghost use Rattle.std.specs.Prelude.{vec_capacity};
     ghost use Rattle.commit_desk.specs.Layouts.{LayoutsState};
-    ghost use Rattle.commit_desk.specs.Numbered.{AreNumbered};
+    ghost use Rattle.commit_desk.specs.Treatments.{AreTreatments};
 
     ghost Value = { LayoutsState };
 
-    ghost view = { λ l. record { layouts = l.layouts.items; numbers = l.numbers.items; next = l.next.items; tunings = l.tunings } };
+    ghost view = { λ l. record { treatments = l.treatments.items; next = l.next; tunings = l.tunings } };
 
-    ghost invariant = { λ l. AreNumbered (record {
-      layouts = l.layouts.items;
-      numbers = l.numbers.items;
-      next = l.next.items;
+    ghost invariant = { λ l. AreTreatments (vec_capacity l.treatments) (record {
+      treatments = l.treatments.items;
+      next = l.next;
       tunings = l.tunings;
-    }) l.behind };
+    }) };
 }
 
 impl SliceLayouts {
-    /// This layout for each of so many slices.
+    /// This layout for each of so many slices, of which there is one at least. It has room for a treatment of each.
     pub(crate) fn new(alloc: Global, layout: Layout, slices: u32) -> Result<SliceLayouts, Memory>
-        requires { slices ≤ MOST_SLICES }
-        ensures { IfOk result (λ l. l ≡ first_layouts slices layout) }
+        requires some { 1 ≤ slices }
+        requires few { slices ≤ MOST_SLICES }
+        ensures { IfOk result (λ l. AreFirst slices layout l) }
     {
-        let shared = SharedLayout::new(alloc, layout)?;
-        let mut layouts = Vec::with_capacity(alloc, slices as usize)?;
-        let mut numbers = Vec::with_capacity(alloc, slices as usize)?;
-        let mut next = Vec::with_capacity(alloc, slices as usize)?;
-        for _ in 0..slices {
-            layouts.push_reserved(shared.share()?);
-            numbers.push_reserved(0);
-            next.push_reserved(None);
-        }
+        let layout = SharedLayout::new(alloc, layout)?;
+        let mut treatments = Vec::with_capacity(alloc, slices as usize)?;
+        let slices = all_below(slices);
+        treatments.push_reserved(FindLayout {
+            number: 0,
+            layout,
+            slices,
+        });
         Ok(SliceLayouts {
-            layouts,
-            next,
+            treatments,
+            next: None,
             tunings: 0,
-            numbers,
-            behind: SliceSet::new(),
         })
     }
 
@@ -79,118 +73,139 @@ impl SliceLayouts {
 
     /// The layout of a slice.
     pub(crate) fn of(&self, slice: u32) -> Result<SharedLayout, Memory>
-        requires { slice < length self.now.layouts }
-        ensures { IfOk result (λ layout. layout ≡ layout_of self.now slice) }
+        requires { (entry : FindLayout) × IsEntryOf self.now slice entry }
+        ensures { IfOk result (λ layout. IsLaidBy self.now slice layout) }
     {
-        self.layouts[slice as usize].share()
+        let index = self.index_of(slice);
+        self.treatments[index].layout.share()
     }
 
-    /// The layout that a slice has once it is cleared.
-    pub(crate) fn after_clear(&self, slice: u32) -> Result<SharedLayout, Memory>
-        requires { slice < length self.now.layouts }
-        ensures { IfOk result (λ layout. layout ≡ layout_after self.now slice) }
+    /// The current layout, which a slice has once it is cleared.
+    pub(crate) fn current(&self) -> Result<SharedLayout, Memory>
+        ensures { IfOk result (λ layout. IsNewest self.now layout) }
     {
-        match &self.next[slice as usize] {
-            Some(layout) => layout.share(),
-            None => self.layouts[slice as usize].share(),
+        if let Some(layout) = &self.next {
+            return layout.share();
         }
+        let index = newest_of(&self.treatments, self.tunings);
+        self.treatments[index].layout.share()
     }
 
-    /// A slice is cleared: it has the current treatment, and gets the layout that is kept for it, where one is. Its old one is handed
-    /// back then.
+    /// A slice is cleared, and has the current treatment from then on. Where no other slice has the treatment that it had, that one's
+    /// layout is handed back.
     pub(crate) fn renew(&mut self, slice: u32) -> Option<SharedLayout>
-        requires { slice < length self.old.layouts }
-        ensures cleared { self.new ≡ with_cleared self.old slice }
-        ensures old { result ≡ option_map (λ layout. layout_of self.old slice) (next_of self.old slice) }
+        requires { (entry : FindLayout) × IsEntryOf self.old slice entry }
+        ensures cleared { IsRenewed self.old slice self.new }
+        ensures old { IfSome result (λ layout. IsLaidBy self.old slice layout) }
     {
-        self.numbers[slice as usize] = self.tunings;
-        self.behind.remove(slice);
-        let layout = self.next[slice as usize].take()?;
-        Some(mem::replace(&mut self.layouts[slice as usize], layout))
+        let index = self.index_of(slice);
+        if self.treatments[index].number == self.tunings {
+            return None;
+        }
+        let mut old = self.treatments.swap_remove(index);
+        let mut newest = take_newest(&mut self.treatments, &mut self.next, self.tunings);
+        old.slices.remove(slice);
+        newest.slices.add(slice);
+        self.treatments.push_reserved(newest);
+        if old.slices.lowest().is_none() {
+            return Some(old.layout);
+        }
+        self.treatments.push_reserved(old);
+        None
     }
 
-    /// One more tuning, whose layout is kept for each slice. What was kept before is handed back.
-    pub(crate) fn tune(&mut self, next: &mut Vec<Option<SharedLayout>>)
-        requires next { (layout : LayoutId) × AreNext (length self.old.layouts) layout next.old.items }
+    /// One more tuning. Its layout is kept until a slice has it, and what was kept before is handed back in its place.
+    pub(crate) fn tune(&mut self, next: &mut Option<SharedLayout>)
+        requires some { (layout : LayoutId) × (next.old ≡ Some layout) }
         requires few { self.old.tunings < 2 ^ 63 }
-        ensures after { self.new ≡ with_tuning self.old next.old.items }
+        ensures after { self.new ≡ with_tuning self.old next.old }
+        ensures before { next.new ≡ self.old.next }
     {
         mem::swap(&mut self.next, next);
         self.tunings += 1;
-        self.behind = all_below(self.layouts.len() as u32);
     }
 
-    /// Puts each of these slices into an entry with its layout, one for each treatment. Where all slices have the current one, it is one
-    /// entry, and the slices are not gone through.
-    pub(crate) fn share_out(&self, slices: &SliceSet, layouts: &mut Layouts) -> Result<(), Memory>
-        requires empty { layouts.old.entries.items ≡ [] }
-        requires slices { (slice : ℕ) → Contains slices.now slice → slice < length self.now.layouts }
-        ensures { IfOk result (λ _. AreByNumber self.now slices.now layouts.new.entries.items) }
+    /// Puts each of these slices into an entry with its layout, one for each treatment that some of them has.
+    pub(crate) fn share_out(
+        &self,
+        slices: &SliceSet,
+        layouts: &mut FindLayouts,
+    ) -> Result<(), Memory>
+        requires { layouts.old.entries.items ≡ [] }
+        ensures { IfOk result (λ _. AreShared self.now.treatments slices.now layouts.new.entries.items) }
     {
-        let Some(first) = slices.lowest() else {
-            return Ok(());
-        };
-        if self.behind.lowest().is_some() {
-            return self.put_each(slices, layouts);
-        }
-        let layout = self.layouts[first as usize].share()?;
-        layouts.push(SlicesLayout {
-            number: self.tunings,
-            layout,
-            slices: slices.copy(),
-        })
-    }
-
-    // Puts each of these slices into the entry of its treatment.
-    fn put_each(&self, slices: &SliceSet, layouts: &mut Layouts) -> Result<(), Memory>
-        requires empty { layouts.old.entries.items ≡ [] }
-        requires slices { (slice : ℕ) → Contains slices.now slice → slice < length self.now.layouts }
-        ensures { IfOk result (λ _. AreByNumber self.now slices.now layouts.new.entries.items) }
-    {
-        let mut left = slices.copy();
-        for slice in 0..self.layouts.len() as u32 {
-            self.put(slice, &mut left, layouts)?;
+        for index in 0..self.treatments.len() {
+            share_one(&self.treatments[index], slices, layouts)?;
         }
         Ok(())
     }
 
-    // Where the slice is left, puts it into a new entry with all that are left of its treatment.
-    fn put(&self, slice: u32, left: &mut SliceSet, layouts: &mut Layouts) -> Result<(), Memory>
-        requires in_range { slice < length self.now.layouts }
-        requires left { (other : ℕ) → Contains left.old other → other < length self.now.layouts }
-        ensures left { IfOk result (λ _. (other : ℕ) → Contains left.new other → Contains left.old other × (other ≡ slice → ⊥)) }
-        ensures put { IfOk result (λ _. (slices : List ℕ) → AreByNumberBut self.now slices left.old layouts.old.entries.items →
-            AreByNumberBut self.now slices left.new layouts.new.entries.items) }
+    // The place of a slice's entry.
+    fn index_of(&self, slice: u32) -> usize
+        requires { (entry : FindLayout) × IsEntryOf self.now slice entry }
+        ensures in_range { result < length self.now.treatments }
+        ensures has { (d : FindLayout) → Contains (slice_index_or self.now.treatments result d).slices slice }
     {
-        let _ = &self.layouts;
-        if !left.has(slice) {
-            return Ok(());
-        }
-        let layout = self.layouts[slice as usize].share()?;
-        let number = self.numbers[slice as usize];
-        let slices = self.split(number, left);
-        layouts.push(SlicesLayout {
-            number,
-            layout,
-            slices,
-        })
-    }
-
-    // Takes the slices whose treatment has this number out of those that are left.
-    fn split(&self, number: u64, left: &mut SliceSet) -> SliceSet
-        requires { (slice : ℕ) → Contains left.old slice → slice < length self.now.layouts }
-        ensures taken { (slice : ℕ) → Contains result slice ↔ (Contains left.old slice × (number_of self.now slice ≡ number)) }
-        ensures left { (slice : ℕ) → Contains left.new slice ↔ (Contains left.old slice × (number_of self.now slice ≡ number → ⊥)) }
-    {
-        let mut taken = SliceSet::new();
-        for slice in 0..self.numbers.len() as u32 {
-            if left.has(slice) && self.numbers[slice as usize] == number {
-                left.remove(slice);
-                taken.add(slice);
+        for index in 0..self.treatments.len() {
+            if self.treatments[index].slices.has(slice) {
+                return index;
             }
         }
-        taken
+        unreachable!()
     }
+}
+
+// The place of the entry with this number.
+fn newest_of(treatments: &[FindLayout], number: u64) -> usize
+    requires { (entry : FindLayout) × Contains treatments.now entry × (entry.number ≡ number) }
+    ensures in_range { result < length treatments.now }
+    ensures is { (d : FindLayout) → (slice_index_or treatments.now result d).number ≡ number }
+{
+    for index in 0..treatments.len() {
+        if treatments[index].number == number {
+            return index;
+        }
+    }
+    unreachable!()
+}
+
+// Takes the entry of the current treatment out, whose number this is. Where no slice has it yet, it is a new one, with the layout that
+// was kept.
+fn take_newest(
+    treatments: &mut Vec<FindLayout>,
+    next: &mut Option<SharedLayout>,
+    number: u64,
+) -> FindLayout
+    requires { next.old ≡ None → (entry : FindLayout) × Contains treatments.old.items entry × (entry.number ≡ number) }
+    ensures taken { TakesNewest treatments.old.items next.old number result treatments.new.items }
+    ensures none { next.new ≡ None }
+    ensures room { vec_capacity treatments.new ≡ vec_capacity treatments.old }
+{
+    let Some(layout) = next.take() else {
+        let index = newest_of(treatments, number);
+        return treatments.swap_remove(index);
+    };
+    FindLayout {
+        number,
+        layout,
+        slices: SliceSet::new(),
+    }
+}
+
+// Adds an entry with those slices of the set that have this treatment, where some have it.
+fn share_one(whole: &FindLayout, slices: &SliceSet, layouts: &mut FindLayouts) -> Result<(), Memory>
+    ensures { IfOk result (λ _. AddsShare slices.now whole.now layouts.old.entries.items layouts.new.entries.items) }
+{
+    let slices = whole.slices.both(slices);
+    if slices.lowest().is_none() {
+        return Ok(());
+    }
+    let layout = whole.layout.share()?;
+    layouts.push(FindLayout {
+        number: whole.number,
+        layout,
+        slices,
+    })
 }
 
 // The set of so many slices.

@@ -16,19 +16,19 @@ use slice_rule::{PassSeat, Pool};
 
 impl Desk {
     /// Gives the engine this configuration, and tells how many tunings there were with this one. Each slice keeps its layout until it is
-    /// cleared. `layouts` has the configuration's layout once for each slice, and gets what was kept before, for its owner to drop where
-    /// the desk is free. It takes no memory.
+    /// cleared. `layout` has the configuration's layout, and gets what was kept before, for its owner to drop where the desk is free. Where
+    /// no call is taken any more it stays as it is. It takes no memory.
     pub fn tune(
         &mut self,
         pool: &Pool,
         seat: &mut PassSeat,
         config: &Config,
-        layouts: &mut Vec<Option<SharedLayout>>,
+        layout: &mut Option<SharedLayout>,
     ) -> Result<u64, Spent>
         requires pool { pool.now ≡ self.old.pool }
         requires seat { IsSeated self.old.pool seat.old }
         requires idle { IsIdle seat.old.number seat.old.front }
-        requires tunes { TunesWith self.old.pool config.now layouts.old.items }
+        requires tunes { TunesWith self.old.pool config.now layout.old }
         ensures answer { AnswersTune self.old.events_limit self.old.history result }
         ensures events { Makes (events_of_tune seat.old.number config.now result) self.old self.new seat.old seat.new }
         ensures none_outstanding { HasNoneOutstanding seat.new }
@@ -39,7 +39,7 @@ impl Desk {
                 events: self.events,
             });
         }
-        Ok(self.make_tune(pool, seat, config, layouts))
+        Ok(self.make_tune(pool, seat, config, layout))
     }
 
     // Makes the event of a tuning, and gives its number.
@@ -48,20 +48,20 @@ impl Desk {
         pool: &Pool,
         seat: &mut PassSeat,
         config: &Config,
-        layouts: &mut Vec<Option<SharedLayout>>,
+        layout: &mut Option<SharedLayout>,
     ) -> u64
         requires pool { pool.now ≡ self.old.pool }
         requires caught_up { IsCaughtUp self.old seat.old }
         requires idle { IsIdle seat.old.number self.old.history }
         requires takes_calls { TakesCalls self.old.events_limit self.old.history }
-        requires tunes { TunesWith self.old.pool config.now layouts.old.items }
+        requires tunes { TunesWith self.old.pool config.now layout.old }
         ensures count { result ≡ length (tunings self.old.history) + 1 }
         ensures made { Makes (event.Tune seat.old.number config.now ∷ []) self.old self.new seat.old seat.new }
         ensures none_outstanding { HasNoneOutstanding seat.new }
     {
         let pass = seat.number();
         self.events = pool.make_event(&mut self.home, seat, &Tunes { pass, config });
-        self.layouts.tune(layouts);
+        self.layouts.tune(layout);
         self.layouts.tunings()
     }
 }

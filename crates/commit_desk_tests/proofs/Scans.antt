@@ -8,7 +8,7 @@ use Rattle.caseless.proofs.Computing.{caseless}
 use Rattle.commit_desk.specs.Desks.{DeskState, Makes}
 use Rattle.commit_desk.proofs.FindEnds.{begun_still}
 use Rattle.commit_desk.specs.Passes.{IsFinding}
-use Rattle.commit_desk.specs.declared.layouts.SlicesLayout.{SlicesLayout}
+use Rattle.commit_desk.specs.declared.find_layouts.FindLayout.{FindLayout}
 use Rattle.commit_desk.specs.FindLayouts.{AreFindLayouts}
 use Rattle.commit_desk.specs.Layouts.{SuitsOpening}
 use Rattle.commit_desk.specs.Resolving.{IsEntryOf, IsRestOf}
@@ -108,7 +108,7 @@ were_all_scanned layout pool config token slices seat at end laid columns_are fi
     )
 
 -- an entry of the layouts of a find is one of its token's
-pub entry_of_find : (before after : DeskState) (seat next : PassState) (query : List ℕ) (token : Token) (entries : List SlicesLayout) (entry : SlicesLayout) (pool : PoolId) →
+pub entry_of_find : (before after : DeskState) (seat next : PassState) (query : List ℕ) (token : Token) (entries : List FindLayout) (entry : FindLayout) (pool : PoolId) →
     before.pool ≡ pool → token.opened_at ≡ length before.history + 1 → Makes (event.Find seat.number query ∷ []) before after seat next →
     AreFindLayouts before.pool before.history token entries → Contains entries entry → IsEntryOf pool token entry next
 entry_of_find before after seat next query token entries entry pool of at made are has =
@@ -136,16 +136,16 @@ only_one slices at count lowest two below not slice has = ⊎_elim
     (cases_order slice at)
 
 -- the others are still entries that were there
-pub left : (before after : List SlicesLayout) (found : Option SlicesLayout) (entry : SlicesLayout) → before ≡ after ++ option_to_list found → Contains after entry → Contains before entry
-left before after found entry was has = subst (λ (xs : List SlicesLayout). Contains xs entry) (sym was) (Contains-append_left after (option_to_list found) entry has)
+pub left : (before after : List FindLayout) (found : Option FindLayout) (entry : FindLayout) → before ≡ after ++ option_to_list found → Contains after entry → Contains before entry
+left before after found entry was has = subst (λ (xs : List FindLayout). Contains xs entry) (sym was) (Contains-append_left after (option_to_list found) entry has)
 
 -- an entry that was taken out was there
-pub popped : (before after : List SlicesLayout) (found : Option SlicesLayout) (entry : SlicesLayout) → before ≡ after ++ option_to_list found → found ≡ Some entry → Contains before entry
+pub popped : (before after : List FindLayout) (found : Option FindLayout) (entry : FindLayout) → before ≡ after ++ option_to_list found → found ≡ Some entry → Contains before entry
 popped before after found entry was is =
-    subst (λ (xs : List SlicesLayout). Contains xs entry) (sym (was ∙ ap (λ (o : Option SlicesLayout). after ++ option_to_list o) is)) (Contains-push after entry)
+    subst (λ (xs : List FindLayout). Contains xs entry) (sym (was ∙ ap (λ (o : Option FindLayout). after ++ option_to_list o) is)) (Contains-push after entry)
 
 -- a find is so still after a turn that made no event
-pub all_still : (pool : PoolId) (token : Token) (entry : SlicesLayout) (behind : List SlicesLayout) (before after : DeskState) (seat next : PassState) →
+pub all_still : (pool : PoolId) (token : Token) (entry : FindLayout) (behind : List FindLayout) (before after : DeskState) (seat next : PassState) →
     IsFindingAll pool token entry behind seat → IsSeated pool next → HoldsToken next token → IsEntryOf pool token entry next → Makes [] before after seat next →
     IsFindingAll pool token entry behind next
 all_still pool token entry behind before after seat next is seated holds of_token made =

@@ -2,7 +2,7 @@
 use Rattle.std.specs.Prelude.{◌≡◌, ℕ, ◌+◌, ◌*◌, ◌≤◌, List, [], length, map, Contains}
 use Rattle.std.specs.List.{range_with_len}
 use Rattle.commit_desk.specs.Passes.{IsFinding}
-use Rattle.commit_desk.specs.declared.layouts.SlicesLayout.{SlicesLayout}
+use Rattle.commit_desk.specs.declared.find_layouts.FindLayout.{FindLayout}
 use Rattle.commit_desk.specs.Resolving.{IsEntryOf, IsRestOf}
 use Rattle.commit_desk.specs.Scans.{WereScanned, token_of}
 use Rattle.document_store.specs.Finding.{FoundState}
@@ -39,14 +39,14 @@ pub record IsDraft (words : List (List ℕ)) (bits : BitsState) : Type 0 where
   pub room : MOST_ROWS * length words ≤ bits.room
 
 -- the pass has a find open, of whose layouts this entry is one and those behind are others, and its query is empty
-pub record IsFindingAll (pool : PoolId) (token : Token) (entry : SlicesLayout) (behind : List SlicesLayout) (seat : PassState) : Type 0 where
+pub record IsFindingAll (pool : PoolId) (token : Token) (entry : FindLayout) (behind : List FindLayout) (seat : PassState) : Type 0 where
   pub finding : IsFinding pool token seat
   pub of_token : IsEntryOf pool token entry seat
-  pub others : (other : SlicesLayout) → Contains behind other → IsEntryOf pool token other seat
+  pub others : (other : FindLayout) → Contains behind other → IsEntryOf pool token other seat
   pub query : (begun : HasToken seat.front seat.number token.opened_at) → begun.query ≡ []
 
 -- A find of no words between its turns: all columns of the entry's slice are its candidates, and there is room for those that are left.
-pub record IsLookingAtAll (pool : PoolId) (token : Token) (entry : SlicesLayout) (behind : List SlicesLayout) (seat : PassState) (rest : List (List ℕ)) (columns : List (ℕ × ℕ))
+pub record IsLookingAtAll (pool : PoolId) (token : Token) (entry : FindLayout) (behind : List FindLayout) (seat : PassState) (rest : List (List ℕ)) (columns : List (ℕ × ℕ))
     (found : FoundState) (from : ℕ) : Type 0 where
   pub all : IsFindingAll pool token entry behind seat
   pub rest_of : (begun : HasToken seat.front seat.number token.opened_at) → IsRestOf entry.layout.config begun.query rest

@@ -1,6 +1,6 @@
 //! A pass between its calls, and in the middle of each.
 use crate::draft::Draft;
-use commit_desk::{Layouts, SharedLayout, SlicesLayout, ToClear};
+use commit_desk::{FindLayout, FindLayouts, SharedLayout, ToClear};
 use document_store::{Doc, Found};
 use funnel_model::{Candidates, Claim, Token, WordSet};
 use row_layout::Bits;
@@ -105,8 +105,8 @@ impl<N: PoolName> Model for Reusing<N> {
 pub(crate) struct Finding<N: PoolName> {
     pub seat: PassSeat,
     pub token: Token,
-    pub entry: SlicesLayout,
-    pub layouts: Layouts,
+    pub entry: FindLayout,
+    pub layouts: FindLayouts,
     pub of: PhantomData<N>,
 }
 
@@ -124,8 +124,8 @@ impl<N: PoolName> Model for Finding<N> {
 pub(crate) struct Looking<N: PoolName> {
     pub seat: PassSeat,
     pub token: Token,
-    pub entry: SlicesLayout,
-    pub layouts: Layouts,
+    pub entry: FindLayout,
+    pub layouts: FindLayouts,
     pub rest: WordSet,
     pub columns: Candidates,
     pub found: Found,

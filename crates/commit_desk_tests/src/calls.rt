@@ -4,7 +4,7 @@ use crate::draft::Draft;
 use crate::setting::Setting;
 use column_writer::write_column;
 use commit_desk::{
-    AddFault, ClearRefusal, CommitFault, DeleteFault, FindFault, JournalFault, Layouts, Spent,
+    AddFault, ClearRefusal, CommitFault, DeleteFault, FindFault, FindLayouts, JournalFault, Spent,
     Taken, ToClear,
 };
 use funnel_model::Commits;
@@ -143,7 +143,7 @@ impl<N: PoolName> Setting<N> {
     /// Begins a find of no words.
     pub fn begin(&mut self, caller: Caller<N>) -> Result<Finding<N>, FindFault> {
         let Caller { mut seat, of } = caller;
-        let mut layouts = Layouts::new(self.alloc);
+        let mut layouts = FindLayouts::new(self.alloc);
         let token = self
             .desk
             .open_find(&self.pool, &mut seat, "", &mut layouts)?;

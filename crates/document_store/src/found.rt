@@ -84,13 +84,13 @@ impl Found {
         self.found.push_reserved((place, id));
     }
 
-    /// Puts them in order of the places. Those that are in it already aren't sorted.
+    /// Puts them in order of the places, of which a slice has a few runs: these are merged, where there is memory for that.
     pub fn sort(&mut self)
         ensures same { IsPermutation self.old.found self.new.found }
         ensures rising { IsSorted pair_cmp self.new.found }
         ensures room { self.new.room ≡ self.old.room }
     {
-        if !self.found.as_slice().is_sorted() {
+        if let Err(_) = self.found.sort() {
             self.found.as_mut_slice().sort_unstable();
         }
     }

@@ -22,7 +22,7 @@ use Rattle.commit_desk.specs.declared.answers.CommitFault.TheVariants as commit
 use Rattle.commit_desk.specs.declared.answers.Taken.TheVariants as taken
 use Rattle.slice_recycler.specs.Turns.{IsTurn}
 use Rattle.slice_recycler.proofs.Steps.{IsQuiet, idle_still, own-unanswered, quiet_trans, quiet_turn, quiet_weaker, step_add_without_memory, step_made_after, step_spent_after}
-use Rattle.engine.specs.Adds.{AddTurns, ClaimTurns, CommitTurns, MovesFirst, OwnTurns, TakeTurn, fault_of_drop}
+use Rattle.engine.specs.Adds.{AddTurns, ClaimTurns, CommitTurns, MovesFirst, OwnTurns, TurnOfTake, fault_of_drop}
 use Rattle.engine.specs.Moves.{SomeMoves}
 use Rattle.engine.specs.Replies.{reply_of_add}
 use Rattle.engine.proofs.Moves.{moves_are_quiet}
@@ -58,7 +58,7 @@ module _ (limits : Limits) (pass id : ℕ) (text : List ℕ) where
       turns
 
   module _ (before after : List Event) where
-    pub refused_turns : (config : Config) (fault : AddFault) → TakeTurn limits pass id text before after (taken.Refused fault) → OwnTurns config limits pass id text before after (Err fault)
+    pub refused_turns : (config : Config) (fault : AddFault) → TurnOfTake limits pass id text before after (taken.Refused fault) → OwnTurns config limits pass id text before after (Err fault)
     refused_turns config (add.Present added) turn = inl turn
     refused_turns config (add.Full blocks) turn = turn
     refused_turns config (add.Spent events) turn = turn

@@ -5,10 +5,10 @@ use Rattle.std.specs.Ordering.{nat_cmp}
 use Rattle.std.proofs.lemmas.Bool.{cases_lt, eq-eqb, eqb-true}
 use Rattle.std.proofs.lemmas.List.{map-append, take_more}
 use Rattle.std.proofs.lemmas.List.Elements.{All-append, All-cons, All-nil, Contains-append_cases, Contains-append_left, Contains-append_right, Contains-push_cases}
-use Rattle.commit_desk.specs.declared.layouts.SlicesLayout.{SlicesLayout}
+use Rattle.commit_desk.specs.declared.find_layouts.FindLayout.{FindLayout}
 use Rattle.commit_desk.specs.Judging.{AreScannedForAny}
 use Rattle.commit_desk.specs.Scans.{AreScanned, HasAllCommitted, IsOfToken}
-use Rattle.engine.specs.Branches.{AddsEach, AddsScan, AreScannedForAnyBelow, CanScanEach, IsPlanned, token_at, words_of_each}
+use Rattle.engine.specs.Branches.{AddsEach, AddsScan, AreScannedForAnyBelow, CanScanEach, IsPlannedBranch, token_at, words_of_each}
 use Rattle.engine.specs.declared.branch_scans.Planned.{Planned}
 use Rattle.engine.specs.Engines.{IsOfConfig}
 use Rattle.engine.specs.Scans.{AreScannedBelow, CanScan, IsReadable, part_of, token_below}
@@ -21,7 +21,8 @@ use Rattle.funnel_model.specs.declared.config.Config.{Config}
 use Rattle.funnel_model.specs.declared.event.Event.{Event}
 use Rattle.funnel_model.specs.RowWords.{IsCommitted}
 use Rattle.funnel_model.specs.Sizes.{columns_of_slice}
-use Rattle.rank_matcher.specs.Appended.{HasBits, HasEach, candidates_of}
+use Rattle.funnel_model.specs.SliceSets.{HasNoneFrom}
+use Rattle.rank_matcher.specs.Appended.{HasBits, HasEachWithBits, candidates_of}
 use Rattle.row_layout.specs.declared.row.Row.{Row}
 use Rattle.row_layout.specs.DocumentBits.{IsDocumentBitIn, bit_of_row}
 use Rattle.row_layout.specs.Orders.{HasRowsOf}
@@ -71,7 +72,7 @@ module _ (config : Config) (seat : PassState) (token : Token) (slice : ℕ) (rea
       AreScannedBelow config seat token words (slice + 1) (first ++ second)
   scanned_join words first second before here = record {
     of_token = λ candidate has.
-        ⊎_elim (λ (h : Contains first candidate). of_token_later seat.pool.limits.columns slice token candidate (before.of_token candidate h))
+        ⊎_elim (λ (h : Contains first candidate). of_token_later seat.pool.limits.columns slice (slice + 1) token candidate (omega arith) (before.of_token candidate h))
         (λ (h : Contains second candidate).
         let of = here.of_token candidate h in
         let is = is_at slice candidate.0 token of.slice in
@@ -130,22 +131,23 @@ any_none config seat token branches = record {
   of_some = λ candidate has. absurd (nothing candidate has);
 }
 
--- after the last
-pub any_all : (config : Config) (seat : PassState) (token : Token) (branches : List (List (List ℕ))) (slices : ℕ) (candidates : List (ℕ × ℕ)) → ((slice : ℕ) → Contains token.slices slice → slice < slices) →
+-- the token has no slice from this one on
+pub any_all : (config : Config) (seat : PassState) (token : Token) (branches : List (List (List ℕ))) (slices : ℕ) (candidates : List (ℕ × ℕ)) → HasNoneFrom token.slices slices →
     AreScannedForAnyBelow config seat token branches slices candidates → AreScannedForAny config seat token branches candidates
-any_all config seat token branches slices candidates in_range are = record {
+any_all config seat token branches slices candidates none are = record {
   each_once = are.each_once;
-  of_each = λ branch has. let of = are.of_each branch has in (of.0, scanned_all config seat token branch slices of.0 in_range of.1, of.2);
-  of_some = λ candidate has. let of = are.of_some candidate has in (of.0, of.1, of.2, scanned_all config seat token of.0 slices of.1 in_range of.3, of.4);
+  of_each = λ branch has. let of = are.of_each branch has in (of.0, scanned_all config seat token branch slices of.0 none of.1, of.2);
+  of_some = λ candidate has. let of = are.of_some candidate has in (of.0, of.1, of.2, scanned_all config seat token of.0 slices of.1 none of.3, of.4);
 }
 
--- a slice that the token doesn't have
-pub any_without : (config : Config) (seat : PassState) (token : Token) (branches : List (List (List ℕ))) (slice : ℕ) (candidates : List (ℕ × ℕ)) → (Contains token.slices slice → ⊥) →
-    AreScannedForAnyBelow config seat token branches slice candidates → AreScannedForAnyBelow config seat token branches (slice + 1) candidates
-any_without config seat token branches slice candidates lacks are = record {
+-- the token has no slice from the one on that is below the other
+pub any_without : (config : Config) (seat : PassState) (token : Token) (branches : List (List (List ℕ))) (slices later : ℕ) (candidates : List (ℕ × ℕ)) → slices ≤ later →
+    ((slice : ℕ) → slices ≤ slice → slice < later → Contains token.slices slice → ⊥) → AreScannedForAnyBelow config seat token branches slices candidates →
+    AreScannedForAnyBelow config seat token branches later candidates
+any_without config seat token branches slices later candidates order lacks are = record {
   each_once = are.each_once;
-  of_each = λ branch has. let of = are.of_each branch has in (of.0, scanned_without config seat token branch slice of.0 lacks of.1, of.2);
-  of_some = λ candidate has. let of = are.of_some candidate has in (of.0, of.1, of.2, scanned_without config seat token of.0 slice of.1 lacks of.3, of.4);
+  of_each = λ branch has. let of = are.of_each branch has in (of.0, scanned_without config seat token branch slices later of.0 order lacks of.1, of.2);
+  of_some = λ candidate has. let of = are.of_some candidate has in (of.0, of.1, of.2, scanned_without config seat token of.0 slices later of.1 order lacks of.3, of.4);
 }
 
 -- one branch alone
@@ -163,7 +165,7 @@ pub adds_none : (config : Config) (seat : PassState) (token : Token) (slice : �
 adds_none config seat token slice list = record { of_before = λ column has. has; of_each = λ branch has. absurd (nothing branch has); of_some = λ column has. inl has }
 
 -- What reads of the rows of an entry add. They keep the token, the pool and the front.
-module _ (entry : SlicesLayout) (before after : Shared) (kept : kept_of after ≡ kept_of before) (seen_stays : (bit : Bit) → WasReadSet before bit → WasReadSet after bit) where
+module _ (entry : FindLayout) (before after : Shared) (kept : kept_of after ≡ kept_of before) (seen_stays : (bit : Bit) → WasReadSet before bit → WasReadSet after bit) where
   abbrev config : Config
   config = entry.layout.config
 
@@ -220,7 +222,7 @@ module _ (entry : SlicesLayout) (before after : Shared) (kept : kept_of after �
 
   -- the scan of one slice for the words of a plan
   pub scanned_at : (pool : PoolId) (words : List (List ℕ)) (plan : List Row) (slice : ℕ) (columns : List ℕ) (found : List (ℕ × ℕ)) → IsOfConfig pool → CanScan pool before entry words plan →
-      Contains entry.slices slice → found ≡ candidates_of slice columns → HasEach (IsCommittedUnder before) entry.layout plan slice columns →
+      Contains entry.slices slice → found ≡ candidates_of slice columns → HasEachWithBits (IsCommittedUnder before) entry.layout plan slice columns →
       All (λ column. column < columns_of_slice config) columns → IsStrictlySortedBy nat_cmp columns → All (HasBits (WasReadSet after) entry.layout plan slice) columns →
       AreScanned config after.seat.now (token_at slice (part_of entry after)) words found
   scanned_at pool words plan slice columns found of_config can has found_is covered in_slice rising seen =
@@ -238,13 +240,13 @@ module _ (entry : SlicesLayout) (before after : Shared) (kept : kept_of after �
       } in
       subst (λ (t : Token). AreScanned config after.seat.now (token_at slice t) words found) (sym same_part)
       (subst (AreScanned config after.seat.now token words) (sym found_is)
-      (scanned_all config after.seat.now token words (slice + 1) (candidates_of slice columns) (λ s in_token. let is = (is_at slice s part in_token).1 in omega (arith, is))
+      (scanned_all config after.seat.now token words (slice + 1) (candidates_of slice columns) (λ s high in_token. let is = (is_at slice s part in_token).1 in absurd (omega (arith, is, high)))
       (scanned_more entry.layout before.seat.now after.seat.now token before.token.now words plan slice [] columns same_pool same_front (same_columns pool before entry of_config can.readable)
       (same_room pool before entry of_config can.readable) here (can.readable.among slice has) can.planned.rows none stays covered in_slice rising
       (subst (λ (t : Token). All (λ column. All (λ row. WasReadUnder after.seat.now t.opened_at (bit_of_row entry.layout.room slice column row)) plan) columns) (token_kept before after kept) seen))))
 
 -- What a scan of one slice found is of that slice, and in its range.
-module _ (pool : PoolId) (entry : SlicesLayout) (before after : Shared) (kept : kept_of after ≡ kept_of before) (readable : IsReadable pool before entry) (slice : ℕ) (words : List (List ℕ))
+module _ (pool : PoolId) (entry : FindLayout) (before after : Shared) (kept : kept_of after ≡ kept_of before) (readable : IsReadable pool before entry) (slice : ℕ) (words : List (List ℕ))
     (scanned : List (ℕ × ℕ)) (are : AreScanned entry.layout.config after.seat.now (token_at slice (part_of entry after)) words scanned) (candidate : ℕ × ℕ) (has : Contains scanned candidate) where
   pub column_below : candidate.1 < pool.limits.columns
   column_below =
@@ -267,20 +269,20 @@ words_more branches at d inside =
     ap words_of_each (take_more branches at d inside) ∙ map-append (λ (b : Planned). b.words.now) (take at branches) (get_or branches at d ∷ [])
 
 -- a branch may be scanned for while reads keep the pass as it is
-pub can_scan : (pool : PoolId) (before after : Shared) (entry : SlicesLayout) (branch : Planned) → kept_of after ≡ kept_of before → IsReadable pool before entry → IsPlanned entry.layout.config branch →
+pub can_scan : (pool : PoolId) (before after : Shared) (entry : FindLayout) (branch : Planned) → kept_of after ≡ kept_of before → IsReadable pool before entry → IsPlannedBranch entry.layout.config branch →
     CanScan pool after entry branch.words.now branch.plan
 can_scan pool before after entry branch kept readable planned = record { readable = readable_kept pool before after entry kept readable; planned = planned }
 
 -- and so may all branches
-pub scan_each_kept : (pool : PoolId) (before after : Shared) (entry : SlicesLayout) (branches : List Planned) → kept_of after ≡ kept_of before → CanScanEach pool before entry branches →
+pub scan_each_kept : (pool : PoolId) (before after : Shared) (entry : FindLayout) (branches : List Planned) → kept_of after ≡ kept_of before → CanScanEach pool before entry branches →
     CanScanEach pool after entry branches
 scan_each_kept pool before after entry branches kept can = record { readable = readable_kept pool before after entry kept can.readable; planned = can.planned }
 
 -- one more branch is planned
-pub planned_push : (config : Config) (planned after : List Planned) (before : List (List (List ℕ))) (one : Planned) → after ≡ planned ++ one ∷ [] → words_of_each planned ≡ before → All (IsPlanned config) planned →
-    HasRowsOf config one.words.now one.plan → All (IsRowOf config) one.plan → (words_of_each after ≡ before ++ one.words.now ∷ []) × All (IsPlanned config) after
+pub planned_push : (config : Config) (planned after : List Planned) (before : List (List (List ℕ))) (one : Planned) → after ≡ planned ++ one ∷ [] → words_of_each planned ≡ before → All (IsPlannedBranch config) planned →
+    HasRowsOf config one.words.now one.plan → All (IsRowOf config) one.plan → (words_of_each after ≡ before ++ one.words.now ∷ []) × All (IsPlannedBranch config) after
 planned_push config planned after before one pushed words each rows laid = (
   ap words_of_each pushed ∙ map-append (λ (b : Planned). b.words.now) planned (one ∷ []) ∙ ap (λ ws. ws ++ one.words.now ∷ []) words,
-  subst (All (IsPlanned config)) (sym pushed)
-      (All-append (IsPlanned config) planned (one ∷ []) each (All-cons (IsPlanned config) one [] (record { rows = rows; laid = laid }) (All-nil (IsPlanned config)))),
+  subst (All (IsPlannedBranch config)) (sym pushed)
+      (All-append (IsPlannedBranch config) planned (one ∷ []) each (All-cons (IsPlannedBranch config) one [] (record { rows = rows; laid = laid }) (All-nil (IsPlannedBranch config)))),
 )

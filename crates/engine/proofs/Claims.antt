@@ -24,7 +24,7 @@ use Rattle.commit_desk.specs.declared.answers.Taken.TheVariants as taken
 use Rattle.commit_desk.specs.declared.answers.ToClear.{ToClear}
 use Rattle.commit_desk.proofs.CallEnds.{seated_still}
 use Rattle.slice_recycler.specs.Turns.{IsTurn}
-use Rattle.engine.specs.Adds.{ClaimTurns, ClearsFirst, CommitTurns, TakeTurn}
+use Rattle.engine.specs.Adds.{ClaimTurns, ClearsFirst, CommitTurns, TurnOfTake}
 use Rattle.engine.specs.Engines.{IsOfConfig}
 use Rattle.engine.specs.Moves.{AreBitsAt}
 
@@ -69,16 +69,16 @@ has_written pool claim layout set bits seat next of_config start is has document
 
 -- the turns of a claim that cleared a slice between them
 pub cleared_first : (limits : Limits) (pass id : ℕ) (text : List ℕ) (before after : List Event) (to_clear : ToClear) (layout : LayoutId) (claim : Claim) (seat next : PassState) →
-    TakeTurn limits pass id text before seat.front (taken.Clear to_clear layout) → to_clear.slots ≡ limits.columns → seat.number ≡ pass → next ≡ record seat { own = next.own } →
+    TurnOfTake limits pass id text before seat.front (taken.Clear to_clear layout) → to_clear.slots ≡ limits.columns → seat.number ≡ pass → next ≡ record seat { own = next.own } →
     IsTurn next.number next.front after (λ history. Unit {0}) (event.Opened next.number to_clear.job.slice false ∷ event.Take next.number to_clear.job.slice 0 ∷ []) → claim.slice ≡ to_clear.job.slice → claim.column ≡ 0 →
     ClearsFirst limits pass id text before after claim
 cleared_first limits pass id text before after to_clear layout claim seat next cleared slots number is opened slice first = record {
   layout = layout;
   old_layout = to_clear.old_layout;
   middle = seat.front;
-  cleared = subst (λ (s : ℕ). TakeTurn limits pass id text before seat.front
+  cleared = subst (λ (s : ℕ). TurnOfTake limits pass id text before seat.front
       (taken.Clear (record { job = record { slice = s }; slots = limits.columns; old_layout = to_clear.old_layout }) layout)) (sym slice)
-      (subst (λ (n : ℕ). TakeTurn limits pass id text before seat.front (taken.Clear (record to_clear { slots = n }) layout)) slots cleared);
+      (subst (λ (n : ℕ). TurnOfTake limits pass id text before seat.front (taken.Clear (record to_clear { slots = n }) layout)) slots cleared);
   opened = subst (λ (s : ℕ). IsTurn pass seat.front after (λ history. Unit {0}) (event.Opened pass s false ∷ event.Take pass s 0 ∷ [])) (sym slice)
       (subst (λ (n : ℕ). IsTurn n seat.front after (λ history. Unit {0}) (event.Opened n to_clear.job.slice false ∷ event.Take n to_clear.job.slice 0 ∷ [])) number
       (subst (λ (p : PassState). IsTurn p.number p.front after (λ history. Unit {0}) (event.Opened p.number to_clear.job.slice false ∷ event.Take p.number to_clear.job.slice 0 ∷ [])) is opened));

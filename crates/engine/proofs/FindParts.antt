@@ -31,7 +31,7 @@ use Rattle.funnel_model.specs.Words.{AreWordsOf}
 use Rattle.row_layout.specs.Owners.{OwnsIn}
 use Rattle.slice_rule.specs.Pools.{PoolId}
 use Rattle.slice_rule.specs.Seats.{PassState, WasReadUnder}
-use Rattle.commit_desk.specs.declared.layouts.SlicesLayout.{SlicesLayout}
+use Rattle.commit_desk.specs.declared.find_layouts.FindLayout.{FindLayout}
 use Rattle.commit_desk.specs.FindLayouts.{AreFindLayouts, IsFindLayout}
 use Rattle.commit_desk.specs.Judging.{AreGivenWhere, AreScannedForAny, GiveAllWhere, answer_where}
 use Rattle.commit_desk.specs.Passes.{IsFinding}
@@ -44,7 +44,7 @@ use Rattle.slice_recycler.specs.Turns.{IsTurn}
 use Rattle.engine.proofs.CandidateParts.{pairs-append}
 use Rattle.engine.proofs.Moves.{turn_from}
 use Rattle.engine.proofs.Scans.{holds_still}
-use Rattle.engine.specs.Finds.{AddsFound, CanLookIn, FindEnds, FindsIn, GoesOn, HasEnded, IsFoundBut, IsJustFinding, IsLeft, IsScanFor, events_of_turn}
+use Rattle.engine.specs.Finds.{AddsFound, CanLookIn, FindEnds, FindsIn, IsOpenOrEnded, HasEndedFind, IsFoundBut, IsJustFinding, IsLeft, IsScanFor, events_of_turn}
 
 -- a find is open still, with its number, once its pass has seen more
 abbrev pub begun_at : (first pass : PassState) (number : ℕ) → pass.number ≡ first.number → IsFrontOf first.number first.front pass.front → HasToken first.front first.number number →
@@ -104,7 +104,7 @@ ends_from first pass after next number goes last turn =
     (subst (λ n. IsTurn n pass.front after (λ history. Unit {0}) (event.End n ∷ [])) number ends)
 
 -- so does a find that is ended after others made events
-pub ended_from : (pool : PoolId) (first pass after : PassState) → pass.number ≡ first.number → IsFrontOf first.number first.front pass.front → HasEnded pool pass after → HasEnded pool first after
+pub ended_from : (pool : PoolId) (first pass after : PassState) → pass.number ≡ first.number → IsFrontOf first.number first.front pass.front → HasEndedFind pool pass after → HasEndedFind pool first after
 ended_from pool first pass after number goes ended = (
   turn_from {answers = λ history. Unit {0}} first.number first.front pass.front after.front (event.End first.number ∷ []) goes
       (subst (λ n. IsTurn n pass.front after.front (λ history. Unit {0}) (event.End n ∷ [])) number ended.0),
@@ -138,11 +138,11 @@ none_left [] none = refl
 none_left (x ∷ xs) none = absurd (omega (arith, none))
 
 -- no slice is of two entries
-abbrev pub AreApart : SlicesLayout → SlicesLayout → Type 0
+abbrev pub AreApart : FindLayout → FindLayout → Type 0
 AreApart one other = (slice : ℕ) → Contains one.slices slice → Contains other.slices slice → ⊥
 
 -- Before the first of its entries a find has found nothing.
-pub found_none : (test : List ℕ → List ℕ → Bool) (pool : PoolId) (pass : PassState) (token : Token) (layouts : List SlicesLayout) (found : List (ℕ × ℕ)) →
+pub found_none : (test : List ℕ → List ℕ → Bool) (pool : PoolId) (pass : PassState) (token : Token) (layouts : List FindLayout) (found : List (ℕ × ℕ)) →
     ((begun : HasToken pass.front pass.number token.opened_at) → AreFindLayouts pool begun.earlier token layouts) → found ≡ [] → IsFoundBut test pass token layouts found
 found_none test pool pass token layouts found laid none = record {
   candidates = [];
@@ -153,12 +153,12 @@ found_none test pool pass token layouts found laid none = record {
 }
 
 -- What one more entry adds.
-module _ (test : List ℕ → List ℕ → Bool) (first : PassState) (token : Token) (rest left : List SlicesLayout) (entry : SlicesLayout) (is : left ≡ rest ++ entry ∷ []) (apart : AllPairs AreApart left) where
+module _ (test : List ℕ → List ℕ → Bool) (first : PassState) (token : Token) (rest left : List FindLayout) (entry : FindLayout) (is : left ≡ rest ++ entry ∷ []) (apart : AllPairs AreApart left) where
   at_last : Contains left entry
-  at_last = subst (λ (es : List SlicesLayout). Contains es entry) (sym is) (Contains-append_right rest (entry ∷ []) entry (0, omega arith, refl))
+  at_last = subst (λ (es : List FindLayout). Contains es entry) (sym is) (Contains-append_right rest (entry ∷ []) entry (0, omega arith, refl))
 
-  of_left : (other : SlicesLayout) → Contains rest other → Contains left other
-  of_left other has = subst (λ (es : List SlicesLayout). Contains es other) (sym is) (Contains-append_left rest (entry ∷ []) other has)
+  of_left : (other : FindLayout) → Contains rest other → Contains left other
+  of_left other has = subst (λ (es : List FindLayout). Contains es other) (sym is) (Contains-append_left rest (entry ∷ []) other has)
 
   pub rest_apart : AllPairs AreApart rest
   rest_apart = pairs_before AreApart rest entry (subst (AllPairs AreApart) is apart)
@@ -186,8 +186,8 @@ module _ (test : List ℕ → List ℕ → Bool) (first : PassState) (token : To
         (λ (this : entry ≡ of.0).
         inr
         (Contains-append_right so_far.candidates adds.candidates (slice, column)
-        ((adds.finds begun).3 slice column document since (subst (λ (e : SlicesLayout). Contains e.slices slice) (sym this) of.2) lives passes)))
-        (Contains-push_cases rest entry of.0 (subst (λ (es : List SlicesLayout). Contains es of.0) is of.1)))
+        ((adds.finds begun).3 slice column document since (subst (λ (e : FindLayout). Contains e.slices slice) (sym this) of.2) lives passes)))
+        (Contains-push_cases rest entry of.0 (subst (λ (es : List FindLayout). Contains es of.0) is of.1)))
         (λ (h : Contains so_far.candidates (slice, column)). inr (Contains-append_left so_far.candidates adds.candidates (slice, column) h))
         (so_far.all begun slice column document since has lives passes);
   }
@@ -249,9 +249,9 @@ module _ (test : List ℕ → List ℕ → Bool) (pool : PoolId) (pass : PassSta
       ∙ numbers_are_answer begun.earlier (test begun.query)
 
 -- An entry of a find's layouts, among whose slices it looks.
-module _ (pool : PoolId) (first pass : PassState) (token : Token) (layouts : List SlicesLayout) (just : IsJustFinding pool token first layouts) (number : pass.number ≡ first.number)
+module _ (pool : PoolId) (first pass : PassState) (token : Token) (layouts : List FindLayout) (just : IsJustFinding pool token first layouts) (number : pass.number ≡ first.number)
     (goes : IsFrontOf first.number first.front pass.front) (finding : IsFinding pool token pass) where
-  pub can_look : (entry : SlicesLayout) → Contains layouts entry → CanLookIn pool pass token entry
+  pub can_look : (entry : FindLayout) → Contains layouts entry → CanLookIn pool pass token entry
   can_look entry has =
       let start = just.finding.holds.begun in
       record {
@@ -263,7 +263,7 @@ module _ (pool : PoolId) (first pass : PassState) (token : Token) (layouts : Lis
       }
 
 -- The words of its query stay those that they are.
-pub words_later : (pool : PoolId) (first pass : PassState) (token now : Token) (words : List (List ℕ)) (layouts : List SlicesLayout) → IsScanFor pool first token words layouts → now ≡ token →
+pub words_later : (pool : PoolId) (first pass : PassState) (token now : Token) (words : List (List ℕ)) (layouts : List FindLayout) → IsScanFor pool first token words layouts → now ≡ token →
     pass.number ≡ first.number → IsFrontOf first.number first.front pass.front → (begun : HasToken pass.front pass.number now.opened_at) → AreWordsOf words begun.query
 words_later pool first pass token now words layouts scan same number goes =
     subst (λ (t : Token). (begun : HasToken pass.front pass.number t.opened_at) → AreWordsOf words begun.query) (sym same)
@@ -272,7 +272,7 @@ words_later pool first pass token now words layouts scan same number goes =
     subst (AreWordsOf words) (begun_once pass.front pass.number token.opened_at (begun_at first pass token.opened_at number goes start) begun).1 (scan.of_query start))
 
 -- A pass that read something looks still.
-pub look_still : (pool : PoolId) (token : Token) (entry : SlicesLayout) (seat next : PassState) → next ≡ record seat { own = next.own; told = next.told } → CanLookIn pool seat token entry →
+pub look_still : (pool : PoolId) (token : Token) (entry : FindLayout) (seat next : PassState) → next ≡ record seat { own = next.own; told = next.told } → CanLookIn pool seat token entry →
     CanLookIn pool next token entry
 look_still pool token entry seat next is can =
     let did : CanLookIn pool (record seat { own = next.own; told = next.told }) token entry = record {
@@ -286,13 +286,13 @@ look_still pool token entry seat next is can =
     subst (λ (p : PassState). CanLookIn pool p token entry) (sym is) did
 
 -- so the entry is one of its token
-pub entry_of : (pool : PoolId) (token : Token) (entry : SlicesLayout) (pass : PassState) → CanLookIn pool pass token entry → IsEntryOf pool token entry pass
+pub entry_of : (pool : PoolId) (token : Token) (entry : FindLayout) (pass : PassState) → CanLookIn pool pass token entry → IsEntryOf pool token entry pass
 entry_of pool token entry pass can =
     record { among = can.among; suits = (can.laid can.finding.holds.begun).suits; treated = λ begun. (can.laid begun).treated }
 
 -- how a find goes on from a pass that read something is how it goes on from that pass before
 pub goes_on_from : (pool : PoolId) (token : Token) (last : Bool) (seat next after : PassState) → next ≡ record seat { own = next.own; told = next.told } → (answer : Option Token) →
-    GoesOn pool token last next after answer → GoesOn pool token last seat after answer
+    IsOpenOrEnded pool token last next after answer → IsOpenOrEnded pool token last seat after answer
 goes_on_from pool token last seat next after is (Some kept) on = (on.0, on.1, on.2, subst (λ (p : PassState). IsFrontOf p.number p.front after.front) is on.3)
 goes_on_from pool token last seat next after is None on = (on.0, (subst (λ (p : PassState). FindEnds p.number p.front after.front) is on.1.0, on.1.1))
 

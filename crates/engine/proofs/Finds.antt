@@ -3,7 +3,7 @@ use Rattle.std.proofs.Common.{◌≡◌, ◌⊎◌, ℕ, Bool, true, false, not,
 use Rattle.commit_desk.specs.Answers.{AnswersFind, events_of_find}
 use Rattle.commit_desk.specs.declared.answers.FindFault.{FindFault}
 use Rattle.commit_desk.specs.declared.answers.FindFault.TheVariants as find
-use Rattle.commit_desk.specs.declared.layouts.SlicesLayout.{SlicesLayout}
+use Rattle.commit_desk.specs.declared.find_layouts.FindLayout.{FindLayout}
 use Rattle.commit_desk.specs.Desks.{DeskState, Makes}
 use Rattle.commit_desk.specs.FindLayouts.{AreFindLayouts}
 use Rattle.commit_desk.specs.Judging.{answer_where}
@@ -57,7 +57,7 @@ module _ (limits : Limits) (pass : ℕ) (query : List ℕ) (before : List Event)
   begun_by next number turn = subst (λ n. next.front ≡ turn.earlier ++ event.Find n query ∷ []) (sym number) turn.made
 
   -- the find reads its slices by these layouts
-  pub just_begun : (pool : PoolId) (next : PassState) (token : Token) (layouts : List SlicesLayout) → next.number ≡ pass → FindBegins limits pass query before next.front → IsFinding pool token next →
+  pub just_begun : (pool : PoolId) (next : PassState) (token : Token) (layouts : List FindLayout) → next.number ≡ pass → FindBegins limits pass query before next.front → IsFinding pool token next →
       ((begun : HasToken next.front next.number token.opened_at) → AreFindLayouts pool begun.earlier token layouts) → IsJustFinding pool token next layouts
   just_begun pool next token layouts number turn finding laid = record {
     finding = finding;
@@ -66,7 +66,7 @@ module _ (limits : Limits) (pass : ℕ) (query : List ℕ) (before : List Event)
   }
 
   -- and scans for the words of its query
-  pub scan_begun : (pool : PoolId) (next : PassState) (token : Token) (words : List (List ℕ)) (layouts : List SlicesLayout) → next.number ≡ pass → FindBegins limits pass query before next.front →
+  pub scan_begun : (pool : PoolId) (next : PassState) (token : Token) (words : List (List ℕ)) (layouts : List FindLayout) → next.number ≡ pass → FindBegins limits pass query before next.front →
       IsFinding pool token next → AreWordsOf words query → ((begun : HasToken next.front next.number token.opened_at) → AreFindLayouts pool begun.earlier token layouts) →
       IsScanFor pool next token words layouts
   scan_begun pool next token words layouts number turn finding of_query laid = record {
@@ -117,7 +117,7 @@ module _ (limits : Limits) (pass : ℕ) (query : List ℕ) (before after : List 
         (end_is_quiet pass turns.middle after turns.ended) legal idle_end
 
 -- The layouts that the desk told as the find began are those of its slices before it.
-pub layouts_then : (pool : PoolId) (before after : DeskState) (seat next : PassState) (query : List ℕ) (answer : Result Token FindFault) (entries : List SlicesLayout) → before.pool ≡ pool →
+pub layouts_then : (pool : PoolId) (before after : DeskState) (seat next : PassState) (query : List ℕ) (answer : Result Token FindFault) (entries : List FindLayout) → before.pool ≡ pool →
     Makes (events_of_find seat.number query answer) before after seat next → IfOk answer (λ token. AreFindLayouts before.pool before.history token entries) →
     IfOk answer (λ token. (begun : HasToken next.front next.number token.opened_at) → AreFindLayouts pool begun.earlier token entries)
 layouts_then pool before after seat next query (Ok token) entries of made laid = λ begun.

@@ -4,7 +4,7 @@ use Rattle.std.specs.List.Sorted.{IsStrictlySortedBy}
 use Rattle.std.specs.Ordering.{nat_cmp}
 use Rattle.std.proofs.lemmas.Bool.{cases_lt, lt-ltb, ltb-true}
 use Rattle.std.proofs.lemmas.List.Elements.{All-contains, Contains-append_cases, Contains-append_left, Contains-append_right}
-use Rattle.commit_desk.specs.declared.layouts.SlicesLayout.{SlicesLayout}
+use Rattle.commit_desk.specs.declared.find_layouts.FindLayout.{FindLayout}
 use Rattle.commit_desk.specs.Scans.{AreScanned, HasAllCommitted, IsOfToken, token_of}
 use Rattle.engine.specs.Scans.{AreScannedBelow, CanScan, IsReadable, part_of, token_below}
 use Rattle.engine.specs.Engines.{IsOfConfig}
@@ -14,11 +14,13 @@ use Rattle.funnel_model.proofs.AnswerLemmas.{Contains-filter, Contains-filtered}
 use Rattle.funnel_model.specs.declared.bit_list.Bit.{Bit}
 use Rattle.funnel_model.specs.declared.claim.Token.{Token}
 use Rattle.funnel_model.specs.declared.config.Config.{Config}
+use Rattle.funnel_model.specs.declared.config.TheConstants.{MOST_SLICES}
 use Rattle.funnel_model.specs.declared.event.Event.{Event}
 use Rattle.funnel_model.specs.RowWords.{IsCommitted}
 use Rattle.funnel_model.specs.Sizes.{columns_of_slice}
+use Rattle.funnel_model.specs.SliceSets.{HasNoneFrom}
 use Rattle.rank_matcher.proofs.DocumentHits.{plan-bits}
-use Rattle.rank_matcher.specs.Appended.{AppendsColumns, HasBits, HasEach, appended, candidates_of}
+use Rattle.rank_matcher.specs.Appended.{AppendsColumns, HasBits, HasEachWithBits, appended, candidates_of}
 use Rattle.funnel_model.specs.Legal.{IsInSlice, Limits}
 use Rattle.row_layout.specs.declared.row.Row.{Row}
 use Rattle.row_layout.specs.DocumentBits.{IsDocumentBitIn, bit_of_row}
@@ -51,38 +53,43 @@ scanned_none config seat token words = record {
     nothing : (candidate : ℕ × ℕ) → Contains [] candidate → ⊥
     nothing candidate (k, within, is) = omega (arith, within)
 
--- the slices of the token are below all slices of the pool
-pub scanned_all : (config : Config) (seat : PassState) (token : Token) (words : List (List ℕ)) (slices : ℕ) (candidates : List (ℕ × ℕ)) →
-    ((slice : ℕ) → Contains token.slices slice → slice < slices) → AreScannedBelow config seat token words slices candidates → AreScanned config seat token words candidates
-scanned_all config seat token words slices candidates in_range scanned = record {
+-- the token has no slice from this one on
+pub scanned_all : (config : Config) (seat : PassState) (token : Token) (words : List (List ℕ)) (slices : ℕ) (candidates : List (ℕ × ℕ)) → HasNoneFrom token.slices slices →
+    AreScannedBelow config seat token words slices candidates → AreScanned config seat token words candidates
+scanned_all config seat token words slices candidates none scanned = record {
   of_token = λ candidate has.
       let of = scanned.of_token candidate has in
       record { slice = (is_below slices candidate.0 token of.slice).0; column = of.column };
   each_once = scanned.each_once;
-  every = λ slice column has. scanned.every slice column (below slices slice token has (in_range slice has));
+  every = λ slice column has.
+      scanned.every slice column
+      (below slices slice token has (⊎_elim (λ (low : slice < slices). low) (λ (high : slices ≤ slice). absurd (none slice high has)) (cases_lt slice slices)));
   read = scanned.read;
 }
 
--- what is of a slice below one is of a slice below the next
-pub of_token_later : (columns slices : ℕ) (token : Token) (candidate : ℕ × ℕ) → IsOfToken columns (token_below slices token) candidate → IsOfToken columns (token_below (slices + 1) token) candidate
-of_token_later columns slices token candidate of =
+-- what is of a slice below one is of a slice below a later one
+pub of_token_later : (columns slices later : ℕ) (token : Token) (candidate : ℕ × ℕ) → slices ≤ later → IsOfToken columns (token_below slices token) candidate →
+    IsOfToken columns (token_below later token) candidate
+of_token_later columns slices later token candidate order of =
     let has = is_below slices candidate.0 token of.slice in
     let low = has.1 in
-    record { slice = below (slices + 1) candidate.0 token has.0 (omega (arith, low)); column = of.column }
+    record { slice = below later candidate.0 token has.0 (omega (arith, low, order)); column = of.column }
 
--- A slice that the token doesn't have.
-pub scanned_without : (config : Config) (seat : PassState) (token : Token) (words : List (List ℕ)) (slice : ℕ) (candidates : List (ℕ × ℕ)) →
-    (Contains token.slices slice → ⊥) → AreScannedBelow config seat token words slice candidates → AreScannedBelow config seat token words (slice + 1) candidates
-scanned_without config seat token words slice candidates lacks scanned = record {
-  of_token = λ candidate has. of_token_later seat.pool.limits.columns slice token candidate (scanned.of_token candidate has);
+-- the token has no slice from the one on that is below the other
+pub scanned_without : (config : Config) (seat : PassState) (token : Token) (words : List (List ℕ)) (slices later : ℕ) (candidates : List (ℕ × ℕ)) → slices ≤ later →
+    ((slice : ℕ) → slices ≤ slice → slice < later → Contains token.slices slice → ⊥) → AreScannedBelow config seat token words slices candidates →
+    AreScannedBelow config seat token words later candidates
+scanned_without config seat token words slices later candidates order lacks scanned = record {
+  of_token = λ candidate has. of_token_later seat.pool.limits.columns slices later token candidate order (scanned.of_token candidate has);
   each_once = scanned.each_once;
-  every = λ s column has. let is = is_below (slice + 1) s token has in here s is.1 is.0 column (cases_lt s slice);
+  every = λ slice column has. let is = is_below later slice token has in here slice is.1 is.0 column (cases_lt slice slices);
   read = scanned.read;
 }
   where
-    here : (s : ℕ) → s < slice + 1 → Contains token.slices s → (column : ℕ) → (s < slice) ⊎ (slice ≤ s) → column < seat.pool.limits.columns → HasAllCommitted config seat words s column → Contains candidates (s, column)
-    here s low has column (inl lower) = scanned.every s column (below slice s token has lower)
-    here s low has column (inr high) = let same : s ≡ slice = omega (arith, low, high) in absurd (lacks (subst (Contains token.slices) same has))
+    here : (slice : ℕ) → slice < later → Contains token.slices slice → (column : ℕ) → (slice < slices) ⊎ (slices ≤ slice) → column < seat.pool.limits.columns →
+        HasAllCommitted config seat words slice column → Contains candidates (slice, column)
+    here slice low has column (inl lower) = scanned.every slice column (below slices slice token has lower)
+    here slice low has column (inr high) = absurd (lacks slice high low has)
 
 -- A slice that the token has, of which these columns were appended. The rows were read by a token that may have more slices.
 module _ (layout : LayoutId) (before after : PassState) (token whole : Token) (words : List (List ℕ)) (plan : List Row) (slice : ℕ) (old : List (ℕ × ℕ)) (columns : List ℕ)
@@ -98,7 +105,7 @@ module _ (layout : LayoutId) (before after : PassState) (token whole : Token) (w
 
   of_old : (candidate : ℕ × ℕ) → Contains old candidate → IsOfToken after.pool.limits.columns (token_below (slice + 1) token) candidate
   of_old candidate has =
-      of_token_later after.pool.limits.columns slice token candidate
+      of_token_later after.pool.limits.columns slice (slice + 1) token candidate (omega arith)
       (subst (λ n. IsOfToken n (token_below slice token) candidate) (sym (ap (λ (p : PoolId). p.limits.columns) same_pool)) (scanned.of_token candidate has))
 
   of_new : All (λ column. column < columns_of_slice layout.config) columns → (candidate : ℕ × ℕ) → Contains (candidates_of slice columns) candidate → IsOfToken after.pool.limits.columns (token_below (slice + 1) token) candidate
@@ -186,7 +193,7 @@ module _ (before after : Shared) (kept : kept_of after ≡ kept_of before) where
   pub token_kept : after.token.now ≡ before.token.now
   token_kept = ap (λ (k : SharedKept). k.token) kept
 
-  pub part_kept : (entry : SlicesLayout) → part_of entry after ≡ part_of entry before
+  pub part_kept : (entry : FindLayout) → part_of entry after ≡ part_of entry before
   part_kept entry = ap (λ (t : Token). token_of entry.slices t) token_kept
 
 -- a pass that did more still holds its token
@@ -205,7 +212,7 @@ read_kept pool before after kept can_read =
     } in
     subst (CanRead pool after.seat.now) (sym (token_kept before after kept)) (subst (λ (s : PassState). CanRead pool s before.token.now) (sym (seat_kept before after kept)) did)
 
-pub readable_kept : (pool : PoolId) (before after : Shared) (entry : SlicesLayout) → kept_of after ≡ kept_of before → IsReadable pool before entry → IsReadable pool after entry
+pub readable_kept : (pool : PoolId) (before after : Shared) (entry : FindLayout) → kept_of after ≡ kept_of before → IsReadable pool before entry → IsReadable pool after entry
 readable_kept pool before after entry kept readable = record {
   same = ap (λ (k : SharedKept). k.pool) kept ∙ readable.same;
   can_read = read_kept pool before after kept readable.can_read;
@@ -213,12 +220,12 @@ readable_kept pool before after entry kept readable = record {
   layout = readable.layout;
 }
 
-pub scan_kept : (pool : PoolId) (before after : Shared) (entry : SlicesLayout) (words : List (List ℕ)) (plan : List Row) → kept_of after ≡ kept_of before → CanScan pool before entry words plan →
+pub scan_kept : (pool : PoolId) (before after : Shared) (entry : FindLayout) (words : List (List ℕ)) (plan : List Row) → kept_of after ≡ kept_of before → CanScan pool before entry words plan →
     CanScan pool after entry words plan
 scan_kept pool before after entry words plan kept scan = record { readable = readable_kept pool before after entry kept scan.readable; planned = scan.planned }
 
 -- what a find may read of an entry of its layouts, once its rows are those of the pool
-pub readable_by : (pool : PoolId) (entry : SlicesLayout) (pass : PassState) (token : Token) (rows : Shared) → CanLookIn pool pass token entry → CanRead rows.pool.now rows.seat.now rows.token.now →
+pub readable_by : (pool : PoolId) (entry : FindLayout) (pass : PassState) (token : Token) (rows : Shared) → CanLookIn pool pass token entry → CanRead rows.pool.now rows.seat.now rows.token.now →
     rows.pool.now ≡ pool → rows.token.now ≡ token → IsReadable pool rows entry
 readable_by pool entry pass token rows look can_read same token_is =
     let found = look.laid look.finding.holds.begun in
@@ -230,12 +237,16 @@ readable_by pool entry pass token rows look can_read same token_is =
     }
 
 -- What may be read by a layout of the pool.
-module _ (pool : PoolId) (shared : Shared) (entry : SlicesLayout) (of_config : IsOfConfig pool) (readable : IsReadable pool shared entry) where
+module _ (pool : PoolId) (shared : Shared) (entry : FindLayout) (of_config : IsOfConfig pool) (readable : IsReadable pool shared entry) where
   -- the slices of the entry are slices of the pool
   pub in_pool : (slice : ℕ) → Contains entry.slices slice → slice < pool.config.slices
   in_pool slice has =
       subst (λ n. slice < n) (ap (λ (p : PoolId). p.limits.slices) readable.can_read.same ∙ ap (λ (l : Limits). l.slices) of_config.limits)
       ((readable.can_read.holds.slices slice).0 (readable.among slice has)).0
+
+  -- so each is one that a set can have
+  pub in_set : (slice : ℕ) → Contains entry.slices slice → slice < MOST_SLICES
+  in_set slice has = let low = in_pool slice has in let few = of_config.valid.in_range.slices in omega (arith, low, few)
 
   -- and of its layout, whose slices have the columns and the words of the pool's
   pub in_layout : (slice : ℕ) → Contains entry.slices slice → slice < entry.layout.config.slices
@@ -259,10 +270,10 @@ module _ (pool : PoolId) (shared : Shared) (entry : SlicesLayout) (of_config : I
   }
 
 -- One more slice is scanned, of which the reads are those of the rows.
-pub scanned_slice : (pool : PoolId) (before after : Shared) (entry : SlicesLayout) (words : List (List ℕ)) (plan : List Row) (slice : ℕ) (old new : List (ℕ × ℕ)) → IsOfConfig pool →
+pub scanned_slice : (pool : PoolId) (before after : Shared) (entry : FindLayout) (words : List (List ℕ)) (plan : List Row) (slice : ℕ) (old new : List (ℕ × ℕ)) → IsOfConfig pool →
     CanScan pool before entry words plan → kept_of after ≡ kept_of before → Contains entry.slices slice →
     AreScannedBelow entry.layout.config before.seat.now (part_of entry before) words slice old → AppendsColumns entry.layout slice old new →
-    HasEach (IsCommittedUnder before) entry.layout plan slice (appended old new) → All (HasBits (shared.WasReadSet after) entry.layout plan slice) (appended old new) →
+    HasEachWithBits (IsCommittedUnder before) entry.layout plan slice (appended old new) → All (HasBits (shared.WasReadSet after) entry.layout plan slice) (appended old new) →
     ((bit : Bit) → shared.WasReadSet before bit → shared.WasReadSet after bit) → AreScannedBelow entry.layout.config after.seat.now (part_of entry after) words (slice + 1) new
 scanned_slice pool before after entry words plan slice old new of_config can kept has below appends covered seen seen_stays =
     let token = token_kept before after kept in

@@ -28,21 +28,21 @@ pub record IsToBeAdded (doc : Parts) (bits : BitsState) : Type 0 where
   pub room : MOST_ROWS * length doc.words ≤ bits.room
 
 -- the desk's answer to a document with this number, in the first turn of its add
-abbrev pub TakeTurn : Limits → ℕ → ℕ → List ℕ → List Event → List Event → Taken → Type 0
-TakeTurn limits pass id text before after answer =
+abbrev pub TurnOfTake : Limits → ℕ → ℕ → List ℕ → List Event → List Event → Taken → Type 0
+TurnOfTake limits pass id text before after answer =
     IsTurn pass before after (λ history. AnswersTake limits.events limits history pass id answer) (events_of_take pass id text answer)
 
 -- the pass took this column in the first turn of its add
 pub record TakesFirst (limits : Limits) (pass id : ℕ) (text : List ℕ) (before after : List Event) (claim : Claim) : Type 0 where
   pub layout : LayoutId
-  pub took : TakeTurn limits pass id text before after (taken.Claim claim layout)
+  pub took : TurnOfTake limits pass id text before after (taken.Claim claim layout)
 
 -- the pass cleared a slice, opened it, and took its first column
 pub record ClearsFirst (limits : Limits) (pass id : ℕ) (text : List ℕ) (before after : List Event) (claim : Claim) : Type 0 where
   pub layout : LayoutId
   pub old_layout : Option LayoutId
   pub middle : List Event
-  pub cleared : TakeTurn limits pass id text before middle
+  pub cleared : TurnOfTake limits pass id text before middle
       (taken.Clear (record { job = record { slice = claim.slice }; slots = limits.columns; old_layout = old_layout }) layout)
   pub opened : IsTurn pass middle after (λ history. Unit {0}) (events_of_opened_take pass claim.slice)
   pub first : claim.column ≡ 0
@@ -71,11 +71,11 @@ fault_of_drop (commit.Present added) = add.Present added
 abbrev pub OwnTurns : Config → Limits → ℕ → ℕ → List ℕ → List Event → List Event → Result ℕ AddFault → Type 0
 OwnTurns config limits pass id text before after (Ok added) = CommitTurns config limits pass id text before after (Ok added)
 OwnTurns config limits pass id text before after (Err (add.Present added)) =
-    TakeTurn limits pass id text before after (taken.Refused (add.Present added))
+    TurnOfTake limits pass id text before after (taken.Refused (add.Present added))
     ⊎ CommitTurns config limits pass id text before after (Err (commit.Present added))
-OwnTurns config limits pass id text before after (Err (add.Full blocks)) = TakeTurn limits pass id text before after (taken.Refused (add.Full blocks))
-OwnTurns config limits pass id text before after (Err (add.Spent events)) = TakeTurn limits pass id text before after (taken.Refused (add.Spent events))
-OwnTurns config limits pass id text before after (Err add.Memory) = TakeTurn limits pass id text before after (taken.Refused add.Memory)
+OwnTurns config limits pass id text before after (Err (add.Full blocks)) = TurnOfTake limits pass id text before after (taken.Refused (add.Full blocks))
+OwnTurns config limits pass id text before after (Err (add.Spent events)) = TurnOfTake limits pass id text before after (taken.Refused (add.Spent events))
+OwnTurns config limits pass id text before after (Err add.Memory) = TurnOfTake limits pass id text before after (taken.Refused add.Memory)
 
 -- the add moved a few documents, and then came its own turns
 pub record MovesFirst (config : Config) (limits : Limits) (pass id : ℕ) (text : List ℕ) (before after : List Event) (answer : Result ℕ AddFault) : Type 0 where

@@ -1,7 +1,7 @@
 -- A scan for several branches: their plans, and what the scans of a slice for each of them merge to.
 use Rattle.std.specs.Prelude.{◌≡◌, ◌↔◌, ◌⊎◌, ◌==◌, ℕ, List, All, map, Contains}
 use Rattle.std.specs.List.{AllPairs, filter}
-use Rattle.commit_desk.specs.declared.layouts.SlicesLayout.{SlicesLayout}
+use Rattle.commit_desk.specs.declared.find_layouts.FindLayout.{FindLayout}
 use Rattle.commit_desk.specs.Judging.{AreScannedForAny}
 use Rattle.commit_desk.specs.Scans.{AreScanned}
 use Rattle.engine.specs.declared.branch_scans.Planned.{Planned}
@@ -13,13 +13,13 @@ use Rattle.slice_rule.specs.Pools.{PoolId}
 use Rattle.slice_rule.specs.Seats.{PassState}
 
 -- the plan of a branch has the rows of its words
-abbrev pub IsPlanned : Config → Planned → Type 0
-IsPlanned config branch = IsPlanFor config branch.words.now branch.plan
+abbrev pub IsPlannedBranch : Config → Planned → Type 0
+IsPlannedBranch config branch = IsPlanFor config branch.words.now branch.plan
 
 -- the slices of the entry may be read, and each branch is planned by its layout
-pub record CanScanEach (pool : PoolId) (shared : Shared) (entry : SlicesLayout) (branches : List Planned) : Type 0 where
+pub record CanScanEach (pool : PoolId) (shared : Shared) (entry : FindLayout) (branches : List Planned) : Type 0 where
   pub readable : IsReadable pool shared entry
-  pub planned : All (IsPlanned entry.layout.config) branches
+  pub planned : All (IsPlannedBranch entry.layout.config) branches
 
 -- the words of each
 abbrev pub words_of_each : List Planned → List (List (List ℕ))

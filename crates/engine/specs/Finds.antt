@@ -13,7 +13,7 @@ use Rattle.funnel_model.specs.Words.{AreWordsOf, meets}
 use Rattle.commit_desk.specs.Answers.{IsSpentAt, TakesCalls}
 use Rattle.commit_desk.specs.declared.answers.FindFault.{FindFault}
 use Rattle.commit_desk.specs.declared.answers.FindFault.TheVariants as find
-use Rattle.commit_desk.specs.declared.layouts.SlicesLayout.{SlicesLayout}
+use Rattle.commit_desk.specs.declared.find_layouts.FindLayout.{FindLayout}
 use Rattle.commit_desk.specs.FindLayouts.{AreFindLayouts, IsFindLayout}
 use Rattle.commit_desk.specs.Judging.{AreGivenWhere, GiveAllIn}
 use Rattle.commit_desk.specs.Passes.{IsFinding, IsResting}
@@ -33,13 +33,13 @@ pub record HasJustBegun (pass : PassState) : Type 0 where
   pub at : IsBegunAt (view_of pass) earlier query
 
 -- the pass has a find open, which the last event that it has seen began, and by these layouts its slices are read
-pub record IsJustFinding (pool : PoolId) (token : Token) (pass : PassState) (layouts : List SlicesLayout) : Type 0 where
+pub record IsJustFinding (pool : PoolId) (token : Token) (pass : PassState) (layouts : List FindLayout) : Type 0 where
   pub finding : IsFinding pool token pass
   pub begun : HasJustBegun pass
   pub laid : (begun : HasToken pass.front pass.number token.opened_at) → AreFindLayouts pool begun.earlier token layouts
 
 -- and these are the words of its query
-pub record IsScanFor (pool : PoolId) (pass : PassState) (token : Token) (words : List (List ℕ)) (layouts : List SlicesLayout) : Type 0 where
+pub record IsScanFor (pool : PoolId) (pass : PassState) (token : Token) (words : List (List ℕ)) (layouts : List FindLayout) : Type 0 where
   pub just : IsJustFinding pool token pass layouts
   pub of_query : (begun : HasToken pass.front pass.number token.opened_at) → AreWordsOf words begun.query
 
@@ -48,7 +48,7 @@ abbrev pub by_query : List ℕ → List ℕ → Bool
 by_query query text = meets text query
 
 -- the pass has a find open, of whose slices the entry has some, with their layout before the find
-pub record CanLookIn (pool : PoolId) (pass : PassState) (token : Token) (entry : SlicesLayout) : Type 0 where
+pub record CanLookIn (pool : PoolId) (pass : PassState) (token : Token) (entry : FindLayout) : Type 0 where
   pub finding : IsFinding pool token pass
   pub among : (slice : ℕ) → Contains entry.slices slice → Contains token.slices slice
   pub laid : (begun : HasToken pass.front pass.number token.opened_at) → IsFindLayout pool begun.earlier entry
@@ -68,12 +68,12 @@ pub record AddsFound (test : List ℕ → List ℕ → Bool) (pass : PassState) 
   pub finds : FindsIn test pass token slices candidates before after
 
 -- the slice is one of those that these entries have
-abbrev pub IsLeft : List SlicesLayout → ℕ → Type 0
-IsLeft left slice = (entry : SlicesLayout) × Contains left entry × Contains entry.slices slice
+abbrev pub IsLeft : List FindLayout → ℕ → Type 0
+IsLeft left slice = (entry : FindLayout) × Contains left entry × Contains entry.slices slice
 
 -- What a find has found where these entries are left: what candidates in its other slices give, each once; and each document that was live
 -- there before the find and is to be given stands in the column of one of them.
-pub record IsFoundBut (test : List ℕ → List ℕ → Bool) (pass : PassState) (token : Token) (left : List SlicesLayout) (found : List (ℕ × ℕ)) : Type 0 where
+pub record IsFoundBut (test : List ℕ → List ℕ → Bool) (pass : PassState) (token : Token) (left : List FindLayout) (found : List (ℕ × ℕ)) : Type 0 where
   pub candidates : List (ℕ × ℕ)
   pub each_once : AllPairs (λ (candidate other : ℕ × ℕ). candidate ≡ other → ⊥) candidates
   pub elsewhere : (candidate : ℕ × ℕ) → Contains candidates candidate → IsLeft left candidate.0 → ⊥
@@ -113,15 +113,15 @@ abbrev pub FindEnds : ℕ → List Event → List Event → Type 0
 FindEnds pass before after = IsTurn pass before after (λ history. Unit {0}) (event.End pass ∷ [])
 
 -- the pass has ended its find
-abbrev pub HasEnded : PoolId → PassState → PassState → Type 0
-HasEnded pool before after = FindEnds before.number before.front after.front × IsResting pool after
+abbrev pub HasEndedFind : PoolId → PassState → PassState → Type 0
+HasEndedFind pool before after = FindEnds before.number before.front after.front × IsResting pool after
 
 -- After some of its slices, which are not the last ones, a find is open still, while others may have made events; after the last ones it is
 -- ended.
-abbrev pub GoesOn : PoolId → Token → Bool → PassState → PassState → Option Token → Type 0
-GoesOn pool token last before after (Some kept) =
+abbrev pub IsOpenOrEnded : PoolId → Token → Bool → PassState → PassState → Option Token → Type 0
+IsOpenOrEnded pool token last before after (Some kept) =
     (last ≡ false) × (kept ≡ token) × IsFinding pool token after × IsFrontOf before.number before.front after.front
-GoesOn pool token last before after None = (last ≡ true) × HasEnded pool before after
+IsOpenOrEnded pool token last before after None = (last ≡ true) × HasEndedFind pool before after
 
 -- a find that began and ended
 pub record EndedTurns (limits : Limits) (pass : ℕ) (query : List ℕ) (before after : List Event) : Type 0 where

@@ -1,7 +1,7 @@
 -- A scan of the slices of a find that one layout is of, slice by slice.
 use Rattle.std.specs.Prelude.{◌≡◌, ℕ, List, All, Contains, nat_lt}
 use Rattle.std.specs.List.{filter}
-use Rattle.commit_desk.specs.declared.layouts.SlicesLayout.{SlicesLayout}
+use Rattle.commit_desk.specs.declared.find_layouts.FindLayout.{FindLayout}
 use Rattle.commit_desk.specs.Scans.{AreScanned, token_of}
 use Rattle.funnel_model.specs.Configuration.{with_statistics}
 use Rattle.funnel_model.specs.declared.claim.Token.{Token}
@@ -26,19 +26,19 @@ pub record IsForPool (pool : PoolId) (layout : LayoutId) : Type 0 where
   pub sized : layout.config ≡ with_statistics pool.config layout.config
 
 -- the rows are those of the pool, and the slices of the entry, which has a layout for them, may be read
-pub record IsReadable (pool : PoolId) (shared : Shared) (entry : SlicesLayout) : Type 0 where
+pub record IsReadable (pool : PoolId) (shared : Shared) (entry : FindLayout) : Type 0 where
   pub same : shared.pool.now ≡ pool
   pub can_read : CanRead pool shared.seat.now shared.token.now
   pub among : (slice : ℕ) → Contains entry.slices slice → Contains shared.token.now.slices slice
   pub layout : IsForPool pool entry.layout
 
 -- and the plan has the rows of the words by that layout
-pub record CanScan (pool : PoolId) (shared : Shared) (entry : SlicesLayout) (words : List (List ℕ)) (plan : List Row) : Type 0 where
+pub record CanScan (pool : PoolId) (shared : Shared) (entry : FindLayout) (words : List (List ℕ)) (plan : List Row) : Type 0 where
   pub readable : IsReadable pool shared entry
   pub planned : IsPlanFor entry.layout.config words plan
 
 -- the token, but that it has the slices of the entry alone
-abbrev pub part_of : SlicesLayout → Shared → Token
+abbrev pub part_of : FindLayout → Shared → Token
 part_of entry shared = token_of entry.slices shared.token.now
 
 -- the token, but that it has no slice from this one on

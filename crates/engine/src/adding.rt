@@ -4,7 +4,7 @@ ghost use Rattle.funnel_model.specs.declared.call.Call.TheVariants as call;
 ghost use Rattle.funnel_model.specs.Legal.{IsLegal};
 ghost use Rattle.commit_desk.specs.declared.answers.Taken.TheVariants as taken;
 ghost use Rattle.commit_desk.specs.Passes.{HasWritten, IsResting, IsToWrite};
-ghost use Rattle.engine.specs.Adds.{AddTurns, ClaimTurns, IsToBeAdded, OwnTurns, TakeTurn, fault_of_drop};
+ghost use Rattle.engine.specs.Adds.{AddTurns, ClaimTurns, IsToBeAdded, OwnTurns, TurnOfTake, fault_of_drop};
 ghost use Rattle.engine.specs.Passes.{MakesCall};
 ghost use Rattle.engine.specs.Replies.{reply_of_add};
 ghost use Rattle.row_layout.specs.declared.row.TheConstants.{MOST_ROWS};
@@ -29,7 +29,8 @@ impl<N: PoolName> Engine<N> {
     /// With a `reserve` in the configuration it then waits for the lock to see whether fewer columns are left. While so, it moves
     /// documents out of the filled slice that holds the fewest, at most 16, so that the slice can be cleared, if the others have
     /// room for them. For each it waits for the lock three times: to see which one is next, to take a column for it, and to move
-    /// it. It takes memory for a copy of it and for its bits; where there is none it moves no more, and goes on.
+    /// it; and once more to see that none is. It takes memory for a copy of it and for its bits; where there is none it moves no more, and
+    /// goes on.
     ///
     /// For its own document it waits for the lock twice, or three times where it clears a slice; where it is refused in the first
     /// of these turns, once. The documents of a slice that it clears are dropped while the lock is free. Its bits are set by the
@@ -131,7 +132,7 @@ impl<N: PoolName> Engine<N> {
         requires empty { room.items ≡ [] }
         requires enough { N.pool.limits.slices ≤ vec_capacity room }
         ensures turns { MatchResult result (λ claimed. ClaimTurns N.pool.limits pass.old.number doc.now.id doc.now.text pass.old.front pass.new.front claimed.0)
-            (λ fault. TakeTurn N.pool.limits pass.old.number doc.now.id doc.now.text pass.old.front pass.new.front (taken.Refused fault)) }
+            (λ fault. TurnOfTake N.pool.limits pass.old.number doc.now.id doc.now.text pass.old.front pass.new.front (taken.Refused fault)) }
         ensures next { MatchResult result (λ claimed. IsToWrite N.pool claimed.0 claimed.1 pass.new) (λ _. IsResting N.pool pass.new) }
         ensures legal { IsLegal N.pool.limits pass.new.front }
         ensures number { pass.new.number ≡ pass.old.number }

@@ -2,7 +2,7 @@
 ghost use Rattle.std.specs.Prelude.{◌≡◌, ◌+◌, ◌<◌, ◌≤◌, [], All, Contains, IfOk, length};
 ghost use Rattle.commit_desk.specs.Judging.{AreScannedForAny};
 ghost use Rattle.commit_desk.specs.Scans.{AreScanned, token_of};
-ghost use Rattle.engine.specs.Branches.{AddsEach, AddsScan, AreScannedForAnyBelow, CanScanEach, IsMerging, IsPlanned, token_at, words_of_each};
+ghost use Rattle.engine.specs.Branches.{AddsEach, AddsScan, AreScannedForAnyBelow, CanScanEach, IsMerging, IsPlannedBranch, token_at, words_of_each};
 ghost use Rattle.engine.specs.Finds.{CanLookIn};
 ghost use Rattle.engine.specs.Scans.{CanScan, IsReadable, part_of};
 ghost use Rattle.funnel_model.specs.declared.bit_list.Bit.{Bit};
@@ -11,7 +11,7 @@ ghost use Rattle.row_read.specs.SharedRows.{WasReadSet, kept_of};
 use crate::engine::Engine;
 use crate::merged::Merged;
 use crate::work::Direct;
-use commit_desk::SlicesLayout;
+use commit_desk::FindLayout;
 use document_store::Found;
 use funnel_model::{Branches, Candidates, Memory, Token, WordSet};
 use plan_rows::plan;
@@ -35,7 +35,7 @@ pub(crate) fn plan_each<'a>(
     branches: &'a Branches,
 ) -> Result<Vec<Planned<'a>>, Memory>
     ensures words { IfOk result (λ planned. words_of_each planned.items ≡ branches.now) }
-    ensures planned { IfOk result (λ planned. All (IsPlanned layout.now.config) planned.items) }
+    ensures planned { IfOk result (λ planned. All (IsPlannedBranch layout.now.config) planned.items) }
 {
     let mut planned = Vec::with_capacity(alloc, branches.len())?;
     for words in branches.as_slice() {
@@ -62,7 +62,7 @@ impl<N: PoolName> Engine<N> {
         pass: &mut PassSeat,
         token: &Token,
         branches: &Branches,
-        entry: &SlicesLayout,
+        entry: &FindLayout,
         out: &mut Found,
     ) -> Result<Candidates, Memory>
         requires can { CanLookIn N.pool pass.old token.now entry.now }
@@ -84,10 +84,10 @@ impl<N: PoolName> Engine<N> {
         pass: &mut PassSeat,
         token: &Token,
         branches: &[Planned<'_>],
-        entry: &SlicesLayout,
+        entry: &FindLayout,
     ) -> Result<Candidates, Memory>
         requires can { CanLookIn N.pool pass.old token.now entry.now }
-        requires planned { All (IsPlanned entry.now.layout.config) branches.now }
+        requires planned { All (IsPlannedBranch entry.now.layout.config) branches.now }
         ensures scanned { IfOk result (λ found. AreScannedForAny entry.now.layout.config pass.new (token_of entry.now.slices token.now)
             (words_of_each branches.now) found) }
         ensures seat { pass.new ≡ record pass.old { own = pass.new.own; told = pass.new.told } }
@@ -106,10 +106,10 @@ impl<N: PoolName> Engine<N> {
         alloc: Global,
         rows: &mut Shared<'_>,
         branch: &Planned<'_>,
-        entry: &SlicesLayout,
+        entry: &FindLayout,
     ) -> Result<Candidates, Memory>
         requires readable { IsReadable N.pool rows.old entry.now }
-        requires planned { IsPlanned entry.now.layout.config branch.now }
+        requires planned { IsPlannedBranch entry.now.layout.config branch.now }
         ensures scanned { IfOk result (λ found. AreScanned entry.now.layout.config rows.new.seat.now (part_of entry.now rows.new) branch.now.words.now found) }
         ensures kept { kept_of rows.new ≡ kept_of rows.old }
     {
@@ -125,55 +125,29 @@ impl<N: PoolName> Engine<N> {
         Ok(found)
     }
 
-    // Scans one slice of an entry after the other for all branches.
+    // Scans one slice of an entry after the other for all branches. What a scan finds is put into `room`, which is handed on.
     fn merge_slices(
         &self,
         alloc: Global,
         rows: &mut Shared<'_>,
         branches: &[Planned<'_>],
-        entry: &SlicesLayout,
+        entry: &FindLayout,
     ) -> Result<Candidates, Memory>
         requires scan { CanScanEach N.pool rows.old entry.now branches.now }
         ensures scanned { IfOk result (λ found. AreScannedForAny entry.now.layout.config rows.new.seat.now (part_of entry.now rows.new)
             (words_of_each branches.now) found) }
         ensures kept { kept_of rows.new ≡ kept_of rows.old }
     {
+        let _ = &self.pool;
         let mut merged = Merged::new(alloc, entry.layout.layout().columns())?;
         let mut room = Candidates::new(Vec::new(alloc));
-        for slice in 0..self.slices {
-            room = self.merge_slice(rows, branches, entry, slice, room, &mut merged)?;
+        let mut from = 0;
+        while let Some(slice) = entry.slices.next(from) {
+            merged.begin(slice);
+            room = self.merge_each(rows, branches, entry, slice, room, &mut merged)?;
+            from = slice + 1;
         }
         Ok(merged.into_list())
-    }
-
-    // Scans one more slice for all branches, where the entry has it. What a scan finds is put into `room`, which is handed on.
-    fn merge_slice(
-        &self,
-        rows: &mut Shared<'_>,
-        branches: &[Planned<'_>],
-        entry: &SlicesLayout,
-        slice: u32,
-        room: Candidates,
-        merged: &mut Merged,
-    ) -> Result<Candidates, Memory>
-        requires scan { CanScanEach N.pool rows.old entry.now branches.now }
-        requires slice { slice < N.pool.limits.slices }
-        requires columns { merged.old.columns ≡ N.pool.limits.columns }
-        requires below { AreScannedForAnyBelow entry.now.layout.config rows.old.seat.now (part_of entry.now rows.old) (words_of_each branches.now)
-            slice merged.old.list }
-        ensures scanned { IfOk result (λ _. AreScannedForAnyBelow entry.now.layout.config rows.new.seat.now (part_of entry.now rows.new)
-            (words_of_each branches.now) (slice + 1) merged.new.list) }
-        ensures columns { merged.new.columns ≡ N.pool.limits.columns }
-        ensures kept { kept_of rows.new ≡ kept_of rows.old }
-    {
-        let _ = &self.pool;
-        if entry.slices.has(slice) {
-            merged.begin(slice);
-            let room = self.merge_each(rows, branches, entry, slice, room, merged)?;
-            Ok(room)
-        } else {
-            Ok(room)
-        }
     }
 
     // Scans a slice of an entry for one branch after the other.
@@ -181,7 +155,7 @@ impl<N: PoolName> Engine<N> {
         &self,
         rows: &mut Shared<'_>,
         branches: &[Planned<'_>],
-        entry: &SlicesLayout,
+        entry: &FindLayout,
         slice: u32,
         room: Candidates,
         merged: &mut Merged,
@@ -207,7 +181,7 @@ impl<N: PoolName> Engine<N> {
         &self,
         rows: &mut Shared<'_>,
         branch: &Planned<'_>,
-        entry: &SlicesLayout,
+        entry: &FindLayout,
         slice: u32,
         room: Candidates,
         merged: &mut Merged,
@@ -231,7 +205,7 @@ impl<N: PoolName> Engine<N> {
         &self,
         rows: &mut Shared<'_>,
         branch: &Planned<'_>,
-        entry: &SlicesLayout,
+        entry: &FindLayout,
         slice: u32,
         room: Candidates,
     ) -> Result<Candidates, Memory>

@@ -10,7 +10,7 @@ ghost use Rattle.funnel_model.specs.Words.{AreWordsOf};
 ghost use Rattle.commit_desk.specs.Passes.{IsResting};
 ghost use Rattle.commit_desk.specs.Resolving.{IsVerifying};
 ghost use Rattle.commit_desk.specs.Scans.{AreScanned, token_of};
-ghost use Rattle.engine.specs.Finds.{AddsFound, CanLookIn, FindBegins, FindEnds, FindTurns, FindsIn, GoesOn, HasEnded, IsBegunAt};
+ghost use Rattle.engine.specs.Finds.{AddsFound, CanLookIn, FindBegins, FindEnds, FindTurns, FindsIn, IsOpenOrEnded, HasEndedFind, IsBegunAt};
 ghost use Rattle.engine.specs.Finds.{IsFoundBut, IsScanFor, RefusedTurns, by_query};
 ghost use Rattle.engine.specs.Passes.{BeginsCall, MakesCall, MakesNoCall, view_of};
 ghost use Rattle.engine.specs.Replies.{reply_of_find, reply_of_find_fault};
@@ -23,7 +23,7 @@ use crate::engine::Engine;
 use crate::open_find::{Begun, OpenFind};
 use crate::pass::Pass;
 use crate::work::{Direct, Work};
-use commit_desk::{FindFault, Layouts, SlicesLayout};
+use commit_desk::{FindFault, FindLayout, FindLayouts};
 use document_store::Found;
 use funnel_model::{Candidates, Ids, Memory, Token, WordSet};
 use plan_rows::{Rest, plan};
@@ -130,7 +130,7 @@ impl<N: PoolName> Engine<N> {
         alloc: Global,
         pass: &mut PassSeat,
         query: &str,
-        layouts: &mut Layouts,
+        layouts: &mut FindLayouts,
     ) -> Result<Begun, FindFault>
         requires pass { IsResting N.pool pass.old }
         ensures begun { IfOk result (λ begun. IsScanFor N.pool pass.new begun.token begun.words layouts.new.entries.items) }
@@ -160,7 +160,7 @@ impl<N: PoolName> Engine<N> {
         alloc: Global,
         pass: &mut PassSeat,
         begun: Begun,
-        layouts: &mut Layouts,
+        layouts: &mut FindLayouts,
         work: &mut W,
     ) -> Result<Ids, Memory>
         requires begun { IsScanFor N.pool pass.old begun.token begun.words layouts.old.entries.items }
@@ -186,7 +186,7 @@ impl<N: PoolName> Engine<N> {
         pass: &mut PassSeat,
         token: Token,
         words: &WordSet,
-        layouts: &mut Layouts,
+        layouts: &mut FindLayouts,
         work: &mut W,
         out: &mut Found,
     ) -> Result<(), Memory>
@@ -223,7 +223,7 @@ impl<N: PoolName> Engine<N> {
         pass: &mut PassSeat,
         token: Token,
         words: &WordSet,
-        entry: &SlicesLayout,
+        entry: &FindLayout,
         last: bool,
         work: &mut W,
         out: &mut Found,
@@ -231,7 +231,7 @@ impl<N: PoolName> Engine<N> {
         requires can { CanLookIn N.pool pass.old token entry.now }
         requires words { (begun : HasToken pass.old.front pass.old.number token.opened_at) → AreWordsOf words.now begun.query }
         ensures found { IfOk result (λ _. AddsFound by_query pass.old token entry.now.slices out.old.found out.new.found) }
-        ensures goes_on { MatchResult result (GoesOn N.pool token last pass.old pass.new) (λ _. HasEnded N.pool pass.old pass.new) }
+        ensures goes_on { MatchResult result (IsOpenOrEnded N.pool token last pass.old pass.new) (λ _. HasEndedFind N.pool pass.old pass.new) }
         ensures legal { IsLegal N.pool.limits pass.new.front }
         ensures number { pass.new.number ≡ pass.old.number }
     {
@@ -252,7 +252,7 @@ impl<N: PoolName> Engine<N> {
         rt: &R,
         pass: &mut PassSeat,
         token: Token,
-        entry: &SlicesLayout,
+        entry: &FindLayout,
         candidates: &Candidates,
         rest: &WordSet,
         last: bool,
@@ -261,7 +261,7 @@ impl<N: PoolName> Engine<N> {
         requires verifying { IsVerifying N.pool token entry.now rest.now candidates.now pass.old }
         requires room { length candidates.now ≤ out.old.room }
         ensures found { FindsIn by_query pass.old token entry.now.slices candidates.now out.old.found out.new.found }
-        ensures goes_on { GoesOn N.pool token last pass.old pass.new result }
+        ensures goes_on { IsOpenOrEnded N.pool token last pass.old pass.new result }
         ensures legal { IsLegal N.pool.limits pass.new.front }
         ensures number { pass.new.number ≡ pass.old.number }
     {
@@ -279,14 +279,15 @@ impl<N: PoolName> Engine<N> {
         None
     }
 
-    // The candidates in the slices of an entry, and the words that their documents are to have. There is room for what they give.
+    // The candidates in the slices of an entry, and the rest of the words, for which their documents are looked at. There is room for what
+    // they give.
     fn scan<W: Work>(
         &self,
         alloc: Global,
         pass: &mut PassSeat,
         token: &Token,
         words: &WordSet,
-        entry: &SlicesLayout,
+        entry: &FindLayout,
         work: &mut W,
         out: &mut Found,
     ) -> Result<(Candidates, Rest), Memory>
@@ -312,7 +313,7 @@ impl<N: PoolName> Engine<N> {
         token: &Token,
         words: &WordSet,
         plan: &Plan,
-        entry: &SlicesLayout,
+        entry: &FindLayout,
         work: &mut W,
         out: &mut Candidates,
     ) -> Result<(), Memory>
@@ -332,7 +333,7 @@ impl<N: PoolName> Engine<N> {
         rows: &mut Shared<'_>,
         words: &WordSet,
         plan: &Plan,
-        entry: &SlicesLayout,
+        entry: &FindLayout,
         work: &mut W,
         out: &mut Candidates,
     ) -> Result<(), Memory>
@@ -342,36 +343,12 @@ impl<N: PoolName> Engine<N> {
         ensures seen_stays { (bit : Bit) → WasReadSet rows.old bit → WasReadSet rows.new bit }
         ensures kept { kept_of rows.new ≡ kept_of rows.old }
     {
-        for slice in 0..self.slices {
-            self.scan_slice(rows, words, plan, entry, slice, work, out)?;
+        let _ = &self.pool;
+        let mut from = 0;
+        while let Some(slice) = entry.slices.next(from) {
+            work.scan(rows, entry.layout.layout(), plan, slice, out)?;
+            from = slice + 1;
         }
         Ok(())
-    }
-
-    // Scans one more slice, where the entry has it.
-    fn scan_slice<W: Work>(
-        &self,
-        rows: &mut Shared<'_>,
-        words: &WordSet,
-        plan: &Plan,
-        entry: &SlicesLayout,
-        slice: u32,
-        work: &mut W,
-        out: &mut Candidates,
-    ) -> Result<(), Memory>
-        requires scan { CanScan N.pool rows.old entry.now words.now plan.now }
-        requires slice { slice < N.pool.limits.slices }
-        requires below { AreScannedBelow entry.now.layout.config rows.old.seat.now (part_of entry.now rows.old) words.now slice out.old }
-        ensures scanned { IfOk result (λ _. AreScannedBelow entry.now.layout.config rows.new.seat.now (part_of entry.now rows.new) words.now
-            (slice + 1) out.new) }
-        ensures seen_stays { (bit : Bit) → WasReadSet rows.old bit → WasReadSet rows.new bit }
-        ensures kept { kept_of rows.new ≡ kept_of rows.old }
-    {
-        let _ = &self.pool;
-        if entry.slices.has(slice) {
-            work.scan(rows, entry.layout.layout(), plan, slice, out)
-        } else {
-            Ok(())
-        }
     }
 }

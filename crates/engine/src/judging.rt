@@ -6,14 +6,14 @@ ghost use Rattle.commit_desk.specs.Judging.{HasSomeBranch};
 ghost use Rattle.commit_desk.specs.Passes.{IsResting};
 ghost use Rattle.commit_desk.specs.Resolving.{FindsUpTo, IsJudging};
 ghost use Rattle.document_store.specs.Finding.{judged_cost};
-ghost use Rattle.engine.specs.Finds.{AddsFound, CanGoOn, CanLookIn, ComesTo, FindEnds, FindsIn, GoesOn, HasEnded};
+ghost use Rattle.engine.specs.Finds.{AddsFound, CanGoOn, CanLookIn, ComesTo, FindEnds, FindsIn, IsOpenOrEnded, HasEndedFind};
 ghost use Rattle.engine.specs.Finds.{IsFoundBut, IsJustFinding, end_of_turn, events_of_turn};
 ghost use Rattle.engine.specs.Judged.{IsAnswerWhere, JudgedTurns, MakesFindOfAll, by_judge};
 ghost use Rattle.slice_recycler.specs.Turns.{IsTurn};
 
 use crate::engine::Engine;
 use crate::pass::Pass;
-use commit_desk::{FindFault, Layouts, SlicesLayout};
+use commit_desk::{FindFault, FindLayout, FindLayouts};
 use document_store::{Found, Judge};
 use funnel_model::{Branches, Candidates, Ids, Memory, Token};
 use slice_rule::{PassSeat, PoolName};
@@ -56,7 +56,7 @@ impl<N: PoolName> Engine<N> {
         alloc: Global,
         pass: &mut PassSeat,
         branches: &Branches,
-        layouts: &mut Layouts,
+        layouts: &mut FindLayouts,
         judge: &J,
     ) -> Result<Ids, FindFault>
         requires pass { IsResting N.pool pass.old }
@@ -87,7 +87,7 @@ impl<N: PoolName> Engine<N> {
         pass: &mut PassSeat,
         token: Token,
         branches: &Branches,
-        layouts: &mut Layouts,
+        layouts: &mut FindLayouts,
         judge: &J,
     ) -> Result<Ids, Memory>
         requires begun { IsJustFinding N.pool token pass.old layouts.old.entries.items }
@@ -113,7 +113,7 @@ impl<N: PoolName> Engine<N> {
         pass: &mut PassSeat,
         token: Token,
         branches: &Branches,
-        layouts: &mut Layouts,
+        layouts: &mut FindLayouts,
         judge: &J,
         out: &mut Found,
     ) -> Result<(), Memory>
@@ -151,7 +151,7 @@ impl<N: PoolName> Engine<N> {
         pass: &mut PassSeat,
         token: Token,
         branches: &Branches,
-        entry: &SlicesLayout,
+        entry: &FindLayout,
         last: bool,
         judge: &J,
         out: &mut Found,
@@ -159,7 +159,7 @@ impl<N: PoolName> Engine<N> {
         requires can { CanLookIn N.pool pass.old token entry.now }
         requires judge { HasSomeBranch (J.test judge.now) branches.now }
         ensures found { IfOk result (λ _. AddsFound (by_judge (J.test judge.now)) pass.old token entry.now.slices out.old.found out.new.found) }
-        ensures goes_on { MatchResult result (GoesOn N.pool token last pass.old pass.new) (λ _. HasEnded N.pool pass.old pass.new) }
+        ensures goes_on { MatchResult result (IsOpenOrEnded N.pool token last pass.old pass.new) (λ _. HasEndedFind N.pool pass.old pass.new) }
         ensures legal { IsLegal N.pool.limits pass.new.front }
         ensures number { pass.new.number ≡ pass.old.number }
     {
@@ -178,7 +178,7 @@ impl<N: PoolName> Engine<N> {
         rt: &R,
         pass: &mut PassSeat,
         token: Token,
-        entry: &SlicesLayout,
+        entry: &FindLayout,
         candidates: &Candidates,
         judge: &J,
         last: bool,
@@ -187,7 +187,7 @@ impl<N: PoolName> Engine<N> {
         requires judging { IsJudging N.pool token entry.now (J.test judge.now) candidates.now pass.old }
         requires room { length candidates.now ≤ out.old.room }
         ensures found { FindsIn (by_judge (J.test judge.now)) pass.old token entry.now.slices candidates.now out.old.found out.new.found }
-        ensures goes_on { GoesOn N.pool token last pass.old pass.new result }
+        ensures goes_on { IsOpenOrEnded N.pool token last pass.old pass.new result }
         ensures legal { IsLegal N.pool.limits pass.new.front }
         ensures number { pass.new.number ≡ pass.old.number }
     {
@@ -212,7 +212,7 @@ impl<N: PoolName> Engine<N> {
         rt: &R,
         pass: &mut PassSeat,
         token: Token,
-        entry: &SlicesLayout,
+        entry: &FindLayout,
         candidates: &Candidates,
         from: usize,
         judge: &J,

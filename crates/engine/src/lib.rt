@@ -1,10 +1,10 @@
 //! The engine: one index that many threads use at once.
 //!
-//! An engine has a fixed number of passes. A pass is a client's place in the history: it makes one call after another, and
-//! each call is answered by all that the pass has seen, and by what others did before the call's event. Threads that have a
-//! pass each call the same engine beside each other. Each call gives one step of one legal history, which the contracts say
-//! by `Step` (the two calls of an open find give one together); after `close` the calls of all passes stand in that history,
-//! each once.
+//! An engine has a fixed number of passes. A pass is a client's place in the history: it makes one call after another, and each
+//! call is answered by all that the pass has seen, and by what others did before the call's event. Threads that have a pass each
+//! call the same engine beside each other. Each call gives one step of one legal history, which the contracts say by `Step` (the
+//! two calls of an open find give one together, and a tuning that is too wide gives none); after `close` the calls of all passes
+//! stand in that history, each once.
 //!
 //! A program reads a valid configuration (`parse_config`), makes a `Blank` of it, and hands it to a function over a name of its
 //! pool, in which it opens the engine, uses it and closes it. The type of an engine, and of what it hands out, has that name: a
@@ -94,9 +94,10 @@
 //!   verifies its candidates there in turns, each of which ends after 4,096 look-ups, or with the document at which it has looked
 //!   for 256 words; where a judge decides, each document counts as 8 words at least. It sorts its answer afterwards. What else is
 //!   done there takes the longer the more there is of it: a journal copies its commits, an add that is refused as full looks through
-//!   the slices, and one that moves a document copies it. `Blank::new`, `open`, `note`, `meet` and `close` wait for nobody.
-//! - `Blank::new`, `open`, `add`, `find`, `find_any`, `begin_find`, `finish_find`, `journal`, `read_tuning` and `retune` take memory,
-//!   and answer so where there is none; the others take none.
+//!   the slices, and one that moves a document copies it. `Blank::new`, `open`, `read_tuning`, `note`, `meet` and
+//!   `close` wait for nobody.
+//! - `Blank::new`, `open`, `add` and `find` (and their `.._by`), `find_any`, `begin_find`, `finish_find`, `journal`, `read_tuning` and
+//!   `retune` take memory, and answer so where there is none; the others take none.
 //! - A deleted document keeps its column until all columns of its slice are done with, and the slice is cleared. So one live
 //!   document keeps its whole slice, unless the configuration has a `reserve`, for which adds move documents.
 //! - `AddFault::Full` tells what keeps documents out of each slice. It may pass without a delete: where another pass clears a slice,

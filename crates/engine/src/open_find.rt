@@ -1,4 +1,4 @@
-use commit_desk::Layouts;
+use commit_desk::FindLayouts;
 use funnel_model::{Token, WordSet};
 use slice_rule::{PassSeat, PoolName};
 use std::marker::{Model, PhantomData};
@@ -8,7 +8,7 @@ use std::marker::{Model, PhantomData};
 pub struct OpenFind<N: PoolName> {
     pub(crate) seat: PassSeat,
     /// The layouts by which its slices are read.
-    pub(crate) layouts: Layouts,
+    pub(crate) layouts: FindLayouts,
     pub(crate) begun: Begun,
     pub(crate) of: PhantomData<N>,
 }

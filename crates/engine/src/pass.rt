@@ -4,7 +4,7 @@ ghost use Rattle.commit_desk.specs.Passes.{IsResting};
 ghost use Rattle.engine.specs.Engines.{EndsIn};
 ghost use Rattle.engine.specs.Passes.{view_of};
 
-use commit_desk::Layouts;
+use commit_desk::FindLayouts;
 use funnel_model::Memory;
 use slice_rule::{Home, Note as SeatNote, PassSeat, Pool, PoolName};
 use std::alloc::Global;
@@ -17,7 +17,7 @@ pub struct Pass<N: PoolName> {
     pub(crate) seat: PassSeat,
     /// Where its finds keep the layouts of their slices, with room for an entry for each. Between finds it is kept for its memory, and
     /// has none.
-    pub(crate) layouts: Layouts,
+    pub(crate) layouts: FindLayouts,
     pub(crate) of: PhantomData<N>,
 }
 
@@ -84,7 +84,7 @@ pub(crate) fn name_passes<N: PoolName>(
 {
     let mut passes = Vec::with_capacity(alloc, seats.len())?;
     for seat in seats {
-        let layouts = Layouts::with_room(alloc, slices as usize)?;
+        let layouts = FindLayouts::with_room(alloc, slices as usize)?;
         let of = PhantomData;
         passes.push(Pass { seat, layouts, of })?;
     }

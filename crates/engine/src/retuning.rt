@@ -5,7 +5,7 @@ ghost use Rattle.engine.specs.Turns.{HasRoomFor, MakesTuneCall, TuneTurn, fault_
 
 use crate::engine::Engine;
 use crate::pass::Pass;
-use commit_desk::next_layouts;
+use commit_desk::SharedLayout;
 use funnel_model::Config;
 use row_layout::{Layout, LayoutFault};
 use slice_rule::PoolName;
@@ -26,8 +26,8 @@ pub enum TuneFault {
 impl<N: PoolName> Engine<N> {
     /// Gives the engine new statistics, and tells how many tunings there were with this one. Each slice is treated by them once it is
     /// cleared, and till then as before: so nothing is written anew, and finds go on. It lays out the rows first, and takes all its
-    /// memory then; where they don't fit into the slices it does no more. It waits for the lock once. The layouts of the tuning before
-    /// are dropped when the lock is free again.
+    /// memory then; where they don't fit into the slices it does no more. Then it waits for the lock once. A layout of a tuning before that
+    /// no slice got is dropped when the lock is free again.
     pub fn retune<R: Wait>(
         &self,
         rt: &R,
@@ -62,10 +62,11 @@ impl<N: PoolName> Engine<N> {
         ensures turn { TuneTurn N.pool.limits config.now result pass.old pass.new }
     {
         let _ = pass.seat.number();
-        let Ok(mut layouts) = next_layouts(alloc, layout, self.slices) else {
+        let Ok(shared) = SharedLayout::new(alloc, layout) else {
             return Err(TuneFault::Memory);
         };
-        match self.tune(rt, &mut pass.seat, config, &mut layouts) {
+        let mut layout = Some(shared);
+        match self.tune(rt, &mut pass.seat, config, &mut layout) {
             Ok(count) => Ok(count),
             Err(spent) => Err(TuneFault::Spent(spent.events)),
         }

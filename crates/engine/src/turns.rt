@@ -8,13 +8,13 @@ ghost use Rattle.commit_desk.specs.FindLayouts.{AreFindLayouts};
 ghost use Rattle.commit_desk.specs.Layouts.{IsLayoutOf, TunesWith};
 ghost use Rattle.commit_desk.specs.Passes.{HasCleared, HasWritten, IsFinding, IsResting, IsToDo, IsToWrite};
 ghost use Rattle.commit_desk.specs.Resolving.{FindsUpTo, IsVerifying};
-ghost use Rattle.engine.specs.Adds.{TakeTurn};
+ghost use Rattle.engine.specs.Adds.{TurnOfTake};
 ghost use Rattle.engine.specs.Finds.{CanGoOn, ComesTo, by_query, end_of_turn, events_of_turn};
 ghost use Rattle.row_layout.specs.Layouts.{LayoutId};
 ghost use Rattle.slice_recycler.specs.Turns.{IsTurn};
 
 use crate::engine::Engine;
-use commit_desk::{CommitFault, FindFault, Layouts, SharedLayout, SlicesLayout, Spent, Taken};
+use commit_desk::{CommitFault, FindFault, FindLayout, FindLayouts, SharedLayout, Spent, Taken};
 use document_store::{Doc, Found, FreeSlots};
 use funnel_model::{Block, Candidates, Claim, ClearJob, Config, Token, WordSet};
 use row_layout::Bits;
@@ -33,7 +33,7 @@ impl<N: PoolName> Engine<N> {
         requires rests { IsResting N.pool pass.old }
         requires empty { room.items ≡ [] }
         requires enough { N.pool.limits.slices ≤ vec_capacity room }
-        ensures turn { TakeTurn N.pool.limits pass.old.number doc.now.id doc.now.text pass.old.front pass.new.front result }
+        ensures turn { TurnOfTake N.pool.limits pass.old.number doc.now.id doc.now.text pass.old.front pass.new.front result }
         ensures next { IsToDo N.pool result pass.new }
         ensures number { pass.new.number ≡ pass.old.number }
         ensures legal { IsLegal N.pool.limits pass.new.front }
@@ -100,7 +100,7 @@ impl<N: PoolName> Engine<N> {
         rt: &R,
         pass: &mut PassSeat,
         query: &str,
-        layouts: &mut Layouts,
+        layouts: &mut FindLayouts,
     ) -> Result<Token, FindFault>
         requires rests { IsResting N.pool pass.old }
         ensures turn { IsTurn pass.old.number pass.old.front pass.new.front (λ history. AnswersFind N.pool.limits.events N.pool.limits history result)
@@ -126,7 +126,7 @@ impl<N: PoolName> Engine<N> {
         rt: &R,
         pass: &mut PassSeat,
         token: Token,
-        entry: &SlicesLayout,
+        entry: &FindLayout,
         candidates: &Candidates,
         from: usize,
         rest: &WordSet,
@@ -170,17 +170,17 @@ impl<N: PoolName> Engine<N> {
         self.desk.lock(rt).desk.end_find(&self.pool, pass, token)
     }
 
-    // The turn of a tuning, with the layout that each slice gets when it is cleared. The layouts before come back in its place, so that
-    // they are dropped when the lock is free again.
+    // The turn of a tuning, with the layout that each slice gets when it is cleared. What was kept before comes back in its place, so that
+    // it is dropped when the lock is free again.
     pub(crate) fn tune<R: Wait>(
         &self,
         rt: &R,
         pass: &mut PassSeat,
         config: &Config,
-        layouts: &mut Vec<Option<SharedLayout>>,
+        layout: &mut Option<SharedLayout>,
     ) -> Result<u64, Spent>
         requires rests { IsResting N.pool pass.old }
-        requires tunes { TunesWith N.pool config.now layouts.old.items }
+        requires tunes { TunesWith N.pool config.now layout.old }
         ensures turn { IsTurn pass.old.number pass.old.front pass.new.front (λ history. AnswersTune N.pool.limits.events history result)
             (events_of_tune pass.old.number config.now result) }
         ensures rests { IsResting N.pool pass.new }
@@ -191,6 +191,6 @@ impl<N: PoolName> Engine<N> {
         self.desk
             .lock(rt)
             .desk
-            .tune(&self.pool, pass, config, layouts)
+            .tune(&self.pool, pass, config, layout)
     }
 }

@@ -13,7 +13,7 @@ use funnel_stats::Key;
 use serde_json::{Map, Value};
 use std::alloc::Global;
 
-/// The text of the configuration: one object with those keys that have no default, and a newline.
+/// The text of the configuration: one object with the keys that a fit sets, and a newline.
 pub(crate) fn text_of(alloc: Global, config: &Config) -> Result<String, Memory>
     requires { IsInRange config.now }
     ensures text { IfOk result (λ text. string_bytes text ≡ text_of config.now) }

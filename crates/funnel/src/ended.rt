@@ -23,7 +23,7 @@ pub enum Why {
     WriteFault,
     /// Memory ran out. A run had read no line then, a load had made none, some or all of its calls, and neither has written anything.
     /// In a serve it ran out before any connection came, or where some sessions began: these read and wrote nothing, and all
-    /// others had theirs. A fit had read some lines or all of them, and had written nothing.
+    /// others had theirs. A fit had read no line, some or all, and had written nothing.
     Memory,
     /// A gate of a serve failed.
     GateFault,

@@ -1,7 +1,7 @@
-//! A search engine over a stream of documents: it answers which of them have every word of a query. This is the program as one
-//! call: [`funnel_main`] takes the words after the program's name, a configuration, an input, an output and gates, and runs the
-//! command that the words are. It can be handed real streams, as the crate `funnel_program` does, or streams in memory, as
-//! `program_tests` does.
+//! A search engine over a stream of documents: it answers which of them have every word of a query, or which a boolean query
+//! keeps. This is the program as one call: [`funnel_main`] takes the words after the program's name, a configuration, an input,
+//! an output and gates, and runs the command that the words are. It can be handed real streams, as the crate `funnel_program`
+//! does, or streams in memory, as `program_tests` does.
 //!
 //! [`ports`], [`shares_port`] and [`idle`] tell on which ports a serve listens, whether that is one for all workers, and how
 //! long its connections may wait, and [`gates_on`] makes the gates, before the call, which opens them. [`Ended`] is what a

@@ -1,6 +1,7 @@
 //! Which ports a serve listens on, and its gates, which are made before the program is run.
 ghost use Rattle.std.specs.Prelude.{◌≡◌, ◌+◌, ◌<◌, map, IfOk};
 ghost use Rattle.std.specs.List.{range_with_len};
+ghost use Rattle.std.specs.Option.{is_some};
 ghost use Rattle.funnel_io.specs.Std.{new_gate};
 ghost use Rattle.command_line.specs.Commands.{IsServeInRange, command_of, idle_of, ports_of, ports_of_serve, shares_port};
 
@@ -76,7 +77,7 @@ pub fn gates_on<'a, R: Net<Stream = TcpStream> + Clock>(
     idle: u32,
     shared: Option<&'a SharedPort<R::Listener>>,
 ) -> Result<Vec<TcpGate<'a, R>>, AllocError>
-    ensures { IfOk result (λ gates. gates.items ≡ map (new_gate idle) ports.now) }
+    ensures { IfOk result (λ gates. gates.items ≡ map (new_gate (is_some shared.entry) idle) ports.now) }
 {
     let mut gates = Vec::with_capacity(alloc, ports.len())?;
     for port in ports {

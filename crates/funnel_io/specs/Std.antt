@@ -23,14 +23,21 @@ pub record ConnFaults : Type 0 where
 abbrev pub IsUnfailed : ConnFaults → Type 0
 IsUnfailed conn = (conn.reads ≡ 0) × (conn.writes ≡ 0)
 
--- a gate on a port, for how many seconds a read or a write of its connections waits at most, or 0, whether it listens, and how many of
--- its calls failed
+-- a gate on a port, whether it shares this with others, for how many seconds a read or a write of its connections waits at most, or 0,
+-- whether it listens, and how many of its calls failed
 pub record PortGate : Type 0 where
   pub port : ℕ
+  pub shared : Bool
   pub idle : ℕ
   pub listens : Bool
   pub faults : ℕ
 
--- a gate that does not listen yet
-abbrev pub new_gate : ℕ → ℕ → PortGate
-new_gate idle port = record { port = port; idle = idle; listens = false; faults = 0 }
+-- a gate that does not listen yet, on a shared port or on one of its own
+abbrev pub new_gate : Bool → ℕ → ℕ → PortGate
+new_gate shared idle port = record { port = port; shared = shared; idle = idle; listens = false; faults = 0 }
+
+-- it is a gate on the same port, which it shares as before, and its connections wait as long
+pub record IsSameGate (before after : PortGate) : Type 0 where
+  pub port : after.port ≡ before.port
+  pub shared : after.shared ≡ before.shared
+  pub idle : after.idle ≡ before.idle

@@ -1,7 +1,8 @@
 ghost use Rattle.std.specs.Prelude.{◌≡◌, ◌<◌, ◌≤◌, ◌^◌, OnOk, IfOk, ⊤, true, false};
+ghost use Rattle.std.specs.Option.{is_some};
 ghost use Rattle.funnel_io.specs.Answers.{MatchNext, MatchOpening, gate_failed, opening_failed};
 ghost use Rattle.funnel_io.specs.Counts.{counted};
-ghost use Rattle.funnel_io.specs.Std.{IsUnfailed, new_gate};
+ghost use Rattle.funnel_io.specs.Std.{IsSameGate, IsUnfailed, new_gate};
 
 use crate::end::End;
 use crate::gate::{Gate, Next, Opening};
@@ -35,7 +36,7 @@ pub struct TcpGate<'a, R: Net<Stream = TcpStream> + Clock> {
     error: Option<io::Error>,
 }
 
-// A contract sees the port, the seconds, whether it listens, and the count of the calls that failed.
+// A contract sees the port, whether it is a shared one, the seconds, whether it listens, and the count of the calls that failed.
 impl<'a, R: Net<Stream = TcpStream> + Clock> Model for TcpGate<'a, R> {
     ghost use Rattle.std.specs.Prelude.{◌<◌, ◌^◌, IfSome};
     ghost use Rattle.std.specs.Option.{is_some};
@@ -43,7 +44,7 @@ impl<'a, R: Net<Stream = TcpStream> + Clock> Model for TcpGate<'a, R> {
 
     ghost Value = { PortGate };
 
-    ghost view = { λ g. record { port = g.port; idle = g.idle; listens = is_some g.listener; faults = g.faults } };
+    ghost view = { λ g. record { port = g.port; shared = is_some g.shared; idle = g.idle; listens = is_some g.listener; faults = g.faults } };
 
     ghost invariant = { λ g. IfSome g.listener (λ _. g.port < 2 ^ 16) };
 }
@@ -51,7 +52,7 @@ impl<'a, R: Net<Stream = TcpStream> + Clock> Model for TcpGate<'a, R> {
 impl<'a, R: Net<Stream = TcpStream> + Clock> TcpGate<'a, R> {
     /// A gate on a port of its own, which does not listen yet. It takes no memory.
     pub fn new(rt: &'a R, port: u32, idle: u32) -> TcpGate<'a, R>
-        ensures { result ≡ new_gate idle port }
+        ensures { result ≡ new_gate false idle port }
     {
         TcpGate::on(rt, port, idle, None)
     }
@@ -63,7 +64,7 @@ impl<'a, R: Net<Stream = TcpStream> + Clock> TcpGate<'a, R> {
         idle: u32,
         shared: Option<&'a SharedPort<R::Listener>>,
     ) -> TcpGate<'a, R>
-        ensures { result ≡ new_gate idle port }
+        ensures { result ≡ new_gate (is_some shared.entry) idle port }
     {
         TcpGate {
             rt,
@@ -114,8 +115,7 @@ impl<'a, R: Net<Stream = TcpStream> + Clock> TcpGate<'a, R> {
 
     /// Keeps what the system said, and counts the call that failed.
     fn fail(&mut self, error: io::Error)
-        ensures port { self.new.port ≡ self.old.port }
-        ensures idle { self.new.idle ≡ self.old.idle }
+        ensures same { IsSameGate self.old self.new }
         ensures listens { self.new.listens ≡ self.old.listens }
         ensures faults { self.new.faults ≡ counted true self.old.faults }
     {
@@ -141,8 +141,7 @@ impl<R: Net<Stream = TcpStream> + Clock> Gate for TcpGate<'_, R> {
 
     /// A port above 65,535 can't be listened on, which is a fault too.
     fn open(&mut self) -> Opening
-        ensures port { self.new.port ≡ self.old.port }
-        ensures idle { self.new.idle ≡ self.old.idle }
+        ensures same { IsSameGate self.old self.new }
         ensures listens { MatchOpening result (self.new.listens ≡ true) (self.new.listens ≡ self.old.listens) }
         ensures there { MatchOpening result (self.old.port < 2 ^ 16) ⊤ }
         ensures faults { self.new.faults ≡ counted (opening_failed result) self.old.faults }
@@ -161,8 +160,7 @@ impl<R: Net<Stream = TcpStream> + Clock> Gate for TcpGate<'_, R> {
 
     /// A gate that was not opened, or has ended, has no connection to give, which is a fault.
     fn next(&mut self) -> Next<TcpConn>
-        ensures port { self.new.port ≡ self.old.port }
-        ensures idle { self.new.idle ≡ self.old.idle }
+        ensures same { IsSameGate self.old self.new }
         ensures listens { self.new.listens ≡ self.old.listens }
         ensures faults { self.new.faults ≡ counted (gate_failed result) self.old.faults }
         ensures fresh { MatchNext result IsUnfailed ⊤ ⊤ }
@@ -192,8 +190,7 @@ impl<R: Net<Stream = TcpStream> + Clock> Gate for TcpGate<'_, R> {
 
     /// Listens no more, on a shared port by its own copy alone.
     fn end(&mut self)
-        ensures port { self.new.port ≡ self.old.port }
-        ensures idle { self.new.idle ≡ self.old.idle }
+        ensures same { IsSameGate self.old self.new }
         ensures listens { self.new.listens ≡ false }
         ensures faults { self.new.faults ≡ self.old.faults }
     {

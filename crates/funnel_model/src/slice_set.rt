@@ -1,5 +1,6 @@
-ghost use Rattle.std.specs.Prelude.{◌≡◌, ◌<◌, ◌↔◌, ◌⊎◌, ℕ, nat_lt, [], position, Contains, IsTrue, MatchOption};
-ghost use Rattle.funnel_model.specs.SliceSets.{IsEmpty, IsLowestBit, IsLowestOf};
+ghost use Rattle.std.specs.Prelude.{◌≡◌, ◌<◌, ◌≤◌, ◌↔◌, ◌⊎◌, ℕ, nat_lt, [], position, Contains, IsTrue, MatchOption};
+ghost use Rattle.std.specs.Int.{bit_at};
+ghost use Rattle.funnel_model.specs.SliceSets.{HasNoneFrom, IsEmpty, IsFirstFrom, IsLowestBit, IsLowestBitFrom, IsLowestOf};
 
 use crate::config::MOST_SLICES;
 use std::marker::Model;
@@ -61,6 +62,38 @@ impl SliceSet {
         Some(index as u32 * 64 + lowest_bit(self.words[index]))
     }
 
+    /// The lowest slice of the set from this one on. It looks at one word of the set where that has one, and at the words after it
+    /// else.
+    pub fn next(&self, from: u32) -> Option<u32>
+        requires { from ≤ MOST_SLICES }
+        ensures { MatchOption result (HasNoneFrom self.now from) (IsFirstFrom self.now from) }
+    {
+        let words = &self.words;
+        let start = from as usize / 64;
+        if start == words.len() {
+            return None;
+        }
+        if let Some(bit) = lowest_bit_from(words[start], from % 64) {
+            return Some(start as u32 * 64 + bit);
+        }
+        let Some(more) = first_used(&words[start + 1..]) else {
+            return None;
+        };
+        let index = start + 1 + more;
+        Some(index as u32 * 64 + lowest_bit(words[index]))
+    }
+
+    /// The slices that both sets have.
+    pub fn both(&self, other: &SliceSet) -> SliceSet
+        ensures { (slice : ℕ) → Contains result slice ↔ (Contains self.now slice × Contains other.now slice) }
+    {
+        let mut words = [0; 16];
+        for index in 0..16 {
+            words[index] = self.words[index] & other.words[index];
+        }
+        SliceSet { words }
+    }
+
     /// The same set once more.
     pub fn copy(&self) -> SliceSet
         ensures { result ≡ self.now }
@@ -82,4 +115,17 @@ fn lowest_bit(word: u64) -> u32
     ensures { IsLowestBit word result }
 {
     word.trailing_zeros()
+}
+
+/// The place of the lowest bit from this one on that is set.
+fn lowest_bit_from(word: u64, from: u32) -> Option<u32>
+    requires { from < 64 }
+    ensures { MatchOption result ((bit : ℕ) → from ≤ bit → bit_at word bit ≡ 0) (IsLowestBitFrom word from) }
+{
+    let left = word >> from;
+    if left == 0 {
+        None
+    } else {
+        Some(from + lowest_bit(left))
+    }
 }

@@ -21,7 +21,7 @@ pub enum ConfigFault {
     /// The bytes are no JSON object in UTF-8 that nests at most 127 deep, or a number in it is too large for a float of
     /// 64 bits.
     NotJson,
-    /// The object has this key, which no configuration has.
+    /// The object has this key, which no configuration has, or which is no statistic, in a tuning.
     UnknownKey(Text),
     /// The value of the key is not of its kind, or not in its range.
     BadValue(Key, Kept),

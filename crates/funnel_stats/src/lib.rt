@@ -1,5 +1,5 @@
-//! The configuration of an engine, of bytes (`parse_config`) or read from a source (`read_config`): one JSON object, whose keys are whole numbers and the listed
-//! words with their counts. What is read is hostile: a fault says why it is no configuration. The layers above use
+//! The configuration of an engine, of bytes (`parse_config`) or read from a source (`read_config`): one JSON object, whose values are
+//! whole numbers, and the listed words with their counts. What is read is hostile: a fault says why it is no configuration. The layers above use
 //! that a configuration that was read is valid, with exactly the values of the object and the defaults of the keys that
 //! it leaves out, and that a fault is the first in the order of faults that applies. The same is said of a text with new
 //! statistics for a running engine, whose other values stay.

@@ -15,6 +15,6 @@ pub enum Request<'a> {
     Journal { from: u64 },
     /// Clear and open a slice of which each column is over.
     Recycle,
-    /// Treat each slice that is cleared from now on by the statistics that are written so.
+    /// Treat each slice that is cleared, until others are given, by the statistics that are written so.
     Tune { text: &'a str },
 }

@@ -8,7 +8,7 @@ use funnel_model::Reply;
 
 /// What answers a client's requests, one after another: a pass of an engine.
 pub trait Service {
-    // The pass, and the limits of its engine.
+    // The pass, the limits of its engine, and the configuration that this was opened with.
     ghost caller: { Self → Caller };
 
     // The history as the pass has seen it.

@@ -30,8 +30,9 @@ abbrev pub HasBits : (Bit → Type 0) → LayoutId → List Row → ℕ → ℕ 
 HasBits IsOne layout rows slice column = All (λ row. IsOne (bit_of_row layout.room slice column row)) rows
 
 -- each column of the slice that has such bits in all of these rows is among these
-abbrev pub HasEach : (Bit → Type 0) → LayoutId → List Row → ℕ → List ℕ → Type 0
-HasEach IsOne layout rows slice columns = (column : ℕ) → column < columns_of_slice layout.config → HasBits IsOne layout rows slice column → Contains columns column
+abbrev pub HasEachWithBits : (Bit → Type 0) → LayoutId → List Row → ℕ → List ℕ → Type 0
+HasEachWithBits IsOne layout rows slice columns =
+    (column : ℕ) → column < columns_of_slice layout.config → HasBits IsOne layout rows slice column → Contains columns column
 
 -- columns of the slice are appended, in rising order
 pub record AppendsColumns (layout : LayoutId) (slice : ℕ) (old new : List (ℕ × ℕ)) : Type 0 where
@@ -42,5 +43,5 @@ pub record AppendsColumns (layout : LayoutId) (slice : ℕ) (old new : List (ℕ
 -- at its end the scan has found each column of the slice whose bits in all of these rows must be there, and it finds none of which some
 -- bit wasn't seen
 pub record FindsBits (least seen : Bit → Type 0) (layout : LayoutId) (plan : List Row) (slice : ℕ) (answer : Result (Unit {0}) Memory) (columns : List ℕ) : Type 0 where
-  pub covered : OnOk answer (HasEach least layout plan slice columns)
+  pub covered : OnOk answer (HasEachWithBits least layout plan slice columns)
   pub were_seen : All (HasBits seen layout plan slice) columns

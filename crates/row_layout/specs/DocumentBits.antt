@@ -3,7 +3,6 @@ use Rattle.std.specs.Prelude.{◌≡◌, ℕ, ◌+◌, ◌*◌, ◌/◌, ◌%◌
 use Rattle.std.specs.List.Sorted.{IsStrictlySortedBy}
 use Rattle.std.specs.Ordering.{match_ordering, nat_cmp, ordering_then}
 use Rattle.std.specs.declared.cmp.Ordering.{Ordering}
-use Rattle.funnel_model.specs.Sizes.{words_of_slice}
 use Rattle.funnel_model.specs.declared.bit_list.Bit.{Bit}
 use Rattle.funnel_model.specs.declared.config.Config.{Config}
 use Rattle.row_layout.specs.Rows.{rows_of_word, rows_of_words}
@@ -26,10 +25,6 @@ abbrev pub IsDocumentBitIn : ℕ → Config → List (List ℕ) → ℕ → ℕ 
 IsDocumentBitIn room config words slice column bit =
     (row : Row) × Contains (rows_of_words config words) row × (bit ≡ bit_of_row room slice column row)
 
--- the same where each slice has as many words as the configuration gives it
-abbrev pub IsDocumentBit : Config → List (List ℕ) → ℕ → ℕ → Bit → Type 0
-IsDocumentBit config words slice column bit = IsDocumentBitIn (words_of_slice config) config words slice column bit
-
 -- by word, and then by bit
 abbrev pub bit_cmp : Bit → Bit → Ordering
 bit_cmp a b = ordering_then (nat_cmp a.word b.word) (nat_cmp a.bit b.bit)
@@ -39,10 +34,6 @@ bit_cmp a b = ordering_then (nat_cmp a.word b.word) (nat_cmp a.bit b.bit)
 pub record AreDocumentBitsIn (room : ℕ) (config : Config) (words : List (List ℕ)) (slice column : ℕ) (bits : List Bit) : Type 0 where
   pub rising : IsStrictlySortedBy bit_cmp bits
   pub exactly : (bit : Bit) → Contains bits bit ↔ IsDocumentBitIn room config words slice column bit
-
--- the same where each slice has as many words as the configuration gives it
-abbrev pub AreDocumentBits : Config → List (List ℕ) → ℕ → ℕ → List Bit → Type 0
-AreDocumentBits config words slice column bits = AreDocumentBitsIn (words_of_slice config) config words slice column bits
 
 -- bits in rising order with one more, in its place; one that is among them stays once
 abbrev pub with_bit : List Bit → Bit → List Bit

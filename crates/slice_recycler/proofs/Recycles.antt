@@ -80,7 +80,8 @@ pub done_turns : (limits : Limits) (pass : ℕ) (before middle after : List Even
     slice ≡ to_clear.job.slice → IsTurn pass middle after (λ history. Unit {0}) (event.Opened pass to_clear.job.slice true ∷ []) → RecycleTurns limits pass before after (recycled.Done slice)
 done_turns limits pass before middle after to_clear slice first slots same second = (
   middle,
-  subst (λ (s : ℕ). IsTurn pass before middle (λ history. AnswersClear limits.events limits history pass (Ok (work_on limits s))) (event.Clear pass s ∷ [])) (sym same)
+  to_clear.old_layout,
+  subst (λ (s : ℕ). IsTurn pass before middle (λ history. AnswersClear limits.events limits history pass (Ok (work_on limits s to_clear.old_layout))) (event.Clear pass s ∷ [])) (sym same)
       (subst (λ (n : ℕ). IsTurn pass before middle (λ history. AnswersClear limits.events limits history pass (Ok (record to_clear { slots = n }))) (event.Clear pass to_clear.job.slice ∷ [])) slots first),
   subst (λ (s : ℕ). IsTurn pass middle after (λ history. Unit {0}) (event.Opened pass s true ∷ [])) (sym same) second,
 )

@@ -1,10 +1,11 @@
 -- What a recycle is answered, and its turns at the desk.
-use Rattle.std.specs.Prelude.{ℕ, true, List, [], ◌∷◌, Ok, Err, None}
+use Rattle.std.specs.Prelude.{ℕ, true, List, [], ◌∷◌, Ok, Err, Option}
 use Rattle.funnel_model.specs.declared.event.Event.{Event}
 use Rattle.funnel_model.specs.declared.event.Event.TheVariants as event
 use Rattle.funnel_model.specs.declared.reply.Reply.{Reply}
 use Rattle.funnel_model.specs.declared.reply.Reply.TheVariants as reply
 use Rattle.funnel_model.specs.Legal.{Limits}
+use Rattle.row_layout.specs.Layouts.{LayoutId}
 use Rattle.commit_desk.specs.Answers.{AnswersClear, events_of_clear}
 use Rattle.commit_desk.specs.declared.answers.ClearRefusal.{ClearRefusal}
 use Rattle.commit_desk.specs.declared.answers.ClearRefusal.TheVariants as clear
@@ -31,14 +32,15 @@ abbrev pub IsRefusedTurn : Limits → ℕ → List Event → List Event → Clea
 IsRefusedTurn limits pass before after refusal =
     IsTurn pass before after (λ history. AnswersClear limits.events limits history pass (Err refusal)) (events_of_clear pass (Err refusal))
 
--- the slice is to be cleared, with as many old slots as it has columns, whatever layout it had
-abbrev pub work_on : Limits → ℕ → ToClear
-work_on limits slice = record { job = record { slice = slice }; slots = limits.columns; old_layout = None }
+-- the slice is to be cleared, with as many old slots as it has columns, and with the layout that it had, where it gets another
+abbrev pub work_on : Limits → ℕ → Option LayoutId → ToClear
+work_on limits slice old_layout = record { job = record { slice = slice }; slots = limits.columns; old_layout = old_layout }
 
 -- A recycle clears the slice that the desk names in a first turn, and opens it in a second one; a refused one has one turn.
 abbrev pub RecycleTurns : Limits → ℕ → List Event → List Event → Recycled → Type 0
 RecycleTurns limits pass before after (recycled.Done slice) =
-    (middle : List Event) × IsTurn pass before middle (λ history. AnswersClear limits.events limits history pass (Ok (work_on limits slice))) (event.Clear pass slice ∷ [])
+    (middle : List Event) × (old_layout : Option LayoutId)
+    × IsTurn pass before middle (λ history. AnswersClear limits.events limits history pass (Ok (work_on limits slice old_layout))) (event.Clear pass slice ∷ [])
     × IsTurn pass middle after (λ history. Unit {0}) (event.Opened pass slice true ∷ [])
 RecycleTurns limits pass before after recycled.NoneRetired = IsRefusedTurn limits pass before after clear.NoneRetired
 RecycleTurns limits pass before after (recycled.Guarded slice guard opened_at) = IsRefusedTurn limits pass before after (clear.Guarded slice guard opened_at)

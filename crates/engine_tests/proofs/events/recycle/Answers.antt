@@ -5,8 +5,8 @@ returns-clause-done g c slice is =
     let turns = rw is at c.recycle.ensures.turns in
     record {
       middle = turns.0;
-      begins = record { earlier = turns.1.earlier; others = turns.1.seen; whole = turns.1.made };
-      ends = record { earlier = turns.2.earlier; others = turns.2.seen; whole = turns.2.made };
+      begins = record { earlier = turns.2.earlier; others = turns.2.seen; whole = turns.2.made };
+      ends = record { earlier = turns.3.earlier; others = turns.3.seen; whole = turns.3.made };
     }
 
 pub returns-clause-none : goal.returns-clause-none

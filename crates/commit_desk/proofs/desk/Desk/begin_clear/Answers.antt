@@ -11,12 +11,11 @@ use Rattle.token_manager.specs.Guarding.{IsOldest}
 use Rattle.commit_desk.specs.Answers.{TakesCalls}
 use Rattle.commit_desk.specs.Desks.{DeskState, Makes}
 use Rattle.commit_desk.specs.Kept.{Books, IsDesk}
-use Rattle.commit_desk.specs.Layouts.{with_cleared}
 use Rattle.commit_desk.proofs.Few.{few-start}
 use Rattle.commit_desk.proofs.Inside.{books_of}
 use Rattle.commit_desk.proofs.MadeEvents.{desk_at, made_one, number_is}
 use Rattle.commit_desk.proofs.Marks.{IsLowestClearable, IsNextMark, desk-look, lowest_clearable}
-use Rattle.commit_desk.proofs.SliceEvents.{books_after, desk-with, kept-as, kept-clear, layouts-as}
+use Rattle.commit_desk.proofs.SliceEvents.{books_after, desk-with, kept-as, kept-clear}
 use Rattle.commit_desk.proofs.desk.Desk.begin_clear.Goals as goal
 use Rattle.commit_desk.proofs.desk.Desk.begin_clear.Goals.{in-Some, in-None, After-clearable, After-number-pass}
 
@@ -97,9 +96,8 @@ take_out-slots-requires-clause-there c =
 
 pub renew-old_layout-requires : goal.renew-old_layout-requires
 renew-old_layout-requires c =
-    let in' = (may_now c.before.before.before.before.before.before.before.before.before.before.before).in_range in
-    let count = c.self.invariant.kept.layouts_are.count in
-    omega (arith, in', count)
+    let may = may_now c.before.before.before.before.before.before.before.before.before.before.before in
+    c.self.invariant.kept.layouts_are.every c.in-Some-clearable.slice may.in_range
 
 pub invariant_of-self-2 : goal.invariant_of-self-2
 invariant_of-self-2 c =
@@ -115,15 +113,15 @@ invariant_of-self-2 c =
     let slice = c.in-Some-clearable.slice in
     let stages = with_stage c.look.new.self slice (stage.Clearing c.number-pass.result) in
     let table = without_slice i.records slice in
-    let cleared : Books = record before { layouts = with_cleared i.layouts slice } in
+    let layouts = c.renew-old_layout.new.self in
+    let cleared : Books = record before { layouts = layouts } in
     desk-with i.home.pool home.pool i.events_limit i.home.history i.home.history home.history before
-    (record (books_after before c.make_event-self-inside.result c.take_out-slots.new.self c.clear.new.self) { layouts = c.renew-old_layout.new.self }) e
+    (books_after cleared c.make_event-self-inside.result c.take_out-slots.new.self c.clear.new.self) e
     made.home.pool made.home.history refl desk
-    (layouts-as i.home.pool.config i.home.pool.limits i.events_limit home.history (books_after cleared c.make_event-self-inside.result c.take_out-slots.new.self c.clear.new.self) c.renew-old_layout.new.self
-    c.renew-old_layout.ensures.cleared
     (kept-as i.home.pool.config i.home.pool.limits i.events_limit (i.home.history ++ e ∷ []) home.history (books_after cleared (length i.home.history + 1) table stages)
     c.make_event-self-inside.result c.take_out-slots.new.self c.clear.new.self made.home.history (number_is i.home home e c.make_event-self-inside.result made.home made.number) c.take_out-slots.ensures.table c.clear.ensures
-    (kept-clear i.home.pool.config i.home.pool.limits i.events_limit i.home.history before desk.kept c.number-pass.result c.in-Some-clearable.slice (allowed_now number) few)))
+    (kept-clear i.home.pool.config i.home.pool.limits i.events_limit i.home.history before desk.kept c.number-pass.result c.in-Some-clearable.slice layouts c.renew-old_layout.ensures.cleared
+    (allowed_now number) few))
 
 pub returns-clause-may : goal.returns-clause-may
 returns-clause-may c =

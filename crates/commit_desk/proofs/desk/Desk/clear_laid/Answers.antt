@@ -3,8 +3,9 @@ use Rattle.commit_desk.proofs.desk.Desk.clear_laid.Goals as goal
 
 pub unreachable-requires : goal.unreachable-requires
 unreachable-requires c =
-    let may = c.requires.may in
-    absurd (may.can_clear.unguarded (c.in_default-begin_clear.ensures.may c.args.slice may.in_range may.can_clear.retired))
+    let slice = c.requires.may.0 in
+    let may = c.requires.may.1 in
+    absurd (may.can_clear.unguarded (c.in_default-begin_clear.ensures.may slice may.in_range may.can_clear.retired))
 
 pub returns-in_default-clause-made : goal.returns-in_default-clause-made
 returns-in_default-clause-made c =

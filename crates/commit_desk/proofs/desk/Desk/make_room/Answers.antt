@@ -1,41 +1,55 @@
-use Rattle.std.proofs.Common.{◌≡◌, inr, sym, subst}
+use Rattle.std.proofs.Common.{◌≡◌, ℕ, true, false, inr, sym, ◌∙◌, subst}
+use Rattle.std.specs.Option.{is_some}
 use Rattle.funnel_model.specs.Blocks.{AreBlocks}
 use Rattle.funnel_model.specs.Legal.{IsFull, MayClear}
 use Rattle.commit_desk.specs.Desks.{DeskState}
+use Rattle.commit_desk.proofs.LayoutsKept.{when_none, when_some}
 use Rattle.commit_desk.proofs.TakenRoom.{full_from, not_full_by_clear}
 use Rattle.commit_desk.proofs.desk.Desk.make_room.Goals as goal
+use Rattle.commit_desk.proofs.desk.Desk.make_room.Goals.{After-clearable}
+
+-- where a slice can be cleared the pass may clear one
+may_clear : (c : After-clearable) → is_some c.clearable.result ≡ true → (slice : ℕ) × MayClear c.args.self.now.pool.limits c.args.self.now.history c.args.seat.now.number slice
+may_clear c some =
+    let found = when_some _ _ c.clearable.result c.clearable.ensures.answer some in
+    (found.0, found.1 c.args.seat.now.number c.requires.may.adds.idle)
+
+-- and else the engine is full
+full : (c : After-clearable) → is_some c.clearable.result ≡ false → IsFull c.args.self.now.pool.limits c.args.self.now.history
+full c none =
+    full_from c.args.self.now c.self.inside c.self.invariant c.self.view_is c.requires.may.no_room (when_none _ _ c.clearable.result c.clearable.ensures.answer none)
 
 pub clear_laid-requires-clause-may : goal.clear_laid-requires-clause-may
 clear_laid-requires-clause-may c =
-    subst (λ (d : DeskState). MayClear d.pool.limits d.history c.args.seat.now.number c.in-Some.slice) (sym c.in-Some.ensures.same)
-    (c.in-Some.ensures.answer c.args.seat.now.number c.requires.may.adds.idle)
+    subst (λ (d : DeskState). (slice : ℕ) × MayClear d.pool.limits d.history c.args.seat.now.number slice) (sym c.clearable.ensures.same)
+    (may_clear (goal.at.clear_laid-requires-clause-may c).After-clearable (sym c.is_some.ensures ∙ c.if-is_some.true))
 
 pub returns-in-Ok-clause-answer : goal.returns-in-Ok-clause-answer
 returns-in-Ok-clause-answer c = (
   c.requires.may.adds.enters,
   c.requires.may.no_room,
-  subst (λ (d : DeskState). MayClear d.pool.limits d.history c.args.seat.now.number c.in-Ok.work.job.slice) c.in-Some.ensures.same c.in-Ok.ensures.work.0,
-  subst (λ (d : DeskState). c.in-Ok.work.slots ≡ d.pool.limits.columns) c.in-Some.ensures.same c.in-Ok.ensures.work.1,
+  subst (λ (d : DeskState). MayClear d.pool.limits d.history c.args.seat.now.number c.in-Ok.work.job.slice) c.clearable.ensures.same c.in-Ok.ensures.work.0,
+  subst (λ (d : DeskState). c.in-Ok.work.slots ≡ d.pool.limits.columns) c.clearable.ensures.same c.in-Ok.ensures.work.1,
 )
 
 pub returns-in-Err-clause-answer : goal.returns-in-Err-clause-answer
 returns-in-Err-clause-answer c =
-    let may = c.in-Some.ensures.answer c.args.seat.now.number c.requires.may.adds.idle in
-    (c.requires.may.adds.enters, not_full_by_clear c.args.self.now.pool.limits c.args.self.now.history c.in-Some.slice may.in_range may.can_clear)
+    let found = may_clear (goal.at.returns-in-Err-clause-answer c).After-clearable (sym c.is_some.ensures ∙ c.if-is_some.true) in
+    (c.requires.may.adds.enters, not_full_by_clear c.args.self.now.pool.limits c.args.self.now.history found.0 found.1.in_range found.1.can_clear)
 
 pub blocks-blocks-requires-clause-full : goal.blocks-blocks-requires-clause-full
 blocks-blocks-requires-clause-full c =
-    subst (λ (d : DeskState). IsFull d.pool.limits d.history) (sym c.in_default.ensures.same)
-    (full_from c.args.self.now c.self.inside c.self.invariant c.self.view_is c.requires.may.no_room c.in_default.ensures.answer)
+    subst (λ (d : DeskState). IsFull d.pool.limits d.history) (sym c.clearable.ensures.same)
+    (full (goal.at.blocks-blocks-requires-clause-full c).After-clearable (sym c.is_some.ensures ∙ c.if-is_some.false))
 
 pub refuse_add-requires-clause-refused : goal.refuse_add-requires-clause-refused
 refuse_add-requires-clause-refused c =
-    inr (subst (λ (d : DeskState). IsFull d.pool.limits d.history) (sym c.in_default.ensures.same)
-    (full_from c.args.self.now c.self.inside c.self.invariant c.self.view_is c.requires.may.no_room c.in_default.ensures.answer))
+    inr (subst (λ (d : DeskState). IsFull d.pool.limits d.history) (sym c.clearable.ensures.same)
+    (full (goal.at.refuse_add-requires-clause-refused c).After-clearable (sym c.is_some.ensures ∙ c.if-is_some.false)))
 
 pub returns-clause-answer : goal.returns-clause-answer
 returns-clause-answer c = (
   c.requires.may.adds.enters,
-  full_from c.args.self.now c.self.inside c.self.invariant c.self.view_is c.requires.may.no_room c.in_default.ensures.answer,
-  subst (λ (d : DeskState). AreBlocks d.pool.limits d.history c.blocks-blocks.result) c.in_default.ensures.same c.blocks-blocks.ensures,
+  full (goal.at.returns-clause-answer c).After-clearable (sym c.is_some.ensures ∙ c.if-is_some.false),
+  subst (λ (d : DeskState). AreBlocks d.pool.limits d.history c.blocks-blocks.result) c.clearable.ensures.same c.blocks-blocks.ensures,
 )

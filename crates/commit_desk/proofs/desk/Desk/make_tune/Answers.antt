@@ -5,7 +5,7 @@ use Rattle.funnel_model.specs.Tunings.{tunings}
 use Rattle.funnel_model.proofs.Histories.{legal-push}
 use Rattle.slice_rule.specs.Pools.{PoolId}
 use Rattle.commit_desk.specs.Desks.{DeskState, Makes}
-use Rattle.commit_desk.specs.Layouts.{AreNext, LayoutsState, TunesWith}
+use Rattle.commit_desk.specs.Layouts.{LayoutsState, TunesWith}
 use Rattle.commit_desk.proofs.Inside.{books_of, desk_of}
 use Rattle.commit_desk.proofs.MadeEvents.{desk_at, made_one}
 use Rattle.commit_desk.proofs.PlainEvents.{allowed_now}
@@ -21,14 +21,8 @@ make_event-self-inside-requires-clause-allowed c =
     (allowed_now (desk_of i) c.args.self.now c.args.seat.now.number e c.self.view_is c.self.invariant.none_awaited c.requires.caught_up.in_range c.number-pass.ensures.number
     (subst (λ n. IsIdle n c.args.self.now.history) (sym c.number-pass.ensures.number) c.requires.idle))
 
-pub tune-requires-clause-next : goal.tune-requires-clause-next
-tune-requires-clause-next c =
-    let i = c.self.inside in
-    let tunes : TunesWith i.home.pool c.args.config.now c.args.layouts.now.items =
-    subst (λ (d : DeskState). TunesWith d.pool c.args.config.now c.args.layouts.now.items) (sym c.self.view_is) c.requires.tunes in (
-      record { config = c.args.config.now; room = i.home.pool.limits.slice_words },
-      subst (λ n. AreNext n (record { config = c.args.config.now; room = i.home.pool.limits.slice_words }) c.args.layouts.now.items) (sym c.self.invariant.kept.layouts_are.count) tunes.laid,
-    )
+pub tune-requires-clause-some : goal.tune-requires-clause-some
+tune-requires-clause-some c = (record { config = c.args.config.now; room = c.args.self.now.pool.limits.slice_words }, c.requires.tunes.laid)
 
 pub tune-requires-clause-few : goal.tune-requires-clause-few
 tune-requires-clause-few c =
@@ -45,10 +39,10 @@ invariant_of-self c =
     let home = c.make_event-self-inside.new.home in
     let made = c.make_event-self-inside.ensures in
     let e = event.Tune c.number-pass.result c.args.config.now in
-    let tunes : TunesWith i.home.pool c.args.config.now c.args.layouts.now.items =
-    subst (λ (d : DeskState). TunesWith d.pool c.args.config.now c.args.layouts.now.items) (sym c.self.view_is) c.requires.tunes in
+    let tunes : TunesWith i.home.pool c.args.config.now c.args.layout.now =
+    subst (λ (d : DeskState). TunesWith d.pool c.args.config.now c.args.layout.now) (sym c.self.view_is) c.requires.tunes in
     let below : length i.home.history < i.events_limit = subst (λ (d : DeskState). length d.history < d.events_limit) (sym c.self.view_is) c.requires.takes_calls in
-    desk-tuned i.home.pool i.events_limit i.home.history (books_of i) c.self.invariant c.number-pass.result c.args.config.now c.args.layouts.now.items tunes
+    desk-tuned i.home.pool i.events_limit i.home.history (books_of i) c.self.invariant c.number-pass.result c.args.config.now c.args.layout.now tunes
     home.pool home.history c.make_event-self-inside.result c.tune.new.self
     (allowed_now (desk_of i) c.args.self.now c.args.seat.now.number e c.self.view_is c.self.invariant.none_awaited c.requires.caught_up.in_range c.number-pass.ensures.number
     (subst (λ n. IsIdle n c.args.self.now.history) (sym c.number-pass.ensures.number) c.requires.idle))

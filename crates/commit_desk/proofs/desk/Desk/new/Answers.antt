@@ -5,9 +5,10 @@ use Rattle.funnel_model.specs.declared.config.Config.{Config}
 use Rattle.funnel_model.specs.declared.event.Event.{Event}
 use Rattle.funnel_model.specs.Legal.{Limits, awaited}
 use Rattle.funnel_model.specs.Sizes.{words_of_slice}
+use Rattle.row_layout.specs.Layouts.{LayoutId}
 use Rattle.slice_rule.specs.Pools.{limits_of}
 use Rattle.commit_desk.specs.Kept.{Books, AreBooksOf}
-use Rattle.commit_desk.specs.Layouts.{first_layouts}
+use Rattle.commit_desk.specs.Layouts.{AreFirst}
 use Rattle.commit_desk.proofs.KeptNew.{columns_as_made, few_columns, kept-new, some_columns}
 use Rattle.commit_desk.proofs.desk.Desk.new.Goals as goal
 
@@ -40,12 +41,15 @@ invariant_of-result c =
           (kept-new config limits c.args.events_limit books c.requires.config (some_columns config c.requires.config) refl columns refl c.in_ok-new.ensures
           c.in_ok-new-2.ensures.slices (c.in_ok-new-2.ensures.columns ∙ columns) (c.in_ok-new-2.ensures.free ∙ ap (λ n. replicate (config.slices * n) free_slot) columns) c.in_ok-new-2.ensures.all_there c.in_ok-new-3.ensures.empty c.in_ok-new-3.ensures.slices (c.in_ok-new-3.ensures.slice_columns ∙ columns)
           c.in_ok-new-4.ensures (c.in_ok-new-5.ensures.columns ∙ columns) c.in_ok-new-5.ensures.stages c.in_ok-new-5.ensures.mark
-          (c.in_ok-new-6.ensures ∙ ap (first_layouts config.slices) c.requires.laid))));
+          (subst (λ (l : LayoutId). AreFirst config.slices l c.in_ok-new-6.field-0) c.requires.laid c.in_ok-new-6.ensures))));
     }
 
 pub new-requires-3 : goal.new-requires-3
 new-requires-3 c =
     subst (λ n. c.args.config.now.slices * n < 2 ^ 32) (sym (columns_as_made c.args.config.now c.requires.config)) (few_columns c.args.config.now c.requires.config)
 
-pub new-requires-6 : goal.new-requires-6
-new-requires-6 c = c.requires.config.slices.1
+pub new-requires-6-clause-some : goal.new-requires-6-clause-some
+new-requires-6-clause-some c = c.requires.config.slices.0
+
+pub new-requires-6-clause-few : goal.new-requires-6-clause-few
+new-requires-6-clause-few c = c.requires.config.slices.1

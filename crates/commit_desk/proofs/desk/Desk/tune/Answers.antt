@@ -15,7 +15,7 @@ make_tune-requires-clause-idle c =
 pub make_tune-requires-clause-tunes : goal.make_tune-requires-clause-tunes
 make_tune-requires-clause-tunes c =
     let same = desk_is c.args.self.now c.self.inside.home c.catch_up.new.home c.self.inside.events_limit c.self.view_is c.catch_up.ensures.home in
-    subst (λ (d : DeskState). TunesWith d.pool c.args.config.now c.args.layouts.now.items) (sym same) c.requires.tunes
+    subst (λ (d : DeskState). TunesWith d.pool c.args.config.now c.args.layout.now) (sym same) c.requires.tunes
 
 pub returns-clause-answer : goal.returns-clause-answer
 returns-clause-answer c =

@@ -1,33 +1,29 @@
-use Rattle.std.proofs.Common.{◌≡◌, ◌<◌, ℕ, [], ◌∷◌, ◌++◌, Contains, length, sym, ap, ◌∙◌, subst, refl, arith}
-use Rattle.std.proofs.lemmas.List.{get_or_read}
-use Rattle.commit_desk.specs.declared.layouts.SlicesLayout.{SlicesLayout}
-use Rattle.commit_desk.specs.Layouts.{LayoutsState, layout_of, no_layout}
-use Rattle.commit_desk.specs.Numbered.{AreByNumber}
-use Rattle.commit_desk.proofs.LayoutsKept.{by_number-none, by_number-one, none_in, ok_then}
+use Rattle.std.proofs.Common.{◌<◌, List, [], length, sym, subst, take_all, arith}
+use Rattle.commit_desk.specs.declared.find_layouts.FindLayout.{FindLayout}
+use Rattle.commit_desk.specs.Layouts.{LayoutsState}
+use Rattle.commit_desk.specs.Treatments.{AreShared}
+use Rattle.commit_desk.proofs.LayoutsKept.{shared-more, shared-start}
 use Rattle.commit_desk.proofs.slice_layouts.SliceLayouts.share_out.Goals as goal
 
--- where no slice is to be read there is no entry
-pub returns-in_default : goal.returns-in_default
-returns-in_default c = subst (AreByNumber c.args.self.now c.args.slices.now) (sym c.requires.empty) (by_number-none c.args.self.now c.args.slices.now c.in_default.ensures)
+pub loop-index-init : goal.loop-index-init
+loop-index-init c = subst (AreShared [] c.args.slices.now) (sym c.requires) (shared-start c.args.slices.now)
 
-pub index-requires : goal.index-requires
-index-requires c =
-    let in' = subst (λ (k : LayoutsState). c.in-Some.first < length k.layouts) (sym c.self.view_is) (c.requires.slices c.in-Some.first c.in-Some.ensures.in_set) in
-    omega (arith, in', c.self.inside.layouts.ok.0)
+pub loop-index-preserved : goal.loop-index-preserved
+loop-index-preserved c =
+    let i = c.self.inside in
+    let items = i.treatments.items in
+    let before = c.loop-index-test.true in
+    let end = c.len-index-end.ensures in
+    let in' : c.loop-index.index < length items = omega (arith, before, end, i.treatments.ok.0) in
+    shared-more items c.loop-index.index c.index.result.now c.args.slices.now c.loop-index.layouts.entries.items c.share_one.new.layouts.entries.items
+    c.self.invariant.entries.apart in' c.index.ensures c.loop-index.invariant c.in_ok-share_one.ensures
 
--- all slices have the current layout
 pub returns : goal.returns
 returns c =
     let i = c.self.inside in
-    let first = c.in-Some.first in
-    let state : LayoutsState = record { layouts = i.layouts.items; numbers = i.numbers.items; next = i.next.items; tunings = i.tunings } in
-    let inside : (slice : ℕ) → Contains c.args.slices.now slice → slice < length state.layouts =
-    subst (λ (k : LayoutsState). (slice : ℕ) → Contains c.args.slices.now slice → slice < length k.layouts) (sym c.self.view_is) c.requires.slices in
-    let entry : SlicesLayout = record { number = i.tunings; layout = c.in_ok-layout.layout; slices = c.copy.result } in
-    let laid : c.in_ok-layout.layout ≡ layout_of state first =
-    c.in_ok-layout.ensures ∙ get_or_read i.layouts.items first c.index.result.now (inside first c.in-Some.ensures.in_set) c.index.ensures no_layout in
-    ok_then c.push.result
-    (λ grown. subst (λ (k : LayoutsState). AreByNumber k c.args.slices.now c.push.new.self.entries.items) c.self.view_is
-    (subst (AreByNumber state c.args.slices.now) (sym (grown ∙ ap (λ xs. xs ++ entry ∷ []) c.requires.empty))
-    (by_number-one state i.behind c.self.invariant c.args.slices.now (none_in i.behind c.lowest-2.result c.lowest-2.ensures (sym c.if-is_some.ensures)) inside first c.in-Some.ensures entry refl laid c.copy.ensures)))
-    c.push.ensures
+    let items = i.treatments.items in
+    let end = c.len-index-end.ensures in
+    let done = c.loop-index-test.false in
+    subst (λ (k : LayoutsState). AreShared k.treatments c.args.slices.now c.loop-index.layouts.entries.items) c.self.view_is
+    (subst (λ (xs : List FindLayout). AreShared xs c.args.slices.now c.loop-index.layouts.entries.items)
+    (take_all c.loop-index.index items (omega (arith, end, done, i.treatments.ok.0))) c.loop-index.invariant)

@@ -1,4 +1,4 @@
-use Rattle.std.proofs.Common.{◌≡◌, ◌≤◌, ◌*◌, sym, ap, ◌∙◌, subst}
+use Rattle.std.proofs.Common.{◌≡◌, ◌≤◌, ◌*◌, Some, sym, ap, ◌∙◌, subst}
 use Rattle.funnel_model.specs.Configuration.{IsTuning}
 use Rattle.funnel_model.specs.declared.config.Config.{Config}
 use Rattle.funnel_model.specs.declared.config.TheConstants.{MOST_ROW_WORDS}
@@ -6,7 +6,7 @@ use Rattle.funnel_model.specs.Legal.{Limits}
 use Rattle.funnel_model.specs.Sizes.{words_of_slice}
 use Rattle.row_layout.specs.Layouts.{LayoutId}
 use Rattle.slice_rule.specs.Pools.{PoolId}
-use Rattle.commit_desk.specs.Layouts.{AreNext, TunesWith}
+use Rattle.commit_desk.specs.Layouts.{TunesWith}
 use Rattle.commit_desk.proofs.CallEnds.{rests_tune}
 use Rattle.commit_desk_tests.proofs.Tunings.{fits_within}
 use Rattle.commit_desk_tests.proofs.setting.Setting.tune.Goals as goal
@@ -29,15 +29,11 @@ tune-requires-clause-tunes g c =
     let config = c.with_tail-config.result in
     let room = c.slice_range-room.result.1 in
     let rows : room ≡ name.limits.slice_words = c.slice_range-room.ensures.words ∙ sym (ap (λ (l : Limits). l.slice_words) is.laid.limits) in
-    let base = c.self.inside.base in
-    let slices : base.slices ≡ name.limits.slices =
-    ap (λ (k : Config). k.slices) (is.base_is ∙ sym (ap (λ (l : LayoutId). l.config) is.laid.laid_out)) ∙ sym (ap (λ (l : Limits). l.slices) is.laid.limits) in
     let laid : c.in-Ok.layout ≡ record { config = config; room = room } = c.in-Ok.ensures.laid in
-    subst (λ (p : PoolId). TunesWith p config c.in-Ok-next_layouts.layouts.items) (sym is.desk_of_name) (record {
+    subst (λ (p : PoolId). TunesWith p config (Some c.in-Ok-new.shared)) (sym is.desk_of_name) (record {
       tuning = subst (λ (k : Config). IsTuning k config) is.base_is c.with_tail-config.ensures;
       fits = subst (λ n. words_of_slice config ≤ n) rows (fits_within config room c.within.result c.in-Ok.layout c.within.ensures.wide c.in-Ok.is);
-      laid = subst (λ n. AreNext n (record { config = config; room = name.limits.slice_words }) c.in-Ok-next_layouts.layouts.items) slices
-          (subst (λ (l : LayoutId). AreNext base.slices l c.in-Ok-next_layouts.layouts.items) (laid ∙ ap (λ n. let l : LayoutId = record { config = config; room = n } in l) rows) c.in-Ok-next_layouts.ensures);
+      laid = ap (λ (l : LayoutId). Some l) (c.in-Ok-new.ensures ∙ laid ∙ ap (λ n. let l : LayoutId = record { config = config; room = n } in l) rows);
     })
 
 pub invariant_of-caller : goal.invariant_of-caller

@@ -1,11 +1,11 @@
 use Rattle.std.proofs.Common.{◌≡◌, Option, List, [], ◌∷◌, ◌++◌, length, refl, sym, ◌∙◌, subst, arith, rules, Contains}
 use Rattle.std.proofs.lemmas.Bool.{eqb-true}
 use Rattle.std.proofs.lemmas.List.Elements.{Contains-append_left, Contains-append_right}
-use Rattle.commit_desk.specs.declared.layouts.SlicesLayout.{SlicesLayout}
+use Rattle.commit_desk.specs.declared.find_layouts.FindLayout.{FindLayout}
 use Rattle.commit_desk.specs.Passes.{IsFinding}
 use Rattle.engine.proofs.FindParts.{adds_later, can_look, ended_from, found_more, found_none, none_left, rest_apart}
 use Rattle.engine.proofs.Moves.{front_goes_on, front_refl, turn_from}
-use Rattle.engine.specs.Finds.{CanLookIn, GoesOn, IsFoundBut}
+use Rattle.engine.specs.Finds.{CanLookIn, IsOpenOrEnded, IsFoundBut}
 use Rattle.engine.specs.Judged.{by_judge}
 use Rattle.funnel_model.specs.declared.claim.Token.{Token}
 use Rattle.funnel_model.specs.declared.event.Event.TheVariants as event
@@ -33,7 +33,7 @@ keep_in-requires-clause-can g c =
     let entry = c.in-Some.entry in
     let rest = c.pop.new.self.items in
     let here : Contains c.loop-entry.layouts.entries.items entry =
-    subst (λ (es : List SlicesLayout). Contains es entry) (sym c.in-Some.ensures.items) (Contains-append_right rest (entry ∷ []) entry (0, omega arith, refl)) in
+    subst (λ (es : List FindLayout). Contains es entry) (sym c.in-Some.ensures.items) (Contains-append_right rest (entry ∷ []) entry (0, omega arith, refl)) in
     subst (λ (t : Token). CanLookIn pool c.loop-entry.pass t entry) (sym inv.same)
     (can_look pool c.args.pass.now c.loop-entry.pass c.args.token c.args.layouts.now.entries.items c.requires.begun inv.number inv.seen inv.finding entry (inv.among entry here))
 
@@ -50,12 +50,12 @@ loop-entry-preserved g c =
     let inv = c.loop-entry.invariant in
     let did = c.in-Ok-Some.ensures in
     let popped : left ≡ rest ++ entry ∷ [] = c.in-Some.ensures.items in
-    let on = subst (λ (o : Option Token). GoesOn pool c.loop-entry.token c.is_empty-last.result before next o) c.in-Ok-Some.field-0-is did.goes_on in
+    let on = subst (λ (o : Option Token). IsOpenOrEnded pool c.loop-entry.token c.is_empty-last.result before next o) c.in-Ok-Some.field-0-is did.goes_on in
     let same = on.1 ∙ inv.same in
     record {
       found = found_more (by_judge (g.J.Judge.test c.args.judge.now)) pass token rest left entry popped inv.apart c.loop-entry.out.found c.keep_in.new.out.found inv.found
           (adds_later (by_judge (g.J.Judge.test c.args.judge.now)) pass before token c.loop-entry.token entry.slices c.loop-entry.out.found c.keep_in.new.out.found inv.same inv.number inv.seen did.found);
-      among = λ other has. inv.among other (subst (λ (es : List SlicesLayout). Contains es other) (sym popped) (Contains-append_left rest (entry ∷ []) other has));
+      among = λ other has. inv.among other (subst (λ (es : List FindLayout). Contains es other) (sym popped) (Contains-append_left rest (entry ∷ []) other has));
       apart = rest_apart (by_judge (g.J.Judge.test c.args.judge.now)) pass token rest left entry popped inv.apart;
       finding = subst (λ (t : Token). IsFinding pool t next) inv.same on.2;
       same = same;
@@ -88,22 +88,22 @@ returns-in-Ok-None-clause-found g c =
     let inv = c.loop-entry.invariant in
     let did = c.in-Ok-None.ensures in
     let popped : left ≡ rest ++ entry ∷ [] = c.in-Some.ensures.items in
-    let on = subst (λ (o : Option Token). GoesOn g.N.PoolName.pool c.loop-entry.token c.is_empty-last.result c.loop-entry.pass c.keep_in.new.pass o) c.in-Ok-None.field-0-is c.in-Ok-None.ensures.goes_on in
+    let on = subst (λ (o : Option Token). IsOpenOrEnded g.N.PoolName.pool c.loop-entry.token c.is_empty-last.result c.loop-entry.pass c.keep_in.new.pass o) c.in-Ok-None.field-0-is c.in-Ok-None.ensures.goes_on in
     let none = eqb-true _ 0 (sym c.is_empty-last.ensures ∙ on.0) in
     let count : length rest ≡ 0 = search (rules, none) in
-    subst (λ (es : List SlicesLayout). IsFoundBut (by_judge (g.J.Judge.test c.args.judge.now)) pass token es c.keep_in.new.out.found) (none_left rest count)
+    subst (λ (es : List FindLayout). IsFoundBut (by_judge (g.J.Judge.test c.args.judge.now)) pass token es c.keep_in.new.out.found) (none_left rest count)
     (found_more (by_judge (g.J.Judge.test c.args.judge.now)) pass token rest left entry popped inv.apart c.loop-entry.out.found c.keep_in.new.out.found inv.found
     (adds_later (by_judge (g.J.Judge.test c.args.judge.now)) pass before token c.loop-entry.token entry.slices c.loop-entry.out.found c.keep_in.new.out.found inv.same inv.number inv.seen did.found))
 
 pub returns-in-Ok-None-clause-ended : goal.returns-in-Ok-None-clause-ended
 returns-in-Ok-None-clause-ended g c =
     let inv = c.loop-entry.invariant in
-    let on = subst (λ (o : Option Token). GoesOn g.N.PoolName.pool c.loop-entry.token c.is_empty-last.result c.loop-entry.pass c.keep_in.new.pass o) c.in-Ok-None.field-0-is c.in-Ok-None.ensures.goes_on in
+    let on = subst (λ (o : Option Token). IsOpenOrEnded g.N.PoolName.pool c.loop-entry.token c.is_empty-last.result c.loop-entry.pass c.keep_in.new.pass o) c.in-Ok-None.field-0-is c.in-Ok-None.ensures.goes_on in
     (ended_from g.N.PoolName.pool c.args.pass.now c.loop-entry.pass c.keep_in.new.pass inv.number inv.seen on.1).0
 
 pub returns-in-Ok-None-clause-rests : goal.returns-in-Ok-None-clause-rests
 returns-in-Ok-None-clause-rests g c =
-    let on = subst (λ (o : Option Token). GoesOn g.N.PoolName.pool c.loop-entry.token c.is_empty-last.result c.loop-entry.pass c.keep_in.new.pass o) c.in-Ok-None.field-0-is c.in-Ok-None.ensures.goes_on in
+    let on = subst (λ (o : Option Token). IsOpenOrEnded g.N.PoolName.pool c.loop-entry.token c.is_empty-last.result c.loop-entry.pass c.keep_in.new.pass o) c.in-Ok-None.field-0-is c.in-Ok-None.ensures.goes_on in
     on.1.1
 
 pub returns-in-Ok-None-clause-number : goal.returns-in-Ok-None-clause-number
@@ -119,7 +119,7 @@ pub returns-clause-found : goal.returns-clause-found
 returns-clause-found g c =
     let none = c.in_default.ensures.cases.0 in
     let count : length c.loop-entry.layouts.entries.items ≡ 0 = search (rules, none) in
-    subst (λ (es : List SlicesLayout). IsFoundBut (by_judge (g.J.Judge.test c.args.judge.now)) c.args.pass.now c.args.token es c.loop-entry.out.found) (none_left c.loop-entry.layouts.entries.items count) c.loop-entry.invariant.found
+    subst (λ (es : List FindLayout). IsFoundBut (by_judge (g.J.Judge.test c.args.judge.now)) c.args.pass.now c.args.token es c.loop-entry.out.found) (none_left c.loop-entry.layouts.entries.items count) c.loop-entry.invariant.found
 
 pub returns-clause-ended : goal.returns-clause-ended
 returns-clause-ended g c =

@@ -1,5 +1,5 @@
 use Rattle.std.proofs.Common.{◌≡◌, ℕ, AllPairs, Contains, length}
-use Rattle.commit_desk.specs.declared.layouts.SlicesLayout.{SlicesLayout}
+use Rattle.commit_desk.specs.declared.find_layouts.FindLayout.{FindLayout}
 use Rattle.commit_desk.specs.Passes.{IsFinding}
 use Rattle.engine.specs.Finds.{IsFoundBut}
 use Rattle.engine.specs.Judged.{by_judge}
@@ -10,8 +10,8 @@ use Rattle.engine.proofs.engine.Engine.keep_each.Given as goal
 abbrev pub invariant-loop-entry : goal.invariant-loop-entry
 invariant-loop-entry g l = record {
   found : IsFoundBut (by_judge (g.J.Judge.test l.judge)) l.fn.pass l.fn.token l.layouts.entries.items l.out.found;
-  among : (entry : SlicesLayout) → Contains l.layouts.entries.items entry → Contains l.fn.layouts.entries.items entry;
-  apart : AllPairs (λ (one other : SlicesLayout). (slice : ℕ) → Contains one.slices slice → Contains other.slices slice → ⊥) l.layouts.entries.items;
+  among : (entry : FindLayout) → Contains l.layouts.entries.items entry → Contains l.fn.layouts.entries.items entry;
+  apart : AllPairs (λ (one other : FindLayout). (slice : ℕ) → Contains one.slices slice → Contains other.slices slice → ⊥) l.layouts.entries.items;
   finding : IsFinding g.N.PoolName.pool l.fn.token l.pass;
   same : l.token ≡ l.fn.token;
   seen : IsFrontOf l.fn.pass.number l.fn.pass.front l.pass.front;

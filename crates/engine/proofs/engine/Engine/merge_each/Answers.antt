@@ -1,7 +1,7 @@
 use Rattle.std.proofs.Common.{◌++◌, ◌∷◌, [], ℕ, List, take, refl, sym, ap, ◌∙◌, subst}
 use Rattle.engine.proofs.BranchScans.{adds_more, adds_none, can_scan, words_more}
 use Rattle.engine.specs.declared.branch_scans.Planned.{Planned}
-use Rattle.engine.specs.Branches.{AddsEach, IsPlanned, words_of_each}
+use Rattle.engine.specs.Branches.{AddsEach, IsPlannedBranch, words_of_each}
 use Rattle.engine.specs.Scans.{part_of}
 use Rattle.engine.proofs.engine.Engine.merge_each.Goals as goal
 
@@ -19,7 +19,7 @@ pub merge_branch-requires-clause-scan : goal.merge_branch-requires-clause-scan
 merge_branch-requires-clause-scan g c =
     let entry = c.args.entry.now in
     let one = c.branch-item.result in
-    let planned = subst (IsPlanned entry.layout.config) (sym c.branch-item.is) (c.requires.scan.planned c.loop-branch.branch-index one c.loop-branch-test.true) in
+    let planned = subst (IsPlannedBranch entry.layout.config) (sym c.branch-item.is) (c.requires.scan.planned c.loop-branch.branch-index one c.loop-branch-test.true) in
     can_scan g.N.PoolName.pool c.args.rows.now c.loop-branch.rows entry one c.loop-branch.invariant.kept c.requires.scan.readable planned
 
 pub loop-branch-preserved : goal.loop-branch-preserved

@@ -1,14 +1,14 @@
 use Rattle.std.proofs.Common.{All, List, ℕ, ap, sym, subst, ◌∙◌}
 use Rattle.commit_desk.specs.Judging.{AreScannedForAny}
 use Rattle.commit_desk.specs.Scans.{token_of}
-use Rattle.engine.specs.Branches.{IsPlanned, words_of_each}
+use Rattle.engine.specs.Branches.{IsPlannedBranch, words_of_each}
 use Rattle.row_layout.specs.Layouts.{LayoutId}
 use Rattle.engine.proofs.engine.Engine.scan_any.Goals as goal
 
 pub scan_branches-requires-clause-planned : goal.scan_branches-requires-clause-planned
 scan_branches-requires-clause-planned g c =
-    subst (All (IsPlanned c.args.entry.now.layout.config)) (sym c.as_slice.ensures.value)
-    (subst (λ (l : LayoutId). All (IsPlanned l.config) c.in_ok-planned.planned.items) c.layout.ensures c.in_ok-planned.ensures.planned)
+    subst (All (IsPlannedBranch c.args.entry.now.layout.config)) (sym c.as_slice.ensures.value)
+    (subst (λ (l : LayoutId). All (IsPlannedBranch l.config) c.in_ok-planned.planned.items) c.layout.ensures c.in_ok-planned.ensures.planned)
 
 pub returns-clause-scanned : goal.returns-clause-scanned
 returns-clause-scanned g c =

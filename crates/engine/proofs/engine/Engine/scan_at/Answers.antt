@@ -3,7 +3,7 @@ use Rattle.engine.proofs.BranchScans.{scanned_at}
 use Rattle.engine.proofs.Scans.{in_layout, in_reach}
 use Rattle.engine.specs.Engines.{IsOfConfig}
 use Rattle.funnel_model.specs.Legal.{IsInSlice}
-use Rattle.rank_matcher.specs.Appended.{AppendsColumns, HasBits, HasEach, appended, candidates_of}
+use Rattle.rank_matcher.specs.Appended.{AppendsColumns, HasBits, HasEachWithBits, appended, candidates_of}
 use Rattle.row_layout.specs.Rows.{IsRowOf}
 use Rattle.row_layout.specs.Layouts.{LayoutId}
 use Rattle.row_read.specs.SharedRows.{IsCommittedUnder, IsInReach, WasReadSet}
@@ -38,7 +38,7 @@ returns-clause-scanned g c =
     let columns = appended c.emptied-found.result found in
     let of_config = subst IsOfConfig c.self.invariant.of_name c.self.invariant.of_config in
     let appends = subst (λ (l : LayoutId). AppendsColumns l slice c.emptied-found.result found) c.layout.ensures did.appends in
-    let covered = subst (λ (l : LayoutId). HasEach (IsCommittedUnder before) l plan slice columns) c.layout.ensures c.in_ok-scan.ensures.bits.covered in
+    let covered = subst (λ (l : LayoutId). HasEachWithBits (IsCommittedUnder before) l plan slice columns) c.layout.ensures c.in_ok-scan.ensures.bits.covered in
     let seen = subst (λ (l : LayoutId). All (HasBits (WasReadSet after) l plan slice) columns) c.layout.ensures did.bits.were_seen in
     scanned_at entry before after did.stays.same_kept did.stays.seen_stays pool words plan slice columns found of_config c.requires.scan c.requires.slice
     (appends.appends ∙ ap (λ (old : List (ℕ × ℕ)). old ++ candidates_of slice columns) c.emptied-found.ensures) covered appends.in_slice appends.rising seen

@@ -1,6 +1,6 @@
 use Rattle.std.proofs.Common.{rules, ◌<◌, ◌∙◌, length, subst, sym}
 use Rattle.engine.proofs.Scans.{readable_by}
-use Rattle.engine.specs.Branches.{IsPlanned}
+use Rattle.engine.specs.Branches.{IsPlannedBranch}
 use Rattle.engine.proofs.engine.Engine.scan_branches.Goals as goal
 
 pub new-rows-requires : goal.new-rows-requires
@@ -16,7 +16,7 @@ scan_branch-requires-clause-readable g c =
 pub scan_branch-requires-clause-planned : goal.scan_branch-requires-clause-planned
 scan_branch-requires-clause-planned g c =
     let inside : 0 < length c.args.branches.now = search rules in
-    subst (IsPlanned c.args.entry.now.layout.config) (sym c.branch-item.is) (c.requires.planned 0 c.branch-item.result inside)
+    subst (IsPlannedBranch c.args.entry.now.layout.config) (sym c.branch-item.is) (c.requires.planned 0 c.branch-item.result inside)
 
 pub merge_slices-requires : goal.merge_slices-requires
 merge_slices-requires g c =

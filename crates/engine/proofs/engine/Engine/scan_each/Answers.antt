@@ -1,8 +1,12 @@
-use Rattle.std.proofs.Common.{◌≡◌, ap, refl, subst, sym, ◌∙◌, arith}
-use Rattle.engine.proofs.Scans.{in_pool, readable_kept, scan_kept, scanned_all, scanned_none}
+use Rattle.std.proofs.Common.{◌<◌, ℕ, refl, subst, sym, ◌∙◌, arith, All}
+use Rattle.engine.proofs.Scans.{in_layout, in_reach, in_set, readable_kept, scan_kept, scanned_all, scanned_none, scanned_slice, scanned_without}
 use Rattle.engine.specs.Engines.{IsOfConfig}
 use Rattle.engine.specs.Scans.{AreScannedBelow, part_of}
-use Rattle.slice_rule.specs.Pools.{PoolId}
+use Rattle.funnel_model.specs.Legal.{IsInSlice}
+use Rattle.rank_matcher.specs.Appended.{AppendsColumns, HasBits, HasEachWithBits, appended}
+use Rattle.row_layout.specs.Layouts.{LayoutId}
+use Rattle.row_layout.specs.Rows.{IsRowOf}
+use Rattle.row_read.specs.SharedRows.{IsCommittedUnder, IsInReach, WasReadSet}
 use Rattle.engine.proofs.engine.Engine.scan_each.Goals as goal
 
 pub loop-slice-init : goal.loop-slice-init
@@ -11,40 +15,81 @@ loop-slice-init g c =
     let entry = c.args.entry.now in
     let words = c.args.words.now in
     record {
+      within = omega arith;
       kept = refl;
       seen = λ bit was. was;
       scanned = subst (AreScannedBelow entry.layout.config rows.seat.now (part_of entry rows) words 0) (sym c.requires.empty)
           (scanned_none entry.layout.config rows.seat.now (part_of entry rows) words);
     }
 
-pub scan_slice-requires-clause-scan : goal.scan_slice-requires-clause-scan
-scan_slice-requires-clause-scan g c =
-    scan_kept g.N.PoolName.pool c.args.rows.now c.loop-slice.rows c.args.entry.now c.args.words.now c.args.plan.now c.loop-slice.invariant.kept c.requires.scan
+pub scan-requires-clause-slice : goal.scan-requires-clause-slice
+scan-requires-clause-slice g c =
+    let of_config = subst IsOfConfig c.self.invariant.of_name c.self.invariant.of_config in
+    subst (λ (l : LayoutId). c.in-Some.slice < l.config.slices) (sym c.layout.ensures)
+    (in_layout g.N.PoolName.pool c.args.rows.now c.args.entry.now of_config c.requires.scan.readable c.in-Some.slice c.in-Some.ensures.in_set)
 
-pub scan_slice-requires-clause-below : goal.scan_slice-requires-clause-below
-scan_slice-requires-clause-below g c = c.loop-slice.invariant.scanned
+pub scan-requires-clause-laid : goal.scan-requires-clause-laid
+scan-requires-clause-laid g c = subst (λ (l : LayoutId). All (IsRowOf l.config) c.args.plan.now) (sym c.layout.ensures) c.requires.scan.planned.laid
 
-pub returns-in_err-scan_slice-clause-kept : goal.returns-in_err-scan_slice-clause-kept
-returns-in_err-scan_slice-clause-kept g c = c.scan_slice.ensures.kept ∙ c.loop-slice.invariant.kept
+pub scan-requires-clause-reach : goal.scan-requires-clause-reach
+scan-requires-clause-reach g c =
+    let pool = g.N.PoolName.pool in
+    let rows = c.loop-slice.rows in
+    let of_config = subst IsOfConfig c.self.invariant.of_name c.self.invariant.of_config in
+    let readable = readable_kept pool c.args.rows.now rows c.args.entry.now c.loop-slice.invariant.kept c.requires.scan.readable in
+    subst (λ (l : LayoutId). (word : ℕ) → IsInSlice l.room c.in-Some.slice word → IsInReach rows word) (sym c.layout.ensures)
+    (in_reach pool rows c.args.entry.now of_config readable c.in-Some.slice c.in-Some.ensures.in_set)
+
+pub overflow_add-from : goal.overflow_add-from
+overflow_add-from g c =
+    let of_config = subst IsOfConfig c.self.invariant.of_name c.self.invariant.of_config in
+    let few = in_set g.N.PoolName.pool c.args.rows.now c.args.entry.now of_config c.requires.scan.readable c.in-Some.slice c.in-Some.ensures.in_set in
+    omega (arith, few)
 
 pub loop-slice-preserved : goal.loop-slice-preserved
-loop-slice-preserved g c = record {
-  kept = c.scan_slice.ensures.kept ∙ c.loop-slice.invariant.kept;
-  seen = λ bit was. c.scan_slice.ensures.seen_stays bit (c.loop-slice.invariant.seen bit was);
-  scanned = c.in_ok-scan_slice.ensures.scanned;
-}
+loop-slice-preserved g c =
+    let pool = g.N.PoolName.pool in
+    let start = c.args.rows.now in
+    let before = c.loop-slice.rows in
+    let after = c.scan.new.rows in
+    let entry = c.args.entry.now in
+    let words = c.args.words.now in
+    let plan = c.args.plan.now in
+    let slice = c.in-Some.slice in
+    let old = c.loop-slice.out in
+    let new = c.scan.new.out in
+    let inv = c.loop-slice.invariant in
+    let next = c.in-Some.ensures in
+    let did = c.scan.ensures in
+    let of_config = subst IsOfConfig c.self.invariant.of_name c.self.invariant.of_config in
+    let appends = subst (λ (l : LayoutId). AppendsColumns l slice old new) c.layout.ensures did.appends in
+    let covered = subst (λ (l : LayoutId). HasEachWithBits (IsCommittedUnder before) l plan slice (appended old new)) c.layout.ensures c.in_ok-scan.ensures.bits.covered in
+    let seen = subst (λ (l : LayoutId). All (HasBits (WasReadSet after) l plan slice) (appended old new)) c.layout.ensures did.bits.were_seen in
+    record {
+      within = let few = in_set pool start entry of_config c.requires.scan.readable slice next.in_set in omega (arith, few);
+      kept = did.kept ∙ inv.kept;
+      seen = λ bit was. did.seen_stays bit (inv.seen bit was);
+      scanned =
+          scanned_slice pool before after entry words plan slice old new of_config (scan_kept pool start before entry words plan inv.kept c.requires.scan) did.kept next.in_set
+          (scanned_without entry.layout.config before.seat.now (part_of entry before) words c.loop-slice.from slice old next.from_on next.lowest inv.scanned)
+          appends covered seen did.seen_stays;
+    }
+
+pub loop-slice-smaller : goal.loop-slice-smaller
+loop-slice-smaller g c =
+    let of_config = subst IsOfConfig c.self.invariant.of_name c.self.invariant.of_config in
+    let few = in_set g.N.PoolName.pool c.args.rows.now c.args.entry.now of_config c.requires.scan.readable c.in-Some.slice c.in-Some.ensures.in_set in
+    let on = c.in-Some.ensures.from_on in
+    omega (arith, few, on)
+
+pub returns-in_err-scan-clause-kept : goal.returns-in_err-scan-clause-kept
+returns-in_err-scan-clause-kept g c = c.scan.ensures.kept ∙ c.loop-slice.invariant.kept
 
 pub returns-clause-scanned : goal.returns-clause-scanned
 returns-clause-scanned g c =
-    let pool = g.N.PoolName.pool in
     let rows = c.loop-slice.rows in
     let entry = c.args.entry.now in
-    let readable = readable_kept pool c.args.rows.now rows entry c.loop-slice.invariant.kept c.requires.scan.readable in
-    let of_config = subst IsOfConfig c.self.invariant.of_name c.self.invariant.of_config in
-    let count : c.self.inside.slices ≡ pool.config.slices = c.self.invariant.count ∙ ap (λ (p : PoolId). p.config.slices) c.self.invariant.of_name in
-    let over = c.loop-slice-test.false in
-    scanned_all entry.layout.config rows.seat.now (part_of entry rows) c.args.words.now c.loop-slice.slice c.loop-slice.out
-    (λ slice has. let low = in_pool pool rows entry of_config readable slice has in omega (arith, low, count, over)) c.loop-slice.invariant.scanned
+    scanned_all entry.layout.config rows.seat.now (part_of entry rows) c.args.words.now c.loop-slice.from c.loop-slice.out c.in_default.ensures c.loop-slice.invariant.scanned
 
 pub returns-clause-kept : goal.returns-clause-kept
 returns-clause-kept g c = c.loop-slice.invariant.kept

@@ -1,13 +1,18 @@
-use Rattle.std.proofs.Common.{◌≡◌}
+use Rattle.std.proofs.Common.{◌≡◌, ◌≤◌, ◌-◌}
 use Rattle.engine.specs.Scans.{AreScannedBelow, part_of}
 use Rattle.funnel_model.specs.declared.bit_list.Bit.{Bit}
+use Rattle.funnel_model.specs.declared.config.TheConstants.{MOST_SLICES}
 use Rattle.row_read.specs.SharedRows.{WasReadSet, kept_of}
 use Rattle.engine.proofs.engine.Engine.scan_each.Given as goal
 
 -- the slices before this one are scanned
 abbrev pub invariant-loop-slice : goal.invariant-loop-slice
 invariant-loop-slice g l = record {
+  within : l.from ≤ MOST_SLICES;
   kept : kept_of l.rows ≡ kept_of l.fn.rows;
   seen : (bit : Bit) → WasReadSet l.fn.rows bit → WasReadSet l.rows bit;
-  scanned : AreScannedBelow l.entry.layout.config l.rows.seat.now (part_of l.entry l.rows) l.words l.slice l.out;
+  scanned : AreScannedBelow l.entry.layout.config l.rows.seat.now (part_of l.entry l.rows) l.words l.from l.out;
 }
+
+abbrev pub decreases-loop-slice : goal.decreases-loop-slice
+decreases-loop-slice g l = MOST_SLICES - l.from

@@ -6,7 +6,7 @@ use Rattle.engine.proofs.engine.Engine.tune.Goals as goal
 
 pub tune-requires-clause-tunes : goal.tune-requires-clause-tunes
 tune-requires-clause-tunes g c =
-    subst (λ (p : PoolId). TunesWith p c.args.config.now c.args.layouts.now.items) (sym c.deref_mut.result.now.of_pool) c.requires.tunes
+    subst (λ (p : PoolId). TunesWith p c.args.config.now c.args.layout.now) (sym c.deref_mut.result.now.of_pool) c.requires.tunes
 
 pub returns-clause-rests : goal.returns-clause-rests
 returns-clause-rests g c =

@@ -1,23 +1,14 @@
-use Rattle.std.proofs.Common.{◌≡◌, ℕ, Ok, Err, ap, refl, sym, ◌∙◌, subst}
-use Rattle.commit_desk.specs.Layouts.{AreNext}
+use Rattle.std.proofs.Common.{Ok, Err, Some, ap, refl, ◌∙◌, subst}
 use Rattle.engine.proofs.DeskTurns.{tune_call}
 use Rattle.engine.specs.declared.retuning.TuneFault.TheVariants as tune
-use Rattle.funnel_model.specs.Legal.{IsLegal, Limits}
+use Rattle.funnel_model.specs.Legal.{IsLegal}
 use Rattle.row_layout.specs.Layouts.{LayoutId}
 use Rattle.slice_rule.specs.Pools.{PoolId}
 use Rattle.engine.proofs.engine.Engine.tune_by.Goals as goal
 
 pub tune-requires-clause-tunes : goal.tune-requires-clause-tunes
 tune-requires-clause-tunes g c =
-    let pool = g.N.PoolName.pool in
-    let slices : c.self.inside.slices ≡ pool.limits.slices =
-    c.self.invariant.count ∙ sym (ap (λ (l : Limits). l.slices) c.self.invariant.of_config.limits) ∙ ap (λ (p : PoolId). p.limits.slices) c.self.invariant.of_name in
-    record {
-      tuning = c.requires.tuning;
-      fits = c.requires.fits;
-      laid = subst (λ (l : LayoutId). AreNext pool.limits.slices l c.in-Ok.layouts.items) c.requires.laid
-          (subst (λ (n : ℕ). AreNext n c.args.layout c.in-Ok.layouts.items) slices c.in-Ok.ensures);
-    }
+    record { tuning = c.requires.tuning; fits = c.requires.fits; laid = ap (λ (l : LayoutId). Some l) (c.in-Ok.ensures ∙ c.requires.laid) }
 
 -- no memory was found
 pub returns-in_default-clause-call : goal.returns-in_default-clause-call
