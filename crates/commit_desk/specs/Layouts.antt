@@ -49,7 +49,7 @@ pub record LayoutsState : Type 0 where
   pub next : Option LayoutId
   pub tunings : ℕ
 
--- the slice is in this entry
+-- the entry is one of those that are kept, and has the slice
 pub record IsEntryOf (kept : LayoutsState) (slice : ℕ) (entry : FindLayout) : Type 0 where
   pub among : Contains kept.treatments entry
   pub has : Contains entry.slices slice

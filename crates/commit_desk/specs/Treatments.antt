@@ -11,8 +11,8 @@ pub record AreApart (one other : FindLayout) : Type 0 where
   pub numbers : one.number ≡ other.number → ⊥
   pub slices : (slice : ℕ) → Contains one.slices slice → Contains other.slices slice → ⊥
 
--- Each two of the entries are apart, and each has some slice. There is room for as many entries as slices, and no number is newer than
--- that of the last tuning.
+-- Each two of the entries are apart. Each has some slice, and its slices are below the room for entries, as they are below what a set
+-- can have. No number is newer than that of the last tuning.
 pub record AreEntries (room tunings : ℕ) (entries : List FindLayout) : Type 0 where
   pub some : (entry : FindLayout) → Contains entries entry → (slice : ℕ) × Contains entry.slices slice
   pub within : (entry : FindLayout) → Contains entries entry → (slice : ℕ) → Contains entry.slices slice → slice < room
@@ -20,12 +20,12 @@ pub record AreEntries (room tunings : ℕ) (entries : List FindLayout) : Type 0 
   pub upto : (entry : FindLayout) → Contains entries entry → entry.number ≤ tunings
   pub apart : AllPairs AreApart entries
 
--- one of the entries has the newest number, and none has it while the current layout is kept beside them
+-- one of the entries has the number of the last tuning where no layout is kept beside them, and else none has it
 abbrev pub HasNewest : List FindLayout → ℕ → Option LayoutId → Type 0
 HasNewest entries tunings next =
     MatchOption next ((entry : FindLayout) × Contains entries entry × (entry.number ≡ tunings)) (λ layout. (entry : FindLayout) → Contains entries entry → entry.number ≡ tunings → ⊥)
 
--- so it is with all that is kept
+-- the entries are so, and the layout of the last tuning is in one of them or beside them
 pub record AreTreatments (room : ℕ) (kept : LayoutsState) : Type 0 where
   pub entries : AreEntries room kept.tunings kept.treatments
   pub newest : HasNewest kept.treatments kept.tunings kept.next
@@ -38,15 +38,15 @@ pub record IsTakenOut (before : List FindLayout) (entry : FindLayout) (after : L
   pub after_are : after ≡ swap_remove before place entry
 
 -- an entry of a treatment that no slice has yet
-pub record IsFounded (number : ℕ) (layout : LayoutId) (entry : FindLayout) : Type 0 where
+pub record IsNewEntry (number : ℕ) (layout : LayoutId) (entry : FindLayout) : Type 0 where
   pub number_is : entry.number ≡ number
   pub layout_is : entry.layout ≡ layout
   pub none : IsEmpty entry.slices
 
--- the entry of the current treatment was taken out, or founded with the layout that was kept beside the others
+-- the entry of the current treatment was taken out, or is a new one with the layout that was kept beside the others
 abbrev pub TakesNewest : List FindLayout → Option LayoutId → ℕ → FindLayout → List FindLayout → Type 0
 TakesNewest before next number entry after =
-    MatchOption next (IsTakenOut before entry after × (entry.number ≡ number)) (λ layout. (after ≡ before) × IsFounded number layout entry)
+    MatchOption next (IsTakenOut before entry after × (entry.number ≡ number)) (λ layout. (after ≡ before) × IsNewEntry number layout entry)
 
 -- a slice was cleared: it has the current treatment, each other slice has the treatment that it had, and the current layout is the same
 pub record IsRenewed (before : LayoutsState) (slice : ℕ) (after : LayoutsState) : Type 0 where
@@ -71,7 +71,8 @@ AddsShare slices whole before after =
     (((slice : ℕ) → Contains whole.slices slice → Contains slices slice → ⊥) × (after ≡ before))
     ⊎ ((entry : FindLayout) × IsShare slices whole entry × (after ≡ before ++ entry ∷ []))
 
--- each slice of the set that is in one of these entries is in a share of it, and there is no more than one share of an entry
+-- each slice of the set that is in one of these entries is in one of the shares; each of these is the share of an entry, and no two have
+-- one number
 pub record AreShared (wholes : List FindLayout) (slices : List ℕ) (entries : List FindLayout) : Type 0 where
   pub every : (whole : FindLayout) → Contains wholes whole → (slice : ℕ) → Contains whole.slices slice → Contains slices slice →
       (entry : FindLayout) × Contains entries entry × Contains entry.slices slice

@@ -16,7 +16,7 @@ pub struct Spent {
 pub struct ToClear {
     pub job: ClearJob,
     pub slots: OldSlots,
-    /// The layout that the slice had, where it got another: for its owner to drop where the desk is free.
+    /// The layout of the slice's older treatment, where no other slice has that: for its owner to drop where the desk is free.
     pub old_layout: Option<SharedLayout>,
 }
 

@@ -91,8 +91,8 @@ impl SliceLayouts {
         self.treatments[index].layout.share()
     }
 
-    /// A slice is cleared, and has the current treatment from then on. Where no other slice has the treatment that it had, that one's
-    /// layout is handed back.
+    /// A slice is cleared, and has the current treatment from then on. Where it had an older one that no other slice has, the layout of
+    /// that is handed back.
     pub(crate) fn renew(&mut self, slice: u32) -> Option<SharedLayout>
         requires { (entry : FindLayout) × IsEntryOf self.old slice entry }
         ensures cleared { IsRenewed self.old slice self.new }

@@ -31,7 +31,7 @@ impl Found {
         }
     }
 
-    /// None, with room for n. Only this and `reserve` take memory.
+    /// None, with room for n.
     pub fn with_room(alloc: Global, n: usize) -> Result<Found, Memory>
         ensures empty { IfOk result (λ f. f.found ≡ []) }
         ensures room { IfOk result (λ f. f.room ≡ n) }
@@ -84,7 +84,7 @@ impl Found {
         self.found.push_reserved((place, id));
     }
 
-    /// Puts them in order of the places, of which a slice has a few runs: these are merged, where there is memory for that.
+    /// Puts them in order of the places. Runs that are in it are kept and merged, where there is memory for a buffer.
     pub fn sort(&mut self)
         ensures same { IsPermutation self.old.found self.new.found }
         ensures rising { IsSorted pair_cmp self.new.found }

@@ -32,7 +32,7 @@ abbrev pub IsRefusedTurn : Limits → ℕ → List Event → List Event → Clea
 IsRefusedTurn limits pass before after refusal =
     IsTurn pass before after (λ history. AnswersClear limits.events limits history pass (Err refusal)) (events_of_clear pass (Err refusal))
 
--- the slice is to be cleared, with as many old slots as it has columns, and with the layout that it had, where it gets another
+-- the slice is to be cleared, with as many old slots as it has columns, and with a layout that is to be dropped, if there is one
 abbrev pub work_on : Limits → ℕ → Option LayoutId → ToClear
 work_on limits slice old_layout = record { job = record { slice = slice }; slots = limits.columns; old_layout = old_layout }
 
