@@ -150,16 +150,6 @@ any_without config seat token branches slices later candidates order lacks are =
   of_some = λ candidate has. let of = are.of_some candidate has in (of.0, of.1, of.2, scanned_without config seat token of.0 slices later of.1 order lacks of.3, of.4);
 }
 
--- one branch alone
-pub any_of_one : (config : Config) (seat : PassState) (token : Token) (words : List (List ℕ)) (candidates : List (ℕ × ℕ)) → AreScanned config seat token words candidates → AreScannedForAny config seat token (words ∷ []) candidates
-any_of_one config seat token words candidates are = record {
-  each_once = are.each_once;
-  of_each = λ branch has.
-      ⊎_elim (λ (none : Contains [] branch). absurd (nothing branch none))
-      (λ (this : words ≡ branch). (candidates, subst (λ ws. AreScanned config seat token ws candidates) this are, λ candidate found. found)) (Contains-push_cases [] words branch has);
-  of_some = λ candidate has. (words, candidates, (0, omega arith, refl), are, has);
-}
-
 -- no branch adds anything
 pub adds_none : (config : Config) (seat : PassState) (token : Token) (slice : ℕ) (list : List (ℕ × ℕ)) → AddsEach config seat token slice [] list list
 adds_none config seat token slice list = record { of_before = λ column has. has; of_each = λ branch has. absurd (nothing branch has); of_some = λ column has. inl has }

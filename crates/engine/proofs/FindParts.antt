@@ -27,7 +27,6 @@ use Rattle.funnel_model.specs.History.{Document, IsFrontOf, live}
 use Rattle.funnel_model.specs.Legal.{IsLegal, Limits}
 use Rattle.funnel_model.specs.Slices.{IsInUse, IsLiveOn, Live, is_clearing}
 use Rattle.funnel_model.specs.Tokens.{HasToken, MayRead}
-use Rattle.funnel_model.specs.Words.{AreWordsOf}
 use Rattle.row_layout.specs.Owners.{OwnsIn}
 use Rattle.slice_rule.specs.Pools.{PoolId}
 use Rattle.slice_rule.specs.Seats.{PassState, WasReadUnder}
@@ -44,7 +43,7 @@ use Rattle.slice_recycler.specs.Turns.{IsTurn}
 use Rattle.engine.proofs.CandidateParts.{pairs-append}
 use Rattle.engine.proofs.Moves.{turn_from}
 use Rattle.engine.proofs.Scans.{holds_still}
-use Rattle.engine.specs.Finds.{AddsFound, CanLookIn, FindEnds, FindsIn, IsOpenOrEnded, HasEndedFind, IsFoundBut, IsJustFinding, IsLeft, IsScanFor, events_of_turn}
+use Rattle.engine.specs.Finds.{AddsFound, CanLookIn, FindEnds, FindsIn, IsOpenOrEnded, HasEndedFind, IsFoundBut, IsJustFinding, IsLeft, events_of_turn}
 
 -- a find is open still, with its number, once its pass has seen more
 abbrev pub begun_at : (first pass : PassState) (number : ℕ) → pass.number ≡ first.number → IsFrontOf first.number first.front pass.front → HasToken first.front first.number number →
@@ -262,14 +261,15 @@ module _ (pool : PoolId) (first pass : PassState) (token : Token) (layouts : Lis
             ((just.laid start).each entry has);
       }
 
--- The words of its query stay those that they are.
-pub words_later : (pool : PoolId) (first pass : PassState) (token now : Token) (words : List (List ℕ)) (layouts : List FindLayout) → IsScanFor pool first token words layouts → now ≡ token →
-    pass.number ≡ first.number → IsFrontOf first.number first.front pass.front → (begun : HasToken pass.front pass.number now.opened_at) → AreWordsOf words begun.query
-words_later pool first pass token now words layouts scan same number goes =
-    subst (λ (t : Token). (begun : HasToken pass.front pass.number t.opened_at) → AreWordsOf words begun.query) (sym same)
+-- What holds of a find's query holds of it still.
+pub query_later : (P : List ℕ → Type 0) (pool : PoolId) (first pass : PassState) (token now : Token) → IsFinding pool token first →
+    ((begun : HasToken first.front first.number token.opened_at) → P begun.query) → now ≡ token → pass.number ≡ first.number → IsFrontOf first.number first.front pass.front →
+    (begun : HasToken pass.front pass.number now.opened_at) → P begun.query
+query_later P pool first pass token now finding holds same number goes =
+    subst (λ (t : Token). (begun : HasToken pass.front pass.number t.opened_at) → P begun.query) (sym same)
     (λ begun.
-    let start = scan.just.finding.holds.begun in
-    subst (AreWordsOf words) (begun_once pass.front pass.number token.opened_at (begun_at first pass token.opened_at number goes start) begun).1 (scan.of_query start))
+    let start = finding.holds.begun in
+    subst P (begun_once pass.front pass.number token.opened_at (begun_at first pass token.opened_at number goes start) begun).1 (holds start))
 
 -- A pass that read something looks still.
 pub look_still : (pool : PoolId) (token : Token) (entry : FindLayout) (seat next : PassState) → next ≡ record seat { own = next.own; told = next.told } → CanLookIn pool seat token entry →

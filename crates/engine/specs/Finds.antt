@@ -15,7 +15,7 @@ use Rattle.commit_desk.specs.declared.answers.FindFault.{FindFault}
 use Rattle.commit_desk.specs.declared.answers.FindFault.TheVariants as find
 use Rattle.commit_desk.specs.declared.find_layouts.FindLayout.{FindLayout}
 use Rattle.commit_desk.specs.FindLayouts.{AreFindLayouts, IsFindLayout}
-use Rattle.commit_desk.specs.Judging.{AreGivenWhere, GiveAllIn}
+use Rattle.commit_desk.specs.Judging.{AreGivenWhere, GiveAllIn, answer_where}
 use Rattle.commit_desk.specs.Passes.{IsFinding, IsResting}
 use Rattle.engine.specs.Passes.{PassView, view_of}
 use Rattle.slice_recycler.specs.Turns.{IsTurn}
@@ -42,6 +42,10 @@ pub record IsJustFinding (pool : PoolId) (token : Token) (pass : PassState) (lay
 pub record IsScanFor (pool : PoolId) (pass : PassState) (token : Token) (words : List (List ℕ)) (layouts : List FindLayout) : Type 0 where
   pub just : IsJustFinding pool token pass layouts
   pub of_query : (begun : HasToken pass.front pass.number token.opened_at) → AreWordsOf words begun.query
+
+-- these are the numbers of the documents that pass the test of the query, of those that were live before the find that the pass has just begun
+abbrev pub IsAnswerBy : (List ℕ → List ℕ → Bool) → PassState → List ℕ → Type 0
+IsAnswerBy test pass ids = (earlier : List Event) (query : List ℕ) → IsBegunAt (view_of pass) earlier query → ids ≡ answer_where earlier (test query)
 
 -- a find is to give the documents whose text meets its query
 abbrev pub by_query : List ℕ → List ℕ → Bool

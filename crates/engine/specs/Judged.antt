@@ -3,22 +3,17 @@ use Rattle.std.specs.Prelude.{◌≡◌, ℕ, ◌⊎◌, Bool, List, [], Result,
 use Rattle.commit_desk.specs.declared.answers.FindFault.{FindFault}
 use Rattle.commit_desk.specs.declared.answers.FindFault.TheVariants as find
 use Rattle.commit_desk.specs.Judging.{answer_where}
-use Rattle.engine.specs.Finds.{EndedTurns, IsBegunAt, RefusedTurn}
-use Rattle.engine.specs.Passes.{MakesCall, PassView, view_of}
+use Rattle.engine.specs.Finds.{EndedTurns, RefusedTurn}
+use Rattle.engine.specs.Passes.{MakesCall, PassView}
 use Rattle.engine.specs.Replies.{reply_of_find_fault}
 use Rattle.funnel_model.specs.declared.call.Call.TheVariants as call
 use Rattle.funnel_model.specs.declared.reply.Reply.TheVariants as reply
 use Rattle.funnel_model.specs.declared.event.Event.{Event}
 use Rattle.funnel_model.specs.Legal.{Limits}
-use Rattle.slice_rule.specs.Seats.{PassState}
 
 -- the find is to give the documents that pass the judge's test, whatever its query
 abbrev pub by_judge : (List ℕ → Bool) → List ℕ → List ℕ → Bool
 by_judge test query = test
-
--- these are the numbers of the documents that pass the test, of those that were live before the find that the pass has just begun
-abbrev pub IsAnswerWhere : PassState → (List ℕ → Bool) → List ℕ → Type 0
-IsAnswerWhere pass test ids = (earlier : List Event) (query : List ℕ) → IsBegunAt (view_of pass) earlier query → ids ≡ answer_where earlier test
 
 -- a find of the empty query began and ended, and is answered by those documents that were live when it began and pass the test
 pub record KeptTurns (limits : Limits) (pass : ℕ) (test : List ℕ → Bool) (before after : List Event) (ids : List ℕ) : Type 0 where

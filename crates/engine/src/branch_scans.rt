@@ -1,8 +1,8 @@
 //! The scans of a find for several branches: each slice of a layout is scanned for all of them before the next.
-ghost use Rattle.std.specs.Prelude.{◌≡◌, ◌+◌, ◌<◌, ◌≤◌, [], All, Contains, IfOk, length};
+ghost use Rattle.std.specs.Prelude.{◌≡◌, ◌≤◌, [], All, Contains, IfOk, length};
 ghost use Rattle.commit_desk.specs.Judging.{AreScannedForAny};
 ghost use Rattle.commit_desk.specs.Scans.{AreScanned, token_of};
-ghost use Rattle.engine.specs.Branches.{AddsEach, AddsScan, AreScannedForAnyBelow, CanScanEach, IsMerging, IsPlannedBranch, token_at, words_of_each};
+ghost use Rattle.engine.specs.Branches.{AddsEach, AddsScan, CanScanEach, IsMerging, IsPlannedBranch, token_at, words_of_each};
 ghost use Rattle.engine.specs.Finds.{CanLookIn};
 ghost use Rattle.engine.specs.Scans.{CanScan, IsReadable, part_of};
 ghost use Rattle.funnel_model.specs.declared.bit_list.Bit.{Bit};

@@ -1,25 +1,24 @@
 //! Finds.
-ghost use Rattle.std.specs.Prelude.{◌≡◌, ℕ, ◌+◌, ◌<◌, List, ◌≤◌, [], IfErr, IfOk, MatchResult, filter, length, not};
+ghost use Rattle.std.specs.Prelude.{◌≡◌, ℕ, List, ◌≤◌, [], IfErr, IfOk, MatchResult, filter, length, not};
 ghost use Rattle.funnel_model.specs.declared.bit_list.Bit.{Bit};
 ghost use Rattle.funnel_model.specs.declared.call.Call.TheVariants as call;
 ghost use Rattle.funnel_model.specs.declared.event.Event.{Event};
 ghost use Rattle.funnel_model.specs.History.{answer};
 ghost use Rattle.funnel_model.specs.Legal.{IsLegal};
 ghost use Rattle.funnel_model.specs.Tokens.{HasToken};
-ghost use Rattle.funnel_model.specs.Words.{AreWordsOf};
 ghost use Rattle.commit_desk.specs.Passes.{IsResting};
-ghost use Rattle.commit_desk.specs.Resolving.{IsVerifying};
 ghost use Rattle.commit_desk.specs.Scans.{AreScanned, token_of};
-ghost use Rattle.engine.specs.Finds.{AddsFound, CanLookIn, FindBegins, FindEnds, FindTurns, FindsIn, IsOpenOrEnded, HasEndedFind, IsBegunAt};
-ghost use Rattle.engine.specs.Finds.{IsFoundBut, IsScanFor, RefusedTurns, by_query};
-ghost use Rattle.engine.specs.Passes.{BeginsCall, MakesCall, MakesNoCall, view_of};
+ghost use Rattle.engine.specs.Finds.{CanLookIn, FindBegins, FindEnds, FindTurns, FindsIn, IsAnswerBy, IsBegunAt, IsFoundBut, IsJustFinding};
+ghost use Rattle.engine.specs.Finds.{IsOpenOrEnded, IsScanFor, RefusedTurns};
+ghost use Rattle.engine.specs.Passes.{BeginsCall, MakesCall, MakesNoCall};
 ghost use Rattle.engine.specs.Replies.{reply_of_find, reply_of_find_fault};
-ghost use Rattle.engine.specs.Scans.{AreScannedBelow, CanScan, IsPlanFor, part_of};
+ghost use Rattle.engine.specs.Scans.{CanScan, IsPlanFor, part_of};
 ghost use Rattle.plan_rows.specs.Rests.{words_of_rest};
 ghost use Rattle.row_layout.specs.Owners.{is_exact};
 ghost use Rattle.row_read.specs.SharedRows.{WasReadSet, kept_of};
 
 use crate::engine::Engine;
+use crate::lookup::{Lookup, Resolver};
 use crate::open_find::{Begun, OpenFind};
 use crate::pass::Pass;
 use crate::work::{Direct, Work};
@@ -65,7 +64,16 @@ impl<N: PoolName> Engine<N> {
         ensures turns { FindTurns N.pool.limits pass.old.number query.now pass.old.front pass.new.front result }
     {
         let begun = self.begin(rt, alloc, &mut pass.seat, query, &mut pass.layouts)?;
-        let Ok(ids) = self.finish(rt, alloc, &mut pass.seat, begun, &mut pass.layouts, work) else {
+        let Begun { token, words } = begun;
+        let Ok(ids) = self.finish(
+            rt,
+            alloc,
+            &mut pass.seat,
+            token,
+            &words,
+            &mut pass.layouts,
+            work,
+        ) else {
             return Err(FindFault::Memory);
         };
         Ok(ids)
@@ -119,7 +127,16 @@ impl<N: PoolName> Engine<N> {
             begun,
             of,
         } = find;
-        let answer = self.finish(rt, alloc, &mut seat, begun, &mut layouts, &mut Direct);
+        let Begun { token, words } = begun;
+        let answer = self.finish(
+            rt,
+            alloc,
+            &mut seat,
+            token,
+            &words,
+            &mut layouts,
+            &mut Direct,
+        );
         (Pass { seat, layouts, of }, answer)
     }
 
@@ -154,45 +171,47 @@ impl<N: PoolName> Engine<N> {
     }
 
     // Looks at the slices of each layout, and ends the find. The answer is sorted with the lock free.
-    fn finish<R: Wait, W: Work>(
+    pub(crate) fn finish<R: Wait, L: Lookup, W: Work>(
         &self,
         rt: &R,
         alloc: Global,
         pass: &mut PassSeat,
-        begun: Begun,
+        token: Token,
+        lookup: &L,
         layouts: &mut FindLayouts,
         work: &mut W,
     ) -> Result<Ids, Memory>
-        requires begun { IsScanFor N.pool pass.old begun.token begun.words layouts.old.entries.items }
-        ensures found { IfOk result (λ ids. (earlier : List Event) (query : List ℕ) → IsBegunAt (view_of pass.old) earlier query → ids ≡ answer earlier query) }
+        requires begun { IsJustFinding N.pool token pass.old layouts.old.entries.items }
+        requires suits { (begun : HasToken pass.old.front pass.old.number token.opened_at) → L.suits lookup.now begun.query }
+        ensures found { IfOk result (IsAnswerBy (L.test lookup.now) pass.old) }
         ensures ended { FindEnds pass.old.number pass.old.front pass.new.front }
         ensures rests { IsResting N.pool pass.new }
         ensures legal { IsLegal N.pool.limits pass.new.front }
         ensures number { pass.new.number ≡ pass.old.number }
     {
-        let Begun { token, words } = begun;
         let mut found = Found::new(alloc);
-        self.find_each(rt, alloc, pass, token, &words, layouts, work, &mut found)?;
+        self.find_each(rt, alloc, pass, token, lookup, layouts, work, &mut found)?;
         found.sort();
         let ids = Vec::with_capacity(alloc, found.len())?;
         Ok(found.into_ids(ids))
     }
 
     // Looks at the slices of one layout after the other, until the find is ended.
-    fn find_each<R: Wait, W: Work>(
+    fn find_each<R: Wait, L: Lookup, W: Work>(
         &self,
         rt: &R,
         alloc: Global,
         pass: &mut PassSeat,
         token: Token,
-        words: &WordSet,
+        lookup: &L,
         layouts: &mut FindLayouts,
         work: &mut W,
         out: &mut Found,
     ) -> Result<(), Memory>
-        requires begun { IsScanFor N.pool pass.old token words.now layouts.old.entries.items }
+        requires begun { IsJustFinding N.pool token pass.old layouts.old.entries.items }
+        requires suits { (begun : HasToken pass.old.front pass.old.number token.opened_at) → L.suits lookup.now begun.query }
         requires none { out.old.found ≡ [] }
-        ensures found { IfOk result (λ _. IsFoundBut by_query pass.old token [] out.new.found) }
+        ensures found { IfOk result (λ _. IsFoundBut (L.test lookup.now) pass.old token [] out.new.found) }
         ensures ended { FindEnds pass.old.number pass.old.front pass.new.front }
         ensures rests { IsResting N.pool pass.new }
         ensures legal { IsLegal N.pool.limits pass.new.front }
@@ -201,7 +220,7 @@ impl<N: PoolName> Engine<N> {
         let mut token = token;
         while let Some(entry) = layouts.entries.pop() {
             let last = layouts.entries.is_empty();
-            match self.find_in(rt, alloc, pass, token, words, &entry, last, work, out) {
+            match lookup.look_in(self, rt, alloc, pass, token, &entry, last, work, out) {
                 Ok(Some(open)) => token = open,
                 Ok(None) => return Ok(()),
                 Err(Memory) => {
@@ -214,53 +233,22 @@ impl<N: PoolName> Engine<N> {
         Ok(())
     }
 
-    // Plans the query by the layout of an entry, scans its slices and looks at the candidates. It ends the find after the last
-    // candidate of the last slices, or where there is no memory; else the token comes back.
-    fn find_in<R: Wait, W: Work>(
-        &self,
-        rt: &R,
-        alloc: Global,
-        pass: &mut PassSeat,
-        token: Token,
-        words: &WordSet,
-        entry: &FindLayout,
-        last: bool,
-        work: &mut W,
-        out: &mut Found,
-    ) -> Result<Option<Token>, Memory>
-        requires can { CanLookIn N.pool pass.old token entry.now }
-        requires words { (begun : HasToken pass.old.front pass.old.number token.opened_at) → AreWordsOf words.now begun.query }
-        ensures found { IfOk result (λ _. AddsFound by_query pass.old token entry.now.slices out.old.found out.new.found) }
-        ensures goes_on { MatchResult result (IsOpenOrEnded N.pool token last pass.old pass.new) (λ _. HasEndedFind N.pool pass.old pass.new) }
-        ensures legal { IsLegal N.pool.limits pass.new.front }
-        ensures number { pass.new.number ≡ pass.old.number }
-    {
-        let _ = pass.number();
-        let Ok(scanned) = self.scan(alloc, pass, &token, words, entry, work, out) else {
-            self.drop_find(rt, pass, token);
-            return Err(Memory);
-        };
-        let (candidates, rest) = scanned;
-        let rest = rest.words(words);
-        Ok(self.resolve(rt, pass, token, entry, &candidates, rest, last, out))
-    }
-
     // Looks at the candidates turn by turn, with the lock free between two. After the last slices the last turn ends the find; after
     // others the token comes back.
-    fn resolve<R: Wait>(
+    pub(crate) fn resolve<R: Wait, V: Resolver>(
         &self,
         rt: &R,
         pass: &mut PassSeat,
         token: Token,
         entry: &FindLayout,
         candidates: &Candidates,
-        rest: &WordSet,
+        resolver: &V,
         last: bool,
         out: &mut Found,
     ) -> Option<Token>
-        requires verifying { IsVerifying N.pool token entry.now rest.now candidates.now pass.old }
+        requires scanned { V.scanned resolver.now N.pool token entry.now candidates.now pass.old }
         requires room { length candidates.now ≤ out.old.room }
-        ensures found { FindsIn by_query pass.old token entry.now.slices candidates.now out.old.found out.new.found }
+        ensures found { FindsIn (V.test resolver.now) pass.old token entry.now.slices candidates.now out.old.found out.new.found }
         ensures goes_on { IsOpenOrEnded N.pool token last pass.old pass.new result }
         ensures legal { IsLegal N.pool.limits pass.new.front }
         ensures number { pass.new.number ≡ pass.old.number }
@@ -268,7 +256,7 @@ impl<N: PoolName> Engine<N> {
         let mut token = token;
         let mut from = 0;
         while let Some((open, next)) = self.resolve_turn(
-            rt, pass, token, entry, candidates, from, rest, last, out,
+            rt, pass, token, entry, candidates, from, resolver, last, out,
         ) {
             if candidates.len() <= next {
                 return Some(open);
@@ -350,5 +338,37 @@ impl<N: PoolName> Engine<N> {
             from = slice + 1;
         }
         Ok(())
+    }
+}
+
+/// The words of a query.
+impl Lookup for WordSet {
+    ghost use Rattle.engine.specs.Finds.{by_query};
+    ghost use Rattle.funnel_model.specs.Words.{AreWordsOf};
+
+    ghost test = { λ words. by_query };
+
+    ghost suits = { λ words query. AreWordsOf words query };
+
+    fn look_in<N: PoolName, R: Wait, W: Work>(
+        &self,
+        engine: &Engine<N>,
+        rt: &R,
+        alloc: Global,
+        pass: &mut PassSeat,
+        token: Token,
+        entry: &FindLayout,
+        last: bool,
+        work: &mut W,
+        out: &mut Found,
+    ) -> Result<Option<Token>, Memory> {
+        let _ = pass.number();
+        let Ok(scanned) = engine.scan(alloc, pass, &token, self, entry, work, out) else {
+            engine.drop_find(rt, pass, token);
+            return Err(Memory);
+        };
+        let (candidates, rest) = scanned;
+        let rest = rest.words(self);
+        Ok(engine.resolve(rt, pass, token, entry, &candidates, rest, last, out))
     }
 }

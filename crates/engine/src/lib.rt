@@ -114,6 +114,7 @@ mod engine;
 mod finding;
 mod judging;
 pub mod laws;
+mod lookup;
 mod merged;
 mod moving;
 mod open_find;

@@ -1,5 +1,5 @@
 //! The turns of adds, finds and tunings at the desk. Each holds the lock for one call of the desk, and the last of a find for its end too.
-ghost use Rattle.std.specs.Prelude.{◌≡◌, ◌≤◌, true, [], ◌∷◌, length, IfOk, IfSome, MatchResult, None, vec_capacity};
+ghost use Rattle.std.specs.Prelude.{◌≡◌, ◌≤◌, true, [], ◌∷◌, IfOk, IfSome, MatchResult, None, vec_capacity};
 ghost use Rattle.funnel_model.specs.declared.event.Event.TheVariants as event;
 ghost use Rattle.funnel_model.specs.Legal.{IsLegal};
 ghost use Rattle.funnel_model.specs.Tokens.{HasToken};
@@ -7,16 +7,17 @@ ghost use Rattle.commit_desk.specs.Answers.{AnswersCommit, AnswersFind, AnswersT
 ghost use Rattle.commit_desk.specs.FindLayouts.{AreFindLayouts};
 ghost use Rattle.commit_desk.specs.Layouts.{IsLayoutOf, TunesWith};
 ghost use Rattle.commit_desk.specs.Passes.{HasCleared, HasWritten, IsFinding, IsResting, IsToDo, IsToWrite};
-ghost use Rattle.commit_desk.specs.Resolving.{FindsUpTo, IsVerifying};
+ghost use Rattle.commit_desk.specs.Resolving.{FindsUpTo};
 ghost use Rattle.engine.specs.Adds.{TurnOfTake};
-ghost use Rattle.engine.specs.Finds.{CanGoOn, ComesTo, by_query, end_of_turn, events_of_turn};
+ghost use Rattle.engine.specs.Finds.{CanGoOn, ComesTo, end_of_turn, events_of_turn};
 ghost use Rattle.row_layout.specs.Layouts.{LayoutId};
 ghost use Rattle.slice_recycler.specs.Turns.{IsTurn};
 
 use crate::engine::Engine;
+use crate::lookup::Resolver;
 use commit_desk::{CommitFault, FindFault, FindLayout, FindLayouts, SharedLayout, Spent, Taken};
 use document_store::{Doc, Found, FreeSlots};
-use funnel_model::{Block, Candidates, Claim, ClearJob, Config, Token, WordSet};
+use funnel_model::{Block, Candidates, Claim, ClearJob, Config, Token};
 use row_layout::Bits;
 use slice_rule::{PassSeat, PoolName};
 use std::sync::Wait;
@@ -121,7 +122,7 @@ impl<N: PoolName> Engine<N> {
     // A turn of a find that looks at its candidates in the slices of one layout, from this one on, while the turn isn't over. Where
     // these slices are the last ones, the turn that looks at the last candidate ends the find. Any other hands the token back, and
     // tells where the next goes on.
-    pub(crate) fn resolve_turn<R: Wait>(
+    pub(crate) fn resolve_turn<R: Wait, V: Resolver>(
         &self,
         rt: &R,
         pass: &mut PassSeat,
@@ -129,15 +130,15 @@ impl<N: PoolName> Engine<N> {
         entry: &FindLayout,
         candidates: &Candidates,
         from: usize,
-        rest: &WordSet,
+        resolver: &V,
         last: bool,
         out: &mut Found,
     ) -> Option<(Token, usize)>
-        requires verifying { IsVerifying N.pool token entry.now rest.now candidates.now pass.old }
+        requires scanned { V.scanned resolver.now N.pool token entry.now candidates.now pass.old }
         requires can { CanGoOn candidates.now out.old from }
-        ensures found { (begun : HasToken pass.old.front pass.old.number token.opened_at) → FindsUpTo begun.earlier (by_query begun.query)
-            (length rest.now) entry.now.slices candidates.now from (end_of_turn candidates.now result) out.old.found out.new.found }
-        ensures next { IfSome result (λ next. IsVerifying N.pool next.0 entry.now rest.now candidates.now pass.new
+        ensures found { (begun : HasToken pass.old.front pass.old.number token.opened_at) → FindsUpTo begun.earlier (V.test resolver.now begun.query)
+            (V.cost resolver.now) entry.now.slices candidates.now from (end_of_turn candidates.now result) out.old.found out.new.found }
+        ensures next { IfSome result (λ next. V.scanned resolver.now N.pool next.0 entry.now candidates.now pass.new
             × ComesTo token candidates.now last from out.new next) }
         ensures over { result ≡ None → (last ≡ true) × IsResting N.pool pass.new }
         ensures turn { IsTurn pass.old.number pass.old.front pass.new.front (λ history. Unit {0}) (events_of_turn pass.old.number result) }
@@ -147,7 +148,9 @@ impl<N: PoolName> Engine<N> {
         let _ = &self.pool;
         let mut named = self.desk.lock(rt);
         let desk = &mut named.desk;
-        let next = desk.resolve_part(&self.pool, pass, &token, entry, candidates, from, rest, out);
+        let next = resolver.resolve_part(
+            desk, &self.pool, pass, &token, entry, candidates, from, out,
+        );
         if next < candidates.len() {
             return Some((token, next));
         }

@@ -1,14 +1,14 @@
 use Rattle.std.proofs.Common.{◌≡◌, ℕ, AllPairs, Contains, length}
 use Rattle.commit_desk.specs.declared.find_layouts.FindLayout.{FindLayout}
 use Rattle.commit_desk.specs.Passes.{IsFinding}
-use Rattle.engine.specs.Finds.{IsFoundBut, by_query}
+use Rattle.engine.specs.Finds.{IsFoundBut}
 use Rattle.funnel_model.specs.History.{IsFrontOf}
 use Rattle.engine.proofs.engine.Engine.find_each.Given as goal
 
 -- what is found is that of the slices but those of the entries that are left
 abbrev pub invariant-loop-entry : goal.invariant-loop-entry
 invariant-loop-entry g l = record {
-  found : IsFoundBut by_query l.fn.pass l.fn.token l.layouts.entries.items l.out.found;
+  found : IsFoundBut (g.L.Lookup.test l.lookup) l.fn.pass l.fn.token l.layouts.entries.items l.out.found;
   among : (entry : FindLayout) → Contains l.layouts.entries.items entry → Contains l.fn.layouts.entries.items entry;
   apart : AllPairs (λ (one other : FindLayout). (slice : ℕ) → Contains one.slices slice → Contains other.slices slice → ⊥) l.layouts.entries.items;
   finding : IsFinding g.N.PoolName.pool l.fn.token l.pass;

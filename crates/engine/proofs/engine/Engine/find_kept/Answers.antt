@@ -21,15 +21,18 @@ returns-in-Err-clause-turns g c =
     let after = c.open_find.new.pass.front in
     refused_turn limits pass.number (g.J.Judge.test c.args.judge.now) pass.front after c.in-Err.fault (refused_find limits pass.number [] pass.front after c.in-Err.fault c.in-Err.ensures.turn)
 
-pub finish_kept-requires-clause-begun : goal.finish_kept-requires-clause-begun
-finish_kept-requires-clause-begun g c =
+pub finish-requires-clause-begun : goal.finish-requires-clause-begun
+finish-requires-clause-begun g c =
     let opened = c.in-Ok.ensures in
     just_begun g.N.PoolName.pool.limits c.args.pass.now.number [] c.args.pass.now.front g.N.PoolName.pool c.open_find.new.pass c.in-Ok.token c.open_find.new.layouts.entries.items opened.number
     (record { earlier = opened.turn.earlier; seen = opened.turn.seen; answer = opened.turn.answer.0; made = opened.turn.made }) opened.next opened.layouts
 
-pub returns-in-Ok-finish_kept-clause-turns : goal.returns-in-Ok-finish_kept-clause-turns
-returns-in-Ok-finish_kept-clause-turns g c =
+pub finish-requires-clause-suits : goal.finish-requires-clause-suits
+finish-requires-clause-suits g c begun = c.requires.judge
+
+pub returns-in-Ok-finish-clause-turns : goal.returns-in-Ok-finish-clause-turns
+returns-in-Ok-finish-clause-turns g c =
     let opened = c.in-Ok.ensures in
-    let did = c.in-Ok-finish_kept.ensures in
+    let did = c.in-Ok-finish.ensures in
     kept_turns g.N.PoolName.pool.limits c.args.pass.now.number (g.J.Judge.test c.args.judge.now) c.args.pass.now.front c.open_find.new.pass opened.number
-    (record { earlier = opened.turn.earlier; seen = opened.turn.seen; answer = opened.turn.answer.0; made = opened.turn.made }) c.finish_kept.new.pass.front did.ended c.in-Ok-finish_kept.ids did.kept
+    (record { earlier = opened.turn.earlier; seen = opened.turn.seen; answer = opened.turn.answer.0; made = opened.turn.made }) c.finish.new.pass.front did.ended c.in-Ok-finish.ids did.found

@@ -4,7 +4,7 @@ use Rattle.commit_desk.specs.Passes.{IsFinding}
 use Rattle.commit_desk.specs.Resolving.{FindsUpTo}
 use Rattle.engine.proofs.FindParts.{ends_from, found_from, found_in, found_to}
 use Rattle.engine.proofs.Moves.{front_goes_on, front_refl, silent_turn}
-use Rattle.engine.specs.Finds.{by_query, end_of_turn}
+use Rattle.engine.specs.Finds.{end_of_turn}
 use Rattle.funnel_model.specs.declared.claim.Token.{Token}
 use Rattle.funnel_model.specs.History.{IsFrontOf}
 use Rattle.funnel_model.specs.Tokens.{HasToken}
@@ -12,32 +12,35 @@ use Rattle.engine.proofs.engine.Engine.resolve.Goals as goal
 
 pub loop-open-init : goal.loop-open-init
 loop-open-init g c = record {
-  verifying = c.requires.verifying;
+  scanned = c.requires.scanned;
   can = record { within = omega arith; room = omega (arith, c.requires.room) };
-  so_far = found_from by_query c.args.pass.now c.args.token c.args.candidates.now c.args.out.now.found;
+  so_far = found_from (g.V.Resolver.test c.args.resolver.now) c.args.pass.now c.args.token c.args.candidates.now c.args.out.now.found;
   same = refl;
   seen = front_refl c.args.pass.now.number c.args.pass.now.front;
   number = refl;
 }
 
 pub resolve_turn-requires : goal.resolve_turn-requires
-resolve_turn-requires g c = record { verifying = c.loop-open.invariant.verifying; can = c.loop-open.invariant.can }
+resolve_turn-requires g c = record { scanned = c.loop-open.invariant.scanned; can = c.loop-open.invariant.can }
 
 pub loop-open-preserved : goal.loop-open-preserved
 loop-open-preserved g c =
+    let test = g.V.Resolver.test c.args.resolver.now in
+    let cost = g.V.Resolver.cost c.args.resolver.now in
     let pass = c.args.pass.now in
     let before = c.loop-open.pass in
     let next = c.resolve_turn.new.pass in
     let inv = c.loop-open.invariant in
     let did = c.in-Some.ensures in
     let comes = did.next.1 in
-    let onward = (did.found inv.verifying.holds.begun).turn.2.onward in
+    let finding = g.met.V.Resolver.finding c.args.resolver.now g.N.PoolName.pool c.loop-open.token c.args.entry.now c.args.candidates.now before inv.scanned in
+    let onward = (did.found finding.holds.begun).turn.2.onward in
     record {
-      verifying = did.next.0;
+      scanned = did.next.0;
       can = comes.can;
-      so_far = found_to by_query pass before c.args.token (length c.args.rest.now) c.args.entry.now.slices c.args.candidates.now c.loop-open.from c.in-Some.next c.args.out.now.found c.loop-open.out.found
+      so_far = found_to test pass before c.args.token cost c.args.entry.now.slices c.args.candidates.now c.loop-open.from c.in-Some.next c.args.out.now.found c.loop-open.out.found
           c.resolve_turn.new.out.found inv.number inv.seen onward inv.so_far
-          (subst (λ (t : Token). (begun : HasToken before.front before.number t.opened_at) → FindsUpTo begun.earlier (by_query begun.query) (length c.args.rest.now) c.args.entry.now.slices c.args.candidates.now
+          (subst (λ (t : Token). (begun : HasToken before.front before.number t.opened_at) → FindsUpTo begun.earlier (test begun.query) cost c.args.entry.now.slices c.args.candidates.now
           c.loop-open.from c.in-Some.next c.loop-open.out.found c.resolve_turn.new.out.found) inv.same did.found);
       same = comes.same ∙ inv.same;
       seen = front_goes_on pass.number pass.front before.front next.front inv.seen
@@ -53,15 +56,18 @@ loop-open-smaller g c =
 -- the slices are not the last ones
 pub returns-then-len-next-clause-found : goal.returns-then-len-next-clause-found
 returns-then-len-next-clause-found g c =
+    let test = g.V.Resolver.test c.args.resolver.now in
+    let cost = g.V.Resolver.cost c.args.resolver.now in
     let pass = c.args.pass.now in
     let before = c.loop-open.pass in
     let inv = c.loop-open.invariant in
     let did = c.in-Some.ensures in
-    let onward = (did.found inv.verifying.holds.begun).turn.2.onward in
+    let finding = g.met.V.Resolver.finding c.args.resolver.now g.N.PoolName.pool c.loop-open.token c.args.entry.now c.args.candidates.now before inv.scanned in
+    let onward = (did.found finding.holds.begun).turn.2.onward in
     let last : length c.args.candidates.now ≤ c.in-Some.next = omega (arith, c.if-len-next.true, c.len.ensures) in
-    found_in by_query pass before c.args.token (length c.args.rest.now) c.args.entry.now.slices c.args.candidates.now c.loop-open.from c.in-Some.next c.args.out.now.found c.loop-open.out.found
+    found_in test pass before c.args.token cost c.args.entry.now.slices c.args.candidates.now c.loop-open.from c.in-Some.next c.args.out.now.found c.loop-open.out.found
     c.resolve_turn.new.out.found inv.number inv.seen onward inv.so_far
-    (subst (λ (t : Token). (begun : HasToken before.front before.number t.opened_at) → FindsUpTo begun.earlier (by_query begun.query) (length c.args.rest.now) c.args.entry.now.slices c.args.candidates.now
+    (subst (λ (t : Token). (begun : HasToken before.front before.number t.opened_at) → FindsUpTo begun.earlier (test begun.query) cost c.args.entry.now.slices c.args.candidates.now
     c.loop-open.from c.in-Some.next c.loop-open.out.found c.resolve_turn.new.out.found) inv.same did.found) last
 
 pub returns-then-len-next-clause-goes_on : goal.returns-then-len-next-clause-goes_on
@@ -75,7 +81,7 @@ returns-then-len-next-clause-goes_on g c =
     let over : length c.args.candidates.now ≤ c.in-Some.next = omega (arith, c.if-len-next.true, c.len.ensures) in (
       false_from_ne_true c.args.last (λ is. let less = did.next.1.more is in omega (arith, less, over)),
       same,
-      subst (λ (t : Token). IsFinding g.N.PoolName.pool t next) same (record { seated = did.next.0.seated; holds = did.next.0.holds }),
+      subst (λ (t : Token). IsFinding g.N.PoolName.pool t next) same (g.met.V.Resolver.finding c.args.resolver.now g.N.PoolName.pool c.in-Some.open c.args.entry.now c.args.candidates.now next did.next.0),
       front_goes_on pass.number pass.front before.front next.front inv.seen
           (subst (λ n. IsFrontOf n before.front next.front) inv.number (silent_turn {answers = λ history. Unit {0}} before.number before.front next.front did.turn)),
     )
@@ -83,16 +89,18 @@ returns-then-len-next-clause-goes_on g c =
 -- the last turn ended the find
 pub returns-clause-found : goal.returns-clause-found
 returns-clause-found g c =
+    let test = g.V.Resolver.test c.args.resolver.now in
+    let cost = g.V.Resolver.cost c.args.resolver.now in
     let before = c.loop-open.pass in
     let inv = c.loop-open.invariant in
     let candidates = c.args.candidates.now in
-    let turn : (begun : HasToken before.front before.number c.loop-open.token.opened_at) → FindsUpTo begun.earlier (by_query begun.query) (length c.args.rest.now) c.args.entry.now.slices candidates c.loop-open.from
+    let turn : (begun : HasToken before.front before.number c.loop-open.token.opened_at) → FindsUpTo begun.earlier (test begun.query) cost c.args.entry.now.slices candidates c.loop-open.from
     (length candidates) c.loop-open.out.found c.resolve_turn.new.out.found =
-    subst (λ (o : Option (Token × ℕ)). (begun : HasToken before.front before.number c.loop-open.token.opened_at) → FindsUpTo begun.earlier (by_query begun.query) (length c.args.rest.now) c.args.entry.now.slices
+    subst (λ (o : Option (Token × ℕ)). (begun : HasToken before.front before.number c.loop-open.token.opened_at) → FindsUpTo begun.earlier (test begun.query) cost c.args.entry.now.slices
     candidates c.loop-open.from (end_of_turn candidates o) c.loop-open.out.found c.resolve_turn.new.out.found) c.in_default.is c.resolve_turn.ensures.found in
-    found_in by_query c.args.pass.now before c.args.token (length c.args.rest.now) c.args.entry.now.slices candidates c.loop-open.from (length candidates) c.args.out.now.found c.loop-open.out.found
+    found_in test c.args.pass.now before c.args.token cost c.args.entry.now.slices candidates c.loop-open.from (length candidates) c.args.out.now.found c.loop-open.out.found
     c.resolve_turn.new.out.found inv.number inv.seen inv.can.within inv.so_far
-    (subst (λ (t : Token). (begun : HasToken before.front before.number t.opened_at) → FindsUpTo begun.earlier (by_query begun.query) (length c.args.rest.now) c.args.entry.now.slices candidates c.loop-open.from
+    (subst (λ (t : Token). (begun : HasToken before.front before.number t.opened_at) → FindsUpTo begun.earlier (test begun.query) cost c.args.entry.now.slices candidates c.loop-open.from
     (length candidates) c.loop-open.out.found c.resolve_turn.new.out.found) inv.same turn) (omega arith)
 
 pub returns-clause-goes_on : goal.returns-clause-goes_on

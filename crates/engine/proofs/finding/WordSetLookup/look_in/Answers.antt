@@ -7,7 +7,7 @@ use Rattle.funnel_model.specs.Tokens.{HasToken}
 use Rattle.funnel_model.specs.Words.{AreWordsOf}
 use Rattle.slice_rule.specs.Pools.{PoolId}
 use Rattle.slice_rule.specs.Seats.{PassState}
-use Rattle.engine.proofs.engine.Engine.find_in.Goals as goal
+use Rattle.engine.proofs.finding.WordSetLookup.look_in.Goals as goal
 
 pub drop_find-requires : goal.drop_find-requires
 drop_find-requires g c = record {
@@ -23,18 +23,18 @@ returns-in_default-clause-goes_on g c = (
 pub returns-in_default-clause-number : goal.returns-in_default-clause-number
 returns-in_default-clause-number g c = c.drop_find.ensures.number ∙ ap (λ (p : PassState). p.number) c.scan.ensures.seat
 
-pub resolve-requires-clause-verifying : goal.resolve-requires-clause-verifying
-resolve-requires-clause-verifying g c =
+pub resolve-requires-clause-scanned : goal.resolve-requires-clause-scanned
+resolve-requires-clause-scanned g c =
     let pool = g.N.PoolName.pool in
     let pass = c.args.pass.now in
     let next = c.scan.new.pass in
     let token = c.args.token in
     let entry = c.args.entry.now in
-    let words = c.args.words.now in
+    let words = c.args.self.now in
     let seat = c.scan.ensures.seat in
     let can : CanLookIn pool next token entry = look_still pool token entry pass next seat c.requires.can in
     let of_query : (begun : HasToken next.front next.number token.opened_at) → AreWordsOf words begun.query =
-    subst (λ (p : PassState). (begun : HasToken p.front p.number token.opened_at) → AreWordsOf words begun.query) (sym seat) c.requires.words in
+    subst (λ (p : PassState). (begun : HasToken p.front p.number token.opened_at) → AreWordsOf words begun.query) (sym seat) c.requires.suits in
     let legal : IsLegal pool.limits next.front =
     subst (λ (p : PassState). IsLegal pool.limits p.front) (sym seat)
     (subst (λ (p : PoolId). IsLegal p.limits pass.front) c.requires.can.finding.seated.same c.number.ensures.legal) in

@@ -5,7 +5,7 @@ use Rattle.engine.specs.Judged.{by_judge}
 use Rattle.funnel_model.specs.Legal.{IsLegal}
 use Rattle.slice_rule.specs.Pools.{PoolId}
 use Rattle.slice_rule.specs.Seats.{PassState}
-use Rattle.engine.proofs.engine.Engine.keep_in.Goals as goal
+use Rattle.engine.proofs.judging.JudgedLookup.look_in.Goals as goal
 
 pub drop_find-requires : goal.drop_find-requires
 drop_find-requires g c = record {
@@ -21,8 +21,8 @@ returns-in_default-clause-goes_on g c = (
 pub returns-in_default-clause-number : goal.returns-in_default-clause-number
 returns-in_default-clause-number g c = c.drop_find.ensures.number ∙ ap (λ (p : PassState). p.number) c.scan_any.ensures.seat
 
-pub judge_each-requires-clause-judging : goal.judge_each-requires-clause-judging
-judge_each-requires-clause-judging g c =
+pub resolve-requires-clause-scanned : goal.resolve-requires-clause-scanned
+resolve-requires-clause-scanned g c =
     let pool = g.N.PoolName.pool in
     let pass = c.args.pass.now in
     let next = c.scan_any.new.pass in
@@ -38,9 +38,9 @@ judge_each-requires-clause-judging g c =
       holds = can.finding.holds;
       of_token = entry_of pool token entry next can;
       scanned = λ begun. (
-        c.args.branches.now,
-        c.requires.judge,
-        any_scanned_then pool entry.layout.config next token entry.slices can.finding legal can.among begun c.args.branches.now c.in-Ok.candidates c.in-Ok.ensures.scanned,
+        c.args.self.now.branches.now,
+        c.requires.suits c.requires.can.finding.holds.begun,
+        any_scanned_then pool entry.layout.config next token entry.slices can.finding legal can.among begun c.args.self.now.branches.now c.in-Ok.candidates c.in-Ok.ensures.scanned,
       );
     }
 
@@ -48,21 +48,21 @@ pub returns-clause-found : goal.returns-clause-found
 returns-clause-found g c =
     let token = c.args.token in
     let entry = c.args.entry.now in
-    let test = by_judge (g.J.Judge.test c.args.judge.now) in
+    let test = by_judge (g.J.Judge.test c.args.self.now.judge.now) in
     let candidates = c.in-Ok.candidates in
     let scanned = c.in-Ok.ensures.scanned in
-    let after = c.judge_each.new.out.found in
+    let after = c.resolve.new.out.found in
     record {
       candidates = candidates;
       each_once = scanned.each_once;
-      in_slices = any_of_slices entry.layout.config c.scan_any.new.pass token entry.slices c.args.branches.now candidates scanned;
+      in_slices = any_of_slices entry.layout.config c.scan_any.new.pass token entry.slices c.args.self.now.branches.now candidates scanned;
       finds = subst (λ (before : List (ℕ × ℕ)). FindsIn test c.args.pass.now token entry.slices candidates before after) c.scan_any.ensures.found
-          (subst (λ (p : PassState). FindsIn test p token entry.slices candidates c.scan_any.new.out.found after) c.scan_any.ensures.seat c.judge_each.ensures.found);
+          (subst (λ (p : PassState). FindsIn test p token entry.slices candidates c.scan_any.new.out.found after) c.scan_any.ensures.seat c.resolve.ensures.found);
     }
 
 pub returns-clause-goes_on : goal.returns-clause-goes_on
 returns-clause-goes_on g c =
-    goes_on_from g.N.PoolName.pool c.args.token c.args.last c.args.pass.now c.scan_any.new.pass c.judge_each.new.pass c.scan_any.ensures.seat c.judge_each.result c.judge_each.ensures.goes_on
+    goes_on_from g.N.PoolName.pool c.args.token c.args.last c.args.pass.now c.scan_any.new.pass c.resolve.new.pass c.scan_any.ensures.seat c.resolve.result c.resolve.ensures.goes_on
 
 pub returns-clause-number : goal.returns-clause-number
-returns-clause-number g c = c.judge_each.ensures.number ∙ ap (λ (p : PassState). p.number) c.scan_any.ensures.seat
+returns-clause-number g c = c.resolve.ensures.number ∙ ap (λ (p : PassState). p.number) c.scan_any.ensures.seat
