@@ -22,10 +22,10 @@ use Rattle.funnel_model.proofs.ReserveLemmas.{emptied_holds, one_held_count}
 use Rattle.slice_stages.specs.Stages.{StageTable, IsUsed, empty_stage, ready_in, ready_of, spare_in, spare_of, stage_of}
 use Rattle.slice_stages.specs.declared.stage.Stage.{Stage}
 use Rattle.slice_stages.specs.declared.stage.Stage.TheVariants as stage
-use Rattle.commit_desk.specs.Kept.{AreStages, AreTokens, IsAtStage, IsUsedSlice}
+use Rattle.commit_desk.specs.Kept.{AreStages, AreTokens, IsAtStage, IsNextMark, IsUsedSlice}
 use Rattle.commit_desk.specs.Moving.{HasLive, IsPartlyHeld, is_fewer}
 use Rattle.commit_desk.specs.Records.{AreRecorded, state_of}
-use Rattle.commit_desk.proofs.Marks.{IsNextMark, after_mark, by_mark}
+use Rattle.commit_desk.proofs.Marks.{after_mark, by_mark}
 use Rattle.commit_desk.proofs.Slots.{column_by_over}
 use Rattle.commit_desk.proofs.StageFacts.{in_table, retired_since, state_is, used_by_stage}
 use Rattle.commit_desk.proofs.StageReadings.{none_left, not_over_by_state}
@@ -102,7 +102,7 @@ module _ (limits : Limits) (history : List Event) (table : Table) (tokens : List
     adds_up = sym (sum-map (spare_in stages.columns) stages.stages);
   }
 
-  module _ (tokens_are : AreTokens limits history tokens) (next : IsNextMark history tokens stages.mark) where
+  module _ (tokens_are : AreTokens limits history tokens) (next : IsNextMark (length history) tokens stages.mark) where
     ready_by : (slice : ℕ) → slice < limits.slices → (s : Stage) → IsAtStage limits.columns history table slice s → HasReadyIn limits.columns history slice (ready_in limits.columns stages.mark s)
     ready_by slice in' (stage.InUse first over) at =
         inl (used_by_stage limits history table legal recorded slice in' (stage.InUse first over) at tt, sym (unclaimed_past slice first history at.claims limits.columns))

@@ -16,8 +16,8 @@ use Rattle.funnel_model.specs.SliceSets.{IsEmpty}
 use Rattle.row_layout.proofs.Lists.{Contains-from_map}
 use Rattle.row_layout.specs.Layouts.{LayoutId}
 use Rattle.commit_desk.specs.declared.find_layouts.FindLayout.{FindLayout}
-use Rattle.commit_desk.specs.Layouts.{AreFirst, IsEntryOf, IsNewest, LayoutsState}
-use Rattle.commit_desk.specs.Treatments.{AreApart, AreEntries, AreTreatments, HasNewest, IsRenewed, IsTakenOut, TakesNewest}
+use Rattle.commit_desk.specs.Layouts.{AreFirst, IsCurrentOf, IsEntryOf, LayoutsState}
+use Rattle.commit_desk.specs.Treatments.{AreApart, AreEntries, AreTreatments, EndsEntry, EndsNoEntry, HasCurrent, IsRenewed, IsTakenOut, TakesCurrent, TellsCurrent}
 
 -- what is kept, by its parts
 abbrev pub state : List FindLayout → Option LayoutId → ℕ → LayoutsState
@@ -33,15 +33,14 @@ apart_at xs pairs i j d i_in j_in differ =
     (λ above. let more = above.1 in apart-sym (get_or xs j d) (get_or xs i d) (pairs j i d (omega (arith, more, differ)) i_in))
     (leb_tells (suc i) j)
 
--- a slice is in one entry
-pub one_entry : (xs : List FindLayout) → AllPairs AreApart xs → (one other : FindLayout) → Contains xs one → Contains xs other → (slice : ℕ) → Contains one.slices slice →
-    Contains other.slices slice → one ≡ other
-one_entry xs pairs one other (i, i_in, i_is) (j, j_in, j_is) slice has has_other =
+-- two entries that are not apart are one
+one_entry : (xs : List FindLayout) → AllPairs AreApart xs → (one other : FindLayout) → Contains xs one → Contains xs other → (AreApart one other → ⊥) → one ≡ other
+one_entry xs pairs one other (i, i_in, i_is) (j, j_in, j_is) together =
     let at : get_or xs j one ≡ other = get_or_default xs j one other j_in ∙ j_is in
     ⊎_elim
     (λ (same : i ≡ j). sym i_is ∙ ap (λ k. get_or xs k one) same ∙ at)
-    (λ (differ : i ≡ j → ⊥). absurd ((apart_at xs pairs i j one i_in j_in differ).slices slice
-    (subst (λ (e : FindLayout). Contains e.slices slice) (sym i_is) has) (subst (λ (e : FindLayout). Contains e.slices slice) (sym at) has_other)))
+    (λ (differ : i ≡ j → ⊥). absurd (together
+    (subst (λ (e : FindLayout). AreApart e other) i_is (subst (AreApart (get_or xs i one)) at (apart_at xs pairs i j one i_in j_in differ)))))
     (cases_eq i j)
 
 -- where an entry stood that is left when another was taken out: in its place, or at the end
@@ -132,7 +131,7 @@ pub record IsOut (before : List FindLayout) (entry : FindLayout) (after : List F
   pub apart : AllPairs AreApart before → AllPairs AreApart after
   pub away : AllPairs AreApart before → (other : FindLayout) → Contains after other → AreApart other entry
 
-pub is_out : (before : List FindLayout) (entry : FindLayout) (after : List FindLayout) → IsTakenOut before entry after → IsOut before entry after
+is_out : (before : List FindLayout) (entry : FindLayout) (after : List FindLayout) → IsTakenOut before entry after → IsOut before entry after
 is_out before entry after out =
     let left = rest before out.place entry out.in_range out.is in
     subst (IsOut before entry) (sym out.after_are) (record {
@@ -146,7 +145,7 @@ is_out before entry after out =
     })
 
 -- the entries that are left
-pub entries-out : (room tunings : ℕ) (before : List FindLayout) (entry : FindLayout) (after : List FindLayout) → AreEntries room tunings before → IsOut before entry after →
+entries-out : (room tunings : ℕ) (before : List FindLayout) (entry : FindLayout) (after : List FindLayout) → AreEntries room tunings before → IsOut before entry after →
     AreEntries room tunings after
 entries-out room tunings before entry after is out = record {
   some = λ other in'. is.some other (out.within other in');
@@ -165,7 +164,7 @@ pub pairs-push : {A : Type 0} (R : A → A → Type 0) (xs : List A) (x : A) →
 pairs-push R xs x pairs last = all_pairs_push R xs x pairs (λ k d below. last (get_or xs k d) (Contains-get_or xs k d below))
 
 -- one more entry
-pub entries-push : (room tunings : ℕ) (xs : List FindLayout) (x : FindLayout) → AreEntries room tunings xs → ((y : FindLayout) → Contains xs y → AreApart y x) →
+entries-push : (room tunings : ℕ) (xs : List FindLayout) (x : FindLayout) → AreEntries room tunings xs → ((y : FindLayout) → Contains xs y → AreApart y x) →
     ((slice : ℕ) × Contains x.slices slice) → ((slice : ℕ) → Contains x.slices slice → slice < room) → ((slice : ℕ) → Contains x.slices slice → slice < MOST_SLICES) →
     x.number ≤ tunings → AreEntries room tunings (xs ++ x ∷ [])
 entries-push room tunings xs x is apart some within few upto = record {
@@ -187,7 +186,7 @@ has_first entry some =
     Contains-get_or entry.slices 0 0 (omega (arith, below))
 
 -- there is room for them, since each has a slice of its own
-pub fits : (room tunings : ℕ) (xs : List FindLayout) → AreEntries room tunings xs → length xs ≤ room
+fits : (room tunings : ℕ) (xs : List FindLayout) → AreEntries room tunings xs → length xs ≤ room
 fits room tunings xs is =
     let firsts = map first xs in
     let distinct : AllPairs (λ (a b : ℕ). a ≡ b → ⊥) firsts = AllPairs-map (λ (a b : ℕ). a ≡ b → ⊥) first xs first_differ in
@@ -204,19 +203,19 @@ fits room tunings xs is =
           (is.apart i j d less within).slices (first a) (has_first a (is.some a a_in)) (subst (Contains b.slices) (sym same) (has_first b (is.some b b_in)))
 
 -- the entry of the current treatment was taken out of the others, or is a new one without slices
-pub record IsNewestOut (room : ℕ) (kept : LayoutsState) (one : List FindLayout) (new : FindLayout) (two : List FindLayout) : Type 0 where
+pub record IsCurrentOut (room : ℕ) (kept : LayoutsState) (one : List FindLayout) (new : FindLayout) (two : List FindLayout) : Type 0 where
   pub number : new.number ≡ kept.tunings
   pub within : (other : FindLayout) → Contains two other → Contains one other
   pub others : (other : FindLayout) → Contains one other → (new ≡ other) ⊎ Contains two other
   pub away : (other : FindLayout) → Contains two other → AreApart other new
   pub among : (slice : ℕ) → Contains new.slices slice → Contains one new
-  pub current : IsNewest kept new.layout
+  pub laid : IsCurrentOf kept new.layout
   pub entries : AreEntries room kept.tunings two
 
-pub newest_out : (room : ℕ) (treatments : List FindLayout) (next : Option LayoutId) (tunings : ℕ) → AreTreatments room (state treatments next tunings) →
-    (old : FindLayout) (one : List FindLayout) → IsOut treatments old one → (new : FindLayout) (two : List FindLayout) → TakesNewest one next tunings new two →
-    IsNewestOut room (state treatments next tunings) one new two
-newest_out room treatments None tunings is old one out new two takes =
+current_out : (room : ℕ) (treatments : List FindLayout) (next : Option LayoutId) (tunings : ℕ) → AreTreatments room (state treatments next tunings) →
+    (old : FindLayout) (one : List FindLayout) → IsOut treatments old one → (new : FindLayout) (two : List FindLayout) → TakesCurrent one next tunings new two →
+    IsCurrentOut room (state treatments next tunings) one new two
+current_out room treatments None tunings is old one out new two takes =
     let left = is_out one new two takes.0 in
     let entries = entries-out room tunings treatments old one is.entries out in
     record {
@@ -225,10 +224,10 @@ newest_out room treatments None tunings is old one out new two takes =
       others = left.others;
       away = left.away entries.apart;
       among = λ slice in'. left.was;
-      current = (new, out.within new left.was, takes.1, refl);
+      laid = (new, out.within new left.was, takes.1, refl);
       entries = entries-out room tunings one new two entries left;
     }
-newest_out room treatments (Some layout) tunings is old one out new two takes =
+current_out room treatments (Some layout) tunings is old one out new two takes =
     let founded = takes.1 in
     let entries = entries-out room tunings treatments old one is.entries out in
     let back : (other : FindLayout) → Contains two other → Contains one other = λ other. subst (λ (xs : List FindLayout). Contains xs other) takes.0 in
@@ -237,13 +236,22 @@ newest_out room treatments (Some layout) tunings is old one out new two takes =
       within = back;
       others = λ other in'. inr (subst (λ (xs : List FindLayout). Contains xs other) (sym takes.0) in');
       away = λ other in'. record {
-        numbers = λ same. is.newest other (out.within other (back other in')) (same ∙ founded.number_is);
+        numbers = λ same. is.current other (out.within other (back other in')) (same ∙ founded.number_is);
         slices = λ slice had none. founded.none slice none;
       };
       among = λ slice none. absurd (founded.none slice none);
-      current = founded.layout_is;
+      laid = founded.layout_is;
       entries = subst (AreEntries room tunings) (sym takes.0) entries;
     }
+
+-- the entry at the place of a slice's
+pub entry_at : (kept seen : LayoutsState) → kept ≡ seen → (slice place : ℕ) → place < length seen.treatments → ((d : FindLayout) → Contains (get_or seen.treatments place d).slices slice) →
+    (entry : FindLayout) → entry ≡ get_or kept.treatments place entry → IsEntryOf kept slice entry
+entry_at kept seen same slice place below had entry is = record {
+  among = (place, subst (λ (k : LayoutsState). place < length k.treatments) (sym same) below, sym is);
+  has = subst (λ (e : FindLayout). Contains e.slices slice) (sym is)
+      (subst (λ (k : LayoutsState). Contains (get_or k.treatments place entry).slices slice) (sym same) (had entry));
+}
 
 -- what was kept, and the entry that a slice left, which is not that of the current treatment
 pub record IsLeft (kept : LayoutsState) (slice : ℕ) (old : FindLayout) (one : List FindLayout) : Type 0 where
@@ -259,16 +267,15 @@ is_left kept seen same slice place below had read at apart old one is after =
     let read_is : old ≡ read = is ∙ get_or_default kept.treatments place old read in' ∙ sym at in
     record {
       out = is_out kept.treatments old one (record { place = place; in_range = in'; is = is; after_are = after });
-      has = subst (λ (e : FindLayout). Contains e.slices slice) (sym is)
-          (subst (λ (k : LayoutsState). Contains (get_or k.treatments place old).slices slice) (sym same) (had old));
+      has = (entry_at kept seen same slice place below had old is).has;
       older = λ number. apart (ap (λ (e : FindLayout). e.number) (sym read_is) ∙ number);
     }
 
 -- so the entry of the current treatment is among the others, where some slice has it
-pub newest_left : (treatments : List FindLayout) (next : Option LayoutId) (tunings slice : ℕ) (old : FindLayout) (one : List FindLayout) → HasNewest treatments tunings next →
+pub current_left : (treatments : List FindLayout) (next : Option LayoutId) (tunings slice : ℕ) (old : FindLayout) (one : List FindLayout) → HasCurrent treatments tunings next →
     IsLeft (state treatments next tunings) slice old one → next ≡ None → (entry : FindLayout) × Contains one entry × (entry.number ≡ tunings)
-newest_left treatments next tunings slice old one has left none =
-    let found = subst (HasNewest treatments tunings) none has in
+current_left treatments next tunings slice old one has left none =
+    let found = subst (HasCurrent treatments tunings) none has in
     ⊎_elim
     (λ (same : old ≡ found.0). absurd (left.older (ap (λ (e : FindLayout). e.number) same ∙ found.2)))
     (λ (in_one : Contains one found.0). (found.0, in_one, found.2))
@@ -280,12 +287,12 @@ pub record IsMoved (room : ℕ) (kept : LayoutsState) (slice : ℕ) (old : FindL
   pub out : IsOut kept.treatments old one
   pub has : Contains old.slices slice
   pub older : old.number ≡ kept.tunings → ⊥
-  pub newest : IsNewestOut room kept one new two
+  pub current : IsCurrentOut room kept one new two
   pub more_are : (o : ℕ) → Contains more o ↔ ((o ≡ slice) ⊎ Contains new.slices o)
   pub left_are : (o : ℕ) → Contains left o ↔ ((o ≡ slice → ⊥) × Contains old.slices o)
 
 pub is_moved : (room : ℕ) (treatments : List FindLayout) (next : Option LayoutId) (tunings slice : ℕ) (old : FindLayout) (one : List FindLayout) (new : FindLayout) (two : List FindLayout) (more left : List ℕ) →
-    AreTreatments room (state treatments next tunings) → IsLeft (state treatments next tunings) slice old one → TakesNewest one next tunings new two →
+    AreTreatments room (state treatments next tunings) → IsLeft (state treatments next tunings) slice old one → TakesCurrent one next tunings new two →
     ((o : ℕ) → Contains more o ↔ ((o ≡ slice) ⊎ Contains new.slices o)) → ((o : ℕ) → Contains left o ↔ ((o ≡ slice → ⊥) × Contains old.slices o)) →
     IsMoved room (state treatments next tunings) slice old one new two more left
 is_moved room treatments next tunings slice old one new two more left is gone takes more_are left_are = record {
@@ -293,7 +300,7 @@ is_moved room treatments next tunings slice old one new two more left is gone ta
   out = gone.out;
   has = gone.has;
   older = gone.older;
-  newest = newest_out room treatments next tunings is old one gone.out new two takes;
+  current = current_out room treatments next tunings is old one gone.out new two takes;
   more_are = more_are;
   left_are = left_are;
 }
@@ -304,21 +311,6 @@ room_for room tunings xs x is =
     let all = fits room tunings (xs ++ x ∷ []) is in
     let size = length-append xs (x ∷ []) in
     omega (arith, all, size)
-
--- under the names that a call has for them
-pub treatments-as : (room room_now : ℕ) (xs items : List FindLayout) (next : Option LayoutId) (tunings : ℕ) → room_now ≡ room → items ≡ xs → next ≡ None →
-    AreTreatments room (state xs None tunings) → AreTreatments room_now (state items next tunings)
-treatments-as room room_now xs items next tunings same items_are none is =
-    subst (λ n. AreTreatments n (state items next tunings)) (sym same)
-    (subst (λ (ys : List FindLayout). AreTreatments room (state ys next tunings)) (sym items_are)
-    (subst (λ (o : Option LayoutId). AreTreatments room (state xs o tunings)) (sym none) is))
-
-pub renewed-as : (kept seen : LayoutsState) (slice : ℕ) (xs items : List FindLayout) (next : Option LayoutId) (tunings : ℕ) → kept ≡ seen → items ≡ xs → next ≡ None →
-    IsRenewed kept slice (state xs None tunings) → IsRenewed seen slice (state items next tunings)
-renewed-as kept seen slice xs items next tunings same items_are none is =
-    subst (λ (k : LayoutsState). IsRenewed k slice (state items next tunings)) same
-    (subst (λ (ys : List FindLayout). IsRenewed kept slice (state ys next tunings)) (sym items_are)
-    (subst (λ (o : Option LayoutId). IsRenewed kept slice (state xs o tunings)) (sym none) is))
 
 module _ {room : ℕ} {kept : LayoutsState} {slice : ℕ} {old : FindLayout} {one : List FindLayout} {new : FindLayout} {two : List FindLayout} {more left : List ℕ}
     (m : IsMoved room kept slice old one new two more left) where
@@ -342,35 +334,35 @@ module _ {room : ℕ} {kept : LayoutsState} {slice : ℕ} {old : FindLayout} {on
   more_within : (P : ℕ → Type 0) → ((entry : FindLayout) → Contains kept.treatments entry → (o : ℕ) → Contains entry.slices o → P o) → (o : ℕ) → Contains more o → P o
   more_within P all o in' = ⊎_elim
       (λ (same : o ≡ slice). subst P (sym same) (all old m.out.was slice m.has))
-      (λ (was : Contains new.slices o). all new (m.out.within new (m.newest.among o was)) o was)
+      (λ (was : Contains new.slices o). all new (m.out.within new (m.current.among o was)) o was)
       ((m.more_are o).0 in')
 
   pub entries-joined : AreEntries room kept.tunings with_joined
-  entries-joined = entries-push room kept.tunings two joined m.newest.entries
+  entries-joined = entries-push room kept.tunings two joined m.current.entries
       (λ other in'. record {
-        numbers = (m.newest.away other in').numbers;
+        numbers = (m.current.away other in').numbers;
         slices = λ o in_other in_joined. ⊎_elim
-            (λ (same : o ≡ slice). (away other (m.newest.within other in')).slices slice (subst (Contains other.slices) same in_other) m.has)
-            (λ (was : Contains new.slices o). (m.newest.away other in').slices o in_other was)
+            (λ (same : o ≡ slice). (away other (m.current.within other in')).slices slice (subst (Contains other.slices) same in_other) m.has)
+            (λ (was : Contains new.slices o). (m.current.away other in').slices o in_other was)
             ((m.more_are o).0 in_joined);
       })
       (slice, (m.more_are slice).1 (inl refl))
       (more_within (λ o. o < room) m.is.entries.within)
       (more_within (λ o. o < MOST_SLICES) m.is.entries.few)
-      (let number = m.newest.number in omega (arith, number))
+      (let number = m.current.number in omega (arith, number))
 
   pub entries-both : ((o : ℕ) × Contains left o) → AreEntries room kept.tunings with_both
   entries-both some = entries-push room kept.tunings with_joined gone entries-joined
       (each-push (λ (e : FindLayout). AreApart e gone) two joined
       (λ other in'. record {
-        numbers = (away other (m.newest.within other in')).numbers;
-        slices = λ o in_other in_gone. (away other (m.newest.within other in')).slices o in_other ((m.left_are o).0 in_gone).1;
+        numbers = (away other (m.current.within other in')).numbers;
+        slices = λ o in_other in_gone. (away other (m.current.within other in')).slices o in_other ((m.left_are o).0 in_gone).1;
       })
       (record {
-        numbers = λ same. m.older (sym same ∙ m.newest.number);
+        numbers = λ same. m.older (sym same ∙ m.current.number);
         slices = λ o in_joined in_gone. ⊎_elim
             (λ (same : o ≡ slice). ((m.left_are o).0 in_gone).0 same)
-            (λ (was : Contains new.slices o). (away new (m.newest.among o was)).slices o was ((m.left_are o).0 in_gone).1)
+            (λ (was : Contains new.slices o). (away new (m.current.among o was)).slices o was ((m.left_are o).0 in_gone).1)
             ((m.more_are o).0 in_joined);
       }))
       some
@@ -378,27 +370,39 @@ module _ {room : ℕ} {kept : LayoutsState} {slice : ℕ} {old : FindLayout} {on
       (λ o in'. m.is.entries.few old m.out.was o ((m.left_are o).0 in').1)
       (m.is.entries.upto old m.out.was)
 
-  -- what is kept then, with these entries
+  -- what is kept then, with these entries, under the names that a call has for them
   abbrev pub renewed : List FindLayout → LayoutsState
   renewed xs = state xs None kept.tunings
 
-  pub treatments-renewed : (xs : List FindLayout) → AreEntries room kept.tunings xs → Contains xs joined → AreTreatments room (renewed xs)
-  treatments-renewed xs entries in' = record { entries = entries; newest = (joined, in', m.newest.number) }
+  pub treatments-then : {xs items : List FindLayout} {next : Option LayoutId} {room_now : ℕ} → room_now ≡ room → items ≡ xs → next ≡ None → AreEntries room kept.tunings xs →
+      Contains xs joined → AreTreatments room_now (state items next kept.tunings)
+  treatments-then {xs} {items} {next} {room_now} same items_are none entries in' =
+      subst (λ n. AreTreatments n (state items next kept.tunings)) (sym same)
+      (subst (λ (ys : List FindLayout). AreTreatments room (state ys next kept.tunings)) (sym items_are)
+      (subst (λ (o : Option LayoutId). AreTreatments room (state xs o kept.tunings)) (sym none)
+      (let is : AreTreatments room (renewed xs) = record { entries = entries; current = (joined, in', m.current.number) } in is)))
+
+  pub renewed-then : {xs items : List FindLayout} {next : Option LayoutId} {seen : LayoutsState} → kept ≡ seen → items ≡ xs → next ≡ None → IsRenewed kept slice (renewed xs) →
+      IsRenewed seen slice (state items next kept.tunings)
+  renewed-then {xs} {items} {next} {seen} same items_are none is =
+      subst (λ (k : LayoutsState). IsRenewed k slice (state items next kept.tunings)) same
+      (subst (λ (ys : List FindLayout). IsRenewed kept slice (state ys next kept.tunings)) (sym items_are)
+      (subst (λ (o : Option LayoutId). IsRenewed kept slice (state xs o kept.tunings)) (sym none) is))
 
   module _ (xs : List FindLayout) (cases : (e : FindLayout) → Contains xs e → Contains two e ⊎ ((joined ≡ e) ⊎ (gone ≡ e))) (stay : (e : FindLayout) → Contains two e → Contains xs e)
       (has_joined : Contains xs joined) (has_gone : (o : ℕ) → Contains left o → Contains xs gone) where
     -- the entry that has the slice is the one that it came into
     here : (e : FindLayout) → IsEntryOf (renewed xs) slice e → joined ≡ e
     here e in' = ⊎_elim
-        (λ (in_two : Contains two e). absurd ((away e (m.newest.within e in_two)).slices slice in'.has m.has))
+        (λ (in_two : Contains two e). absurd ((away e (m.current.within e in_two)).slices slice in'.has m.has))
         (λ (others : (joined ≡ e) ⊎ (gone ≡ e)). ⊎_elim (λ (same : joined ≡ e). same)
         (λ (is_gone : gone ≡ e). absurd (((m.left_are slice).0 (subst (λ (x : FindLayout). Contains x.slices slice) (sym is_gone) in'.has)).0 refl)) others)
         (cases e in'.among)
 
-    -- and so is the one that has the newest number
+    -- and so is the one that has the number of the last tuning
     there : (e : FindLayout) → Contains xs e → e.number ≡ kept.tunings → joined ≡ e
     there e in' number = ⊎_elim
-        (λ (in_two : Contains two e). absurd ((m.newest.away e in_two).numbers (number ∙ sym m.newest.number)))
+        (λ (in_two : Contains two e). absurd ((m.current.away e in_two).numbers (number ∙ sym m.current.number)))
         (λ (others : (joined ≡ e) ⊎ (gone ≡ e)). ⊎_elim (λ (same : joined ≡ e). same) (λ (is_gone : gone ≡ e). absurd (m.older (ap (λ (x : FindLayout). x.number) is_gone ∙ number))) others)
         (cases e in')
 
@@ -412,20 +416,20 @@ module _ {room : ℕ} {kept : LayoutsState} {slice : ℕ} {old : FindLayout} {on
         (λ (in_one : Contains one e). ⊎_elim
         (λ (is_new : new ≡ e). (joined, record { among = has_joined; has = (m.more_are o).1 (inr (subst (λ (x : FindLayout). Contains x.slices o) (sym is_new) was.has)) }))
         (λ (in_two : Contains two e). (e, record { among = stay e in_two; has = was.has }))
-        (m.newest.others e in_one))
+        (m.current.others e in_one))
         (m.out.others e was.among))
         (cases_eq o slice)
 
     entry_before : (o : ℕ) → (o ≡ slice → ⊥) → (e : FindLayout) → IsEntryOf (renewed xs) o e →
         (before : FindLayout) × IsEntryOf kept o before × (e.number ≡ before.number) × (e.layout ≡ before.layout)
     entry_before o apart e in' = ⊎_elim
-        (λ (in_two : Contains two e). (e, record { among = m.out.within e (m.newest.within e in_two); has = in'.has }, refl, refl))
+        (λ (in_two : Contains two e). (e, record { among = m.out.within e (m.current.within e in_two); has = in'.has }, refl, refl))
         (λ (others : (joined ≡ e) ⊎ (gone ≡ e)). ⊎_elim
         (λ (is_joined : joined ≡ e). ⊎_elim
         (λ (same : o ≡ slice). absurd (apart same))
         (λ (was : Contains new.slices o). (
           new,
-          record { among = m.out.within new (m.newest.among o was); has = was },
+          record { among = m.out.within new (m.current.among o was); has = was },
           ap (λ (x : FindLayout). x.number) (sym is_joined),
           ap (λ (x : FindLayout). x.layout) (sym is_joined),
         ))
@@ -442,13 +446,37 @@ module _ {room : ℕ} {kept : LayoutsState} {slice : ℕ} {old : FindLayout} {on
     is_renewed : IsRenewed kept slice (renewed xs)
     is_renewed = record {
       every = entry_after;
-      number = λ e in'. ap (λ (x : FindLayout). x.number) (sym (here e in')) ∙ m.newest.number;
-      laid = λ e in'. subst (λ (x : FindLayout). IsNewest kept x.layout) (here e in') m.newest.current;
+      number = λ e in'. ap (λ (x : FindLayout). x.number) (sym (here e in')) ∙ m.current.number;
+      laid = λ e in'. subst (λ (x : FindLayout). IsCurrentOf kept x.layout) (here e in') m.current.laid;
       others = entry_before;
       current = λ layout found.
-          subst (IsNewest kept) (ap (λ (x : FindLayout). x.layout) (there found.0 found.1 found.2) ∙ sym found.3) m.newest.current;
+          subst (IsCurrentOf kept) (ap (λ (x : FindLayout). x.layout) (there found.0 found.1 found.2) ∙ sym found.3) m.current.laid;
       tunings_are = refl;
     }
+
+  -- no other slice had the treatment that it left
+  pub ends : IsEmpty left → EndsEntry kept slice old.layout
+  ends none = record {
+    entry = old;
+    of_slice = record { among = m.out.was; has = m.has };
+    older = m.older;
+    alone = λ other same in' number.
+        let is = one_entry kept.treatments m.is.entries.apart same old in'.among m.out.was (λ apart. apart.numbers number) in
+        ⊎_elim
+        (λ (is_slice : other ≡ slice). is_slice)
+        (λ (differ : other ≡ slice → ⊥). absurd (none other ((m.left_are other).1 (differ, subst (λ (e : FindLayout). Contains e.slices other) is in'.has))))
+        (cases_eq other slice);
+    laid = refl;
+  }
+
+  -- some slice has it still
+  pub ends_none : ((o : ℕ) × Contains left o) → EndsNoEntry kept slice
+  ends_none some =
+      let was = (m.left_are some.0).0 some.1 in record {
+        entry = old;
+        of_slice = record { among = m.out.was; has = m.has };
+        still = inr (some.0, was.0, was.1);
+      }
 
   -- no other slice was in the entry that it left
   pub renewed-joined : IsEmpty left → IsRenewed kept slice (renewed with_joined)
@@ -474,7 +502,7 @@ pub renewed-same : (room : ℕ) (treatments : List FindLayout) (next : Option La
     Contains treatments entry → Contains entry.slices slice → entry.number ≡ tunings → IsRenewed (state treatments next tunings) slice (state treatments next tunings)
 renewed-same room treatments None tunings slice entry is among has number =
     let same : (e : FindLayout) → IsEntryOf (state treatments None tunings) slice e → entry ≡ e =
-    λ e in'. one_entry treatments is.entries.apart entry e among in'.among slice has in'.has in
+    λ e in'. one_entry treatments is.entries.apart entry e among in'.among (λ apart. apart.slices slice has in'.has) in
     record {
       every = λ o e was. (e, was);
       number = λ e in'. ap (λ (x : FindLayout). x.number) (sym (same e in')) ∙ number;
@@ -483,7 +511,16 @@ renewed-same room treatments None tunings slice entry is among has number =
       current = λ layout found. found;
       tunings_are = refl;
     }
-renewed-same room treatments (Some layout) tunings slice entry is among has number = absurd (is.newest entry among number)
+renewed-same room treatments (Some layout) tunings slice entry is among has number = absurd (is.current entry among number)
+
+-- whether some slice has the current treatment
+pub tells_current : (room : ℕ) (treatments : List FindLayout) (next : Option LayoutId) (tunings : ℕ) → AreTreatments room (state treatments next tunings) →
+    TellsCurrent (state treatments next tunings) next
+tells_current room treatments None tunings is =
+    let entry = is.current in
+    let some = is.entries.some entry.0 entry.1 in
+    (some.0, entry.0, record { among = entry.1; has = some.1 }, entry.2)
+tells_current room treatments (Some layout) tunings is = λ slice entry in' number. is.current entry in'.among number
 
 -- after one more tuning no slice has the current treatment
 pub treatments-tune : (room : ℕ) (treatments : List FindLayout) (next : Option LayoutId) (tunings : ℕ) (layout : LayoutId) → AreTreatments room (state treatments next tunings) →
@@ -496,7 +533,7 @@ treatments-tune room treatments next tunings layout is = record {
     upto = λ entry in'. let upto = is.entries.upto entry in' in omega (arith, upto);
     apart = is.entries.apart;
   };
-  newest = λ entry in' same. let upto = is.entries.upto entry in' in omega (arith, upto, same);
+  current = λ entry in' same. let upto = is.entries.upto entry in' in omega (arith, upto, same);
 }
 
 -- the only entry of a list
@@ -518,7 +555,7 @@ treatments-first room slices items entry is fits_in some few number are =
         upto = λ e in'. let same = ap (λ (x : FindLayout). x.number) (only entry e in') in omega (arith, same, number);
         apart = λ i j d less below. absurd (omega (arith, less, below));
       };
-      newest = (entry, Contains-push [] entry, number);
+      current = (entry, Contains-push [] entry, number);
     })
 
 pub first-from : (slices : ℕ) (layout : LayoutId) (items : List FindLayout) (entry : FindLayout) → items ≡ entry ∷ [] → entry.number ≡ 0 → entry.layout ≡ layout →

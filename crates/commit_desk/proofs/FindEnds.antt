@@ -31,7 +31,7 @@ use Rattle.commit_desk.specs.Records.{AreRecorded}
 use Rattle.commit_desk.specs.declared.find_layouts.FindLayout.{FindLayout}
 use Rattle.commit_desk.specs.Judging.{GiveAllIn}
 use Rattle.commit_desk.specs.Layouts.{SuitsOpening}
-use Rattle.commit_desk.specs.Resolving.{AreGiven, AreLookedFor, IsEntryOf, IsRestOf, IsVerifying}
+use Rattle.commit_desk.specs.Resolving.{AreGiven, AreLookedFor, IsEntryOfFind, IsRestOf, IsVerifying}
 use Rattle.commit_desk.specs.Scans.{AreScanned, IsOfToken, WereScanned, token_of}
 use Rattle.commit_desk.proofs.ExactWords.{has_exact}
 use Rattle.commit_desk.proofs.FindTurns.{begun_later, token_kept}
@@ -173,7 +173,7 @@ were_scanned config seat next token candidates same goes first scanned begun =
 
 -- the entry is one of the token's slices still
 pub entry_still : (pool : PoolId) (seat next : PassState) (token : Token) (entry : FindLayout) → IsSamePass seat next → IsFrontOf seat.number seat.front next.front →
-    HoldsToken seat token → IsEntryOf pool token entry seat → IsEntryOf pool token entry next
+    HoldsToken seat token → IsEntryOfFind pool token entry seat → IsEntryOfFind pool token entry next
 entry_still pool seat next token entry same goes holds is = record {
   among = is.among;
   suits = is.suits;

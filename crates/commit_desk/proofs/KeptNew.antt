@@ -1,5 +1,5 @@
 -- What is kept beside the empty history.
-use Rattle.std.proofs.Common.{◌≡◌, ℕ, zero, suc, ◌+◌, ◌*◌, ◌-◌, ◌^◌, ◌%◌, ◌<◌, ◌≤◌, false, List, [], length, take, drop, get_or, count_by, Option, Some, None, sym, refl, ap, ◌∙◌, subst, arith}
+use Rattle.std.proofs.Common.{◌≡◌, ℕ, zero, suc, ◌+◌, ◌*◌, ◌-◌, ◌^◌, ◌%◌, ◌<◌, ◌≤◌, false, List, [], length, take, drop, get_or, count_by, Option, None, sym, refl, ap, ◌∙◌, subst, arith}
 use Rattle.std.proofs.lemmas.Bool.{false≢true}
 use Rattle.std.proofs.lemmas.List.{drop-replicate, get_or-replicate, length-replicate, take-replicate}
 use Rattle.std.proofs.lemmas.Nat.{mul-le, pow_below, pow_pos}
@@ -9,7 +9,6 @@ use Rattle.document_store.specs.Documents.{Parts}
 use Rattle.document_store.specs.Entries.{Entries}
 use Rattle.document_store.specs.Entries.{column_of as entry_of}
 use Rattle.document_store.specs.Slots.{IsColumn, Table, free_slot, slot_at, slots_of, is_over}
-use Rattle.document_store.specs.declared.column.Column.TheVariants as became
 use Rattle.document_store.specs.declared.slots.Slot.{Slot}
 use Rattle.funnel_model.specs.declared.config.Config.{Config}
 use Rattle.funnel_model.specs.Configuration.{IsInRange}
@@ -30,16 +29,8 @@ use Rattle.commit_desk.proofs.Few.{few-new}
 use Rattle.commit_desk.proofs.Journals.{journal-new}
 use Rattle.commit_desk.specs.Layouts.{AreFirst}
 use Rattle.commit_desk.proofs.LayoutEvents.{layouts-new}
+use Rattle.commit_desk.proofs.Options.{free_not_live, none_some}
 use Rattle.commit_desk.proofs.Slots.{none_over}
-
-none_some : (x : ℕ × ℕ) → None ≡ Some x → ⊥
-none_some x is = cc
-
-none_is_some : (x : ℕ) → None ≡ Some x → ⊥
-none_is_some x is = cc
-
-free_not_live : (added since : ℕ) → became.Free ≡ became.Live added since → ⊥
-free_not_live added since is = cc
 
 module _ (limits : Limits) (table : Table) (live : Entries) (table_slices : table.slices ≡ limits.slices) (table_columns : table.columns ≡ limits.columns)
     (free : table.slots ≡ replicate (limits.slices * limits.columns) free_slot) (all_there : table.out ≡ replicate limits.slices false)
@@ -104,8 +95,8 @@ module _ (limits : Limits) (table : Table) (live : Entries) (table_slices : tabl
 
 -- no pass has a token
 never_opened : (passes pass number : ℕ) → HasOpened (replicate passes None) pass number → ⊥
-never_opened zero pass number opened = none_is_some number opened
-never_opened (suc n) zero number opened = none_is_some number opened
+never_opened zero pass number opened = none_some number opened
+never_opened (suc n) zero number opened = none_some number opened
 never_opened (suc n) (suc pass) number opened = never_opened n pass number opened
 
 tokens-new : (limits : Limits) (tokens : List (Option ℕ)) → tokens ≡ replicate limits.passes None → AreTokens limits [] tokens

@@ -15,7 +15,7 @@ use Rattle.funnel_model.specs.Tunings.{current, treat, tunings}
 use Rattle.funnel_model.proofs.TuningLemmas.{current-push, treat-push}
 use Rattle.row_layout.specs.Layouts.{LayoutId, own_layout}
 use Rattle.commit_desk.specs.declared.find_layouts.FindLayout.{FindLayout}
-use Rattle.commit_desk.specs.Layouts.{AreFirst, AreLayoutsOf, IsCurrentLayout, IsEntryOf, IsLayoutOf, IsNewest, LayoutsState, SuitsOpening, treatment_number, with_tuning}
+use Rattle.commit_desk.specs.Layouts.{AreFirst, AreLayoutsOf, IsCurrentLayout, IsCurrentOf, IsEntryOf, IsLayoutOf, LayoutsState, SuitsOpening, treatment_number, with_tuning}
 use Rattle.commit_desk.specs.Treatments.{IsRenewed}
 use Rattle.commit_desk.proofs.TreatmentNumbers.{number-clear, number-quiet}
 
@@ -24,7 +24,7 @@ abbrev pub layout_in : Config → Config → LayoutId
 layout_in opening config = record { config = config; room = words_of_slice opening }
 
 -- the treatment of a slice stays with an event that doesn't clear it
-pub treat-quiet : (opening : Config) (slice : ℕ) (history : List Event) (e : Event) → clears slice e ≡ false →
+treat-quiet : (opening : Config) (slice : ℕ) (history : List Event) (e : Event) → clears slice e ≡ false →
     treat opening slice (history ++ e ∷ []) ≡ treat opening slice history
 treat-quiet opening slice history e quiet =
     treat-push opening slice history e ∙ ap (λ b. cond b (current opening history) (treat opening slice history)) quiet
@@ -43,7 +43,7 @@ tunings-quiet history e none =
     filter_map-append tuning_of history (e ∷ []) ∙ ap (λ (o : Option Config). tunings history ++ cons_option o []) none ∙ append-nil (tunings history)
 
 -- a layout stays that of its slice with an event that doesn't clear the slice
-pub layout-push : (opening : Config) (slice : ℕ) (history : List Event) (e : Event) (layout : LayoutId) → clears slice e ≡ false →
+layout-push : (opening : Config) (slice : ℕ) (history : List Event) (e : Event) (layout : LayoutId) → clears slice e ≡ false →
     IsLayoutOf opening slice history layout → IsLayoutOf opening slice (history ++ e ∷ []) layout
 layout-push opening slice history e layout quiet is = record {
   is = is.is ∙ ap (layout_in opening) (sym (treat-quiet opening slice history e quiet));
@@ -51,7 +51,7 @@ layout-push opening slice history e layout quiet is = record {
 }
 
 -- the current layout is that of a slice which is cleared
-pub layout-clear : (opening : Config) (slice : ℕ) (history : List Event) (e : Event) (layout : LayoutId) → clears slice e ≡ true →
+layout-clear : (opening : Config) (slice : ℕ) (history : List Event) (e : Event) (layout : LayoutId) → clears slice e ≡ true →
     IsCurrentLayout opening history layout → IsLayoutOf opening slice (history ++ e ∷ []) layout
 layout-clear opening slice history e layout cleared is = record {
   is = is.is ∙ ap (layout_in opening) (sym (treat-clear opening slice history e cleared));
@@ -145,7 +145,7 @@ layouts-new opening slices kept in_range first = record {
   suits_own : (layout : LayoutId) → layout ≡ own_layout opening → SuitsOpening opening layout.config
   suits_own layout same = subst (λ (l : LayoutId). SuitsOpening opening l.config) (sym same) (record { sized = refl; in_range = in_range; fits = omega arith })
 
-  own_is : (layout : LayoutId) → IsNewest kept layout → layout ≡ own_layout opening
+  own_is : (layout : LayoutId) → IsCurrentOf kept layout → layout ≡ own_layout opening
   own_is layout is =
       let found = subst
       (λ (o : Option LayoutId). MatchOption o ((entry : FindLayout) × Contains kept.treatments entry × (entry.number ≡ kept.tunings) × (layout ≡ entry.layout)) (λ next. layout ≡ next))

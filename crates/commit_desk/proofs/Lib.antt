@@ -13,6 +13,7 @@ pub mod EntriesKept
 pub mod ExactWords
 pub mod Found
 pub mod Given
+pub mod HandedBack
 pub mod HeldClaims
 pub mod HeldColumns
 pub mod Inside
@@ -30,6 +31,7 @@ pub mod Marks
 pub mod MoveEvents
 pub mod MoveTurns
 pub mod MovedRecords
+pub mod Options
 pub mod PlainEvents
 pub mod RecordFacts
 pub mod RecordsKept

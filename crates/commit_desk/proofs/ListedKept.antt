@@ -12,19 +12,11 @@ use Rattle.document_store.specs.declared.column.Column.TheVariants as became
 use Rattle.document_store.specs.declared.slots.Slot.{Slot}
 use Rattle.funnel_model.proofs.ColumnStates.{this_column}
 use Rattle.commit_desk.specs.Records.{AreListed, IsLiveIn}
+use Rattle.commit_desk.proofs.Options.{free_not_live, none_some, some_same}
 use Rattle.commit_desk.proofs.Slots.{with_slot-cases, without_slice-cases}
-
-some_same : (x y : Parts) → Some x ≡ Some y → x ≡ y
-some_same x y is = cc
-
-none_some : (x : ℕ × ℕ) → None ≡ Some x → ⊥
-none_some x is = cc
 
 pair_same : (a b c d : ℕ) → (let x : Option (ℕ × ℕ) = Some (a, b) in let y : Option (ℕ × ℕ) = Some (c, d) in x ≡ y) → (a ≡ c) × (b ≡ d)
 pair_same a b c d is = (ap (λ (o : Option (ℕ × ℕ)). option_map_or (λ (p : ℕ × ℕ). p.0) o a) is, ap (λ (o : Option (ℕ × ℕ)). option_map_or (λ (p : ℕ × ℕ). p.1) o b) is)
-
-free_not_live : (added since : ℕ) → became.Free ≡ became.Live added since → ⊥
-free_not_live added since is = cc
 
 over_not_live : (added since until other after : ℕ) → became.Over added since until ≡ became.Live other after → ⊥
 over_not_live added since until other after is = cc

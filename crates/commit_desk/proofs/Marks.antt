@@ -6,7 +6,7 @@ use Rattle.std.proofs.lemmas.List.{get_or-set_other, get_or-set_same, length-app
 use Rattle.document_store.specs.Slots.{Table}
 use Rattle.funnel_model.specs.declared.event.Event.{Event}
 use Rattle.funnel_model.specs.declared.event.Event.TheVariants as event
-use Rattle.funnel_model.specs.Legal.{CanClear, Limits, IsLegal, NoneCanClear}
+use Rattle.funnel_model.specs.Legal.{CanClear, IsIdle, Limits, IsLegal, MayClear, NoneCanClear}
 use Rattle.funnel_model.specs.Slices.{IsRetired, IsRetiredAt}
 use Rattle.funnel_model.specs.Tokens.{IsGuarded}
 use Rattle.funnel_model.proofs.Retirement.{retires_once}
@@ -15,8 +15,9 @@ use Rattle.slice_stages.specs.declared.stage.Stage.{Stage}
 use Rattle.slice_stages.specs.declared.stage.Stage.TheVariants as stage
 use Rattle.token_manager.specs.Guarding.{HasOpened, IsOldest, NoneOpen}
 use Rattle.slice_rule.specs.Pools.{PoolId}
-use Rattle.commit_desk.specs.Kept.{AreStages, Books, IsDesk, AreTokens, IsAtStage}
+use Rattle.commit_desk.specs.Kept.{AreStages, AreTokens, Books, IsAtStage, IsDesk, IsNextMark, MovesMark}
 use Rattle.commit_desk.specs.Records.{AreRecorded}
+use Rattle.commit_desk.proofs.Options.{none_some, some_same}
 use Rattle.commit_desk.proofs.StageFacts.{retired_since, retired_stage}
 
 -- each running find began at the mark or after it
@@ -24,7 +25,7 @@ abbrev pub NoneBeforeMark : List (Option ℕ) → ℕ → Type 0
 NoneBeforeMark tokens mark = (pass number : ℕ) → HasOpened tokens pass number → mark ≤ number
 
 -- the slice is the lowest that can be cleared
-pub record IsLowestClearable (limits : Limits) (history : List Event) (slice : ℕ) : Type 0 where
+record IsLowestClearable (limits : Limits) (history : List Event) (slice : ℕ) : Type 0 where
   pub in_range : slice < limits.slices
   pub can_clear : CanClear limits.columns history slice
   pub lowest : (lower : ℕ) → lower < slice → CanClear limits.columns history lower → ⊥
@@ -32,12 +33,6 @@ pub record IsLowestClearable (limits : Limits) (history : List Event) (slice : �
 -- an event leaves the mark within the history
 pub mark-same : (history : List Event) (e : Event) (mark : ℕ) → mark ≤ length history → mark ≤ length (history ++ e ∷ [])
 mark-same history e mark within = omega (arith, length-append history (e ∷ []))
-
-some_same : (x y : ℕ) → Some x ≡ Some y → x ≡ y
-some_same x y is = cc
-
-none_some : (x : ℕ) → None ≡ Some x → ⊥
-none_some x is = cc
 
 -- a find that begins now is the newest
 pub mark-find : (tokens : List (Option ℕ)) (pass mark events : ℕ) → pass < length tokens → mark ≤ events → NoneBeforeMark tokens mark →
@@ -59,17 +54,13 @@ mark-end tokens pass mark in' none other number opened =
     (λ (apart : other ≢ pass). none other number (sym (get_or-set_other tokens pass other None None apart) ∙ opened))
     (cases_eq other pass)
 
--- where the mark moves to: the oldest running find, or, where none runs, the last event of the history
-abbrev pub IsNextMark : List Event → List (Option ℕ) → ℕ → Type 0
-IsNextMark history tokens mark = IsOldest tokens mark ⊎ (NoneOpen tokens × (mark ≡ length history))
-
 -- each running find began there or later
-pub next_mark_before : (history : List Event) (tokens : List (Option ℕ)) (mark : ℕ) → IsNextMark history tokens mark → NoneBeforeMark tokens mark
+next_mark_before : (history : List Event) (tokens : List (Option ℕ)) (mark : ℕ) → IsNextMark (length history) tokens mark → NoneBeforeMark tokens mark
 next_mark_before history tokens mark next pass number opened =
     ⊎_elim (λ (is : IsOldest tokens mark). is.oldest pass number opened) (λ (past : NoneOpen tokens × (mark ≡ length history)). absurd (past.0 pass number opened)) next
 
 -- and it is within the history
-next_mark_within : (limits : Limits) (history : List Event) (tokens : List (Option ℕ)) (mark : ℕ) → AreTokens limits history tokens → IsNextMark history tokens mark → mark ≤ length history
+next_mark_within : (limits : Limits) (history : List Event) (tokens : List (Option ℕ)) (mark : ℕ) → AreTokens limits history tokens → IsNextMark (length history) tokens mark → mark ≤ length history
 next_mark_within limits history tokens mark are next =
     ⊎_elim
     (λ (is : IsOldest tokens mark).
@@ -80,7 +71,7 @@ next_mark_within limits history tokens mark are next =
     next
 
 -- the stages with another mark
-pub mark-look : (limits : Limits) (history : List Event) (table : Table) (tokens : List (Option ℕ)) (stages : StageTable) (mark : ℕ) → mark ≤ length history →
+mark-look : (limits : Limits) (history : List Event) (table : Table) (tokens : List (Option ℕ)) (stages : StageTable) (mark : ℕ) → mark ≤ length history →
     NoneBeforeMark tokens mark → AreStages limits history table tokens stages → AreStages limits history table tokens (record stages { mark = mark })
 mark-look limits history table tokens stages mark within none are = record {
   count = are.count;
@@ -114,7 +105,7 @@ module _ (limits : Limits) (history : List Event) (table : Table) (tokens : List
   }
 
   -- one that retired later is guarded by the oldest find
-  pub after_mark : (slice number : ℕ) → IsNextMark history tokens stages.mark → IsRetired limits.columns slice history → IsRetiredAt limits.columns slice history number → stages.mark < number →
+  pub after_mark : (slice number : ℕ) → IsNextMark (length history) tokens stages.mark → IsRetired limits.columns slice history → IsRetiredAt limits.columns slice history number → stages.mark < number →
       IsGuarded limits.columns history slice
   after_mark slice number next retired at less =
       ⊎_elim
@@ -133,7 +124,7 @@ module _ (limits : Limits) (history : List Event) (table : Table) (tokens : List
       next
 
   -- a retired slice retired up to the mark, or is guarded
-  by_mark_or_guarded : (slice : ℕ) → slice < limits.slices → IsNextMark history tokens stages.mark → IsRetired limits.columns slice history →
+  by_mark_or_guarded : (slice : ℕ) → slice < limits.slices → IsNextMark (length history) tokens stages.mark → IsRetired limits.columns slice history →
       IsRetiredBy stages.mark (stage_of stages slice) ⊎ IsGuarded limits.columns history slice
   by_mark_or_guarded slice in' next retired =
       let s = retired_stage limits history table legal recorded slice in' (stage_of stages slice) (staged.each slice in') retired in
@@ -143,7 +134,7 @@ module _ (limits : Limits) (history : List Event) (table : Table) (tokens : List
       (le_or_lt s.0 stages.mark)
 
   -- the lowest slice that retired up to the mark is the lowest that can be cleared
-  pub lowest_clearable : IsNextMark history tokens stages.mark → (lowest : Option ℕ) →
+  lowest_clearable : IsNextMark (length history) tokens stages.mark → (lowest : Option ℕ) →
       MatchOption lowest (HoldsOfNone (IsRetiredBy stages.mark) stages) (IsLowest (IsRetiredBy stages.mark) stages) →
       MatchOption lowest (NoneCanClear limits history) (IsLowestClearable limits history)
   lowest_clearable next None none = λ slice in' retired.
@@ -163,8 +154,8 @@ module _ (limits : Limits) (history : List Event) (table : Table) (tokens : List
       }
 
 -- a desk with another mark
-pub desk-look : (pool : PoolId) (most : ℕ) (history : List Event) (books : Books) (mark : ℕ) → IsDesk pool most history books →
-    IsNextMark history books.tokens mark → IsDesk pool most history (record books { stages = record books.stages { mark = mark } })
+desk-look : (pool : PoolId) (most : ℕ) (history : List Event) (books : Books) (mark : ℕ) → IsDesk pool most history books →
+    IsNextMark (length history) books.tokens mark → IsDesk pool most history (record books { stages = record books.stages { mark = mark } })
 desk-look pool most history books mark is next =
     let kept = is.kept in record {
       in_range = is.in_range;
@@ -189,3 +180,32 @@ desk-look pool most history books mark is next =
         layouts_are = kept.layouts_are;
       };
     }
+
+-- an idle pass may clear the lowest slice that can be cleared
+may_by : (limits : Limits) (history : List Event) (o : Option ℕ) → MatchOption o (NoneCanClear limits history) (IsLowestClearable limits history) →
+    MatchOption o (NoneCanClear limits history) (λ slice. (pass : ℕ) → IsIdle pass history → MayClear limits history pass slice)
+may_by limits history None none = none
+may_by limits history (Some slice) lowest = λ pass idle. record {
+  idle = idle;
+  in_range = lowest.in_range;
+  can_clear = lowest.can_clear;
+  lowest = lowest.lowest;
+}
+
+-- a desk whose mark has moved
+module _ (pool : PoolId) (most : ℕ) (history : List Event) (books : Books) (is : IsDesk pool most history books) (stages : StageTable)
+    (moved : MovesMark books.tokens books.events books.stages stages) where
+  pub next_now : IsNextMark (length history) books.tokens stages.mark
+  next_now = subst (λ n. IsNextMark n books.tokens stages.mark) is.kept.events_are moved.next
+
+  pub desk-moved : IsDesk pool most history (record books { stages = stages })
+  desk-moved =
+      subst (λ (s : StageTable). IsDesk pool most history (record books { stages = s })) (sym moved.is) (desk-look pool most history books stages.mark is next_now)
+
+  -- the lowest slice that retired up to the mark
+  pub clearable_now : (lowest : Option ℕ) → MatchOption lowest (HoldsOfNone (IsRetiredBy stages.mark) stages) (IsLowest (IsRetiredBy stages.mark) stages) →
+      MatchOption lowest (NoneCanClear pool.limits history) (λ slice. (pass : ℕ) → IsIdle pass history → MayClear pool.limits history pass slice)
+  clearable_now lowest found =
+      let kept = desk-moved.kept in
+      may_by pool.limits history lowest
+      (lowest_clearable pool.limits history books.table books.tokens stages kept.legal kept.recorded kept.tokens_are kept.staged next_now lowest found)

@@ -24,7 +24,8 @@ use Rattle.slice_stages.specs.declared.stage.Stage.TheVariants as stage
 use Rattle.commit_desk.specs.Records.{AreListed, AreRecorded, IsLiveIn, IsRecorded, document_added_at, state_of}
 use Rattle.commit_desk.proofs.ListedKept.{listed-add, listed-delete}
 use Rattle.commit_desk.proofs.RecordFacts.{found_live, live_is_open, live_recorded}
-use Rattle.commit_desk.proofs.RecordsKept.{clearing-still, live_apart, not_taken_off, recorded_now, recorded_still, some_same, taken_is_open}
+use Rattle.commit_desk.proofs.Options.{some_same}
+use Rattle.commit_desk.proofs.RecordsKept.{clearing-still, live_apart, not_taken_off, recorded_now, recorded_still, taken_is_open}
 use Rattle.commit_desk.proofs.Slots.{count-with_slot, live_not_over, slots_of-other, state-live, with_slot-cases}
 use Rattle.commit_desk.proofs.StageReadings.{AreAtStages, used_slice}
 use Rattle.commit_desk.proofs.StagesKept.{count_over, ends_at, stage-left, stages-one}

@@ -25,6 +25,7 @@ use Rattle.funnel_model.proofs.Columns.{cleared_is_over, clearing_is_over, last_
 use Rattle.funnel_model.proofs.LiveColumns.{live_column_is_live, live_has_column, live_number}
 use Rattle.funnel_model.proofs.LiveLemmas.{is_live-from_place, live_once}
 use Rattle.commit_desk.specs.Records.{AreListed, AreRecorded, IsLiveIn, document_added_at, state_of}
+use Rattle.commit_desk.proofs.Options.{free_not_live, none_some}
 use Rattle.commit_desk.proofs.Slots.{LiveSlot, free_by_state, live_by_state, pending_by_state, state-live}
 
 -- the first document of the list with its number is found by the number
@@ -52,9 +53,6 @@ place_of_live limits history d legal contained = ap (option_map (λ (x : Documen
 number_of_slot : (slot : Slot) (d : Document) (since : ℕ) (l : LiveSlot slot d since) (id : ℕ) → d.id ≡ id → l.doc.id ≡ id
 number_of_slot slot d since l id is = ap (λ (x : Document). x.id) l.is ∙ is
 
-none_some : (x : ℕ × ℕ) → Some x ≡ None → ⊥
-none_some x is = cc
-
 none_place : (o : Option ℕ) → is_some o ≡ false → o ≡ None
 none_place None is = refl
 none_place (Some n) is = cc
@@ -64,9 +62,6 @@ some_place n is = cc
 
 pending_not_live : (pass added since : ℕ) → became.Pending pass ≡ became.Live added since → ⊥
 pending_not_live pass added since is = cc
-
-free_not_live : (added since : ℕ) → became.Free ≡ became.Live added since → ⊥
-free_not_live added since is = cc
 
 -- the slice of a live column isn't being cleared
 pub live_not_clearing : (limits : Limits) (history : List Event) (slice column : ℕ) (d : Document) (since : ℕ) → IsLegal limits history → column < limits.columns →
@@ -200,7 +195,7 @@ module _ (limits : Limits) (history : List Event) (table : Table) (legal : IsLeg
     pub absent_without : (id : ℕ) → entry_of live_list id ≡ None → is_live id history ≡ false
     absent_without id none = decided (is_live id history) refl where
       decided : (b : Bool) → is_live id history ≡ b → is_live id history ≡ false
-      decided true some = let e = live_entry id some in absurd (none_some (e.slice, e.column) (sym e.entry ∙ none))
+      decided true some = let e = live_entry id some in absurd (none_some (e.slice, e.column) (sym none ∙ e.entry))
       decided false up = up
 
     pub no_place_without : (id : ℕ) → entry_of live_list id ≡ None → live_place id history ≡ None

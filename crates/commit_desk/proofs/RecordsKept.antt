@@ -25,11 +25,9 @@ use Rattle.funnel_model.proofs.LastEvents.{cleared_now, last_is_clearing, not_cl
 use Rattle.funnel_model.proofs.LiveColumns.{live_on_one_column}
 use Rattle.funnel_model.proofs.Spans.{in_span-push}
 use Rattle.commit_desk.specs.Records.{AreRecorded, IsLiveIn, IsRecorded, document_added_at, state_of}
+use Rattle.commit_desk.proofs.Options.{some_same}
 use Rattle.commit_desk.proofs.RecordFacts.{clearing_is_free, live_is_open}
 use Rattle.commit_desk.proofs.Slots.{size-without, slots_of-other, slots_of-without_other, state-live, with_slot-cases}
-
-pub some_same : (x y : Parts) → Some x ≡ Some y → x ≡ y
-some_same x y is = cc
 
 unclaimed_not_live : (d : Document) (since : ℕ) → Unclaimed ≡ Live d since → ⊥
 unclaimed_not_live d since is = cc

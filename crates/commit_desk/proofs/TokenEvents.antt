@@ -13,6 +13,7 @@ use Rattle.funnel_model.proofs.LastEvents.{token_is_last}
 use Rattle.funnel_model.proofs.OpenTokens.{token_after, token_before, token_now}
 use Rattle.token_manager.specs.Guarding.{HasOpened}
 use Rattle.commit_desk.specs.Kept.{AreTokens}
+use Rattle.commit_desk.proofs.Options.{none_some, some_same}
 
 -- an event that begins and ends no find leaves the tokens
 pub tokens-same : (limits : Limits) (history : List Event) (e : Event) (tokens : List (Option ℕ)) → ((pass : ℕ) → finds_or_ends pass e ≡ false) → AreTokens limits history tokens →
@@ -24,12 +25,6 @@ tokens-same limits history e tokens silent are = record {
     λ token. (are.each pass number).1 (token_before history e pass number (silent pass) token),
   );
 }
-
-some_same : (x y : ℕ) → Some x ≡ Some y → x ≡ y
-some_same x y is = cc
-
-none_some : (x : ℕ) → None ≡ Some x → ⊥
-none_some x is = cc
 
 -- a find gives its pass a token
 begun_now : (history : List Event) (pass : ℕ) (query : List ℕ) → HasToken (history ++ event.Find pass query ∷ []) pass (length history + 1)

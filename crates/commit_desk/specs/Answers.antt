@@ -14,6 +14,7 @@ use Rattle.funnel_model.specs.Legal.{HasRoom, IsFull, IsIdle, Limits, MayClear, 
 use Rattle.funnel_model.specs.Slices.{IsInUse, IsRetired}
 use Rattle.funnel_model.specs.Steps.{NoneRetired}
 use Rattle.funnel_model.specs.Tunings.{tunings}
+use Rattle.slice_rule.specs.Pools.{PoolId}
 use Rattle.commit_desk.specs.declared.answers.AddFault.{AddFault}
 use Rattle.commit_desk.specs.declared.answers.AddFault.TheVariants as add
 use Rattle.commit_desk.specs.declared.answers.ClearRefusal.{ClearRefusal}
@@ -30,6 +31,7 @@ use Rattle.commit_desk.specs.declared.answers.Spent.{Spent}
 use Rattle.commit_desk.specs.declared.answers.Taken.{Taken}
 use Rattle.commit_desk.specs.declared.answers.Taken.TheVariants as taken
 use Rattle.commit_desk.specs.declared.answers.ToClear.{ToClear}
+use Rattle.commit_desk.specs.Layouts.{HandsBackOld}
 
 -- In these, `most` is the number of events from which on no call is taken. Calls are taken where the history has fewer.
 abbrev pub TakesCalls : ℕ → List Event → Type 0
@@ -136,6 +138,11 @@ abbrev pub events_of_clear : ℕ → Result ToClear ClearRefusal → List Event
 events_of_clear pass (Ok work) = event.Clear pass work.job.slice ∷ []
 events_of_clear pass (Err (clear.Spent events)) = []
 events_of_clear pass (Err _) = event.No pass call.Recycle ∷ []
+
+-- a slice to clear comes with as many old slots as it has columns, and with its old layout where no other slice has its treatment
+pub record IsClearWork (pool : PoolId) (history : List Event) (work : ToClear) : Type 0 where
+  pub slots : work.slots ≡ pool.limits.columns
+  pub old : HandsBackOld pool history work.job.slice work.old_layout
 
 -- a place is the number of commits, unless the engine is spent
 abbrev pub AnswersPlace : ℕ → List Event → Result ℕ Spent → Type 0

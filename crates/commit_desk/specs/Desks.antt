@@ -10,7 +10,7 @@ use Rattle.slice_rule.specs.Pools.{PoolId}
 use Rattle.slice_rule.specs.Seats.{IsSeated, PassState, number_under}
 use Rattle.commit_desk.specs.declared.answers.Taken.{Taken}
 use Rattle.commit_desk.specs.declared.answers.Taken.TheVariants as taken
-use Rattle.commit_desk.specs.Layouts.{IsLayoutOf}
+use Rattle.commit_desk.specs.Layouts.{HandsBackOld, IsLayoutOf}
 
 -- its pool, the number of events from which on it takes no call, and the history
 pub record DeskState : Type 0 where
@@ -51,11 +51,13 @@ pub record IsFresh (claim : Claim) (layout : LayoutId) (seat : PassState) : Type
   pub unwritten : IsUnwritten seat
   pub laid : IsLayoutOf seat.pool.config claim.slice seat.front layout
 
--- so it is with a pass that has claimed a column; and with a slice to clear comes the layout that it has from now on
-abbrev pub IsPrepared : Taken → PassState → Type 0
-IsPrepared (taken.Claim claim layout) seat = IsFresh claim layout seat
-IsPrepared (taken.Clear work layout) seat = IsLayoutOf seat.pool.config work.job.slice seat.front layout
-IsPrepared _ seat = Unit {0}
+-- so it is with a pass that has claimed a column; and with a slice to clear come the layout that it has from now on, and the old one where
+-- no other slice had its treatment after the events before
+abbrev pub IsPrepared : List Event → Taken → PassState → Type 0
+IsPrepared history (taken.Claim claim layout) seat = IsFresh claim layout seat
+IsPrepared history (taken.Clear work layout) seat =
+    IsLayoutOf seat.pool.config work.job.slice seat.front layout × HandsBackOld seat.pool history work.job.slice work.old_layout
+IsPrepared history _ seat = Unit {0}
 
 -- a pass that opened the slice and claimed its first column: the slice has the layout that it had
 pub record IsReused (slice : ℕ) (seat next : PassState) : Type 0 where

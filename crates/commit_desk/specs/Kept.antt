@@ -1,5 +1,5 @@
 -- What the desk keeps of a history.
-use Rattle.std.specs.Prelude.{◌≡◌, ℕ, ◌+◌, ◌*◌, ◌^◌, ◌<◌, ◌≤◌, ◌↔◌, false, true, List, length, count_by, sum_by, Option, None}
+use Rattle.std.specs.Prelude.{◌≡◌, ℕ, ◌+◌, ◌*◌, ◌^◌, ◌<◌, ◌≤◌, ◌↔◌, ◌⊎◌, false, true, List, length, count_by, sum_by, Option, None}
 use Rattle.std.specs.List.{range_with_len}
 use Rattle.std.specs.Option.{option_map_or}
 use Rattle.document_store.specs.Entries.{Entries}
@@ -18,7 +18,7 @@ use Rattle.slice_rule.specs.Pools.{PoolId, limits_of}
 use Rattle.slice_stages.specs.Stages.{StageTable, stage_of}
 use Rattle.slice_stages.specs.declared.stage.Stage.{Stage}
 use Rattle.slice_stages.specs.declared.stage.Stage.TheVariants as stage
-use Rattle.token_manager.specs.Guarding.{HasOpened}
+use Rattle.token_manager.specs.Guarding.{HasOpened, IsOldest, NoneOpen}
 use Rattle.commit_desk.specs.Journals.{IsJournalOf, JournalState}
 use Rattle.commit_desk.specs.Layouts.{AreLayoutsOf, LayoutsState}
 use Rattle.commit_desk.specs.Records.{AreListed, AreRecorded}
@@ -54,6 +54,15 @@ pub record AreStages (limits : Limits) (history : List Event) (table : Table) (t
   pub each : (slice : ℕ) → slice < limits.slices → IsAtStage limits.columns history table slice (stage_of stages slice)
   pub mark_within : stages.mark ≤ length history
   pub none_before : (pass number : ℕ) → HasOpened tokens pass number → stages.mark ≤ number
+
+-- where the mark moves to after so many events: where the oldest running find began, or, where none runs, the last of them
+abbrev pub IsNextMark : ℕ → List (Option ℕ) → ℕ → Type 0
+IsNextMark events tokens mark = IsOldest tokens mark ⊎ (NoneOpen tokens × (mark ≡ events))
+
+-- the mark has moved there
+pub record MovesMark (tokens : List (Option ℕ)) (events : ℕ) (before after : StageTable) : Type 0 where
+  pub next : IsNextMark events tokens after.mark
+  pub is : after ≡ record before { mark = after.mark }
 
 -- refusals and reads change nothing that is kept but the number of events
 abbrev pub IsPlain : Event → Type 0

@@ -1,5 +1,5 @@
 -- The layouts of slices: what they are after a history, and what the desk keeps of them.
-use Rattle.std.specs.Prelude.{◌≡◌, ℕ, ◌+◌, ◌<◌, ◌≤◌, List, fold, length, Contains, MatchOption, Option, None, Some, if◌then◌else◌}
+use Rattle.std.specs.Prelude.{◌≡◌, ℕ, ◌+◌, ◌<◌, ◌≤◌, ◌⊎◌, List, fold, length, Contains, MatchOption, Option, None, Some, if◌then◌else◌}
 use Rattle.std.specs.Option.{option_map_or}
 use Rattle.funnel_model.specs.Configuration.{IsInRange, IsTuning, with_statistics}
 use Rattle.funnel_model.specs.declared.config.Config.{Config}
@@ -42,6 +42,41 @@ tunings_and_number slice history =
 abbrev pub treatment_number : ℕ → List Event → ℕ
 treatment_number slice history = (tunings_and_number slice history).1
 
+-- the slice has the current treatment: no tuning came since it was last cleared
+abbrev pub IsTreatedNow : List Event → ℕ → Type 0
+IsTreatedNow history slice = treatment_number slice history ≡ length (tunings history)
+
+-- no treatment is left without slices where this one of so many is cleared: it has the current treatment, or another has the same
+pub record EndsNoTreatment (slices : ℕ) (history : List Event) (slice : ℕ) : Type 0 where
+  pub still : IsTreatedNow history slice
+      ⊎ ((other : ℕ) × (other < slices) × (other ≡ slice → ⊥) × (treatment_number other history ≡ treatment_number slice history))
+
+-- the slice has an older treatment that no other of so many has, and this is its layout
+pub record EndsTreatment (opening : Config) (slices : ℕ) (history : List Event) (slice : ℕ) (layout : LayoutId) : Type 0 where
+  pub older : IsTreatedNow history slice → ⊥
+  pub alone : (other : ℕ) → other < slices → treatment_number other history ≡ treatment_number slice history → other ≡ slice
+  pub laid : IsLayoutOf opening slice history layout
+
+-- what is handed back of a slice that is cleared after these events: its old layout, where no other slice has its treatment
+abbrev pub HandsBackOld : PoolId → List Event → ℕ → Option LayoutId → Type 0
+HandsBackOld pool history slice old =
+    MatchOption old (EndsNoTreatment pool.limits.slices history slice) (EndsTreatment pool.config pool.limits.slices history slice)
+
+-- the layout is the current one, and none of so many slices has its treatment
+pub record IsUnusedLayout (opening : Config) (slices : ℕ) (history : List Event) (layout : LayoutId) : Type 0 where
+  pub current : IsCurrentLayout opening history layout
+  pub unused : (slice : ℕ) → slice < slices → IsTreatedNow history slice → ⊥
+
+-- what a tuning after these events hands back: the layout that was current, where no slice has its treatment
+abbrev pub HandsBackUnused : PoolId → List Event → Option LayoutId → Type 0
+HandsBackUnused pool history unused =
+    MatchOption unused ((slice : ℕ) × (slice < pool.limits.slices) × IsTreatedNow history slice) (IsUnusedLayout pool.config pool.limits.slices history)
+
+-- a tuning after these events is told how many there were with it, and hands this back
+pub record IsTuned (pool : PoolId) (history : List Event) (count : ℕ) (unused : Option LayoutId) : Type 0 where
+  pub count_is : count ≡ length (tunings history) + 1
+  pub hands_back : HandsBackUnused pool history unused
+
 -- What is kept: an entry for each treatment that some slice has, with its number, its layout and its slices; the current layout, while no
 -- slice has the current treatment; and how many tunings there were.
 pub record LayoutsState : Type 0 where
@@ -58,9 +93,9 @@ pub record IsEntryOf (kept : LayoutsState) (slice : ℕ) (entry : FindLayout) : 
 abbrev pub IsLaidBy : LayoutsState → ℕ → LayoutId → Type 0
 IsLaidBy kept slice layout = (entry : FindLayout) × IsEntryOf kept slice entry × (layout ≡ entry.layout)
 
--- the layout is the current one: that which is kept beside the entries, or else that of the entry with the newest number
-abbrev pub IsNewest : LayoutsState → LayoutId → Type 0
-IsNewest kept layout =
+-- the layout is the current one: that which is kept beside the entries, or else that of the entry with the number of the last tuning
+abbrev pub IsCurrentOf : LayoutsState → LayoutId → Type 0
+IsCurrentOf kept layout =
     MatchOption kept.next ((entry : FindLayout) × Contains kept.treatments entry × (entry.number ≡ kept.tunings) × (layout ≡ entry.layout)) (λ next. layout ≡ next)
 
 -- before any tuning each of so many slices has this layout, and the number of its treatment is 0
@@ -89,5 +124,5 @@ pub record AreLayoutsOf (opening : Config) (slices : ℕ) (history : List Event)
   pub within : (slice : ℕ) (entry : FindLayout) → IsEntryOf kept slice entry → slice < slices
   pub laid : (slice : ℕ) (entry : FindLayout) → IsEntryOf kept slice entry → IsLayoutOf opening slice history entry.layout
   pub numbered : (slice : ℕ) (entry : FindLayout) → IsEntryOf kept slice entry → treatment_number slice history ≡ entry.number
-  pub current : (layout : LayoutId) → IsNewest kept layout → IsCurrentLayout opening history layout
+  pub current : (layout : LayoutId) → IsCurrentOf kept layout → IsCurrentLayout opening history layout
   pub tunings_are : kept.tunings ≡ length (tunings history)

@@ -52,7 +52,7 @@ pub record FindsUpTo (earlier : List Event) (test : List ℕ → Bool) (cost : �
 
 -- the slices of the entry are some of those of the pass's token, and its configuration, which the engine may have, treated each of them
 -- before the find
-pub record IsEntryOf (pool : PoolId) (token : Token) (entry : FindLayout) (seat : PassState) : Type 0 where
+pub record IsEntryOfFind (pool : PoolId) (token : Token) (entry : FindLayout) (seat : PassState) : Type 0 where
   pub among : (slice : ℕ) → Contains entry.slices slice → Contains token.slices slice
   pub suits : SuitsOpening pool.config entry.layout.config
   pub treated : (begun : HasToken seat.front seat.number token.opened_at) → AreOfTreatment pool.config begun.earlier entry.layout.config entry.slices
@@ -62,7 +62,7 @@ pub record IsEntryOf (pool : PoolId) (token : Token) (entry : FindLayout) (seat 
 pub record IsVerifying (pool : PoolId) (token : Token) (entry : FindLayout) (rest : List (List ℕ)) (candidates : List (ℕ × ℕ)) (seat : PassState) : Type 0 where
   pub seated : IsSeated pool seat
   pub holds : HoldsToken seat token
-  pub of_token : IsEntryOf pool token entry seat
+  pub of_token : IsEntryOfFind pool token entry seat
   pub rest_of : (begun : HasToken seat.front seat.number token.opened_at) → IsRestOf entry.layout.config begun.query rest
   pub scanned : WereScanned entry.layout.config seat (token_of entry.slices token) candidates
 
@@ -71,5 +71,5 @@ pub record IsVerifying (pool : PoolId) (token : Token) (entry : FindLayout) (res
 pub record IsJudging (pool : PoolId) (token : Token) (entry : FindLayout) (test : List ℕ → Bool) (candidates : List (ℕ × ℕ)) (seat : PassState) : Type 0 where
   pub seated : IsSeated pool seat
   pub holds : HoldsToken seat token
-  pub of_token : IsEntryOf pool token entry seat
+  pub of_token : IsEntryOfFind pool token entry seat
   pub scanned : WereScannedForAny entry.layout.config seat (token_of entry.slices token) test candidates

@@ -4,7 +4,7 @@ use Rattle.funnel_model.specs.declared.config.TheConstants.{MOST_SLICES}
 use Rattle.funnel_model.specs.SliceSets.{IsEmpty}
 use Rattle.row_layout.specs.Layouts.{LayoutId}
 use Rattle.commit_desk.specs.declared.find_layouts.FindLayout.{FindLayout}
-use Rattle.commit_desk.specs.Layouts.{IsEntryOf, IsNewest, LayoutsState}
+use Rattle.commit_desk.specs.Layouts.{IsCurrentOf, IsEntryOf, LayoutsState}
 
 -- two entries are those of two treatments, and no slice is in both
 pub record AreApart (one other : FindLayout) : Type 0 where
@@ -21,14 +21,14 @@ pub record AreEntries (room tunings : ℕ) (entries : List FindLayout) : Type 0 
   pub apart : AllPairs AreApart entries
 
 -- one of the entries has the number of the last tuning where no layout is kept beside them, and else none has it
-abbrev pub HasNewest : List FindLayout → ℕ → Option LayoutId → Type 0
-HasNewest entries tunings next =
+abbrev pub HasCurrent : List FindLayout → ℕ → Option LayoutId → Type 0
+HasCurrent entries tunings next =
     MatchOption next ((entry : FindLayout) × Contains entries entry × (entry.number ≡ tunings)) (λ layout. (entry : FindLayout) → Contains entries entry → entry.number ≡ tunings → ⊥)
 
 -- the entries are so, and the layout of the last tuning is in one of them or beside them
 pub record AreTreatments (room : ℕ) (kept : LayoutsState) : Type 0 where
   pub entries : AreEntries room kept.tunings kept.treatments
-  pub newest : HasNewest kept.treatments kept.tunings kept.next
+  pub current : HasCurrent kept.treatments kept.tunings kept.next
 
 -- the entry was taken out of the others
 pub record IsTakenOut (before : List FindLayout) (entry : FindLayout) (after : List FindLayout) : Type 0 where
@@ -44,19 +44,39 @@ pub record IsNewEntry (number : ℕ) (layout : LayoutId) (entry : FindLayout) : 
   pub none : IsEmpty entry.slices
 
 -- the entry of the current treatment was taken out, or is a new one with the layout that was kept beside the others
-abbrev pub TakesNewest : List FindLayout → Option LayoutId → ℕ → FindLayout → List FindLayout → Type 0
-TakesNewest before next number entry after =
+abbrev pub TakesCurrent : List FindLayout → Option LayoutId → ℕ → FindLayout → List FindLayout → Type 0
+TakesCurrent before next number entry after =
     MatchOption next (IsTakenOut before entry after × (entry.number ≡ number)) (λ layout. (after ≡ before) × IsNewEntry number layout entry)
 
 -- a slice was cleared: it has the current treatment, each other slice has the treatment that it had, and the current layout is the same
 pub record IsRenewed (before : LayoutsState) (slice : ℕ) (after : LayoutsState) : Type 0 where
   pub every : (other : ℕ) (old : FindLayout) → IsEntryOf before other old → (entry : FindLayout) × IsEntryOf after other entry
   pub number : (entry : FindLayout) → IsEntryOf after slice entry → entry.number ≡ before.tunings
-  pub laid : (entry : FindLayout) → IsEntryOf after slice entry → IsNewest before entry.layout
+  pub laid : (entry : FindLayout) → IsEntryOf after slice entry → IsCurrentOf before entry.layout
   pub others : (other : ℕ) → (other ≡ slice → ⊥) → (entry : FindLayout) → IsEntryOf after other entry →
       (old : FindLayout) × IsEntryOf before other old × (entry.number ≡ old.number) × (entry.layout ≡ old.layout)
-  pub current : (layout : LayoutId) → IsNewest after layout → IsNewest before layout
+  pub current : (layout : LayoutId) → IsCurrentOf after layout → IsCurrentOf before layout
   pub tunings_are : after.tunings ≡ before.tunings
+
+-- no treatment was left without slices: the slice had the current one, or another slice has its old one still
+pub record EndsNoEntry (before : LayoutsState) (slice : ℕ) : Type 0 where
+  pub entry : FindLayout
+  pub of_slice : IsEntryOf before slice entry
+  pub still : (entry.number ≡ before.tunings) ⊎ ((other : ℕ) × (other ≡ slice → ⊥) × Contains entry.slices other)
+
+-- the slice had an older treatment that no other slice had, and this is its layout
+pub record EndsEntry (before : LayoutsState) (slice : ℕ) (layout : LayoutId) : Type 0 where
+  pub entry : FindLayout
+  pub of_slice : IsEntryOf before slice entry
+  pub older : entry.number ≡ before.tunings → ⊥
+  pub alone : (other : ℕ) (same : FindLayout) → IsEntryOf before other same → same.number ≡ entry.number → other ≡ slice
+  pub laid : layout ≡ entry.layout
+
+-- some slice has the current treatment where no layout is kept beside the entries, and else none has it
+abbrev pub TellsCurrent : LayoutsState → Option LayoutId → Type 0
+TellsCurrent kept next =
+    MatchOption next ((slice : ℕ) × (entry : FindLayout) × IsEntryOf kept slice entry × (entry.number ≡ kept.tunings))
+    (λ layout. (slice : ℕ) (entry : FindLayout) → IsEntryOf kept slice entry → entry.number ≡ kept.tunings → ⊥)
 
 -- the entry has those slices of another that are in a set, of which there is some, with the other's number and layout
 pub record IsShare (slices : List ℕ) (whole entry : FindLayout) : Type 0 where

@@ -3,10 +3,10 @@ ghost use Rattle.std.specs.Prelude.{All, Err, IfOk, MatchOption, MatchResult, Ok
 ghost use Rattle.funnel_model.specs.declared.call.Call.TheVariants as call;
 ghost use Rattle.funnel_model.specs.declared.event.Event.TheVariants as event;
 ghost use Rattle.funnel_model.specs.History.{is_live, place};
-ghost use Rattle.funnel_model.specs.Legal.{IsIdle, IsRefused, MayClear, MayTake, NoneCanClear};
+ghost use Rattle.funnel_model.specs.Legal.{IsIdle, IsRefused, MayClear, MayTake};
 ghost use Rattle.funnel_model.specs.Slices.{claimed};
 ghost use Rattle.slice_rule.specs.Seats.{HasNoneOutstanding, HoldsClaim, IsSeated};
-ghost use Rattle.commit_desk.specs.Answers.{AnswersCommit, AnswersTake, MayAdd, MayMakeRoom, TakesCalls};
+ghost use Rattle.commit_desk.specs.Answers.{AnswersCommit, AnswersTake, IsClearWork, MayAdd, MayMakeRoom, TakesCalls};
 ghost use Rattle.commit_desk.specs.Answers.{events_of_commit, events_of_opened_take, events_of_take};
 ghost use Rattle.commit_desk.specs.Desks.{IsCaughtUp, IsFresh, IsPrepared, IsReused, IsUnwritten, Makes};
 ghost use Rattle.commit_desk.specs.Layouts.{IsCurrentLayout, IsLayoutOf};
@@ -40,7 +40,7 @@ impl Desk {
         ensures answer { AnswersTake self.old.events_limit self.old.pool.limits self.old.history seat.old.number doc.now.id result }
         ensures events { Makes (events_of_take seat.old.number doc.now.id doc.now.text result) self.old self.new seat.old seat.new }
         ensures none_outstanding { HasNoneOutstanding seat.new }
-        ensures prepared { IsPrepared result seat.new }
+        ensures prepared { IsPrepared self.old.history result seat.new }
     {
         pool.catch_up(&mut self.home, seat);
         if self.is_spent() {
@@ -142,7 +142,7 @@ impl Desk {
         ensures answer { AnswersTake self.old.events_limit self.old.pool.limits self.old.history seat.old.number doc.now.id result }
         ensures events { Makes (events_of_take seat.old.number doc.now.id doc.now.text result) self.old self.new seat.old seat.new }
         ensures none_outstanding { HasNoneOutstanding seat.new }
-        ensures prepared { IsPrepared result seat.new }
+        ensures prepared { IsPrepared self.old.history result seat.new }
     {
         if let Some(slice) = self.stages.with_room() {
             return match self.claim_laid(pool, seat, slice) {
@@ -168,7 +168,7 @@ impl Desk {
         ensures answer { AnswersTake self.old.events_limit self.old.pool.limits self.old.history seat.old.number doc.now.id result }
         ensures events { Makes (events_of_take seat.old.number doc.now.id doc.now.text result) self.old self.new seat.old seat.new }
         ensures none_outstanding { HasNoneOutstanding seat.new }
-        ensures prepared { IsPrepared result seat.new }
+        ensures prepared { IsPrepared self.old.history result seat.new }
     {
         let _ = &self.home;
         if self.clearable().is_some() {
@@ -222,7 +222,7 @@ impl Desk {
         requires takes_calls { TakesCalls self.old.events_limit self.old.history }
         requires may { (slice : ℕ) × MayClear self.old.pool.limits self.old.history seat.old.number slice }
         ensures work { IfOk result (λ begun. MayClear self.old.pool.limits self.old.history seat.old.number begun.0.job.slice
-            × (begun.0.slots ≡ self.old.pool.limits.columns)) }
+            × IsClearWork self.old.pool self.old.history begun.0) }
         ensures made { MatchResult result (λ begun. Makes (event.Clear seat.old.number begun.0.job.slice ∷ []) self.old self.new seat.old seat.new)
             (λ _. Makes [] self.old self.new seat.old seat.new) }
         ensures none_outstanding { HasNoneOutstanding seat.new }
@@ -236,21 +236,6 @@ impl Desk {
             unreachable!()
         };
         Ok((work, layout))
-    }
-
-    // The lowest slice that can be cleared, where there is one.
-    fn clearable(&mut self) -> Option<u32>
-        ensures answer { MatchOption result (NoneCanClear self.old.pool.limits self.old.history)
-            (λ slice. (pass : ℕ) → IsIdle pass self.old.history → MayClear self.old.pool.limits self.old.history pass slice) }
-        ensures same { self.new ≡ self.old }
-    {
-        let _ = &self.home;
-        let mark = match self.tokens.oldest() {
-            Some(number) => number,
-            None => self.events,
-        };
-        self.stages.look(mark);
-        self.stages.clearable()
     }
 
     // The layout that a slice has once it is cleared now.

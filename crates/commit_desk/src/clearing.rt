@@ -1,15 +1,20 @@
-ghost use Rattle.std.specs.Prelude.{◌≡◌, ◌<◌, true, [], ◌∷◌, MatchOption, Ok, Err, IfSome};
+ghost use Rattle.std.specs.Prelude.{◌≡◌, ℕ, ◌<◌, ◌≤◌, true, [], ◌∷◌, MatchOption, Ok, Err, IfOk, IfSome};
 ghost use Rattle.funnel_model.specs.declared.event.Event.TheVariants as event;
 ghost use Rattle.funnel_model.specs.Legal.{IsIdle, MayClear, NoneCanClear};
 ghost use Rattle.slice_rule.specs.Seats.{HasNoneOutstanding, HasZeroed, HoldsJob, IsSeated};
-ghost use Rattle.commit_desk.specs.Answers.{AnswersClear, TakesCalls, events_of_clear};
+ghost use Rattle.commit_desk.specs.Answers.{AnswersClear, IsClearWork, TakesCalls, events_of_clear};
 ghost use Rattle.commit_desk.specs.Desks.{IsCaughtUp, Makes};
+ghost use Rattle.commit_desk.specs.Kept.{MovesMark};
+ghost use Rattle.commit_desk.specs.Layouts.{HandsBackOld};
+ghost use Rattle.token_manager.specs.Guarding.{HasOpened};
 
 use crate::answers::{ClearRefusal, ToClear};
 use crate::desk::Desk;
 use document_store::FreeSlots;
 use funnel_model::{Call, ClearJob, Event};
 use slice_rule::{PassSeat, Pool};
+use slice_stages::Stages;
+use token_manager::Tokens;
 
 impl Desk {
     /// Begins to clear the lowest slice that is retired and that no running find guards, for a recycle. The pass clears
@@ -21,6 +26,7 @@ impl Desk {
         ensures answer { AnswersClear self.old.events_limit self.old.pool.limits self.old.history seat.old.number result }
         ensures events { Makes (events_of_clear seat.old.number result) self.old self.new seat.old seat.new }
         ensures none_outstanding { HasNoneOutstanding seat.new }
+        ensures old { IfOk result (λ work. HandsBackOld self.old.pool self.old.history work.job.slice work.old_layout) }
     {
         pool.catch_up(&mut self.home, seat);
         if self.is_spent() {
@@ -65,6 +71,17 @@ impl Desk {
         slice
     }
 
+    // The lowest slice that can be cleared, where there is one.
+    pub(crate) fn clearable(&mut self) -> Option<u32>
+        ensures answer { MatchOption result (NoneCanClear self.old.pool.limits self.old.history)
+            (λ slice. (pass : ℕ) → IsIdle pass self.old.history → MayClear self.old.pool.limits self.old.history pass slice) }
+        ensures same { self.new ≡ self.old }
+    {
+        let _ = &self.home;
+        move_mark(&self.tokens, &mut self.stages, self.events);
+        self.stages.clearable()
+    }
+
     // The pass begins to clear the lowest slice that can be cleared, where there is one. The slice's slots leave the records, and it
     // gets the current layout in place of the one that it had.
     pub(crate) fn begin_clear(&mut self, pool: &Pool, seat: &mut PassSeat) -> Option<ToClear>
@@ -74,17 +91,12 @@ impl Desk {
         requires idle { IsIdle seat.old.number self.old.history }
         ensures may { MatchOption result (NoneCanClear self.old.pool.limits self.old.history)
             (λ work. MayClear self.old.pool.limits self.old.history seat.old.number work.job.slice) }
-        ensures slots { IfSome result (λ work. work.slots ≡ self.old.pool.limits.columns) }
+        ensures work { IfSome result (IsClearWork self.old.pool self.old.history) }
         ensures made { MatchOption result ((self.new ≡ self.old) × (seat.new ≡ seat.old))
             (λ work. Makes (event.Clear seat.old.number work.job.slice ∷ []) self.old self.new seat.old seat.new) }
         ensures none_outstanding { HasNoneOutstanding seat.new }
     {
-        let _ = &self.home;
-        let mark = match self.tokens.oldest() {
-            Some(number) => number,
-            None => self.events,
-        };
-        self.stages.look(mark);
+        move_mark(&self.tokens, &mut self.stages, self.events);
         let Some(slice) = self.stages.clearable() else {
             return None;
         };
@@ -100,4 +112,18 @@ impl Desk {
             old_layout,
         })
     }
+}
+
+// Moves the mark up to where the oldest running find began, and where none runs up to the last event: slices that retired up to it can be
+// cleared.
+pub(crate) fn move_mark(tokens: &Tokens, stages: &mut Stages, events: u64)
+    requires within { stages.old.mark ≤ events }
+    requires none_before { (pass number : ℕ) → HasOpened tokens.now pass number → stages.old.mark ≤ number }
+    ensures { MovesMark tokens.now events stages.old stages.new }
+{
+    let mark = match tokens.oldest() {
+        Some(number) => number,
+        None => events,
+    };
+    stages.look(mark);
 }

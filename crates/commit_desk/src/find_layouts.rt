@@ -1,4 +1,5 @@
-//! The layouts by which a find reads the slices of its token.
+//! Slices with one treatment and their layout: an entry of those that the desk keeps for all slices, and of those by which a find reads
+//! the slices of its token.
 ghost use Rattle.std.specs.Prelude.{◌≡◌, ◌≤◌, [], ◌∷◌, ◌++◌, IfOk, vec_capacity};
 
 use crate::shared_layout::SharedLayout;

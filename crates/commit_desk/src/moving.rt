@@ -16,6 +16,7 @@ ghost use Rattle.commit_desk.specs.Moving.{IsLowestLiveOrNone, IsPartlyHeld, IsF
 ghost use Rattle.commit_desk.specs.Moving.{document_of, is_fewer, event_of_move, events_of_take_move, looks_after, looks_after_take, with_mark};
 
 use crate::answers::TakenMove;
+use crate::clearing::move_mark;
 use crate::desk::Desk;
 use crate::entries::Moves;
 use crate::look::{Look, Looks};
@@ -166,11 +167,7 @@ impl Desk {
         ensures same { self.new ≡ self.old }
     {
         let _ = &self.home;
-        let mark = match self.tokens.oldest() {
-            Some(number) => number,
-            None => self.events,
-        };
-        self.stages.look(mark);
+        move_mark(&self.tokens, &mut self.stages, self.events);
         self.stages.ready()
     }
 

@@ -1,10 +1,10 @@
 //! The layouts of slices.
-ghost use Rattle.std.specs.Prelude.{◌≡◌, ℕ, ◌+◌, ◌^◌, ◌<◌, ◌≤◌, ◌↔◌, [], Some, None, length, slice_index_or, vec_capacity, Contains, IfOk, IfSome};
+ghost use Rattle.std.specs.Prelude.{◌≡◌, ℕ, ◌+◌, ◌^◌, ◌<◌, ◌≤◌, ◌↔◌, [], Some, None, length, slice_index_or, vec_capacity, Contains, IfOk, MatchOption};
 ghost use Rattle.funnel_model.specs.declared.config.TheConstants.{MOST_SLICES};
 ghost use Rattle.row_layout.specs.Layouts.{LayoutId};
 ghost use Rattle.commit_desk.specs.declared.find_layouts.FindLayout.{FindLayout};
-ghost use Rattle.commit_desk.specs.Layouts.{AreFirst, IsEntryOf, IsLaidBy, IsNewest, with_tuning};
-ghost use Rattle.commit_desk.specs.Treatments.{AddsShare, AreShared, IsRenewed, TakesNewest};
+ghost use Rattle.commit_desk.specs.Layouts.{AreFirst, IsCurrentOf, IsEntryOf, IsLaidBy, with_tuning};
+ghost use Rattle.commit_desk.specs.Treatments.{AddsShare, AreShared, EndsEntry, EndsNoEntry, IsRenewed, TakesCurrent, TellsCurrent};
 
 use crate::find_layouts::{FindLayout, FindLayouts};
 use crate::shared_layout::SharedLayout;
@@ -82,12 +82,12 @@ impl SliceLayouts {
 
     /// The current layout, which a slice has once it is cleared.
     pub(crate) fn current(&self) -> Result<SharedLayout, Memory>
-        ensures { IfOk result (λ layout. IsNewest self.now layout) }
+        ensures { IfOk result (λ layout. IsCurrentOf self.now layout) }
     {
         if let Some(layout) = &self.next {
             return layout.share();
         }
-        let index = newest_of(&self.treatments, self.tunings);
+        let index = current_of(&self.treatments, self.tunings);
         self.treatments[index].layout.share()
     }
 
@@ -96,17 +96,17 @@ impl SliceLayouts {
     pub(crate) fn renew(&mut self, slice: u32) -> Option<SharedLayout>
         requires { (entry : FindLayout) × IsEntryOf self.old slice entry }
         ensures cleared { IsRenewed self.old slice self.new }
-        ensures old { IfSome result (λ layout. IsLaidBy self.old slice layout) }
+        ensures old { MatchOption result (EndsNoEntry self.old slice) (EndsEntry self.old slice) }
     {
         let index = self.index_of(slice);
         if self.treatments[index].number == self.tunings {
             return None;
         }
         let mut old = self.treatments.swap_remove(index);
-        let mut newest = take_newest(&mut self.treatments, &mut self.next, self.tunings);
+        let mut current = take_current(&mut self.treatments, &mut self.next, self.tunings);
         old.slices.remove(slice);
-        newest.slices.add(slice);
-        self.treatments.push_reserved(newest);
+        current.slices.add(slice);
+        self.treatments.push_reserved(current);
         if old.slices.lowest().is_none() {
             return Some(old.layout);
         }
@@ -120,6 +120,7 @@ impl SliceLayouts {
         requires few { self.old.tunings < 2 ^ 63 }
         ensures after { self.new ≡ with_tuning self.old next.old }
         ensures before { next.new ≡ self.old.next }
+        ensures current { TellsCurrent self.old next.new }
     {
         mem::swap(&mut self.next, next);
         self.tunings += 1;
@@ -156,7 +157,7 @@ impl SliceLayouts {
 }
 
 // The place of the entry with this number.
-fn newest_of(treatments: &[FindLayout], number: u64) -> usize
+fn current_of(treatments: &[FindLayout], number: u64) -> usize
     requires { (entry : FindLayout) × Contains treatments.now entry × (entry.number ≡ number) }
     ensures in_range { result < length treatments.now }
     ensures is { (d : FindLayout) → (slice_index_or treatments.now result d).number ≡ number }
@@ -171,18 +172,18 @@ fn newest_of(treatments: &[FindLayout], number: u64) -> usize
 
 // Takes the entry of the current treatment out, whose number this is. Where no slice has it yet, it is a new one, with the layout that
 // was kept.
-fn take_newest(
+fn take_current(
     treatments: &mut Vec<FindLayout>,
     next: &mut Option<SharedLayout>,
     number: u64,
 ) -> FindLayout
     requires { next.old ≡ None → (entry : FindLayout) × Contains treatments.old.items entry × (entry.number ≡ number) }
-    ensures taken { TakesNewest treatments.old.items next.old number result treatments.new.items }
+    ensures taken { TakesCurrent treatments.old.items next.old number result treatments.new.items }
     ensures none { next.new ≡ None }
     ensures room { vec_capacity treatments.new ≡ vec_capacity treatments.old }
 {
     let Some(layout) = next.take() else {
-        let index = newest_of(treatments, number);
+        let index = current_of(treatments, number);
         return treatments.swap_remove(index);
     };
     FindLayout {

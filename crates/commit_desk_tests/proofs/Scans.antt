@@ -11,7 +11,7 @@ use Rattle.commit_desk.specs.Passes.{IsFinding}
 use Rattle.commit_desk.specs.declared.find_layouts.FindLayout.{FindLayout}
 use Rattle.commit_desk.specs.FindLayouts.{AreFindLayouts}
 use Rattle.commit_desk.specs.Layouts.{SuitsOpening}
-use Rattle.commit_desk.specs.Resolving.{IsEntryOf, IsRestOf}
+use Rattle.commit_desk.specs.Resolving.{IsEntryOfFind, IsRestOf}
 use Rattle.commit_desk.specs.Scans.{WereScanned, token_of}
 use Rattle.commit_desk_tests.specs.Tested.{IsFindingAll, IsLaidBy, columns_up_to}
 use Rattle.funnel_model.proofs.Retirement.{same_split}
@@ -110,7 +110,7 @@ were_all_scanned layout pool config token slices seat at end laid columns_are fi
 -- an entry of the layouts of a find is one of its token's
 pub entry_of_find : (before after : DeskState) (seat next : PassState) (query : List ℕ) (token : Token) (entries : List FindLayout) (entry : FindLayout) (pool : PoolId) →
     before.pool ≡ pool → token.opened_at ≡ length before.history + 1 → Makes (event.Find seat.number query ∷ []) before after seat next →
-    AreFindLayouts before.pool before.history token entries → Contains entries entry → IsEntryOf pool token entry next
+    AreFindLayouts before.pool before.history token entries → Contains entries entry → IsEntryOfFind pool token entry next
 entry_of_find before after seat next query token entries entry pool of at made are has =
     let is = are.each entry has in
     record {
@@ -146,7 +146,7 @@ popped before after found entry was is =
 
 -- a find is so still after a turn that made no event
 pub all_still : (pool : PoolId) (token : Token) (entry : FindLayout) (behind : List FindLayout) (before after : DeskState) (seat next : PassState) →
-    IsFindingAll pool token entry behind seat → IsSeated pool next → HoldsToken next token → IsEntryOf pool token entry next → Makes [] before after seat next →
+    IsFindingAll pool token entry behind seat → IsSeated pool next → HoldsToken next token → IsEntryOfFind pool token entry next → Makes [] before after seat next →
     IsFindingAll pool token entry behind next
 all_still pool token entry behind before after seat next is seated holds of_token made =
     let front : next.front ≡ before.history = made.front ∙ made.history ∙ append-nil before.history in

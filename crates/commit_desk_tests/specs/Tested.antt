@@ -3,7 +3,7 @@ use Rattle.std.specs.Prelude.{◌≡◌, ℕ, ◌+◌, ◌*◌, ◌≤◌, List,
 use Rattle.std.specs.List.{range_with_len}
 use Rattle.commit_desk.specs.Passes.{IsFinding}
 use Rattle.commit_desk.specs.declared.find_layouts.FindLayout.{FindLayout}
-use Rattle.commit_desk.specs.Resolving.{IsEntryOf, IsRestOf}
+use Rattle.commit_desk.specs.Resolving.{IsEntryOfFind, IsRestOf}
 use Rattle.commit_desk.specs.Scans.{WereScanned, token_of}
 use Rattle.document_store.specs.Finding.{FoundState}
 use Rattle.funnel_model.specs.Configuration.{IsInRange}
@@ -41,8 +41,8 @@ pub record IsDraft (words : List (List ℕ)) (bits : BitsState) : Type 0 where
 -- the pass has a find open, of whose layouts this entry is one and those behind are others, and its query is empty
 pub record IsFindingAll (pool : PoolId) (token : Token) (entry : FindLayout) (behind : List FindLayout) (seat : PassState) : Type 0 where
   pub finding : IsFinding pool token seat
-  pub of_token : IsEntryOf pool token entry seat
-  pub others : (other : FindLayout) → Contains behind other → IsEntryOf pool token other seat
+  pub of_token : IsEntryOfFind pool token entry seat
+  pub others : (other : FindLayout) → Contains behind other → IsEntryOfFind pool token other seat
   pub query : (begun : HasToken seat.front seat.number token.opened_at) → begun.query ≡ []
 
 -- A find of no words between its turns: all columns of the entry's slice are its candidates, and there is room for those that are left.

@@ -1,7 +1,9 @@
 //! A slice that is cleared and used again.
 use crate::adding::{Added, Both};
+use crate::finding::are_in_order;
 use crate::setting::{Case, Setting, Two, run};
 use commit_desk::{ClearRefusal, CommitFault, DeleteFault};
+use document_store::Found;
 use funnel_model::Block;
 use slice_rule::PoolName;
 use std::test::*;
@@ -74,6 +76,35 @@ impl Case for Alone {
         let (first, opened) = setting.open(clearing);
         let (_, added) = setting.add(first, 7);
         Ok((filled && emptied, (block, refused), opened, added))
+    }
+}
+
+/// A slice of 64 columns is full, and a find gives its documents. Once all are deleted a recycle clears it, and the next add gets its first
+/// column: then a find gives that document alone.
+#[test]
+fn a_cleared_slice_is_used_from_its_first_column(rt: HostRuntime) -> Result<(), Fail> {
+    let ((before, retired, recycled, added, after), _) = run::<Again, _>(&rt, rt.alloc(), 1 << 62)?;
+    assert_eq!(rt; (before.len(), are_in_order(&before)), (64, true));
+    assert_eq!(rt; (retired, recycled), (true, Ok(0)));
+    assert_eq!(rt; added, Some((0, 129, false)));
+    assert_eq!(rt; after.as_slice(), [(129, 500)].as_slice());
+    Ok(())
+}
+
+struct Again;
+
+impl Case for Again {
+    type Seen = (Found, bool, Result<u32, ClearRefusal>, Added, Found);
+
+    fn run<N: PoolName>(setting: &mut Setting<N>, passes: Two<N>) -> Result<Self::Seen, Fail> {
+        let (first, second) = passes;
+        let (mut second, filled) = setting.fill(second, (0, 1), 0);
+        let (first, _, before) = setting.find_all(first)?;
+        let emptied = setting.empty(&mut second, (0, 1), 64);
+        let (first, recycled) = setting.recycle(first);
+        let (_, added) = setting.add(second, 500);
+        let (_, _, after) = setting.find_all(first)?;
+        Ok((before, filled && emptied, recycled, added, after))
     }
 }
 

@@ -255,7 +255,7 @@ fn a_find_of_many_candidates_has_turns(rt: HostRuntime) -> Result<(), Fail> {
 }
 
 /// Whether the numbers of the documents are the places of their adds, from 1 on.
-fn are_in_order(found: &Found) -> bool {
+pub(crate) fn are_in_order(found: &Found) -> bool {
     let mut place: u64 = 0;
     for pair in found.as_slice() {
         place = place.wrapping_add(1);

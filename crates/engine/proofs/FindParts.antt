@@ -34,7 +34,7 @@ use Rattle.commit_desk.specs.declared.find_layouts.FindLayout.{FindLayout}
 use Rattle.commit_desk.specs.FindLayouts.{AreFindLayouts, IsFindLayout}
 use Rattle.commit_desk.specs.Judging.{AreGivenWhere, AreScannedForAny, GiveAllWhere, answer_where}
 use Rattle.commit_desk.specs.Passes.{IsFinding}
-use Rattle.commit_desk.specs.Resolving.{FindsUpTo, IsEntryOf}
+use Rattle.commit_desk.specs.Resolving.{FindsUpTo, IsEntryOfFind}
 use Rattle.commit_desk.specs.Scans.{AreScanned, token_of}
 use Rattle.commit_desk.proofs.FindEnds.{begun_once}
 use Rattle.commit_desk.proofs.FindTurns.{begun_later}
@@ -286,7 +286,7 @@ look_still pool token entry seat next is can =
     subst (λ (p : PassState). CanLookIn pool p token entry) (sym is) did
 
 -- so the entry is one of its token
-pub entry_of : (pool : PoolId) (token : Token) (entry : FindLayout) (pass : PassState) → CanLookIn pool pass token entry → IsEntryOf pool token entry pass
+pub entry_of : (pool : PoolId) (token : Token) (entry : FindLayout) (pass : PassState) → CanLookIn pool pass token entry → IsEntryOfFind pool token entry pass
 entry_of pool token entry pass can =
     record { among = can.among; suits = (can.laid can.finding.holds.begun).suits; treated = λ begun. (can.laid begun).treated }
 

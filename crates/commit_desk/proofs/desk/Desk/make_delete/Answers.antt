@@ -18,12 +18,10 @@ use Rattle.commit_desk.specs.Records.{IsEntry}
 use Rattle.commit_desk.proofs.DocumentEvents.{desk-as, desk-delete, live_stage, none_retired_later}
 use Rattle.commit_desk.proofs.Inside.{books_of}
 use Rattle.commit_desk.proofs.Journals.{journal_fits}
+use Rattle.commit_desk.proofs.Options.{none_some}
 use Rattle.commit_desk.proofs.RecordFacts.{live_entry}
 use Rattle.commit_desk.proofs.Turns.{makes_one}
 use Rattle.commit_desk.proofs.desk.Desk.make_delete.Goals as goal
-
-none_some : (x : ℕ × ℕ) → Some x ≡ None → ⊥
-none_some x is = cc
 
 -- a live number is in the live list
 pub unreachable-requires : goal.unreachable-requires
@@ -33,7 +31,7 @@ unreachable-requires c =
     let may : MayDeleteNow i.events_limit i.home.history c.args.id =
     subst (λ (d : DeskState). MayDeleteNow d.events_limit d.history c.args.id) (sym c.self.view_is) c.requires.may in
     let e = live_entry i.home.pool.limits i.home.history i.records kept.legal kept.recorded i.live kept.listed c.args.id may.live in
-    none_some (e.slice, e.column) (sym e.entry ∙ sym c.remove.ensures.was ∙ c.in_default.is)
+    none_some (e.slice, e.column) (sym c.in_default.is ∙ c.remove.ensures.was ∙ e.entry)
 
 abbrev books : goal.After-delete-arg-1 → Books
 books c =

@@ -1,4 +1,4 @@
-use Rattle.std.proofs.Common.{◌≡◌, ⊎_elim, ℕ, ◌+◌, [], ◌∷◌, ◌++◌, length, Contains, Option, Some, None, cond, refl, sym, ap, ◌∙◌, subst, arith}
+use Rattle.std.proofs.Common.{◌≡◌, ⊎_elim, ◌+◌, [], ◌∷◌, ◌++◌, length, Contains, Some, None, cond, refl, sym, ap, ◌∙◌, subst, arith}
 use Rattle.std.proofs.lemmas.Bool.{cond-false, cond-true, eq-eqb}
 use Rattle.std.proofs.lemmas.Bool.Decides.{eqb_tells}
 use Rattle.std.proofs.lemmas.List.{length-append}
@@ -20,6 +20,7 @@ use Rattle.commit_desk.proofs.Inside.{books_of, desk_of}
 use Rattle.commit_desk.proofs.MoveEvents.{desk-move}
 use Rattle.commit_desk.proofs.MovedRecords.{moved_slot, moved_table, over_slot}
 use Rattle.commit_desk.proofs.MoveTurns.{allowed_now, cause_now, column_then, from_now, id_now, none_there, pending_then, same_now, stage_now, to_now}
+use Rattle.commit_desk.proofs.Options.{none_some}
 use Rattle.commit_desk.proofs.Turns.{makes_one}
 use Rattle.commit_desk.proofs.desk.Desk.make_move.Goals as goal
 
@@ -65,9 +66,6 @@ add-requires-clause-column c =
     let i = c.self.inside in
     let here = (to_now c.args.self.now i.home i.events_limit (books_of i) c.self.invariant c.self.view_is c.args.seat.now c.requires.caught_up c.number-pass.result c.number-pass.ensures.number c.args.claim c.requires.written.holds c.args.look c.requires.look c.requires.there).column_in_range in
     omega (arith, here, c.self.invariant.kept.listed.columns_are, c.remove.ensures.slice_columns)
-
-none_some : (x : ℕ × ℕ) → (let o : Option (ℕ × ℕ) = None in o ≡ Some x) → ⊥
-none_some x is = cc
 
 pub add-requires-clause-free : goal.add-requires-clause-free
 add-requires-clause-free c other found =

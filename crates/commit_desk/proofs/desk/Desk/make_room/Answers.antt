@@ -2,7 +2,9 @@ use Rattle.std.proofs.Common.{◌≡◌, ℕ, true, false, inr, sym, ◌∙◌, 
 use Rattle.std.specs.Option.{is_some}
 use Rattle.funnel_model.specs.Blocks.{AreBlocks}
 use Rattle.funnel_model.specs.Legal.{IsFull, MayClear}
+use Rattle.slice_rule.specs.Pools.{PoolId}
 use Rattle.commit_desk.specs.Desks.{DeskState}
+use Rattle.commit_desk.specs.Layouts.{HandsBackOld}
 use Rattle.commit_desk.proofs.LayoutsKept.{when_none, when_some}
 use Rattle.commit_desk.proofs.TakenRoom.{full_from, not_full_by_clear}
 use Rattle.commit_desk.proofs.desk.Desk.make_room.Goals as goal
@@ -29,8 +31,17 @@ returns-in-Ok-clause-answer c = (
   c.requires.may.adds.enters,
   c.requires.may.no_room,
   subst (λ (d : DeskState). MayClear d.pool.limits d.history c.args.seat.now.number c.in-Ok.work.job.slice) c.clearable.ensures.same c.in-Ok.ensures.work.0,
-  subst (λ (d : DeskState). c.in-Ok.work.slots ≡ d.pool.limits.columns) c.clearable.ensures.same c.in-Ok.ensures.work.1,
+  subst (λ (d : DeskState). c.in-Ok.work.slots ≡ d.pool.limits.columns) c.clearable.ensures.same c.in-Ok.ensures.work.1.slots,
 )
+
+pub returns-in-Ok-clause-prepared : goal.returns-in-Ok-clause-prepared
+returns-in-Ok-clause-prepared c =
+    let work = c.in-Ok.work in
+    let same = c.in-Ok.ensures.made.same ∙ c.requires.caught_up.seated.same in (
+      c.in-Ok.ensures.laid,
+      subst (λ (p : PoolId). HandsBackOld p c.args.self.now.history work.job.slice work.old_layout) (sym same)
+          (subst (λ (d : DeskState). HandsBackOld d.pool d.history work.job.slice work.old_layout) c.clearable.ensures.same c.in-Ok.ensures.work.1.old),
+    )
 
 pub returns-in-Err-clause-answer : goal.returns-in-Err-clause-answer
 returns-in-Err-clause-answer c =

@@ -1,11 +1,11 @@
 use Rattle.std.proofs.Common.{◌≡◌, ◌+◌, ◌<◌, [], ◌∷◌, length, sym, ap, ◌∙◌, subst, arith}
 use Rattle.funnel_model.specs.declared.event.Event.TheVariants as event
 use Rattle.funnel_model.specs.Legal.{IsAllowed, IsIdle}
-use Rattle.funnel_model.specs.Tunings.{tunings}
 use Rattle.funnel_model.proofs.Histories.{legal-push}
 use Rattle.slice_rule.specs.Pools.{PoolId}
 use Rattle.commit_desk.specs.Desks.{DeskState, Makes}
-use Rattle.commit_desk.specs.Layouts.{LayoutsState, TunesWith}
+use Rattle.commit_desk.specs.Layouts.{IsTuned, LayoutsState, TunesWith}
+use Rattle.commit_desk.proofs.HandedBack.{handed_by_tune}
 use Rattle.commit_desk.proofs.Inside.{books_of, desk_of}
 use Rattle.commit_desk.proofs.MadeEvents.{desk_at, made_one}
 use Rattle.commit_desk.proofs.PlainEvents.{allowed_now}
@@ -48,10 +48,14 @@ invariant_of-self c =
     (subst (λ n. IsIdle n c.args.self.now.history) (sym c.number-pass.ensures.number) c.requires.idle))
     below made.home.pool made.home.history made.number c.tune.ensures.after
 
-pub returns-clause-count : goal.returns-clause-count
-returns-clause-count c =
-    c.tunings.ensures ∙ ap (λ (k : LayoutsState). k.tunings) c.tune.ensures.after
-    ∙ ap (λ n. n + 1) (c.self.invariant.kept.layouts_are.tunings_are ∙ ap (λ (d : DeskState). length (tunings d.history)) c.self.view_is)
+pub returns-clause-tuned : goal.returns-clause-tuned
+returns-clause-tuned c =
+    let i = c.self.inside in
+    let are = c.self.invariant.kept.layouts_are in
+    subst (λ (d : DeskState). IsTuned d.pool d.history c.tunings.result c.tune.new.next) c.self.view_is (record {
+      count_is = c.tunings.ensures ∙ ap (λ (k : LayoutsState). k.tunings) c.tune.ensures.after ∙ ap (λ n. n + 1) are.tunings_are;
+      hands_back = handed_by_tune i.home.pool i.home.history i.layouts are c.tune.new.next c.tune.ensures.before c.tune.ensures.current;
+    })
 
 pub returns-clause-made : goal.returns-clause-made
 returns-clause-made c =

@@ -3,6 +3,7 @@ use Rattle.funnel_model.specs.Legal.{IsIdle, NoneCanClear}
 use Rattle.slice_rule.specs.Seats.{PassState}
 use Rattle.commit_desk.specs.Answers.{RefusesClear, TakesCalls}
 use Rattle.commit_desk.specs.Desks.{DeskState}
+use Rattle.commit_desk.specs.Layouts.{HandsBackOld}
 use Rattle.commit_desk.proofs.Checks.{takes_calls}
 use Rattle.commit_desk.proofs.FindTurns.{desk_is}
 use Rattle.commit_desk.proofs.Refused.{clear_is_answered}
@@ -36,3 +37,10 @@ returns-clause-answer c =
     clear_is_answered c.args.self.now.events_limit c.args.self.now.pool.limits c.args.self.now.history c.args.seat.now.number c.clear_refusal-refusal.result takes
     (subst (λ (d : DeskState). NoneCanClear d.pool.limits d.history) view c.in_default.ensures.may)
     (subst (λ (d : DeskState). RefusesClear d.pool.limits d.history c.clear_refusal-refusal.result) whole c.clear_refusal-refusal.ensures)
+
+pub returns-in-Some-clause-old : goal.returns-in-Some-clause-old
+returns-in-Some-clause-old c =
+    let i = c.self.inside in
+    let work = c.in-Some.work in
+    let same = desk_is c.args.self.now i.home c.catch_up.new.home i.events_limit c.self.view_is c.catch_up.ensures.home in
+    subst (λ (d : DeskState). HandsBackOld d.pool d.history work.job.slice work.old_layout) same c.in-Some.ensures.work.old

@@ -1,6 +1,6 @@
 use Rattle.std.proofs.Common.{◌≡◌, ℕ, ◌<◌, get_or}
 use Rattle.commit_desk.specs.declared.find_layouts.FindLayout.{FindLayout}
-use Rattle.commit_desk.proofs.slice_layouts.newest_of.Given as goal
+use Rattle.commit_desk.proofs.slice_layouts.current_of.Given as goal
 
 -- no entry before this place has the number
 abbrev pub invariant-loop-index : goal.invariant-loop-index
