@@ -20,7 +20,7 @@ use Rattle.command_line.specs.declared.command.LoadCommand.{LoadCommand}
 use Rattle.funnel.specs.declared.ended.Why.{Why}
 use Rattle.funnel.specs.declared.ended.Why.TheVariants as why_of
 use Rattle.funnel.specs.Runs.{limits_by}
-use Rattle.funnel.specs.Texts.{IsWritten}
+use Rattle.funnel.specs.Texts.{IsTextWritten}
 
 -- the numbers of the load lie in their ranges and fit the configuration
 pub record IsLoadThatFits (config : Config) (load : LoadCommand) : Type 0 where
@@ -30,7 +30,7 @@ pub record IsLoadThatFits (config : Config) (load : LoadCommand) : Type 0 where
 -- the text is written, or there was no memory and nothing is written
 abbrev pub Tells : List ℕ → Outgoing → Outgoing → Why → Type 0
 Tells text before after why_of.Memory = after ≡ before
-Tells text before after why = IsWritten text before after why
+Tells text before after why = IsTextWritten text before after why
 
 -- the workers put the whole load: each made the calls of its share, each once, and is answered as the load is to be; and after each part
 -- of the load each met what every other had seen. No add and no delete is refused, no document is missed, and the queries have the

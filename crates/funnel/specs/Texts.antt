@@ -26,7 +26,7 @@ text_asked (word ∷ []) = text_by word
 text_asked _ = None
 
 -- a text is written whole, or a write failed before its end
-abbrev pub IsWritten : List ℕ → Outgoing → Outgoing → Why → Type 0
-IsWritten text before after why_of.Done = Writes text before after × (after.faults ≡ before.faults)
-IsWritten text before after why_of.WriteFault = WritesPart text before after × (after.faults ≡ counted true before.faults)
-IsWritten text before after _ = ⊥
+abbrev pub IsTextWritten : List ℕ → Outgoing → Outgoing → Why → Type 0
+IsTextWritten text before after why_of.Done = Writes text before after × (after.faults ≡ before.faults)
+IsTextWritten text before after why_of.WriteFault = WritesPart text before after × (after.faults ≡ counted true before.faults)
+IsTextWritten text before after _ = ⊥

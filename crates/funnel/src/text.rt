@@ -2,7 +2,7 @@
 ghost use Rattle.std.specs.Prelude.{◌≡◌, ℕ, List, IsSome, MatchOption, None, map};
 ghost use Rattle.std.specs.Option.{IsSomeAnd};
 ghost use Rattle.command_line.specs.Commands.{command_of};
-ghost use Rattle.funnel.specs.Texts.{IsWritten, text_asked, text_by, text_of};
+ghost use Rattle.funnel.specs.Texts.{IsTextWritten, text_asked, text_by, text_of};
 
 use crate::ended::Why;
 use funnel_io::{Sink, write_all};
@@ -101,7 +101,7 @@ pub fn tell_asked<K: Sink>(words: &[&str], output: &mut K) -> Option<Why>
     ensures told { MatchOption result
         ((text_asked (map (λ word. word.now) words.now) ≡ None) × (output.new ≡ output.old))
         (λ why. IsSomeAnd (text_asked (map (λ word. word.now) words.now)) (λ text.
-        IsWritten (text_of text) (K.outgoing output.old) (K.outgoing output.new) why)) }
+        IsTextWritten (text_of text) (K.outgoing output.old) (K.outgoing output.new) why)) }
     ensures borrowed { K.borrowed output.new ≡ K.borrowed output.old }
 {
     let text = text_asked(words)?;

@@ -47,8 +47,8 @@ IsUnread text _ = ⊥
 abbrev pub AnswersQuery : Caller → List Event → List Event → List ℕ → Reply → Type 0
 AnswersQuery caller before after text given = AnswersExpr caller before after text given ⊎ ((before ≡ after) × IsUnread text given)
 
--- what comes of a text that gives no configuration that has room is refused so, before anything is called: by the number of its fault, or by the words
--- that it needs in a slice and those for which there is room; or for want of memory
+-- what comes of a text that gives no configuration, or one whose rows have no room, is refused so, before anything is called: by the number of its fault, or
+-- by the words that it needs in a slice and those for which there is room; or for want of memory
 abbrev pub RefusesTuning : Tuned → Reply → Type 0
 RefusesTuning (Gives config) given = ⊥
 RefusesTuning (Faulty fault) given = (given ≡ reply.Tuning fault) ⊎ (given ≡ reply.Memory)

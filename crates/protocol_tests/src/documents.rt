@@ -6,11 +6,12 @@ use std::test::Fail;
 fn is_shared<T: Send + Sync>(_value: &T) {}
 
 /// A seed, how many documents of how many words, one of them, and its text.
-static DOCUMENTS: [(u64, u32, u32, u32, &str); 6] = [
+static DOCUMENTS: [(u64, u32, u32, u32, &str); 7] = [
     (0, 2, 1, 0, "u1 w1"),
     (0, 2, 1, 1, "u2 w225"),
     (0, 129, 0, 128, "u129"),
     (0, 129, 3, 128, "u129 w684 w148 w48"),
+    (0, 5_000, 0, 4_999, "u5000"),
     (u64::MAX, 12, 4, 11, "u12 w1 w16 w135 w218"),
     (1, 129, 8, 99, "u100 w6 w45 w139 w920 w210 w18 w4037 w2186"),
 ];

@@ -24,12 +24,12 @@ use Rattle.session.specs.Ends.{Serves, Stand}
 
 -- the call that an item asks for, of an engine that was opened with this configuration; where it asks for what a text finds, the query of
 -- the expression that the text is the query of; and for a tuning, the one by the configuration that its text gives
-abbrev pub AsksFor : Config → Item → Call → Type 0
-AsksFor opening (Asks (Calls asked)) made = made ≡ asked
-AsksFor opening (Asks (Queries text)) made = (expr : Expr) × IsQuery text (tree_of expr) × (made ≡ call.Query expr)
-AsksFor opening (Asks (Tunes text)) made = (config : Config) × (tuned opening text ≡ Gives config) × (made ≡ call.Tune config)
-AsksFor opening Malformed made = ⊥
-AsksFor opening TooLong made = ⊥
+abbrev pub IsCallOf : Config → Item → Call → Type 0
+IsCallOf opening (Asks (Calls asked)) made = made ≡ asked
+IsCallOf opening (Asks (Queries text)) made = (expr : Expr) × IsQuery text (tree_of expr) × (made ≡ call.Query expr)
+IsCallOf opening (Asks (Tunes text)) made = (config : Config) × (tuned opening text ≡ Gives config) × (made ≡ call.Tune config)
+IsCallOf opening Malformed made = ⊥
+IsCallOf opening TooLong made = ⊥
 
 -- an item that is answered so is no call: a line of no form, one that is too long, or a text that was refused before anything was called
 abbrev pub IsNoCall : Config → Item → Reply → Type 0
@@ -44,7 +44,7 @@ abbrev pub AreCalls : Config → List Item → List Reply → List Call → List
 AreCalls opening [] [] calls told = (calls ≡ []) × (told ≡ [])
 AreCalls opening (item ∷ items) (given ∷ replies) calls told =
     (IsNoCall opening item given × AreCalls opening items replies calls told)
-    ⊎ ((made : Call) × (rest : List Call) × (others : List Reply) × AsksFor opening item made × AreCalls opening items replies rest others
+    ⊎ ((made : Call) × (rest : List Call) × (others : List Reply) × IsCallOf opening item made × AreCalls opening items replies rest others
     × (calls ≡ made ∷ rest) × (told ≡ given ∷ others))
 AreCalls opening [] (given ∷ replies) calls told = ⊥
 AreCalls opening (item ∷ items) [] calls told = ⊥

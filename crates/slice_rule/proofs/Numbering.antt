@@ -14,7 +14,7 @@ use Rattle.slice_rule.specs.Pools.{ask_word, first_row, row_words}
 use Rattle.atomic_table.proofs.Lists.{at_last}
 use Rattle.slice_rule.specs.Rule.{CountsPasses, Fits, FitsRole, HasSizes, HaveSeats, IsHome, IsHomeRole, IsKept, IsTrueFact, KnowsByRole}
 use Rattle.slice_rule.specs.Tells.{Numbers, Seated}
-use Rattle.slice_rule.specs.Views.{new_pass, new_role, numbered_role, seated_role, with_number, with_seat}
+use Rattle.slice_rule.specs.Views.{new_pass_view, new_role, numbered_role, seated_role, with_number, with_seat}
 use Rattle.slice_rule.specs.Worlds.{LacksAtMostOne, World}
 use Rattle.std.proofs.lemmas.List.{drop-set-lt}
 use Rattle.std.specs.List.{All}
@@ -116,33 +116,33 @@ module _ (limits : Limits) (config : Config) where
 
   -- the home and each pass have their seats, with the new one
   have_seats : (s : State (Unit {0}) View) (r : IsKept limits config s) (id : ℕ) (v : View) (numbered seats : ℕ) → get_elem? s.views id ≡ some v → v.role ≡ role.Home numbered seats
-      → HaveSeats (seated_world r.world (length (set s.views id (with_seat v)))) (set s.views id (with_seat v) ++ new_pass v ∷ [])
+      → HaveSeats (seated_world r.world (length (set s.views id (with_seat v)))) (set s.views id (with_seat v) ++ new_pass_view v ∷ [])
   unfolding seated_world
   have_seats s r id v numbered seats at is =
       let views = set s.views id (with_seat v) in
       let new = length views in
       let home = home_at s r id v numbered seats at is in
       let still : IsHomeRole (seated_role v.role) = subst (λ (x : Role). IsHomeRole (seated_role x)) (sym is) tt in
-      let before = given-snoc r.world views (new_pass v) (given-set r.world s.views id v (with_seat v) at (home_kind v.role (seated_role v.role) numbered seats is still) r.given) in
+      let before = given-snoc r.world views (new_pass_view v) (given-set r.world s.views id v (with_seat v) at (home_kind v.role (seated_role v.role) numbered seats is still) r.given) in
       record {
         home = before.home;
         passes = λ pass small. ⊎_elim
             (λ (last : pass ≡ r.world.seated). record {
-              view = new_pass v;
-              at = at_last views (new_pass v) (cond (pass == r.world.seated) new (r.world.seat pass)) (sym (ap (λ (b : Bool). cond b new (r.world.seat pass)) (eq-eqb pass r.world.seated last)));
+              view = new_pass_view v;
+              at = at_last views (new_pass_view v) (cond (pass == r.world.seated) new (r.world.seat pass)) (sym (ap (λ (b : Bool). cond b new (r.world.seat pass)) (eq-eqb pass r.world.seated last)));
               kind = ap new_role is ∙ ap role.Pass (home.seated ∙ sym last);
             })
             (λ (other : pass ≡ r.world.seated → ⊥).
             let has = before.passes pass (omega arith) in
             record {
               view = has.view;
-              at = ap (λ (b : Bool). get_elem? (views ++ new_pass v ∷ []) (cond b new (r.world.seat pass))) (ne_eqb pass r.world.seated other) ∙ has.at;
+              at = ap (λ (b : Bool). get_elem? (views ++ new_pass_view v ∷ []) (cond b new (r.world.seat pass))) (ne_eqb pass r.world.seated other) ∙ has.at;
               kind = has.kind;
             })
             (cases_eq pass r.world.seated);
       }
 
-  pub splits_pass : (id : ℕ) (v : View) (numbered seats : ℕ) → v.role ≡ role.Home numbered seats → numbered ≡ seats + 1 → Splits (IsKept limits config) id v (with_seat v) (new_pass v)
+  pub splits_pass : (id : ℕ) (v : View) (numbered seats : ℕ) → v.role ≡ role.Home numbered seats → numbered ≡ seats + 1 → Splits (IsKept limits config) id v (with_seat v) (new_pass_view v)
   unfolding seated_world
   splits_pass id v numbered seats is next s r at =
       let mine = r.seats id v at in
@@ -164,7 +164,7 @@ module _ (limits : Limits) (config : Config) where
         owners = r.owners;
         fresh = r.fresh;
         given = have_seats s r id v numbered seats at is;
-        seats = each-snoc (Fits limits config world s.words) (set s.views id (with_seat v)) (new_pass v)
+        seats = each-snoc (Fits limits config world s.words) (set s.views id (with_seat v)) (new_pass_view v)
             (each-set (Fits limits config world s.words) s.views id (with_seat v)
             (record {
               sizes = subst (λ (x : Role). HasSizes limits v.limits (seated_role x)) (sym is) sizes;

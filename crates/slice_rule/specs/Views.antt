@@ -46,8 +46,8 @@ abbrev pub with_seat : View → View
 with_seat v = record v { role = seated_role v.role }
 
 -- the seat of a new pass
-abbrev pub new_pass : View → View
-new_pass v = view_at_start v.limits v.config (new_role v.role)
+abbrev pub new_pass_view : View → View
+new_pass_view v = view_at_start v.limits v.config (new_role v.role)
 
 -- what a seat can tell: what its pass asked, what it did itself, and what it was told
 abbrev pub facts_of : Role → View → List Fact

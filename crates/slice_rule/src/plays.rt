@@ -29,11 +29,11 @@ impl Play<(), View> for Number {
 pub struct ToPass;
 
 impl Split<View> for ToPass {
-    ghost use Rattle.slice_rule.specs.Views.{new_pass, with_seat};
+    ghost use Rattle.slice_rule.specs.Views.{new_pass_view, with_seat};
 
     ghost left = { with_seat };
 
-    ghost right = { new_pass };
+    ghost right = { new_pass_view };
 }
 
 /// A note of what a seat knows.
