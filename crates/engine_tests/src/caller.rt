@@ -8,7 +8,7 @@ use std::alloc::Global;
 use std::sync::Wait;
 
 /// Why an add was refused. Of a full engine it tells what keeps documents out, where that is one slice alone.
-#[derive(Clone, Copy, Debug, PartialEq, Eq)]
+#[derive(Clone, Copy, PartialEq)]
 pub(crate) enum Refused {
     Present(u64),
     Full(Option<Block>),
@@ -87,7 +87,7 @@ impl<'e, N: PoolName, R: Wait> Caller<'e, N, R> {
     }
 
     /// Sees what the other one has seen.
-    pub fn see_as_much(&mut self, other: &mut Self) {
+    pub fn see_as_much(&mut self, other: &mut Caller<'_, N, R>) {
         let note = other.engine.note(&mut other.pass);
         self.engine.meet(&mut self.pass, note)
     }

@@ -4,8 +4,8 @@ ghost use Rattle.engine_tests.specs.Events.{EndsWith, EndsWithAdd, FindsBetween,
 ghost use Rattle.funnel_model.specs.declared.call.Call.TheVariants as call;
 ghost use Rattle.funnel_model.specs.declared.event.Event.TheVariants as event;
 
-use crate::caller::is_range;
-use crate::setting::{Callers, Case, config, run};
+use crate::caller::Caller;
+use crate::setting::{Case, expect_in_a_slice};
 use engine::{AddFault, Engine, FindFault, Pass, PoolName, Recycled};
 use funnel_model::Ids;
 use std::alloc::Global;
@@ -13,26 +13,22 @@ use std::sync::Wait;
 use std::test::*;
 
 #[test]
-fn calls_make_their_events(rt: HostRuntime) -> Result<(), Fail> {
-    let alloc = rt.alloc();
-    let (added, found, recycled) = run::<Events, _>(&rt, alloc, &config(alloc, 2, 1, 1, 1024))?;
-    assert_eq!(rt; added.ok(), Some(1));
-    assert!(rt; is_range(&found?, (1, 2)));
-    assert!(rt; matches!(recycled, Recycled::NoneRetired));
-    Ok(())
+fn calls_make_their_events(rt: HostRuntime) {
+    expect_in_a_slice(&rt, rt.alloc(), &Events)
 }
 
 struct Events;
 
 impl Case for Events {
-    type Seen = (Result<u64, AddFault>, Result<Ids, FindFault>, Recycled);
-
-    fn run<N: PoolName, R: Wait>(callers: Callers<'_, N, R>) -> Self::Seen {
-        let Callers { mut first, .. } = callers;
-        let added = add(first.rt, first.alloc, first.engine, &mut first.pass, 1, "x");
-        let found = find(first.rt, first.alloc, first.engine, &mut first.pass, "x");
-        let recycled = recycle(first.rt, first.engine, &mut first.pass);
-        (added, found, recycled)
+    fn holds<N: PoolName, R: Wait>(
+        &self,
+        caller: &mut Caller<'_, N, R>,
+        _: &mut Vec<Caller<'_, N, R>>,
+    ) -> bool {
+        let (rt, alloc, engine) = (caller.rt, caller.alloc, caller.engine);
+        let added = add(rt, alloc, engine, &mut caller.pass, 1, "x").is_ok();
+        let found = find(rt, alloc, engine, &mut caller.pass, "x").is_ok();
+        added && found && recycle(rt, engine, &mut caller.pass) == Recycled::NoneRetired
     }
 }
 

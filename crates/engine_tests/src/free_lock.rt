@@ -1,13 +1,14 @@
 //! The lock is free while a column is written, while slices are scanned, and while one is cleared: a second thread is
 //! answered in that time.
 
-use crate::beside::{Task, work_beside};
+use crate::beside::{Task, expect_beside};
 use crate::caller::{Caller, is_range};
 use crate::hooked::{Hook, Hooked};
 use crate::setting::config;
-use engine::{PoolName, Recycled};
+use engine::{Closed, PoolName, Recycled};
+use std::alloc::Global;
+use std::sync::Wait;
 use std::sync::atomic::{AtomicU64, Ordering};
-use std::sync::{Mutex, Wait};
 use std::test::*;
 use std::thread;
 
@@ -33,7 +34,7 @@ impl Board {
 }
 
 /// How many jobs were done, by their kinds, and how many waits were in vain.
-#[derive(Clone, Copy, Debug, PartialEq, Eq)]
+#[derive(Clone, Copy)]
 struct Counts {
     writes: u32,
     scans: u32,
@@ -92,26 +93,28 @@ impl<'a> Hook for Watched<'a> {
 #[derive(Drop)]
 struct Watch {
     board: Board,
-    /// Whether each call of the first pass was answered as it has to be, and how its jobs went, once it is through.
-    seen: Mutex<Option<(bool, Counts)>>,
+    /// 1 once the first pass is through, and was answered as it has to be.
+    right: AtomicU64,
 }
 
 impl Task for Watch {
     fn work<N: PoolName, R: Wait>(&self, caller: &mut Caller<'_, N, R>) {
         if caller.number() == 0 {
-            let seen = work_through(caller, &self.board);
+            if work_through(caller, &self.board) {
+                self.right.store(1, Ordering::SeqCst);
+            }
             self.board.over.store(1, Ordering::SeqCst);
-            *self.seen.lock(caller.rt) = Some(seen);
         } else {
             answer(caller, &self.board);
         }
     }
+
+    fn is_right<R: Wait>(&self, _: &R, _: Global, _: &Closed) -> bool {
+        self.right.load(Ordering::SeqCst) == 1
+    }
 }
 
-fn work_through<N: PoolName, R: Wait>(
-    caller: &mut Caller<'_, N, R>,
-    board: &Board,
-) -> (bool, Counts) {
+fn work_through<N: PoolName, R: Wait>(caller: &mut Caller<'_, N, R>, board: &Board) -> bool {
     let counts = Counts {
         writes: 0,
         scans: 0,
@@ -120,14 +123,26 @@ fn work_through<N: PoolName, R: Wait>(
     };
     let hook = Watched { board, counts };
     let mut work = Hooked { hook };
-    let as_wanted = caller.add_all_by((1, 65), 0, &mut work)
-        && has_all(caller, &mut work)
+    let as_wanted = work_by(caller, &mut work);
+    as_wanted && are_wanted(work.hook.counts)
+}
+
+fn work_by<N: PoolName, R: Wait>(
+    caller: &mut Caller<'_, N, R>,
+    work: &mut Hooked<Watched<'_>>,
+) -> bool {
+    caller.add_all_by((1, 65), 0, work)
+        && has_all(caller, work)
         && caller.delete_all((1, 65), 64)
-        && caller.recycle_by(&mut work) == Recycled::Done(0)
+        && caller.recycle_by(work) == Recycled::Done(0)
         && caller.add_all((1, 65), 128)
         && caller.delete_all((1, 65), 192)
-        && caller.add_by(500, "y", &mut work) == Ok(257);
-    (as_wanted, work.hook.counts)
+        && caller.add_by(500, "y", work) == Ok(257)
+}
+
+/// Whether each job was done once the second thread was answered.
+fn are_wanted(counts: Counts) -> bool {
+    counts.writes == 65 && counts.scans == 1 && counts.clears == 2 && counts.in_vain == 0
 }
 
 /// Whether a find has the documents 1 to 64.
@@ -160,20 +175,10 @@ fn answer<N: PoolName, R: Wait>(caller: &mut Caller<'_, N, R>, board: &Board) {
 }
 
 #[test]
-fn others_are_answered_while_a_pass_works(rt: HostRuntime) -> Result<(), Fail> {
-    let alloc = rt.alloc();
-    let config = config(alloc, 2, 1, 1, 1024);
+fn others_are_answered_while_a_pass_works(rt: HostRuntime) {
     let watch = Watch {
         board: Board::new(),
-        seen: Mutex::new(None),
+        right: AtomicU64::new(0),
     };
-    work_beside(&rt, alloc, &config, &watch)?;
-    let wanted = Counts {
-        writes: 65,
-        scans: 1,
-        clears: 2,
-        in_vain: 0,
-    };
-    assert_eq!(rt; watch.seen.into_inner(), Some((true, wanted)));
-    Ok(())
+    expect_beside(&rt, rt.alloc(), config(rt.alloc(), 2, 1, 1, 1024), &watch)
 }

@@ -4,7 +4,8 @@ ghost use Rattle.engine_tests.specs.Wanted.{bird, cat};
 ghost use Rattle.funnel_model.specs.Words.{has_word};
 
 use crate::caller::Caller;
-use crate::setting::{Callers, Case, config, run};
+use crate::setting::{Case, config, expect};
+use crate::steps::{Step, plays};
 use engine::{Branches, Doc, FindFault, Judge, PoolName};
 use funnel_model::{Ids, Memory, WordSet};
 use std::alloc::Global;
@@ -62,33 +63,45 @@ fn find_wanted<N: PoolName, R: Wait>(caller: &mut Caller<'_, N, R>) -> Result<Id
         .find_any(rt, alloc, &mut caller.pass, &branches, &Wanted)
 }
 
-/// The texts of the first documents.
-static TEXTS: [&str; 6] = ["cat dog", "Bird cat", "fish", "bird", "dog bird", "a cat"];
+/// The first documents.
+static FIRST: [Step; 6] = [
+    Step::Add(1, "cat dog", Ok(1)),
+    Step::Add(2, "Bird cat", Ok(2)),
+    Step::Add(3, "fish", Ok(3)),
+    Step::Add(4, "bird", Ok(4)),
+    Step::Add(5, "dog bird", Ok(5)),
+    Step::Add(6, "a cat", Ok(6)),
+];
 
-/// Adds the first documents, a hundred cats in falling order of their numbers, and deletes one.
-fn add_all<N: PoolName, R: Wait>(caller: &mut Caller<'_, N, R>) {
-    let mut id = 0;
-    for text in &TEXTS {
-        id = u64::saturating_add(id, 1);
-        let _ = caller.add(id, text);
-    }
+/// Adds a hundred cats in falling order of their numbers.
+fn add_cats<N: PoolName, R: Wait>(caller: &mut Caller<'_, N, R>) -> bool {
+    let mut as_wanted = true;
     for i in 0..100 {
-        let _ = caller.add(200 - i, "cat");
+        as_wanted = as_wanted && caller.add(200 - i, "cat").is_ok();
     }
-    let _ = caller.delete(4);
+    as_wanted
 }
 
-/// Finds what the judge keeps.
-#[derive(Drop)]
+/// Finds what the judge keeps, of the first documents but one, and the cats.
 struct Judged;
 
 impl Case for Judged {
-    type Seen = Result<Ids, FindFault>;
+    fn holds<N: PoolName, R: Wait>(
+        &self,
+        caller: &mut Caller<'_, N, R>,
+        _: &mut Vec<Caller<'_, N, R>>,
+    ) -> bool {
+        plays(caller, &FIRST)
+            && add_cats(caller)
+            && caller.delete(4) == Ok(107)
+            && has_wanted(caller)
+    }
+}
 
-    fn run<N: PoolName, R: Wait>(callers: Callers<'_, N, R>) -> Self::Seen {
-        let mut caller = callers.first;
-        add_all(&mut caller);
-        find_wanted(&mut caller)
+fn has_wanted<N: PoolName, R: Wait>(caller: &mut Caller<'_, N, R>) -> bool {
+    match find_wanted(caller) {
+        Ok(ids) => are_wanted(ids.as_slice()),
+        Err(_) => false,
     }
 }
 
@@ -97,12 +110,7 @@ fn are_wanted(ids: &[u64]) -> bool {
 }
 
 #[test]
-fn a_judge_keeps_documents_of_some_branch(rt: HostRuntime) -> Result<(), Fail> {
+fn a_judge_keeps_documents_of_some_branch(rt: HostRuntime) {
     let alloc = rt.alloc();
-    let config = config(alloc, 2, 2, 1, 1024);
-    let Ok(found) = run::<Judged, _>(&rt, alloc, &config)? else {
-        return Err(Fail::new("the find had no answer"));
-    };
-    assert!(rt; are_wanted(found.as_slice()));
-    Ok(())
+    expect(&rt, alloc, config(alloc, 2, 2, 1, 1024), &Judged)
 }

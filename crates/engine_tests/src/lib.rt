@@ -32,9 +32,13 @@ mod queries;
 #[cfg(test)]
 mod replacing;
 #[cfg(test)]
+mod reports;
+#[cfg(test)]
 mod retuning;
 #[cfg(test)]
 mod setting;
+#[cfg(test)]
+mod steps;
 #[cfg(test)]
 mod threads;
 #[cfg(test)]

@@ -1,10 +1,11 @@
 //! Finds of thousands of documents, in several turns each, beside writers.
 
-use crate::beside::{Task, work_beside};
+use crate::beside::{Task, expect_beside};
 use crate::caller::Caller;
 use crate::setting::config;
 use crate::threads::add_at_last;
-use engine::PoolName;
+use engine::{Closed, PoolName};
+use std::alloc::Global;
 use std::sync::Wait;
 use std::sync::atomic::{AtomicU64, Ordering};
 use std::test::*;
@@ -36,6 +37,10 @@ impl Task for Turns {
         if as_wanted {
             self.right.fetch_add(1, Ordering::SeqCst);
         }
+    }
+
+    fn is_right<R: Wait>(&self, _: &R, _: Global, _: &Closed) -> bool {
+        self.right.load(Ordering::SeqCst) == 3
     }
 }
 
@@ -84,14 +89,15 @@ fn write_until<N: PoolName, R: Wait>(caller: &mut Caller<'_, N, R>, stage: &Atom
 }
 
 #[test]
-fn finds_in_turns_are_right_beside_writers(rt: HostRuntime) -> Result<(), Fail> {
-    let alloc = rt.alloc();
-    let config = config(alloc, 3, 24, 16, 65_536);
+fn finds_in_turns_are_right_beside_writers(rt: HostRuntime) {
     let turns = Turns {
         right: AtomicU64::new(0),
         stage: AtomicU64::new(0),
     };
-    let _ = work_beside(&rt, alloc, &config, &turns)?;
-    assert_eq!(rt; turns.right.load(Ordering::SeqCst), 3);
-    Ok(())
+    expect_beside(
+        &rt,
+        rt.alloc(),
+        config(rt.alloc(), 3, 24, 16, 65_536),
+        &turns,
+    )
 }

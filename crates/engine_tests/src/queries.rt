@@ -1,51 +1,60 @@
 //! Boolean queries against a plain model: small expressions over three words, at documents with each choice of these.
-use crate::setting::{Callers, Case, config, run};
+use crate::caller::Caller;
+use crate::setting::{Case, config, expect};
 use engine::{Client, PoolName};
 use funnel_model::Reply;
 use line_proto::{Request, Service};
-use std::alloc::Global;
+use std::alloc::{AllocError, Global};
 use std::sync::Wait;
 use std::test::*;
-
-/// An expression, and which of eight documents it keeps, a bit for each.
-#[derive(Drop)]
-struct Small {
-    text: String,
-    kept: u8,
-}
 
 /// The documents, by their numbers from 1 on.
 static TEXTS: [&str; 8] = ["x", "a", "b", "A b", "c", "c a", "b c c", "c B a"];
 
-/// The words, and which documents have each.
-static WORDS: [(&str, u8); 3] = [("a", 0b1010_1010), ("b", 0b1100_1100), ("C", 0b1111_0000)];
+/// Which documents have each word, a bit for each document.
+const A: u8 = 0b1010_1010;
 
-fn joined(alloc: Global, parts: &[&str], kept: u8) -> Result<Small, Fail> {
+const B: u8 = 0b1100_1100;
+
+const C: u8 = 0b1111_0000;
+
+/// An expression, and which documents it keeps.
+type Factor = (&'static str, u8);
+
+/// The words, their contraries, and those of two words.
+static FACTORS: [Factor; 24] = [
+    ("a", A),
+    ("-a", !A),
+    ("(a a)", A),
+    ("-(a|-a)", 0),
+    ("(a b)", A & B),
+    ("-(a|-b)", !A & B),
+    ("(a C)", A & C),
+    ("-(a|-C)", !A & C),
+    ("b", B),
+    ("-b", !B),
+    ("(b a)", B & A),
+    ("-(b|-a)", !B & A),
+    ("(b b)", B),
+    ("-(b|-b)", 0),
+    ("(b C)", B & C),
+    ("-(b|-C)", !B & C),
+    ("C", C),
+    ("-C", !C),
+    ("(C a)", C & A),
+    ("-(C|-a)", !C & A),
+    ("(C b)", C & B),
+    ("-(C|-b)", !C & B),
+    ("(C C)", C),
+    ("-(C|-C)", 0),
+];
+
+fn joined(alloc: Global, parts: &[&str]) -> Result<String, AllocError> {
     let mut text = String::new(alloc);
     for part in parts {
         text.push_str(part)?;
     }
-    Ok(Small { text, kept })
-}
-
-/// Adds the factors that begin with this word: the word, its contrary, and those of it and another word.
-fn add_factors(factors: &mut Vec<Small>, alloc: Global, word: &str, kept: u8) -> Result<(), Fail> {
-    factors.push(joined(alloc, &[word], kept)?)?;
-    factors.push(joined(alloc, &["-", word], !kept)?)?;
-    for (other, too) in &WORDS {
-        factors.push(joined(alloc, &["(", word, " ", other, ")"], kept & *too)?)?;
-        factors.push(joined(alloc, &["-(", word, "|-", other, ")"], !(kept | !*too))?)?;
-    }
-    Ok(())
-}
-
-/// The factors of all words.
-fn factors(alloc: Global) -> Result<Vec<Small>, Fail> {
-    let mut factors = Vec::new(alloc);
-    for (word, kept) in &WORDS {
-        add_factors(&mut factors, alloc, word, *kept)?;
-    }
-    Ok(factors)
+    Ok(text)
 }
 
 /// Which of the eight documents these are, where they come in the order in which they were added.
@@ -64,31 +73,50 @@ fn bits_of(ids: &[u64]) -> Option<u8> {
     Some(bits)
 }
 
-fn is_answered<S: Service>(client: &mut S, query: &Small) -> bool {
-    let text = query.text.as_str();
+/// Whether the query of these parts finds these documents.
+fn is_answered<S: Service>(client: &mut S, alloc: Global, parts: &[&str], kept: u8) -> bool {
+    match joined(alloc, parts) {
+        Ok(query) => finds(client, query.as_str(), kept),
+        Err(_) => false,
+    }
+}
+
+fn finds<S: Service>(client: &mut S, text: &str, kept: u8) -> bool {
     match client.call(&Request::Query { text }) {
-        Reply::Found(ids) => bits_of(ids.as_slice()) == Some(query.kept),
+        Reply::Found(ids) => bits_of(ids.as_slice()) == Some(kept),
         _ => false,
     }
 }
 
-/// How many of the queries that begin with this factor have a wrong answer: both factors, or one of two.
-fn count_wrong<S: Service>(
+/// Whether the query of both factors, and that of one of two, find the right documents.
+fn are_both_answered<S: Service>(
     client: &mut S,
     alloc: Global,
-    first: &Small,
-    factors: &[Small],
-) -> Result<u64, Fail> {
-    let mut wrong: u64 = 0;
-    for second in factors {
-        let (text, other) = (first.text.as_str(), second.text.as_str());
-        let both = joined(alloc, &[text, " ", other], first.kept & second.kept)?;
-        let one = joined(alloc, &[text, " | ", other], first.kept | second.kept)?;
-        if !is_answered(client, &both) || !is_answered(client, &one) {
-            wrong = wrong.wrapping_add(1);
-        }
+    first: &Factor,
+    second: &Factor,
+) -> bool {
+    let (text, kept) = first;
+    let (other, too) = second;
+    is_answered(client, alloc, &[text, " ", other], *kept & *too)
+        && is_answered(client, alloc, &[text, " | ", other], *kept | *too)
+}
+
+/// Whether the queries that begin with this factor do.
+fn are_answered<S: Service>(client: &mut S, alloc: Global, first: &Factor) -> bool {
+    let mut as_wanted = true;
+    for second in &FACTORS {
+        as_wanted = as_wanted && are_both_answered(client, alloc, first, second);
     }
-    Ok(wrong)
+    as_wanted
+}
+
+/// Whether all queries do.
+fn all_are_answered<S: Service>(client: &mut S, alloc: Global) -> bool {
+    let mut as_wanted = true;
+    for first in &FACTORS {
+        as_wanted = as_wanted && are_answered(client, alloc, first);
+    }
+    as_wanted
 }
 
 /// Adds documents without the words, so that those behind them stand in two slices.
@@ -107,43 +135,42 @@ fn add_texts<S: Service>(client: &mut S) {
     }
 }
 
-/// How many queries of two factors have a wrong answer.
-#[derive(Drop)]
-struct Wrong;
+/// All queries of two factors, by a client.
+struct Queries;
 
-impl Case for Wrong {
-    type Seen = Result<u64, Fail>;
-
-    fn run<N: PoolName, R: Wait>(callers: Callers<'_, N, R>) -> Self::Seen {
-        let Callers { first, .. } = callers;
-        let alloc = first.alloc;
+impl Case for Queries {
+    fn holds<N: PoolName, R: Wait>(
+        &self,
+        _: &mut Caller<'_, N, R>,
+        others: &mut Vec<Caller<'_, N, R>>,
+    ) -> bool {
+        let Some(caller) = others.pop() else {
+            return false;
+        };
+        let Caller {
+            engine,
+            pass,
+            rt,
+            alloc,
+        } = caller;
         let mut client = Client {
-            engine: first.engine,
-            pass: first.pass,
-            rt: first.rt,
+            engine,
+            pass,
+            rt,
             alloc,
         };
-        add_others(&mut client);
-        add_texts(&mut client);
-        let factors = factors(alloc)?;
-        let mut wrong: u64 = 0;
-        for factor in &factors {
-            wrong = wrong.wrapping_add(count_wrong(
-                &mut client,
-                alloc,
-                factor,
-                factors.as_slice(),
-            )?);
-        }
-        Ok(wrong)
+        ask_all(&mut client, alloc)
     }
 }
 
+fn ask_all<S: Service>(client: &mut S, alloc: Global) -> bool {
+    add_others(client);
+    add_texts(client);
+    all_are_answered(client, alloc)
+}
+
 #[test]
-fn queries_find_what_the_model_finds(rt: HostRuntime) -> Result<(), Fail> {
+fn queries_find_what_the_model_finds(rt: HostRuntime) {
     let alloc = rt.alloc();
-    let config = config(alloc, 2, 2, 1, 1024);
-    let wrong = run::<Wrong, _>(&rt, alloc, &config)??;
-    assert!(rt; wrong == 0);
-    Ok(())
+    expect(&rt, alloc, config(alloc, 2, 2, 1, 1024), &Queries)
 }

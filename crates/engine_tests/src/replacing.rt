@@ -1,106 +1,76 @@
-//! Four threads on an engine that keeps columns free: two replace documents, one finds, and one reads the journal. What they
-//! were answered is compared with a plain model of the commits.
-
-use crate::beside::{Task, work_beside};
+//! Four threads on an engine that keeps columns free: two replace documents, one finds, and one reads the journal.
+use crate::beside::expect_beside;
 use crate::caller::Caller;
-use crate::four_passes::{Seen, Wrong, search, were_live};
+use crate::reports::{Mix, Parts, Report, Wrong, search};
 use crate::setting::config;
 use engine::{AddFault, DeleteFault, PoolName};
 use funnel_model::{Block, Blocked, Commit};
-use std::alloc::Global;
-use std::sync::{Mutex, Wait};
+use std::sync::Wait;
 use std::test::*;
 
 /// The documents of each of the threads that replace. Those of both take four fifths of the columns of 32 slices of 128.
 const DOCUMENTS: u64 = 1638;
 
-/// What a thread tells in the end.
-#[derive(Drop)]
-enum Report {
-    /// Whether each of the documents from the number `first` on is live.
-    Left { first: u64, live: Vec<bool> },
-    /// What was found.
-    Found(Vec<Seen>),
-    /// The commits, as far as they were read.
-    Read(Vec<Commit>),
-}
-
 /// Passes 0 and 1 replace documents of their own, pass 2 reads the journal, and pass 3 finds.
-#[derive(Drop)]
-struct Mix {
-    reports: Mutex<Vec<Report>>,
-}
-
-impl Task for Mix {
-    fn work<N: PoolName, R: Wait>(&self, caller: &mut Caller<'_, N, R>) {
-        let report = match caller.number() {
-            2 => read(caller).map(Report::Read),
-            3 => search(caller).map(Report::Found),
-            _ => replace_all(caller),
-        };
-        if let Ok(report) = report {
-            let _ = self.reports.lock(caller.rt).push(report);
-        }
+pub(crate) fn report<N: PoolName, R: Wait>(caller: &mut Caller<'_, N, R>) -> Result<Report, Wrong> {
+    match caller.number() {
+        2 => read(caller),
+        3 => search(caller),
+        _ => replace_all(caller),
     }
 }
 
-/// 200 rounds, in which the thread's documents are replaced in an order that looks random.
 fn replace_all<N: PoolName, R: Wait>(caller: &mut Caller<'_, N, R>) -> Result<Report, Wrong> {
     let first = 10_000 * caller.number() as u64;
-    let mut live = Vec::new(caller.alloc);
-    add_each(caller, &mut live, first)?;
-    let mut random = first.wrapping_add(1);
-    for _round in 0..200 {
-        random = replace_some(caller, &mut live, first, random)?;
-    }
+    let mut live = vec![in caller.alloc; false; DOCUMENTS as usize].or(Err(Wrong))?;
+    add_each(caller, live.as_mut_slice(), first)?;
+    replace_often(caller, live.as_mut_slice(), first)?;
     Ok(Report::Left { first, live })
 }
 
 fn add_each<N: PoolName, R: Wait>(
     caller: &mut Caller<'_, N, R>,
-    live: &mut Vec<bool>,
+    live: &mut [bool],
     first: u64,
 ) -> Result<(), Wrong> {
-    for i in 0..DOCUMENTS {
-        let added = add_one(caller, first.saturating_add(i))?;
-        live.push(added).or(Err(Wrong::Memory))?;
+    let mut id = first;
+    for is_live in live.iter_mut() {
+        *is_live = add_one(caller, id)?;
+        id = id.saturating_add(1);
     }
     Ok(())
 }
 
-fn replace_some<N: PoolName, R: Wait>(
+/// 2,000 times a document is replaced, in an order that looks random.
+fn replace_often<N: PoolName, R: Wait>(
     caller: &mut Caller<'_, N, R>,
-    live: &mut Vec<bool>,
+    live: &mut [bool],
     first: u64,
-    before: u64,
-) -> Result<u64, Wrong> {
-    let mut random = before;
-    for _i in 0..10 {
+) -> Result<(), Wrong> {
+    let mut random = first.wrapping_add(1);
+    for _ in 0..2000 {
         random = random
             .wrapping_mul(6_364_136_223_846_793_005)
             .wrapping_add(1_442_695_040_888_963_407);
-        replace_one(caller, live, first, (random >> 33) % DOCUMENTS)?;
+        let i = (random >> 33) % DOCUMENTS;
+        if let Some(is_live) = live.get_mut(i as usize) {
+            replace_one(caller, is_live, first.saturating_add(i))?;
+        }
     }
-    Ok(random)
+    Ok(())
 }
 
 /// Replaces a document, or adds it where it was refused before.
 fn replace_one<N: PoolName, R: Wait>(
     caller: &mut Caller<'_, N, R>,
-    live: &mut Vec<bool>,
-    first: u64,
-    i: u64,
+    is_live: &mut bool,
+    id: u64,
 ) -> Result<(), Wrong> {
-    let id = first.saturating_add(i);
-    let was_live = live.get(i as usize).copied() == Some(true);
-    match (was_live, caller.delete(id)) {
+    match (*is_live, caller.delete(id)) {
         (true, Ok(_)) | (false, Err(DeleteFault::Absent)) => {}
-        _ => return Err(Wrong::Delete),
+        _ => return Err(Wrong),
     }
-    let added = add_one(caller, id)?;
-    if let Some(is_live) = live.get_mut(i as usize) {
-        *is_live = added;
-    }
+    *is_live = add_one(caller, id)?;
     Ok(())
 }
 
@@ -112,10 +82,10 @@ fn add_one<N: PoolName, R: Wait>(caller: &mut Caller<'_, N, R>, id: u64) -> Resu
             if passes(&blocks) {
                 Ok(false)
             } else {
-                Err(Wrong::Add)
+                Err(Wrong)
             }
         }
-        Err(_) => Err(Wrong::Add),
+        Err(_) => Err(Wrong),
     }
 }
 
@@ -127,81 +97,29 @@ fn passes(blocks: &Blocked) -> bool {
     ))
 }
 
-/// 200 journals, each of the commits since the last one.
-fn read<N: PoolName, R: Wait>(caller: &mut Caller<'_, N, R>) -> Result<Vec<Commit>, Wrong> {
+fn read<N: PoolName, R: Wait>(caller: &mut Caller<'_, N, R>) -> Result<Report, Wrong> {
     let mut commits = Vec::new(caller.alloc);
-    for _journal in 0..200 {
-        read_more(caller, &mut commits)?;
-    }
-    Ok(commits)
+    read_often(caller, &mut commits)?;
+    Ok(Report::Read(commits))
 }
 
-fn read_more<N: PoolName, R: Wait>(
+/// 200 journals, each of the commits since the last one.
+fn read_often<N: PoolName, R: Wait>(
     caller: &mut Caller<'_, N, R>,
     commits: &mut Vec<Commit>,
 ) -> Result<(), Wrong> {
-    let more = caller
-        .journal(commits.len() as u64)
-        .or(Err(Wrong::Journal))?;
-    for commit in more.as_slice() {
-        commits.push(*commit).or(Err(Wrong::Memory))?;
+    for _journal in 0..200 {
+        let more = caller.journal(commits.len() as u64).or(Err(Wrong))?;
+        commits.extend_from_slice(more.as_slice()).or(Err(Wrong))?;
     }
     Ok(())
-}
-
-/// Whether a thread's report is what the model of the commits gives.
-fn is_right(alloc: Global, commits: &[Commit], report: &Report) -> Result<bool, Fail> {
-    match report {
-        Report::Left { first, live } => Ok(are_left(commits, *first, live.as_slice())),
-        Report::Found(seen) => were_live(alloc, commits, seen.as_slice()),
-        Report::Read(read) => Ok(begin_with(commits, read.as_slice())),
-    }
-}
-
-/// Whether the documents from this number on are live in the end where these say so.
-fn are_left(commits: &[Commit], first: u64, live: &[bool]) -> bool {
-    let mut id = first;
-    for is_live in live {
-        if is_live_after(commits, id) != *is_live {
-            return false;
-        }
-        id = id.saturating_add(1);
-    }
-    true
-}
-
-fn is_live_after(commits: &[Commit], id: u64) -> bool {
-    let mut live = false;
-    for commit in commits {
-        if commit.id == id {
-            live = commit.add;
-        }
-    }
-    live
-}
-
-/// Whether these are the first of the commits.
-fn begin_with(commits: &[Commit], read: &[Commit]) -> bool {
-    read.len() <= commits.len()
-        && commits.iter().zip(read).all(|(commit, other)| commit.add == other.add
-            && commit.id == other.id)
 }
 
 #[test]
-fn documents_are_replaced_by_two_threads(rt: HostRuntime) -> Result<(), Fail> {
-    let alloc = rt.alloc();
-    let mut config = config(alloc, 4, 32, 2, 65_536);
+fn documents_are_replaced_by_two_threads(rt: HostRuntime) {
+    let mix = Mix::new(rt.alloc(), Parts::Replace);
+    let mut config = config(rt.alloc(), 4, 32, 2, 65_536);
     // Two slices: a thread that stands still in an add keeps one from being used again.
     config.reserve = 256;
-    let mix = Mix {
-        reports: Mutex::new(Vec::new(alloc)),
-    };
-    let closed = work_beside(&rt, alloc, &config, &mix)?;
-    let reports = mix.reports.into_inner();
-    // A thread that was answered otherwise than it can be tells nothing.
-    assert_eq!(rt; reports.len(), 4);
-    for report in reports {
-        assert!(rt; is_right(alloc, closed.commits.as_slice(), &report)?);
-    }
-    Ok(())
+    expect_beside(&rt, rt.alloc(), config, &mix)
 }

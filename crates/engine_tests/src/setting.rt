@@ -4,33 +4,21 @@ ghost use Rattle.funnel_model.specs.Configuration.{IsBetween, IsInRange, IsValid
 
 use crate::caller::Caller;
 use engine::{Blank, Engine, Pass, PoolName};
-use funnel_model::{Config, Listed};
+use funnel_model::{Config, Listed, Memory};
 use std::alloc::Global;
 use std::marker::Brand;
+use std::process::Abort;
 use std::sync::Wait;
-use std::test::Fail;
 use treatment::sizes;
 
-/// The calls of a test on one thread, and what they give.
+/// Calls of the passes of an engine on one thread.
 pub(crate) trait Case {
-    type Seen;
-
-    fn run<N: PoolName, R: Wait>(callers: Callers<'_, N, R>) -> Self::Seen;
-}
-
-/// The passes of an engine that has two or three.
-#[derive(Drop)]
-pub(crate) struct Callers<'e, N: PoolName, R: Wait> {
-    pub first: Caller<'e, N, R>,
-    pub second: Caller<'e, N, R>,
-    pub third: Option<Caller<'e, N, R>>,
-}
-
-/// An engine, and all its passes by their numbers.
-#[derive(Drop)]
-pub(crate) struct Opened<N: PoolName> {
-    pub engine: Engine<N>,
-    pub passes: Vec<Pass<N>>,
+    /// Whether they are answered as they have to be. The last pass is apart from the others.
+    fn holds<N: PoolName, R: Wait>(
+        &self,
+        caller: &mut Caller<'_, N, R>,
+        others: &mut Vec<Caller<'_, N, R>>,
+    ) -> bool;
 }
 
 pub(crate) fn no_words(alloc: Global) -> Listed
@@ -76,8 +64,8 @@ pub(crate) fn few_rows(alloc: Global) -> Config
     config
 }
 
-/// The words of an engine with this configuration.
-pub(crate) fn blank(alloc: Global, config: &Config) -> Result<Blank, Fail>
+/// The words of an engine with this configuration, where it isn't too large.
+pub(crate) fn blank(alloc: Global, config: &Config) -> Result<Blank, Memory>
     requires in_range { IsInRange config.now }
     requires no_words { config.now.words ≡ [] }
     ensures made_with { IfOk result (λ blank. blank.config ≡ config.now) }
@@ -85,90 +73,75 @@ pub(crate) fn blank(alloc: Global, config: &Config) -> Result<Blank, Fail>
 {
     let sizes = sizes(config);
     if sizes.columns > 4_194_304 || sizes.pool_words > 33_554_432 {
-        return Err(Fail::new("the engine is too large"));
+        return Err(Memory);
     }
-    Ok(Blank::new(alloc, config)?)
+    Blank::new(alloc, config)
 }
 
-/// An engine over these words.
-pub(crate) fn open<N: PoolName>(
+/// Expects a case to hold at a new engine with this configuration.
+pub(crate) fn expect<C: Case, R: Wait + Abort>(rt: &R, alloc: Global, config: Config, case: &C)
+    requires in_range { IsInRange config }
+    requires no_words { config.words ≡ [] }
+{
+    assert!(rt; matches!(holds(rt, alloc, config, case), Ok(true)));
+}
+
+/// Expects it to hold at one with two passes, and one slice of 64 columns.
+pub(crate) fn expect_in_a_slice<C: Case, R: Wait + Abort>(rt: &R, alloc: Global, case: &C) {
+    expect(rt, alloc, config(alloc, 2, 1, 1, 1024), case)
+}
+
+fn holds<C: Case, R: Wait>(rt: &R, alloc: Global, config: Config, case: &C) -> Result<bool, Memory>
+    requires in_range { IsInRange config }
+    requires no_words { config.words ≡ [] }
+{
+    let blank = blank(alloc, &config)?;
+    open_and_call::<C, Brand, _>(rt, alloc, &config, blank, case)
+}
+
+fn open_and_call<C: Case, N: PoolName, R: Wait>(
+    rt: &R,
     alloc: Global,
     config: &Config,
     blank: Blank,
-) -> Result<Opened<N>, Fail>
+    case: &C,
+) -> Result<bool, Memory>
     requires made_with { blank.config ≡ config.now }
     requires named { blank ≡ N.pool }
 {
     let (engine, passes) = Engine::<N>::open(alloc, config, blank)?;
-    Ok(Opened { engine, passes })
+    call_with(rt, alloc, &engine, passes, case)
 }
 
-/// Makes the calls at a new engine with this configuration, and gives what they give.
-pub(crate) fn run<C: Case, R: Wait>(rt: &R, alloc: Global, config: &Config) -> Result<C::Seen, Fail>
-    requires in_range { IsInRange config.now }
-    requires no_words { config.now.words ≡ [] }
-{
-    let blank = blank(alloc, config)?;
-    open_and_run::<C, Brand, _>(rt, alloc, config, blank)
-}
-
-fn open_and_run<C: Case, N: PoolName, R: Wait>(
-    rt: &R,
-    alloc: Global,
-    config: &Config,
-    blank: Blank,
-) -> Result<C::Seen, Fail>
-    requires made_with { blank.config ≡ config.now }
-    requires named { blank ≡ N.pool }
-{
-    let opened = open::<N>(alloc, config, blank)?;
-    let Opened { engine, mut passes } = opened;
-    run_with::<C, _, _>(rt, alloc, &engine, &mut passes)
-}
-
-fn run_with<C: Case, N: PoolName, R: Wait>(
+fn call_with<C: Case, N: PoolName, R: Wait>(
     rt: &R,
     alloc: Global,
     engine: &Engine<N>,
-    passes: &mut Vec<Pass<N>>,
-) -> Result<C::Seen, Fail> {
-    let callers = with_calls(rt, alloc, engine, passes)?;
-    Ok(C::run(callers))
+    passes: Vec<Pass<N>>,
+    case: &C,
+) -> Result<bool, Memory> {
+    let mut others = callers(rt, alloc, engine, passes)?;
+    let Some(mut caller) = others.pop() else {
+        return Ok(false);
+    };
+    Ok(case.holds(&mut caller, &mut others))
 }
 
 /// The passes, with their calls.
-pub(crate) fn with_calls<'e, N: PoolName, R: Wait>(
+pub(crate) fn callers<'e, N: PoolName, R: Wait>(
     rt: &'e R,
     alloc: Global,
     engine: &'e Engine<N>,
-    passes: &mut Vec<Pass<N>>,
-) -> Result<Callers<'e, N, R>, Fail> {
-    let third = if passes.len() > 2 {
-        Some(last(rt, alloc, engine, passes)?)
-    } else {
-        None
-    };
-    let second = last(rt, alloc, engine, passes)?;
-    let first = last(rt, alloc, engine, passes)?;
-    Ok(Callers {
-        first,
-        second,
-        third,
-    })
-}
-
-/// The last of the passes.
-fn last<'e, N: PoolName, R: Wait>(
-    rt: &'e R,
-    alloc: Global,
-    engine: &'e Engine<N>,
-    passes: &mut Vec<Pass<N>>,
-) -> Result<Caller<'e, N, R>, Fail> {
-    let pass = passes.pop().ok_or("a pass")?;
-    Ok(Caller {
-        engine,
-        pass,
-        rt,
-        alloc,
-    })
+    passes: Vec<Pass<N>>,
+) -> Result<Vec<Caller<'e, N, R>>, Memory> {
+    let mut callers = Vec::new(alloc);
+    for pass in passes {
+        callers.push(Caller {
+            engine,
+            pass,
+            rt,
+            alloc,
+        })?;
+    }
+    Ok(callers)
 }

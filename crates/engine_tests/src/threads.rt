@@ -1,10 +1,11 @@
 //! Threads that add, delete and find beside each other.
 
-use crate::beside::{Task, work_beside};
+use crate::beside::{Task, expect_beside};
 use crate::caller::{Caller, Refused};
 use crate::setting::config;
-use engine::PoolName;
-use funnel_model::{Commit, Memory};
+use engine::{Closed, PoolName};
+use funnel_model::Commit;
+use std::alloc::Global;
 use std::sync::Wait;
 use std::sync::atomic::{AtomicU64, Ordering};
 use std::test::*;
@@ -22,23 +23,28 @@ impl Task for Fill {
         let first = 1000 * caller.number() as u64;
         let mut as_wanted = true;
         for i in 1..501 {
-            as_wanted = as_wanted && add_and_find(caller, first + i) == Ok(true);
+            as_wanted = as_wanted && add_and_find(caller, first + i);
         }
         if as_wanted {
             self.right.fetch_add(1, Ordering::SeqCst);
         }
     }
+
+    fn is_right<R: Wait>(&self, _: &R, _: Global, closed: &Closed) -> bool {
+        self.right.load(Ordering::SeqCst) == 2 && has_filled(closed)
+    }
 }
 
 /// Adds a document with a word of its own, and finds it by this word. Whether both were answered so.
-fn add_and_find<N: PoolName, R: Wait>(
-    caller: &mut Caller<'_, N, R>,
-    id: u64,
-) -> Result<bool, Memory> {
-    let text = format!(in caller.alloc; "x u{id}")?;
-    let word = format!(in caller.alloc; "u{id}")?;
-    let added = caller.add(id, text.as_str()).is_ok();
-    Ok(added && caller.finds(word.as_str(), (id, id.saturating_add(1))))
+fn add_and_find<N: PoolName, R: Wait>(caller: &mut Caller<'_, N, R>, id: u64) -> bool {
+    match format!(in caller.alloc; "u{id}") {
+        Ok(word) => add_word(caller, id, word.as_str()),
+        Err(_) => false,
+    }
+}
+
+fn add_word<N: PoolName, R: Wait>(caller: &mut Caller<'_, N, R>, id: u64, word: &str) -> bool {
+    caller.add(id, word).is_ok() && caller.finds(word, (id, id.saturating_add(1)))
 }
 
 /// Whether the commits of a pass are adds of its numbers, in rising order.
@@ -56,19 +62,23 @@ fn are_rising(commits: &[Commit], from: u64) -> bool {
 }
 
 #[test]
-fn two_threads_add_and_find(rt: HostRuntime) -> Result<(), Fail> {
-    let alloc = rt.alloc();
-    let config = config(alloc, 2, 8, 2, 1024);
-    let fill = Fill {
-        right: AtomicU64::new(0),
-    };
-    let closed = work_beside(&rt, alloc, &config, &fill)?;
+fn two_threads_add_and_find(rt: HostRuntime) {
+    let right = AtomicU64::new(0);
+    expect_beside(
+        &rt,
+        rt.alloc(),
+        config(rt.alloc(), 2, 8, 2, 1024),
+        &Fill { right },
+    )
+}
+
+/// Whether both passes added what they had to, and made two events for each add and each find.
+fn has_filled(closed: &Closed) -> bool {
     let commits = closed.commits.as_slice();
-    assert_eq!(rt; fill.right.load(Ordering::SeqCst), 2);
-    assert_eq!(rt; closed.events, 4000);
-    assert_eq!(rt; commits.len(), 1000);
-    assert!(rt; are_rising(commits, 0) && are_rising(commits, 1000));
-    Ok(())
+    closed.events == 4000
+        && commits.len() == 1000
+        && are_rising(commits, 0)
+        && are_rising(commits, 1000)
 }
 
 /// The first pass adds and deletes the numbers 1 to 64 in 200 rounds, and the second one finds beside it until the first is
@@ -93,6 +103,10 @@ impl Task for Reuse {
         if as_wanted {
             self.right.fetch_add(1, Ordering::SeqCst);
         }
+    }
+
+    fn is_right<R: Wait>(&self, _: &R, _: Global, closed: &Closed) -> bool {
+        self.right.load(Ordering::SeqCst) == 2 && are_rounds(closed.commits.as_slice())
     }
 }
 
@@ -159,8 +173,12 @@ fn is_rising_to(ids: &[u64], last: u64) -> bool {
     before <= last
 }
 
-/// Whether these are rounds of adds of the numbers 1 to 64 and of their deletes.
+/// Whether these are 200 rounds of adds of the numbers 1 to 64 and of their deletes.
 fn are_rounds(commits: &[Commit]) -> bool {
+    commits.len() == 25_600 && go_round(commits)
+}
+
+fn go_round(commits: &[Commit]) -> bool {
     let mut add = true;
     let mut id = 1;
     for commit in commits {
@@ -174,17 +192,10 @@ fn are_rounds(commits: &[Commit]) -> bool {
 }
 
 #[test]
-fn a_slice_is_used_again_beside_finds(rt: HostRuntime) -> Result<(), Fail> {
-    let alloc = rt.alloc();
-    let config = config(alloc, 2, 1, 1, 65_536);
+fn a_slice_is_used_again_beside_finds(rt: HostRuntime) {
     let reuse = Reuse {
         right: AtomicU64::new(0),
         over: AtomicU64::new(0),
     };
-    let closed = work_beside(&rt, alloc, &config, &reuse)?;
-    let commits = closed.commits.as_slice();
-    assert_eq!(rt; reuse.right.load(Ordering::SeqCst), 2);
-    assert_eq!(rt; commits.len(), 25_600);
-    assert!(rt; are_rounds(commits));
-    Ok(())
+    expect_beside(&rt, rt.alloc(), config(rt.alloc(), 2, 1, 1, 65_536), &reuse)
 }

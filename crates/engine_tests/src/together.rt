@@ -1,10 +1,11 @@
 //! Two threads that write columns of the same words at the same time.
 
-use crate::beside::{Task, work_beside};
+use crate::beside::{Task, expect_beside};
 use crate::caller::Caller;
 use crate::hooked::{Hook, Hooked};
 use crate::setting::config;
-use engine::PoolName;
+use engine::{Closed, PoolName};
+use std::alloc::Global;
 use std::hint::spin_loop;
 use std::sync::Wait;
 use std::sync::atomic::{AtomicU64, Ordering};
@@ -84,6 +85,10 @@ impl Task for Pairs {
             self.right.fetch_add(1, Ordering::SeqCst);
         }
     }
+
+    fn is_right<R: Wait>(&self, _: &R, _: Global, _: &Closed) -> bool {
+        self.right.load(Ordering::SeqCst) == 2
+    }
 }
 
 fn add_each<N: PoolName, R: Wait>(
@@ -107,14 +112,10 @@ fn has_all<N: PoolName, R: Wait>(caller: &mut Caller<'_, N, R>) -> bool {
 }
 
 #[test]
-fn bits_set_at_the_same_time_are_all_kept(rt: HostRuntime) -> Result<(), Fail> {
-    let alloc = rt.alloc();
-    let config = config(alloc, 2, 32, 1, 2048);
+fn bits_set_at_the_same_time_are_all_kept(rt: HostRuntime) {
     let pairs = Pairs {
         came: AtomicU64::new(0),
         right: AtomicU64::new(0),
     };
-    work_beside(&rt, alloc, &config, &pairs)?;
-    assert_eq!(rt; pairs.right.load(Ordering::SeqCst), 2);
-    Ok(())
+    expect_beside(&rt, rt.alloc(), config(rt.alloc(), 2, 32, 1, 2048), &pairs)
 }

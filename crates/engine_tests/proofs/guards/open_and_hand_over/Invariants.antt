@@ -1,4 +1,4 @@
-use Rattle.engine_tests.proofs.guards.an_open_find_goes_to_another_thread.Given as goal
+use Rattle.engine_tests.proofs.guards.open_and_hand_over.Given as goal
 
 -- the pool of the engine that is opened
 abbrev pub ghosts-hand_over : goal.ghosts-hand_over

@@ -1,4 +1,4 @@
-use Rattle.engine_tests.proofs.retuning.documents_of_two_treatments_are_found.Given as goal
+use Rattle.engine_tests.proofs.retuning.tune_beside.Given as goal
 
 -- the pool of the engine that is opened
 abbrev pub ghosts-open_and_tune : goal.ghosts-open_and_tune

@@ -1,6 +1,0 @@
-use Rattle.std.proofs.Common.{ap, sym, ◌∙◌}
-use Rattle.slice_rule.specs.Pools.{PoolId}
-use Rattle.engine_tests.proofs.retuning.open_and_work.Goals as goal
-
-pub ten_tails-requires-clause-opening : goal.ten_tails-requires-clause-opening
-ten_tails-requires-clause-opening g c = sym (ap (λ (p : PoolId). p.config) c.requires.named) ∙ c.requires.made_with
