@@ -130,7 +130,7 @@ def main():
         say("there is no command rt on the path: it comes with the Rattle kit")
         return 1
     below = libraries()
-    say("proving and building the program; the first time takes some 25 minutes on four processors")
+    say("proving and building the program; the first time takes 20 to 30 minutes on four processors")
     return 0 if build_all(below, needed(PROGRAM, below), lanes()) else 1
 
 
