@@ -4,7 +4,9 @@ use Rattle.std.specs.List.{range_with_len}
 use Rattle.std.specs.Option.{IsSomeAnd, option_map_or}
 use Rattle.std.specs.Str.{bytes_eq}
 use Rattle.std.specs.Str.Parse.{IsNumeral, digits_value, without_leading_plus}
-use Rattle.clap.specs.Words.{App, Row, Rule, Shape, Text, new_rule, one_of, subcommand_of, takes}
+use Rattle.clap.specs.Words.{App, Row, Rule, Shape, Text, app_of, new_rule, one_of, subcommand_of, takes}
+use Rattle.clap.specs.declared.builder.command.Command.TheViews.{out-Command as fields_of}
+use Rattle.clap.specs.declared.builder.command.Command.{Command as BuiltCommand}
 use Rattle.clap.specs.Simple.{new_shape}
 use Rattle.clap.specs.declared.builder.action.ArgAction.TheVariants.{Set, SetTrue}
 use Rattle.clap.specs.declared.builder.value_parser.ValueParser.{ValueParser}
@@ -93,6 +95,14 @@ funnel_app = record {
   top = record (new_shape (codes "funnel")) { is_leaf = false; subcommand_required = true };
   subs = run_form ∷ serve_form ∷ load_form ∷ fit_form ∷ [];
 }
+
+-- the commands have these forms, each without subcommands of its own and without a global option
+abbrev pub AreSubcommands : List BuiltCommand → List Shape → Type 0
+AreSubcommands [] [] = ⊤
+AreSubcommands [] (form ∷ forms) = ⊥
+AreSubcommands (command ∷ commands) [] = ⊥
+AreSubcommands (command ∷ commands) (form ∷ forms) =
+    (app_of command ≡ record { top = form; subs = [] }) × ((fields_of command).has_globals ≡ false) × AreSubcommands commands forms
 
 -- the option has a value, which is a number from `low` to `high`
 abbrev pub HasNumber : ℕ → ℕ → Text → List Row → Type 0

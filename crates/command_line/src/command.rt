@@ -1,13 +1,13 @@
 //! The words after the program's name: which command they are, with its numbers. `clap` reads them, and the command
 //! line that it reads is written out in `specs/Commands.antt`.
-ghost use Rattle.std.specs.Prelude.{◌≡◌, ◌↔◌, ℕ, List, [], ◌∷◌, map, option_and_then, IfOk, IfSome, IsErrOf, IsSome, Some, None, false, true};
+ghost use Rattle.std.specs.Prelude.{◌≡◌, ◌↔◌, ◌++◌, ℕ, List, [], ◌∷◌, map, option_and_then, IfOk, IfSome, IsErrOf, IsSome, MatchResult, Some, None, false, true};
 ghost use Rattle.clap.specs.Words.{app_of, found_of, kind_of, rows_of, rule_of, subcommand_rows_of, takes};
 ghost use Rattle.clap.specs.declared.builder.command.Command.TheViews.{out-Command as fields_of};
 ghost use Rattle.command_line.specs.Commands.{HasFitNumbers, HasLoadNumbers, HasNumbers, HasNumbersInRange, HasServeNumbers};
 ghost use Rattle.command_line.specs.Commands.{IsFitInRange, IsLoadInRange, IsServeInRange, call_words, command_of, fault_by};
 ghost use Rattle.command_line.specs.Commands.{connections_option, docs_option, documents_option, http_option, idle_option, load_workers_option};
 ghost use Rattle.command_line.specs.Commands.{number_option, one_port_option, port_option, seed_option, words_option, workers_option};
-ghost use Rattle.command_line.specs.Commands.{fit_form, fit_of, funnel_app, load_form, load_of, serve_form, serve_of, subcommand_as};
+ghost use Rattle.command_line.specs.Commands.{AreSubcommands, fit_form, fit_of, funnel_app, load_form, load_of, run_form, serve_form, serve_of, subcommand_as};
 ghost use Rattle.command_line.specs.declared.command.CommandFault.TheVariants.{Memory};
 
 use clap::builder::ValueParser;
@@ -145,13 +145,32 @@ pub(crate) fn call_words<'a>(alloc: Global, words: &[&'a str]) -> Result<Vec<&'a
 pub(crate) fn funnel_app<'a>(alloc: Global) -> Result<clap::Command<'a>, AllocError>
     ensures { IfOk result (λ app. app_of app ≡ funnel_app) }
 {
-    let serve = serve_app(alloc)?;
-    let load = load_app(alloc)?;
-    let fit = fit_app(alloc)?;
-    let subcommands = vec![in alloc; clap::Command::new(alloc, "run"), serve, load, fit]?;
+    let subcommands = subcommands(alloc)?;
     clap::Command::new(alloc, "funnel")
         .subcommand_required(true)
         .subcommands(subcommands)
+}
+
+// Each is handed on as it was made, so that no other one has to be let go where a later one can't be made.
+fn subcommands<'a>(alloc: Global) -> Result<Vec<clap::Command<'a>>, AllocError>
+    ensures { IfOk result (λ all. AreSubcommands all.items (run_form ∷ serve_form ∷ load_form ∷ fit_form ∷ [])) }
+{
+    let first = vec![in alloc; clap::Command::new(alloc, "run")]?;
+    let two = with_app(first, serve_app(alloc))?;
+    let three = with_app(two, load_app(alloc))?;
+    with_app(three, fit_app(alloc))
+}
+
+// The list with one more subcommand, if that was made.
+fn with_app<'a>(
+    apps: Vec<clap::Command<'a>>,
+    app: Result<clap::Command<'a>, AllocError>,
+) -> Result<Vec<clap::Command<'a>>, AllocError>
+    ensures { IfOk result (λ more. MatchResult app.entry (λ one. more.items ≡ apps.entry.items ++ (one ∷ [])) (λ _. ⊥)) }
+{
+    let mut apps = apps;
+    apps.push(app?)?;
+    Ok(apps)
 }
 
 fn serve_app<'a>(alloc: Global) -> Result<clap::Command<'a>, AllocError>

@@ -144,7 +144,7 @@ module _ (pool : PoolId) (before after : DeskState) (seat next : PassState) (her
           take_within before.pool.limits before.history seat.number slice column (legal_before before.pool.limits before.history (e ∷ []) legal)
           (allowed_within before.pool.limits (before.history ++ e ∷ []) before.history e [] legal refl)
 
-      pub is_to_do : (id : ℕ) (text : List ℕ) (answer : Taken) → AnswersTake most before.pool.limits before.history seat.number id answer → IsPrepared before.history answer next →
+      pub is_to_do : (id : ℕ) (text : List ℕ) (answer : Taken) → AnswersTake most before.pool.limits before.history seat.number id answer → IsPrepared answer next →
           Makes (events_of_take seat.number id text answer) before after seat next → IsToDo pool answer next
       is_to_do id text (taken.Claim claim layout) may fresh made =
           let e = event.Take seat.number claim.slice claim.column in
@@ -153,7 +153,7 @@ module _ (pool : PoolId) (before after : DeskState) (seat next : PassState) (her
       is_to_do id text (taken.Clear work layout) may laid made = (
         to_clear work.job.slice may.2.in_range made,
         old_slots work may.3,
-        subst (λ (p : PoolId). IsLayoutOf p.config work.job.slice next.front layout) (made.same ∙ here) laid.0,
+        subst (λ (p : PoolId). IsLayoutOf p.config work.job.slice next.front layout) (made.same ∙ here) laid,
       )
       is_to_do id text (taken.Refused (add.Spent events)) may nothing made = rests_none idle made
       is_to_do id text (taken.Refused (add.Present added)) may nothing made = rests_one (event.No seat.number (call.Add id text)) refl refl made

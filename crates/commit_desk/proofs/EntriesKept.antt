@@ -17,7 +17,7 @@ use Rattle.row_layout.proofs.Lists.{Contains-from_map}
 use Rattle.row_layout.specs.Layouts.{LayoutId}
 use Rattle.commit_desk.specs.declared.find_layouts.FindLayout.{FindLayout}
 use Rattle.commit_desk.specs.Layouts.{AreFirst, IsCurrentOf, IsEntryOf, LayoutsState}
-use Rattle.commit_desk.specs.Treatments.{AreApart, AreEntries, AreTreatments, EndsEntry, EndsNoEntry, HasCurrent, IsRenewed, IsTakenOut, TakesCurrent, TellsCurrent}
+use Rattle.commit_desk.specs.Treatments.{AreApart, AreEntries, AreTreatments, EndsEntry, EndsNoEntry, HasCurrent, IsBesideWhereUnused, IsRenewed, IsTakenOut, TakesCurrent}
 
 -- what is kept, by its parts
 abbrev pub state : List FindLayout → Option LayoutId → ℕ → LayoutsState
@@ -515,7 +515,7 @@ renewed-same room treatments (Some layout) tunings slice entry is among has numb
 
 -- whether some slice has the current treatment
 pub tells_current : (room : ℕ) (treatments : List FindLayout) (next : Option LayoutId) (tunings : ℕ) → AreTreatments room (state treatments next tunings) →
-    TellsCurrent (state treatments next tunings) next
+    IsBesideWhereUnused (state treatments next tunings) next
 tells_current room treatments None tunings is =
     let entry = is.current in
     let some = is.entries.some entry.0 entry.1 in

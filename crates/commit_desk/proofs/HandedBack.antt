@@ -5,7 +5,7 @@ use Rattle.row_layout.specs.Layouts.{LayoutId}
 use Rattle.slice_rule.specs.Pools.{PoolId}
 use Rattle.commit_desk.specs.declared.find_layouts.FindLayout.{FindLayout}
 use Rattle.commit_desk.specs.Layouts.{AreLayoutsOf, HandsBackOld, HandsBackUnused, IsEntryOf, IsLayoutOf, IsTreatedNow, LayoutsState}
-use Rattle.commit_desk.specs.Treatments.{EndsEntry, EndsNoEntry, TellsCurrent}
+use Rattle.commit_desk.specs.Treatments.{EndsEntry, EndsNoEntry, IsBesideWhereUnused}
 
 module _ (pool : PoolId) (history : List Event) (kept : LayoutsState) (are : AreLayoutsOf pool.config pool.limits.slices history kept) where
   -- a slice has the current treatment where its entry has the number of the last tuning, and nowhere else
@@ -32,7 +32,7 @@ module _ (pool : PoolId) (history : List Event) (kept : LayoutsState) (are : Are
     laid = subst (IsLayoutOf pool.config slice history) (sym one.laid) (are.laid slice one.entry one.of_slice);
   }
 
-  pub handed_by_tune : (unused : Option LayoutId) → unused ≡ kept.next → TellsCurrent kept unused → HandsBackUnused pool history unused
+  pub handed_by_tune : (unused : Option LayoutId) → unused ≡ kept.next → IsBesideWhereUnused kept unused → HandsBackUnused pool history unused
   handed_by_tune None is some = (some.0, are.within some.0 some.1 some.2, treated_now some.0 some.1 some.2 some.3)
   handed_by_tune (Some layout) is none = record {
     current = are.current layout

@@ -45,22 +45,6 @@ makes_later events before after seat caught next same goes front made = record {
   own = made.own ∙ same.own;
 }
 
--- a pass that saw the whole history and made no event
-pub makes_none : (before : DeskState) (seat caught : PassState) → IsSamePass seat caught → IsFrontOf caught.number seat.front caught.front → caught.front ≡ before.history →
-    IsLegal before.pool.limits before.history → Makes [] before before seat caught
-makes_none before seat caught same goes front legal = record {
-  pool = refl;
-  limit = refl;
-  history = sym (append-nil before.history);
-  legal = legal;
-  seen = subst (λ n. IsFrontOf n seat.front before.history) same.number (subst (λ (h : List Event). IsFrontOf caught.number seat.front h) front goes);
-  same = same.pool;
-  number = same.number;
-  front = front;
-  asked = same.asked ∙ sym (append-nil seat.asked);
-  own = same.own;
-}
-
 -- events after events
 pub makes_more : (first second : List Event) (before middle after : DeskState) (seat between next : PassState) → Makes first before middle seat between → Makes second middle after between next →
     Makes (first ++ second) before after seat next

@@ -1,5 +1,5 @@
 -- What each call of the desk answers, after the events of a history and in the order of its checks, and the events that it makes.
-use Rattle.std.specs.Prelude.{◌≡◌, ℕ, ◌+◌, ◌<◌, ◌≤◌, ◌↔◌, true, false, List, [], ◌∷◌, length, Result, Ok, Err, Some, Contains}
+use Rattle.std.specs.Prelude.{◌≡◌, ℕ, ◌+◌, ◌<◌, ◌≤◌, ◌↔◌, true, false, List, [], ◌∷◌, length, Option, None, Result, Ok, Err, Some, Contains}
 use Rattle.funnel_model.specs.Blocks.{AreBlocks, IsLowestGuard}
 use Rattle.funnel_model.specs.declared.bit_list.Bit.{Bit}
 use Rattle.funnel_model.specs.declared.call.Call.TheVariants as call
@@ -86,6 +86,11 @@ events_of_take pass id text (taken.Refused (add.Spent events)) = []
 events_of_take pass id text (taken.Refused add.Memory) = []
 events_of_take pass id text (taken.Refused _) = event.No pass (call.Add id text) ∷ []
 
+-- the answer `Full` alone takes the room that a take was given: with any other it is as it was
+abbrev pub LeavesRoom : {A : Type 0} → Taken → Option A → Option A → Type 0
+LeavesRoom (taken.Refused (add.Full blocks)) before after = after ≡ None
+LeavesRoom answer before after = after ≡ before
+
 -- the events of a pass that opens a slice and takes its first column
 abbrev pub events_of_opened_take : ℕ → ℕ → List Event
 events_of_opened_take pass slice = event.Opened pass slice false ∷ event.Take pass slice 0 ∷ []
@@ -139,7 +144,7 @@ events_of_clear pass (Ok work) = event.Clear pass work.job.slice ∷ []
 events_of_clear pass (Err (clear.Spent events)) = []
 events_of_clear pass (Err _) = event.No pass call.Recycle ∷ []
 
--- a slice to clear comes with as many old slots as it has columns, and with its old layout where no other slice has its treatment
+-- a slice to clear comes with as many old slots as it has columns, and with the layout of its older treatment, where no other slice has that
 pub record IsClearWork (pool : PoolId) (history : List Event) (work : ToClear) : Type 0 where
   pub slots : work.slots ≡ pool.limits.columns
   pub old : HandsBackOld pool history work.job.slice work.old_layout

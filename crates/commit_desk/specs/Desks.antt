@@ -1,5 +1,5 @@
 -- What contracts see of a desk, and what a call makes of it and of the pass.
-use Rattle.std.specs.Prelude.{◌≡◌, ℕ, ◌<◌, List, ◌++◌, All}
+use Rattle.std.specs.Prelude.{◌≡◌, ℕ, ◌<◌, List, ◌++◌, All, Option}
 use Rattle.funnel_model.specs.declared.claim.Claim.{Claim}
 use Rattle.funnel_model.specs.declared.event.Event.{Event}
 use Rattle.funnel_model.specs.History.{IsFrontOf}
@@ -10,6 +10,7 @@ use Rattle.slice_rule.specs.Pools.{PoolId}
 use Rattle.slice_rule.specs.Seats.{IsSeated, PassState, number_under}
 use Rattle.commit_desk.specs.declared.answers.Taken.{Taken}
 use Rattle.commit_desk.specs.declared.answers.Taken.TheVariants as taken
+use Rattle.commit_desk.specs.Answers.{LeavesRoom}
 use Rattle.commit_desk.specs.Layouts.{HandsBackOld, IsLayoutOf}
 
 -- its pool, the number of events from which on it takes no call, and the history
@@ -51,13 +52,23 @@ pub record IsFresh (claim : Claim) (layout : LayoutId) (seat : PassState) : Type
   pub unwritten : IsUnwritten seat
   pub laid : IsLayoutOf seat.pool.config claim.slice seat.front layout
 
--- so it is with a pass that has claimed a column; and with a slice to clear come the layout that it has from now on, and the old one where
--- no other slice had its treatment after the events before
-abbrev pub IsPrepared : List Event → Taken → PassState → Type 0
-IsPrepared history (taken.Claim claim layout) seat = IsFresh claim layout seat
-IsPrepared history (taken.Clear work layout) seat =
-    IsLayoutOf seat.pool.config work.job.slice seat.front layout × HandsBackOld seat.pool history work.job.slice work.old_layout
-IsPrepared history _ seat = Unit {0}
+-- so it is with a pass that has claimed a column; and with a slice to clear comes the layout that it has from now on
+abbrev pub IsPrepared : Taken → PassState → Type 0
+IsPrepared (taken.Claim claim layout) seat = IsFresh claim layout seat
+IsPrepared (taken.Clear work layout) seat = IsLayoutOf seat.pool.config work.job.slice seat.front layout
+IsPrepared _ seat = Unit {0}
+
+-- with a slice to clear after these events comes the layout of its older treatment, where no other slice has that
+abbrev pub HandsBackWith : PoolId → List Event → Taken → Type 0
+HandsBackWith pool history (taken.Clear work layout) = HandsBackOld pool history work.job.slice work.old_layout
+HandsBackWith pool history _ = Unit {0}
+
+-- what a take gives with its answer: the layout by which bits are to be set, the one that no slice has any more, and the room that it was
+-- given, unless it needed that
+pub record HandsOver {A : Type 0} (desk : DeskState) (answer : Taken) (seat : PassState) (given left : Option A) : Type 0 where
+  pub prepared : IsPrepared answer seat
+  pub old : HandsBackWith desk.pool desk.history answer
+  pub room : LeavesRoom answer given left
 
 -- a pass that opened the slice and claimed its first column: the slice has the layout that it had
 pub record IsReused (slice : ℕ) (seat next : PassState) : Type 0 where

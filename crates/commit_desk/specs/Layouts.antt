@@ -57,7 +57,7 @@ pub record EndsTreatment (opening : Config) (slices : ℕ) (history : List Event
   pub alone : (other : ℕ) → other < slices → treatment_number other history ≡ treatment_number slice history → other ≡ slice
   pub laid : IsLayoutOf opening slice history layout
 
--- what is handed back of a slice that is cleared after these events: its old layout, where no other slice has its treatment
+-- what is handed back of a slice that is cleared after these events: the layout of its older treatment, where no other slice has that
 abbrev pub HandsBackOld : PoolId → List Event → ℕ → Option LayoutId → Type 0
 HandsBackOld pool history slice old =
     MatchOption old (EndsNoTreatment pool.limits.slices history slice) (EndsTreatment pool.config pool.limits.slices history slice)

@@ -73,8 +73,8 @@ pub record EndsEntry (before : LayoutsState) (slice : ℕ) (layout : LayoutId) :
   pub laid : layout ≡ entry.layout
 
 -- some slice has the current treatment where no layout is kept beside the entries, and else none has it
-abbrev pub TellsCurrent : LayoutsState → Option LayoutId → Type 0
-TellsCurrent kept next =
+abbrev pub IsBesideWhereUnused : LayoutsState → Option LayoutId → Type 0
+IsBesideWhereUnused kept next =
     MatchOption next ((slice : ℕ) × (entry : FindLayout) × IsEntryOf kept slice entry × (entry.number ≡ kept.tunings))
     (λ layout. (slice : ℕ) (entry : FindLayout) → IsEntryOf kept slice entry → entry.number ≡ kept.tunings → ⊥)
 

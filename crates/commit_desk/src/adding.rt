@@ -8,7 +8,7 @@ ghost use Rattle.funnel_model.specs.Slices.{claimed};
 ghost use Rattle.slice_rule.specs.Seats.{HasNoneOutstanding, HoldsClaim, IsSeated};
 ghost use Rattle.commit_desk.specs.Answers.{AnswersCommit, AnswersTake, IsClearWork, MayAdd, MayMakeRoom, TakesCalls};
 ghost use Rattle.commit_desk.specs.Answers.{events_of_commit, events_of_opened_take, events_of_take};
-ghost use Rattle.commit_desk.specs.Desks.{IsCaughtUp, IsFresh, IsPrepared, IsReused, IsUnwritten, Makes};
+ghost use Rattle.commit_desk.specs.Desks.{HandsOver, IsCaughtUp, IsFresh, IsReused, IsUnwritten, Makes};
 ghost use Rattle.commit_desk.specs.Layouts.{IsCurrentLayout, IsLayoutOf};
 ghost use Rattle.commit_desk.specs.Passes.{HasWritten, HoldsCleared};
 
@@ -40,7 +40,7 @@ impl Desk {
         ensures answer { AnswersTake self.old.events_limit self.old.pool.limits self.old.history seat.old.number doc.now.id result }
         ensures events { Makes (events_of_take seat.old.number doc.now.id doc.now.text result) self.old self.new seat.old seat.new }
         ensures none_outstanding { HasNoneOutstanding seat.new }
-        ensures prepared { IsPrepared self.old.history result seat.new }
+        ensures handed { HandsOver self.old result seat.new room.old room.new }
     {
         pool.catch_up(&mut self.home, seat);
         if self.is_spent() {
@@ -142,7 +142,7 @@ impl Desk {
         ensures answer { AnswersTake self.old.events_limit self.old.pool.limits self.old.history seat.old.number doc.now.id result }
         ensures events { Makes (events_of_take seat.old.number doc.now.id doc.now.text result) self.old self.new seat.old seat.new }
         ensures none_outstanding { HasNoneOutstanding seat.new }
-        ensures prepared { IsPrepared self.old.history result seat.new }
+        ensures handed { HandsOver self.old result seat.new room.old room.new }
     {
         if let Some(slice) = self.stages.with_room() {
             return match self.claim_laid(pool, seat, slice) {
@@ -168,7 +168,7 @@ impl Desk {
         ensures answer { AnswersTake self.old.events_limit self.old.pool.limits self.old.history seat.old.number doc.now.id result }
         ensures events { Makes (events_of_take seat.old.number doc.now.id doc.now.text result) self.old self.new seat.old seat.new }
         ensures none_outstanding { HasNoneOutstanding seat.new }
-        ensures prepared { IsPrepared self.old.history result seat.new }
+        ensures handed { HandsOver self.old result seat.new room.old room.new }
     {
         let _ = &self.home;
         if self.clearable().is_some() {

@@ -49,7 +49,7 @@ pub enum AddFault {
     Full(Blocked),
     /// The history has this many events, and no call is taken any more.
     Spent(u64),
-    /// There was no memory. The desk answers this where it could not share the layout of a slice.
+    /// There was no memory, before a column was taken or a slice cleared for the document.
     Memory,
 }
 
@@ -90,7 +90,7 @@ pub enum ClearRefusal {
 pub enum FindFault {
     /// The history has this many events, and no call is taken any more.
     Spent(u64),
-    /// There was no memory. The desk answers this where it could not tell the layouts of the find's slices.
+    /// There was no memory: before the find began, or after, and then it was ended.
     Memory,
 }
 

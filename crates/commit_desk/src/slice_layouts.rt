@@ -4,7 +4,7 @@ ghost use Rattle.funnel_model.specs.declared.config.TheConstants.{MOST_SLICES};
 ghost use Rattle.row_layout.specs.Layouts.{LayoutId};
 ghost use Rattle.commit_desk.specs.declared.find_layouts.FindLayout.{FindLayout};
 ghost use Rattle.commit_desk.specs.Layouts.{AreFirst, IsCurrentOf, IsEntryOf, IsLaidBy, with_tuning};
-ghost use Rattle.commit_desk.specs.Treatments.{AddsShare, AreShared, EndsEntry, EndsNoEntry, IsRenewed, TakesCurrent, TellsCurrent};
+ghost use Rattle.commit_desk.specs.Treatments.{AddsShare, AreShared, EndsEntry, EndsNoEntry, IsBesideWhereUnused, IsRenewed, TakesCurrent};
 
 use crate::find_layouts::{FindLayout, FindLayouts};
 use crate::shared_layout::SharedLayout;
@@ -120,7 +120,7 @@ impl SliceLayouts {
         requires few { self.old.tunings < 2 ^ 63 }
         ensures after { self.new ≡ with_tuning self.old next.old }
         ensures before { next.new ≡ self.old.next }
-        ensures current { TellsCurrent self.old next.new }
+        ensures current { IsBesideWhereUnused self.old next.new }
     {
         mem::swap(&mut self.next, next);
         self.tunings += 1;

@@ -20,9 +20,6 @@ marked_none slice count list once none = record {
   );
 }
 
-pub marked_first : (slice count : ℕ) → AreMarked slice (replicate count false) []
-marked_first slice count = marked_none slice count [] (λ i j d lt within. absurd (omega (arith, within))) (λ column has. no_member (slice, column) has)
-
 -- One more column of the slice, which isn't marked.
 module _ (slice : ℕ) (marks : List Bool) (list : List (ℕ × ℕ)) (column : ℕ) (are : AreMarked slice marks list) (within : column < length marks) (new : get_or marks column false ≡ false) where
   abbrev more : List (ℕ × ℕ)
@@ -67,14 +64,6 @@ push_is list one c = (
       ⊎_elim (λ (has : Contains list c). Contains-append_left list (one ∷ []) c has)
       (λ (is : one ≡ c). subst (Contains (list ++ one ∷ [])) is (Contains-append_right list (one ∷ []) one (0, omega arith, refl))) either,
 )
-
--- a column that is there already is one of both
-pub there_is : (list : List (ℕ × ℕ)) (one c : ℕ × ℕ) → Contains list one → Contains list c ↔ (Contains list c ⊎ (one ≡ c))
-there_is list one c has = (inl, λ either. ⊎_elim (λ (in' : Contains list c). in') (λ (is : one ≡ c). subst (Contains list) is has) either)
-
--- the columns of a list and none
-pub both_none : (list : List (ℕ × ℕ)) → HasBoth list [] list
-both_none list c = (inl, λ either. ⊎_elim (λ (has : Contains list c). has) (λ (none : Contains [] c). absurd (no_member c none)) either)
 
 -- one more of the second list is added
 pub both_more : (first part now next : List (ℕ × ℕ)) (one : ℕ × ℕ) → HasBoth first part now → ((c : ℕ × ℕ) → Contains next c ↔ (Contains now c ⊎ (one ≡ c))) → HasBoth first (part ++ one ∷ []) next

@@ -1,6 +1,6 @@
 -- The tests of expressions whose atoms are cut into words.
-use Rattle.std.proofs.Common.{◌≡◌, ◌&&◌, ◌||◌, ℕ, Bool, true, false, not, List, [], ◌∷◌, ◌++◌, map, Result, Err, refl, sym, ap, ap₂, ◌∙◌, subst, arith, Contains, inl, inr}
-use Rattle.std.specs.Prelude.{Box, Vec}
+use Rattle.std.proofs.Common.{◌≡◌, ◌&&◌, ◌||◌, ℕ, Bool, true, false, List, [], ◌∷◌, ◌++◌, map, Result, Err, refl, sym, ap, ap₂, ◌∙◌, subst, arith, Contains, inl, inr}
+use Rattle.std.specs.Prelude.{Vec}
 use Rattle.std.specs.declared.alloc.Global.{Global}
 use Rattle.std.specs.List.{list_all, list_any}
 use Rattle.std.proofs.lemmas.Bool.{true≢false, or_cases}
@@ -12,7 +12,7 @@ use Rattle.commit_desk.specs.Judging.{HasSomeBranch, answer_where}
 use Rattle.document_store.specs.Documents.{HasEvery}
 use Rattle.engine.specs.declared.word_expr.WordExpr.{WordExpr}
 use Rattle.engine.specs.declared.word_expr.WordExpr.TheVariants as variants
-use Rattle.engine.specs.declared.word_expr.WordExpr.TheVariants.{rolls-Words, rolls-And, rolls-Or, rolls-Not}
+use Rattle.engine.specs.declared.word_expr.WordExpr.TheVariants.{rolls-Words, rolls-And, rolls-Or}
 use Rattle.engine.specs.declared.word_expr.WordExpr.TheOpen as layer
 use Rattle.engine.specs.declared.word_expr.WordExpr.TheFolds.{fold-roll-WordExpr}
 use Rattle.engine.specs.Replies.{reply_of_query_fault}
@@ -38,9 +38,6 @@ test-and factors text = ap (λ (e : WordExpr). test_of e text) (sym (rolls-And f
 pub test-or : (terms : Vec WordExpr Global) (text : List ℕ) → test_of (variants.Or terms) text ≡ list_any (λ test. test text) (map test_of terms.items)
 test-or terms text = ap (λ (e : WordExpr). test_of e text) (sym (rolls-Or terms)) ∙ ap (λ (test : List ℕ → Bool). test text) (fold-roll-WordExpr (List ℕ → Bool) test_step (layer.Or terms))
 
-pub test-not : (factor : Box WordExpr Global) (text : List ℕ) → test_of (variants.Not factor) text ≡ not (test_of factor.value text)
-test-not factor text = ap (λ (e : WordExpr). test_of e text) (sym (rolls-Not factor)) ∙ ap (λ (test : List ℕ → Bool). test text) (fold-roll-WordExpr (List ℕ → Bool) test_step (layer.Not factor))
-
 -- each of several tests is passed exactly where each of the trees keeps the text
 all-keep : (exprs : List WordExpr) (ts : Trees) (text : List ℕ) → AreTestsOf exprs ts → list_all (λ test. test text) (map test_of exprs) ≡ all_keep ts text
 all-keep [] no_trees text are = refl
@@ -63,9 +60,6 @@ is-every factors ts are text = test-and factors text ∙ all-keep factors.items 
 
 pub is-some : (terms : Vec WordExpr Global) (ts : Trees) → AreTestsOf terms.items ts → IsTestOf (variants.Or terms) (some ts)
 is-some terms ts are text = test-or terms text ∙ one-keeps terms.items ts text are
-
-pub is-contrary : (factor : Box WordExpr Global) (t : Tree) → IsTestOf factor.value t → IsTestOf (variants.Not factor) (contrary t)
-is-contrary factor t is text = test-not factor text ∙ ap not (is text)
 
 -- one more of several
 pub tests-push : (exprs : List WordExpr) (before : List Tree) (expr : WordExpr) (t : Tree) → AreTestsOf exprs (trees_of before) → IsTestOf expr t → AreTestsOf (exprs ++ expr ∷ []) (trees_of (before ++ t ∷ []))

@@ -44,8 +44,8 @@ pub record IsScanFor (pool : PoolId) (pass : PassState) (token : Token) (words :
   pub of_query : (begun : HasToken pass.front pass.number token.opened_at) → AreWordsOf words begun.query
 
 -- these are the numbers of the documents that pass the test of the query, of those that were live before the find that the pass has just begun
-abbrev pub IsAnswerBy : (List ℕ → List ℕ → Bool) → PassState → List ℕ → Type 0
-IsAnswerBy test pass ids = (earlier : List Event) (query : List ℕ) → IsBegunAt (view_of pass) earlier query → ids ≡ answer_where earlier (test query)
+abbrev pub IsAnswerWhere : (List ℕ → List ℕ → Bool) → PassState → List ℕ → Type 0
+IsAnswerWhere test pass ids = (earlier : List Event) (query : List ℕ) → IsBegunAt (view_of pass) earlier query → ids ≡ answer_where earlier (test query)
 
 -- a find is to give the documents whose text meets its query
 abbrev pub by_query : List ℕ → List ℕ → Bool

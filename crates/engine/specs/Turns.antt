@@ -49,7 +49,7 @@ abbrev pub fault_of_layout : LayoutFault → TuneFault
 fault_of_layout (layout.Wide needed room) = tune.Wide needed room
 fault_of_layout layout.Memory = tune.Memory
 
--- The answer to a tuning, whose rows have room. Where they have none, or no memory was found for their layouts, nothing was done.
+-- The answer to a tuning, whose rows have room. Where they have none, or no memory was found for their layout, nothing was done.
 abbrev pub TuneTurn : Limits → Config → Result ℕ TuneFault → PassView → PassView → Type 0
 TuneTurn limits config (Ok count) before after = HasRoomFor limits config
     × IsTurn before.number before.front after.front (λ history. AnswersTune limits.events history (Ok count)) (event.Tune before.number config ∷ [])

@@ -24,7 +24,7 @@ use word_cut::words;
 impl<N: PoolName> Engine<N> {
     /// Adds a document, and gives the place of its add. It takes all its memory at first: for the words, the text, the bits,
     /// and what `Full` tells. Where there is none it makes no event. Only an owner more of the layout of its slice, which takes no memory
-    /// but may be refused, comes in its first turn at the desk; then it makes no event there.
+    /// but may be refused, comes when it first has the lock for its own document; where that is refused it makes no event there.
     ///
     /// With a `reserve` in the configuration it then waits for the lock to see whether fewer columns are left. While so, it moves
     /// documents out of the filled slice that holds the fewest, at most 16, so that the slice can be cleared, if the others have

@@ -129,7 +129,7 @@ impl<'a, N: PoolName, R: Wait> Client<'a, N, R> {
         reply_to_recycle(self.engine.recycle(self.rt, &mut self.pass))
     }
 
-    // A text that gives no configuration, or one without room, is refused, and no call is made.
+    // A text that gives no configuration, or one whose rows have no room, is refused, and no call is made.
     fn tune(&mut self, text: &str) -> Reply
         ensures caller { caller_of N.pool.config N.pool.limits self.new ≡ caller_of N.pool.config N.pool.limits self.old }
         ensures answers { AnswersTuned (caller_of N.pool.config N.pool.limits self.old) self.old.front self.new.front

@@ -8,7 +8,7 @@ ghost use Rattle.funnel_model.specs.Legal.{IsLegal};
 ghost use Rattle.funnel_model.specs.Tokens.{HasToken};
 ghost use Rattle.commit_desk.specs.Passes.{IsResting};
 ghost use Rattle.commit_desk.specs.Scans.{AreScanned, token_of};
-ghost use Rattle.engine.specs.Finds.{CanLookIn, FindBegins, FindEnds, FindTurns, FindsIn, IsAnswerBy, IsBegunAt, IsFoundBut, IsJustFinding};
+ghost use Rattle.engine.specs.Finds.{CanLookIn, FindBegins, FindEnds, FindTurns, FindsIn, IsAnswerWhere, IsBegunAt, IsFoundBut, IsJustFinding};
 ghost use Rattle.engine.specs.Finds.{IsOpenOrEnded, IsScanFor, RefusedTurns};
 ghost use Rattle.engine.specs.Passes.{BeginsCall, MakesCall, MakesNoCall};
 ghost use Rattle.engine.specs.Replies.{reply_of_find, reply_of_find_fault};
@@ -183,7 +183,7 @@ impl<N: PoolName> Engine<N> {
     ) -> Result<Ids, Memory>
         requires begun { IsJustFinding N.pool token pass.old layouts.old.entries.items }
         requires suits { (begun : HasToken pass.old.front pass.old.number token.opened_at) → L.suits lookup.now begun.query }
-        ensures found { IfOk result (IsAnswerBy (L.test lookup.now) pass.old) }
+        ensures found { IfOk result (IsAnswerWhere (L.test lookup.now) pass.old) }
         ensures ended { FindEnds pass.old.number pass.old.front pass.new.front }
         ensures rests { IsResting N.pool pass.new }
         ensures legal { IsLegal N.pool.limits pass.new.front }

@@ -22,14 +22,14 @@ use std::sync::Wait;
 
 /// What a find looks for in the slices of each layout.
 pub(crate) trait Lookup {
-    // Whether it is to give the documents with a text, where this is its query.
+    // Whether a find with this query is to give the documents with this text.
     ghost test: { Self → List ℕ → List ℕ → Bool };
 
     // What is scanned for suits the query.
     ghost suits: { Self → List ℕ → Type 0 };
 
     /// Scans the slices of an entry by its layout, and looks at the candidates. It ends the find after the last candidate of the
-    /// last slices, or where there is no memory; else the token comes back.
+    /// last slices, or where there is no memory; else the token comes back. `work` scans for the words of a query alone.
     fn look_in<N: PoolName, R: Wait, W: Work>(
         &self,
         engine: &Engine<N>,
@@ -52,10 +52,10 @@ pub(crate) trait Lookup {
 
 /// What the documents of scanned candidates are looked at for: the rest of a query's words, or what a judge keeps.
 pub(crate) trait Resolver {
-    // Whether a find is to give the documents with a text, where this is its query.
+    // Whether a find with this query is to give the documents with this text.
     ghost test: { Self → List ℕ → List ℕ → Bool };
 
-    // How many words each document costs.
+    // How many words each document costs. No answer depends on it: it tells where a turn ends.
     ghost cost: { Self → ℕ };
 
     // The pass has a find open, for which these candidates were scanned in the slices of an entry.

@@ -173,8 +173,8 @@ impl<N: PoolName> Engine<N> {
         self.desk.lock(rt).desk.end_find(&self.pool, pass, token)
     }
 
-    // The turn of a tuning, with the layout that each slice gets when it is cleared. What was kept before comes back in its place, so that
-    // it is dropped when the lock is free again.
+    // The turn of a tuning, with the layout that each slice gets when it is cleared. Unless it is refused, the one that was
+    // current before comes back in its place where no slice has its treatment, so that it is dropped when the lock is free again.
     pub(crate) fn tune<R: Wait>(
         &self,
         rt: &R,

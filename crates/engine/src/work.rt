@@ -18,7 +18,7 @@ use row_read::Shared;
 use slice_recycler::{Clearer, clear_slice};
 use slice_rule::{PassSeat, Pool};
 
-/// What a call does between its turns at the desk, while the lock is free. An implementation may do more than it has to,
+/// What a call does between its turns, while the lock is free. An implementation may do more than it has to,
 /// which is how a test sees that others are answered meanwhile; each of its calls returns.
 pub trait Work: Clearer {
     /// Sets the bits of a document in its column.

@@ -1,5 +1,5 @@
 -- Which slices a set has, and which it has with one more.
-use Rattle.std.proofs.Common.{◌≡◌, ◌≢◌, ◌↔◌, ◌⊎◌, ℕ, ◌+◌, ◌*◌, ◌-◌, ◌/◌, ◌%◌, ◌^◌, ◌<◌, ◌≤◌, ⊎_elim, IsTrue, Bool, true, false, cond, not, nat_lt, zero, suc, Some, None, List, [], ◌∷◌, length, filter, get_or, set, take, drop, sym, refl, ap, ◌∙◌, subst, arith, inl, inr, Contains, bit_and, bit_or, w64}
+use Rattle.std.proofs.Common.{◌≡◌, ◌≢◌, ◌↔◌, ◌⊎◌, ℕ, ◌+◌, ◌*◌, ◌-◌, ◌/◌, ◌%◌, ◌^◌, ◌<◌, ◌≤◌, ⊎_elim, IsTrue, Bool, true, false, cond, not, nat_lt, zero, suc, Some, None, List, [], ◌∷◌, length, filter, get_or, set, take, drop, sym, refl, ap, ◌∙◌, subst, arith, inl, inr, Contains, bit_and, bit_or, Fits, w32, w64}
 use Rattle.std.proofs.lemmas.Bool.{cases_eq, cases_lt, eq-eqb, eqb-true}
 use Rattle.std.proofs.lemmas.Bool.Decides.{leb_tells}
 use Rattle.std.proofs.lemmas.List.Quantifiers.{position-Some}
@@ -405,6 +405,23 @@ none_later words seen from is long nothing none =
 -- the first later word that is used is not 0
 pub later_used : (words : List ℕ) (start more : ℕ) → length words ≡ 16 → position (λ w. nat_lt 0 w) (words_from words start) ≡ Some more → 0 < get_or words (start + more) 0
 later_used words start more long at = let used = (first_used_is (words_from words start) more at).1 in let is = rest_at words start more long in omega (arith, is, used)
+
+-- it stands in the sixteen words
+pub later_within : (words : List ℕ) (start more : ℕ) → length words ≡ 16 → position (λ w. nat_lt 0 w) (words_from words start) ≡ Some more → start + more < 16
+later_within words start more long at =
+    let inside = (position-Some (λ w. nat_lt 0 w) (words_from words start) more 0 at).0 in
+    let many = rest_long words start long in
+    omega (arith, inside, many)
+
+-- the numbers that the code makes of the place of a word and of a bit in it fit their types
+pub place_fits : (start more : ℕ) → start + more < 16 → Fits w64 start × Fits w64 (start + more) × Fits w32 (start + more)
+place_fits start more within = (omega arith, omega arith, omega arith)
+
+pub offset_fits : (place : ℕ) → place < 16 → Fits w64 (place * 8)
+offset_fits place within = omega arith
+
+pub slice_fits : (place bit : ℕ) → place < 16 → bit < 64 → Fits w32 (place * 64) × Fits w32 (place * 64 + bit)
+slice_fits place bit within inside = (omega arith, omega arith)
 
 -- and its lowest bit is that of the first slice
 pub first_later : (words seen : List ℕ) (from more bit : ℕ) → slices_of words ≡ seen → length words ≡ 16 → ((bit : ℕ) → from % 64 ≤ bit → bit_at (get_or words (from / 64) 0) bit ≡ 0) →

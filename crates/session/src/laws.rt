@@ -29,7 +29,7 @@ pub fn a_session_is_one_run_of_calls()
 {}
 
 /// Over a front that is spent every call is refused, as spent or for want of memory, and is in no history; every other line is
-/// refused as it is over any front, among them a text that is no query, and one that gives no configuration, or one without room.
+/// refused as it is over any front, among them a text that is no query, and a text that gives no configuration, or one whose rows have no room.
 pub fn spent_fronts_take_no_call()
     ensures { (caller : Caller) (before after : List Event) (asked : List Item) (replies : List Reply) →
         caller.limits.events ≤ length before → Answers caller before asked replies after →

@@ -20,7 +20,7 @@ use Rattle.commit_desk.proofs.RecordFacts.{is_column, taken_is_free, taken_is_th
 use Rattle.commit_desk.proofs.SliceEvents.{books_after, desk-with, kept-as, kept-take}
 use Rattle.commit_desk.proofs.StageReadings.{claimed_count, in_use_stage, room_has_left, used_slice}
 use Rattle.commit_desk.proofs.desk.Desk.claim.Goals as goal
-use Rattle.commit_desk.proofs.desk.Desk.claim.Goals.{After-self, After-claim-column, After-make_event-self-inside}
+use Rattle.commit_desk.proofs.desk.Desk.claim.Goals.{After-self, After-claim-column}
 
 may_now : (c : After-self) → MayTake c.self.inside.home.pool.limits c.self.inside.home.history c.number-pass.result c.args.slice (length (claimed c.args.slice c.self.inside.home.history))
 may_now c =

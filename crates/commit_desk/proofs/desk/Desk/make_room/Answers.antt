@@ -1,8 +1,7 @@
-use Rattle.std.proofs.Common.{◌≡◌, ℕ, true, false, inr, sym, ◌∙◌, subst}
+use Rattle.std.proofs.Common.{◌≡◌, ℕ, true, false, inr, refl, sym, ◌∙◌, subst}
 use Rattle.std.specs.Option.{is_some}
 use Rattle.funnel_model.specs.Blocks.{AreBlocks}
 use Rattle.funnel_model.specs.Legal.{IsFull, MayClear}
-use Rattle.slice_rule.specs.Pools.{PoolId}
 use Rattle.commit_desk.specs.Desks.{DeskState}
 use Rattle.commit_desk.specs.Layouts.{HandsBackOld}
 use Rattle.commit_desk.proofs.LayoutsKept.{when_none, when_some}
@@ -34,14 +33,14 @@ returns-in-Ok-clause-answer c = (
   subst (λ (d : DeskState). c.in-Ok.work.slots ≡ d.pool.limits.columns) c.clearable.ensures.same c.in-Ok.ensures.work.1.slots,
 )
 
-pub returns-in-Ok-clause-prepared : goal.returns-in-Ok-clause-prepared
-returns-in-Ok-clause-prepared c =
+pub returns-in-Ok-clause-handed : goal.returns-in-Ok-clause-handed
+returns-in-Ok-clause-handed c =
     let work = c.in-Ok.work in
-    let same = c.in-Ok.ensures.made.same ∙ c.requires.caught_up.seated.same in (
-      c.in-Ok.ensures.laid,
-      subst (λ (p : PoolId). HandsBackOld p c.args.self.now.history work.job.slice work.old_layout) (sym same)
-          (subst (λ (d : DeskState). HandsBackOld d.pool d.history work.job.slice work.old_layout) c.clearable.ensures.same c.in-Ok.ensures.work.1.old),
-    )
+    record {
+      prepared = c.in-Ok.ensures.laid;
+      old = subst (λ (d : DeskState). HandsBackOld d.pool d.history work.job.slice work.old_layout) c.clearable.ensures.same c.in-Ok.ensures.work.1.old;
+      room = refl;
+    }
 
 pub returns-in-Err-clause-answer : goal.returns-in-Err-clause-answer
 returns-in-Err-clause-answer c =

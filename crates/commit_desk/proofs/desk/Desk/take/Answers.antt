@@ -2,7 +2,7 @@ use Rattle.std.proofs.Common.{◌≡◌, true, false, inl, sym, ap, subst}
 use Rattle.std.specs.Option.{is_some}
 use Rattle.funnel_model.specs.History.{is_live}
 use Rattle.commit_desk.specs.Answers.{IsPresent, TakesCalls}
-use Rattle.commit_desk.specs.Desks.{DeskState, IsPrepared}
+use Rattle.commit_desk.specs.Desks.{DeskState, HandsOver}
 use Rattle.commit_desk.proofs.Checks.{absent_by_place, live_by_place, takes_calls}
 use Rattle.commit_desk.proofs.FindTurns.{desk_is}
 use Rattle.commit_desk.proofs.Turns.{idle_now}
@@ -39,8 +39,8 @@ returns-in-Some-clause-answer c =
       subst (λ n. IsPresent home.history n c.in-Some.place) c.id.ensures (record { live = sym c.in-Some.ensures }),
     )
 
-pub returns-clause-prepared : goal.returns-clause-prepared
-returns-clause-prepared c =
+pub returns-clause-handed : goal.returns-clause-handed
+returns-clause-handed c =
     let i = c.self.inside in
     let same = desk_is c.args.self.now i.home c.catch_up.new.home i.events_limit c.self.view_is c.catch_up.ensures.home in
-    subst (λ (d : DeskState). IsPrepared d.history c.take_room.result c.take_room.new.seat) same c.take_room.ensures.prepared
+    subst (λ (d : DeskState). HandsOver d c.take_room.result c.take_room.new.seat c.args.room.now c.take_room.new.room) same c.take_room.ensures.handed

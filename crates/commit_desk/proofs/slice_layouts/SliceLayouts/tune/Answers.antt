@@ -1,7 +1,7 @@
 use Rattle.std.proofs.Common.{◌+◌, Option, sym, ◌∙◌, subst, vec_capacity}
 use Rattle.row_layout.specs.Layouts.{LayoutId}
 use Rattle.commit_desk.specs.Layouts.{LayoutsState}
-use Rattle.commit_desk.specs.Treatments.{AreTreatments, TellsCurrent}
+use Rattle.commit_desk.specs.Treatments.{AreTreatments, IsBesideWhereUnused}
 use Rattle.commit_desk.proofs.EntriesKept.{state, tells_current, treatments-tune}
 use Rattle.commit_desk.proofs.slice_layouts.SliceLayouts.tune.Goals as goal
 
@@ -14,6 +14,6 @@ invariant_of-self c =
 pub returns-clause-current : goal.returns-clause-current
 returns-clause-current c =
     let i = c.self.inside in
-    subst (λ (k : LayoutsState). TellsCurrent k c.swap.new.y) c.self.view_is
-    (subst (TellsCurrent (state i.treatments.items i.next i.tunings)) (sym c.swap.ensures.y_after)
+    subst (λ (k : LayoutsState). IsBesideWhereUnused k c.swap.new.y) c.self.view_is
+    (subst (IsBesideWhereUnused (state i.treatments.items i.next i.tunings)) (sym c.swap.ensures.y_after)
     (tells_current (vec_capacity i.treatments) i.treatments.items i.next i.tunings c.self.invariant))

@@ -8,4 +8,4 @@ returns-clause-next g c =
     let rests = c.requires.rests in
     let took = c.take-taken.ensures in
     is_to_do g.N.PoolName.pool desk c.take-taken.new.self c.args.pass.now c.take-taken.new.seat rests.seated.same took.none_outstanding rests.idle
-    c.deref_mut.result.now.of_pool desk.events_limit doc.id doc.text c.take-taken.result took.answer took.prepared took.events
+    c.deref_mut.result.now.of_pool desk.events_limit doc.id doc.text c.take-taken.result took.answer took.handed.prepared took.events

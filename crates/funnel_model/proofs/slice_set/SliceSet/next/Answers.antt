@@ -1,5 +1,5 @@
-use Rattle.std.proofs.Common.{◌≡◌, ◌/◌, ◌+◌, length, sym, ◌∙◌, arith}
-use Rattle.funnel_model.proofs.SliceSetLemmas.{first_here, first_later, later_used, none_from, none_later}
+use Rattle.std.proofs.Common.{◌≡◌, ◌<◌, ◌/◌, ◌+◌, length, sym, ◌∙◌, arith}
+use Rattle.funnel_model.proofs.SliceSetLemmas.{first_here, first_later, later_used, later_within, none_from, none_later, offset_fits, place_fits, slice_fits}
 use Rattle.funnel_model.proofs.slice_set.SliceSet.next.Goals as goal
 
 pub returns-then-start-eq16 : goal.returns-then-start-eq16
@@ -22,6 +22,36 @@ pub lowest_bit-requires : goal.lowest_bit-requires
 lowest_bit-requires c =
     let long : length c.self.inside.words ≡ 16 = omega arith in
     later_used c.self.inside.words (c.args.from / 64 + 1) c.in-Some-first_used.more long (sym c.first_used.ensures ∙ c.in-Some-first_used.is)
+
+-- the word with the first slice is one of the sixteen
+within : (c : goal.In-Some-first_used) → c.args.from / 64 + 1 + c.in-Some-first_used.more < 16
+within c =
+    let long : length c.self.inside.words ≡ 16 = omega arith in
+    later_within c.self.inside.words (c.args.from / 64 + 1) c.in-Some-first_used.more long (sym c.first_used.ensures ∙ c.in-Some-first_used.is)
+
+pub overflow_add-index : goal.overflow_add-index
+overflow_add-index c = (place_fits (c.args.from / 64 + 1) c.in-Some-first_used.more (within c)).0
+
+pub overflow_add-index-2 : goal.overflow_add-index-2
+overflow_add-index-2 c = (place_fits (c.args.from / 64 + 1) c.in-Some-first_used.more (within c)).1
+
+pub overflow_cast-result-2 : goal.overflow_cast-result-2
+overflow_cast-result-2 c = (place_fits (c.args.from / 64 + 1) c.in-Some-first_used.more (within c)).2
+
+pub overflow_mul-result-2 : goal.overflow_mul-result-2
+overflow_mul-result-2 c = (slice_fits (c.args.from / 64 + 1 + c.in-Some-first_used.more) 0 (within c) (omega arith)).0
+
+pub offset_bounds-words-index : goal.offset_bounds-words-index
+offset_bounds-words-index c = offset_fits (c.args.from / 64 + 1 + c.in-Some-first_used.more) (within c)
+
+pub bounds-words-index : goal.bounds-words-index
+bounds-words-index c = within c
+
+pub overflow_add-result-2 : goal.overflow_add-result-2
+overflow_add-result-2 c =
+    let long : length c.self.inside.words ≡ 16 = omega arith in
+    let within = later_within c.self.inside.words (c.args.from / 64 + 1) c.in-Some-first_used.more long (sym c.first_used.ensures ∙ c.in-Some-first_used.is) in
+    (slice_fits (c.args.from / 64 + 1 + c.in-Some-first_used.more) c.lowest_bit.result within c.lowest_bit.ensures.in_range).1
 
 pub returns : goal.returns
 returns c =
