@@ -4,9 +4,13 @@ use Rattle.std.proofs.lemmas.List.{get_or_default}
 use Rattle.std.proofs.lemmas.List.Elements.{All-contains, Contains-append_cases, Contains-append_left, Contains-append_right}
 use Rattle.std.specs.List.{All, Contains, slice_index_or}
 use Rattle.funnel_model.specs.declared.bit_list.Bit.{Bit}
+use Rattle.funnel_model.specs.declared.claim.Claim.{Claim}
+use Rattle.funnel_model.specs.Legal.{IsInSlice}
 use Rattle.slice_rule.specs.declared.view.Fact.{Fact}
 use Rattle.slice_rule.specs.declared.view.Fact.TheVariants as fact
-use Rattle.column_writer.specs.Written.{IsBitOf}
+use Rattle.slice_rule.specs.Pools.{PoolId}
+use Rattle.slice_rule.specs.Seats.{KeepsToColumn, PassState, number_under}
+use Rattle.column_writer.specs.Written.{CanWrite, IsBitOf}
 
 -- the own facts are those before and the bits so far
 abbrev pub HasSet : ℕ → List Fact → List Bit → List Fact → Type 0
@@ -52,3 +56,26 @@ set_same number before after bits others same set f = (
 pub all_of_part : (P : Bit → Type 0) (bits others : List Bit) → ((b : Bit) → Contains bits b → Contains others b) → All P others → All P bits
 all_of_part P bits others part all k none within =
     All-contains P others (get_or bits k none) all (part (get_or bits k none) (k, within, get_or_default bits k (get_or bits k none) none within))
+
+-- a pass that knew nothing under its claim has set exactly the bits that it wrote
+pub has_set : (number : ℕ) (bits : List Bit) (before own : List Fact) → All (λ f. number_under f < number) before → HasSet number before bits own →
+    (b : Bit) → Contains bits b ↔ Contains own (fact.BitSet number b)
+has_set number bits before own nothing has b = (
+  λ in_bits. (has (fact.BitSet number b)).1 (inr (b, in_bits, refl)),
+  λ in_own. ⊎_elim
+      (λ old. let low = All-contains (λ f. number_under f < number) before (fact.BitSet number b) nothing old in absurd (omega arith))
+      (λ is. let same : b ≡ is.0 = let h = is.2 in cc in subst (Contains bits) (sym same) is.1)
+      ((has (fact.BitSet number b)).0 in_own),
+)
+
+-- who may write some bits may write those of a list with no other members
+pub can_write_part : (pool : PoolId) (seat : PassState) (claim : Claim) (bits others : List Bit) → ((b : Bit) → Contains bits b → Contains others b) → CanWrite pool seat claim others →
+    CanWrite pool seat claim bits
+can_write_part pool seat claim bits others part can = record {
+  same = can.same;
+  holds = can.holds;
+  none_outstanding = can.none_outstanding;
+  inside = all_of_part (λ b. IsInSlice pool.limits.slice_words claim.slice b.word) bits others part can.inside;
+  of_words = all_of_part (λ b. b.bit < 64) bits others part can.of_words;
+  owners = all_of_part (KeepsToColumn seat claim) bits others part can.owners;
+}

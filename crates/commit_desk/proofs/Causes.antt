@@ -14,7 +14,7 @@ use Rattle.funnel_model.proofs.CausedMoves.{uncaused}
 use Rattle.slice_rule.specs.Pools.{PoolId}
 use Rattle.funnel_model.proofs.Columns.{some_state}
 use Rattle.commit_desk.specs.Kept.{Books, IsDesk}
-use Rattle.commit_desk.proofs.Emptying.{one_more}
+use Rattle.funnel_model.proofs.Ranges.{counted_more}
 
 -- where fewer than all pass, one doesn't
 some_fails : (p : ℕ → Bool) (n : ℕ) → count_by p (range_with_len 0 n) < n → (k : ℕ) × (k < n) × (p k ≡ false)
@@ -24,7 +24,7 @@ some_fails p (suc n) few = by (p n) refl (some_fails p n) where
   by false is lower = (n, omega arith, is)
   by true is lower =
       let one : cond {A = ℕ} (p n) 1 0 ≡ 1 = ap (λ b. cond {A = ℕ} b 1 0) is in
-      let more = one_more p n in
+      let more = counted_more p n in
       let earlier = lower (omega (arith, few, more, one)) in
       (earlier.0, let below = earlier.1 in omega (arith, below), earlier.2)
 

@@ -17,7 +17,7 @@ use Rattle.funnel_model.specs.Slices.{AllOver, ColumnState, Deleted, Dropped, Li
 use Rattle.funnel_model.proofs.Blocks.{by_is_clearing}
 use Rattle.funnel_model.proofs.ClaimLemmas.{any_in_range, filled_by, none_in_range, unclaimed_next}
 use Rattle.funnel_model.proofs.Columns.{clearing_is_over, one_state, some_state}
-use Rattle.funnel_model.proofs.Ranges.{count_by-range_more}
+use Rattle.funnel_model.proofs.Ranges.{counted_more, none_counted}
 use Rattle.funnel_model.proofs.ReserveLemmas.{emptied_holds, one_held_count}
 use Rattle.slice_stages.specs.Stages.{StageTable, IsUsed, empty_stage, ready_in, ready_of, spare_in, spare_of, stage_of}
 use Rattle.slice_stages.specs.declared.stage.Stage.{Stage}
@@ -36,23 +36,12 @@ sum-map : {X : Type 0} → (f : X → ℕ) (xs : List X) → sum (map f xs) ≡ 
 sum-map f [] = refl
 sum-map f (x ∷ xs) = sum_by-cons (λ (n : ℕ). n) (f x) (map f xs) ∙ ap (λ n. f x + n) (sum-map f xs) ∙ sym (sum_by-cons f x xs)
 
-pub one_more : (p : ℕ → Bool) (n : ℕ) → count_by p (range_with_len 0 (suc n)) ≡ count_by p (range_with_len 0 n) + cond (p n) 1 0
-one_more p n = ap (λ k. count_by p (range_with_len 0 k)) (sym (add-one n)) ∙ count_by-range_more p n
-
--- where none passes the test none is counted
-none_counted : (p : ℕ → Bool) (n : ℕ) → ((k : ℕ) → k < n → p k ≡ false) → count_by p (range_with_len 0 n) ≡ 0
-none_counted p zero none = refl
-none_counted p (suc n) none =
-    let before = none_counted p n (λ k low. none k (omega (arith, low))) in
-    let last : cond {A = ℕ} (p n) 1 0 ≡ 0 = ap (λ b. cond {A = ℕ} b 1 0) (none n (omega arith)) in
-    omega (arith, one_more p n, before, last)
-
 -- the columns past the first ones, which are claimed
 unclaimed_past : (slice first : ℕ) (history : List Event) → claimed slice history ≡ range_with_len 0 first → (n : ℕ) → unclaimed_in n slice history ≡ n - first
 unclaimed_past slice first history claims zero = omega arith
 unclaimed_past slice first history claims (suc n) =
     let before = unclaimed_past slice first history claims n in
-    let more = one_more (λ column. not (is_claimed slice column history)) n in
+    let more = counted_more (λ column. not (is_claimed slice column history)) n in
     ⊎_elim
     (λ (taken : n < first).
     let is : is_claimed slice n history ≡ true = ap (list_any (λ k. k == n)) claims ∙ any_in_range 0 first n (omega arith) (omega arith) in
@@ -69,7 +58,7 @@ over_and_others : (xs : List Slot) (n : ℕ) → n ≤ length xs → count_by (�
 over_and_others xs zero within = omega arith
 over_and_others xs (suc n) within =
     let before = over_and_others xs n (omega (arith, within)) in
-    let others = one_more (λ c. not (is_over (get_or xs c free_slot))) n in
+    let others = counted_more (λ c. not (is_over (get_or xs c free_slot))) n in
     let over : count_by is_over (take (suc n) xs) ≡ count_by is_over (take n xs) + cond (is_over (get_or xs n free_slot)) 1 0 =
     ap (λ k. count_by is_over (take k xs)) (sym (add-one n)) ∙ sum_by_more (λ x. cond (is_over x) 1 0) xs n free_slot (omega (arith, within)) in
     let one = either (is_over (get_or xs n free_slot)) in

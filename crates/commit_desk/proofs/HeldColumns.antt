@@ -8,11 +8,12 @@ use Rattle.document_store.specs.declared.column.Column.TheVariants as became
 use Rattle.funnel_model.specs.Blocks.{IsHeld}
 use Rattle.funnel_model.specs.declared.event.Event.{Event}
 use Rattle.funnel_model.specs.Legal.{IsLegal, Limits}
-use Rattle.funnel_model.specs.Slices.{ColumnState, Unclaimed, Pending, Dropped, Live, Deleted, IsFilled, IsInState, IsOver, IsRetired, is_claimed, is_clearing}
+use Rattle.funnel_model.specs.Slices.{ColumnState, Unclaimed, IsFilled, IsInState, IsRetired, is_claimed, is_clearing}
 use Rattle.funnel_model.proofs.Claims.{claimed_in_range}
 use Rattle.funnel_model.proofs.Columns.{one_state, some_state}
 use Rattle.commit_desk.specs.Records.{AreRecorded, state_in, state_of}
 use Rattle.commit_desk.proofs.StageFacts.{in_table}
+use Rattle.funnel_model.proofs.Blocks.{over_unless_held}
 
 -- no column of the slice below this one is live or pending
 abbrev pub NoneHeldBelow : List Event → ℕ → ℕ → Type 0
@@ -55,14 +56,6 @@ none_held-over limits history table slice column legal recorded uncleared over l
     (λ added since live. both_ways (is_over slot) (ap is_over_in live) (over lower here low))
     (λ pass pending. both_ways (is_over slot) (ap is_over_in pending) (over lower here low))
     (subst IsHeld (one_state limits history slice lower other (state_of slot) legal is at.state) held)
-
--- a claimed column that isn't held is over
-over_unless_held : (history : List Event) (slice column : ℕ) (x : ColumnState) → is_claimed slice column history ≡ true → IsInState history slice column x → (IsHeld x → ⊥) → IsOver x
-over_unless_held history slice column Unclaimed claimed is not_held = absurd (both_ways (is_claimed slice column history) is claimed)
-over_unless_held history slice column (Pending pass) claimed is not_held = absurd (not_held tt)
-over_unless_held history slice column Dropped claimed is not_held = tt
-over_unless_held history slice column (Live d since) claimed is not_held = absurd (not_held tt)
-over_unless_held history slice column (Deleted d since until) claimed is not_held = tt
 
 -- a filled slice without a column that is held is retired, unless it is being cleared
 pub retired_unless_held : (limits : Limits) (columns slice : ℕ) (history : List Event) → IsLegal limits history → IsFilled columns slice history → is_clearing slice history ≡ false →

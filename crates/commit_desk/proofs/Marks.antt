@@ -1,7 +1,6 @@
 -- The mark up to which retired slices can be cleared: each running find began at it or after it.
 use Rattle.std.proofs.Common.{◌≡◌, ◌⊎◌, ⊎_elim, inl, inr, ℕ, ◌+◌, ◌<◌, ◌≤◌, ◌≢◌, List, [], ◌∷◌, ◌++◌, length, set, Option, Some, None, sym, ap, ◌∙◌, subst, arith, MatchOption}
 use Rattle.std.proofs.lemmas.Bool.{cases_eq}
-use Rattle.std.proofs.lemmas.Bool.Decides.{leb_tells}
 use Rattle.std.proofs.lemmas.List.{get_or-set_other, get_or-set_same, length-append}
 use Rattle.document_store.specs.Slots.{Table}
 use Rattle.funnel_model.specs.declared.event.Event.{Event}
@@ -19,6 +18,7 @@ use Rattle.commit_desk.specs.Kept.{AreStages, AreTokens, Books, IsAtStage, IsDes
 use Rattle.commit_desk.specs.Records.{AreRecorded}
 use Rattle.commit_desk.proofs.Options.{none_some, some_same}
 use Rattle.commit_desk.proofs.StageFacts.{retired_since, retired_stage}
+use Rattle.token_manager.proofs.Oldest.{le_or_lt}
 
 -- each running find began at the mark or after it
 abbrev pub NoneBeforeMark : List (Option ℕ) → ℕ → Type 0
@@ -80,9 +80,6 @@ mark-look limits history table tokens stages mark within none are = record {
   mark_within = within;
   none_before = none;
 }
-
-le_or_lt : (a b : ℕ) → (a ≤ b) ⊎ (b < a)
-le_or_lt a b = ⊎_elim (λ is. inl is.1) (λ not. inr (let h = not.1 in omega arith)) (leb_tells a b)
 
 -- a slice didn't retire after the history
 retired_within : (columns slice number : ℕ) (history : List Event) → IsRetiredAt columns slice history number → number ≤ length history
@@ -194,7 +191,7 @@ may_by limits history (Some slice) lowest = λ pass idle. record {
 
 -- a desk whose mark has moved
 module _ (pool : PoolId) (most : ℕ) (history : List Event) (books : Books) (is : IsDesk pool most history books) (stages : StageTable)
-    (moved : MovesMark books.tokens books.events books.stages stages) where
+    (moved : MovesMark books.events books.tokens books.stages stages) where
   pub next_now : IsNextMark (length history) books.tokens stages.mark
   next_now = subst (λ n. IsNextMark n books.tokens stages.mark) is.kept.events_are moved.next
 

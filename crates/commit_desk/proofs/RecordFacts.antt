@@ -23,7 +23,7 @@ use Rattle.funnel_model.proofs.Clears.{pending_not_clearing}
 use Rattle.funnel_model.proofs.ColumnStates.{document_with}
 use Rattle.funnel_model.proofs.Columns.{cleared_is_over, clearing_is_over, last_is_pending, one_state}
 use Rattle.funnel_model.proofs.LiveColumns.{live_column_is_live, live_has_column, live_number}
-use Rattle.funnel_model.proofs.LiveLemmas.{is_live-from_place, live_once}
+use Rattle.funnel_model.proofs.LiveLemmas.{is_live-from_place, live_once, no_place}
 use Rattle.commit_desk.specs.Records.{AreListed, AreRecorded, IsLiveIn, document_added_at, state_of}
 use Rattle.commit_desk.proofs.Options.{free_not_live, none_some}
 use Rattle.commit_desk.proofs.Slots.{LiveSlot, free_by_state, live_by_state, pending_by_state, state-live}
@@ -52,10 +52,6 @@ place_of_live limits history d legal contained = ap (option_map (λ (x : Documen
 
 number_of_slot : (slot : Slot) (d : Document) (since : ℕ) (l : LiveSlot slot d since) (id : ℕ) → d.id ≡ id → l.doc.id ≡ id
 number_of_slot slot d since l id is = ap (λ (x : Document). x.id) l.is ∙ is
-
-none_place : (o : Option ℕ) → is_some o ≡ false → o ≡ None
-none_place None is = refl
-none_place (Some n) is = cc
 
 some_place : (n : ℕ) → is_some (Some n) ≡ false → ⊥
 some_place n is = cc
@@ -199,7 +195,7 @@ module _ (limits : Limits) (history : List Event) (table : Table) (legal : IsLeg
       decided false up = up
 
     pub no_place_without : (id : ℕ) → entry_of live_list id ≡ None → live_place id history ≡ None
-    no_place_without id none = none_place (live_place id history) (sym (is_live-from_place id (live history)) ∙ absent_without id none)
+    no_place_without id none = no_place id history (absent_without id none)
 
     -- a number that is not live has no entry
     pub no_entry : (id : ℕ) → is_live id history ≡ false → entry_of live_list id ≡ None

@@ -60,7 +60,7 @@ abbrev pub IsNextMark : ℕ → List (Option ℕ) → ℕ → Type 0
 IsNextMark events tokens mark = IsOldest tokens mark ⊎ (NoneOpen tokens × (mark ≡ events))
 
 -- the mark has moved there, and all else is as it was
-pub record MovesMark (tokens : List (Option ℕ)) (events : ℕ) (before after : StageTable) : Type 0 where
+pub record MovesMark (events : ℕ) (tokens : List (Option ℕ)) (before after : StageTable) : Type 0 where
   pub next : IsNextMark events tokens after.mark
   pub is : after ≡ record before { mark = after.mark }
 

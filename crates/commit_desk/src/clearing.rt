@@ -119,7 +119,7 @@ impl Desk {
 pub(crate) fn move_mark(tokens: &Tokens, stages: &mut Stages, events: u64)
     requires within { stages.old.mark ≤ events }
     requires none_before { (pass number : ℕ) → HasOpened tokens.now pass number → stages.old.mark ≤ number }
-    ensures { MovesMark tokens.now events stages.old stages.new }
+    ensures { MovesMark events tokens.now stages.old stages.new }
 {
     let mark = match tokens.oldest() {
         Some(number) => number,

@@ -13,7 +13,7 @@ use Rattle.commit_desk.specs.FindLayouts.{AreFindLayouts}
 use Rattle.commit_desk.specs.Layouts.{SuitsOpening}
 use Rattle.commit_desk.specs.Resolving.{IsEntryOfFind, IsRestOf}
 use Rattle.commit_desk.specs.Scans.{WereScanned, token_of}
-use Rattle.commit_desk_tests.specs.Tested.{IsFindingAll, IsLaidBy, columns_up_to}
+use Rattle.commit_desk_tests.specs.Tested.{IsFindingAll, IsLayoutOfPool, columns_up_to}
 use Rattle.funnel_model.proofs.Retirement.{same_split}
 use Rattle.funnel_model.specs.declared.bit_list.Bit.{Bit}
 use Rattle.funnel_model.specs.declared.claim.Token.{Token}
@@ -81,7 +81,7 @@ no_bit : (room : ℕ) (config : Config) (slice column : ℕ) (bit : Bit) → IsD
 no_bit room config slice column bit sets = let low = sets.1.1 in absurd (omega arith)
 
 -- so all columns are the candidates of a find of no words, which reads nothing
-pub were_all_scanned : (layout : LayoutId) (pool : PoolId) (config : Config) (token : Token) (slices : List ℕ) (seat : PassState) (at end : ℕ) → IsLaidBy layout pool →
+pub were_all_scanned : (layout : LayoutId) (pool : PoolId) (config : Config) (token : Token) (slices : List ℕ) (seat : PassState) (at end : ℕ) → IsLayoutOfPool layout pool →
     columns_of_slice layout.config ≡ end → IsFinding pool token seat → ((begun : HasToken seat.front seat.number token.opened_at) → begun.query ≡ []) →
     Contains slices at → ((slice : ℕ) → Contains slices slice → slice ≡ at) → WereScanned config seat (token_of slices token) (columns_up_to at end)
 were_all_scanned layout pool config token slices seat at end laid columns_are finding asked may_read only begun =

@@ -18,7 +18,7 @@ use Rattle.slice_rule.specs.Pools.{PoolId, limits_of}
 use Rattle.slice_rule.specs.Seats.{PassState}
 
 -- the pool has one slice or two, whose words are laid out by the configuration
-pub record IsLaidBy (layout : LayoutId) (pool : PoolId) : Type 0 where
+pub record IsLayoutOfPool (layout : LayoutId) (pool : PoolId) : Type 0 where
   pub laid_out : layout ≡ own_layout pool.config
   pub limits : pool.limits ≡ limits_of layout.config layout.room
   pub some : 1 ≤ layout.config.slices
@@ -29,7 +29,7 @@ pub record IsLaidBy (layout : LayoutId) (pool : PoolId) : Type 0 where
 pub record IsSetting (name : PoolId) (layout : LayoutId) (pool desk : PoolId) (base : Config) : Type 0 where
   pub of_name : pool ≡ name
   pub desk_of_name : desk ≡ name
-  pub laid : IsLaidBy layout name
+  pub laid : IsLayoutOfPool layout name
   pub base_is : base ≡ name.config
   pub in_range : IsInRange base
 

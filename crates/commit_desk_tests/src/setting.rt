@@ -1,7 +1,7 @@
 //! What a test begins with: a desk with its pool, and two passes.
 ghost use Rattle.std.specs.Prelude.{◌≡◌, ◌^◌, ◌≤◌, []};
 ghost use Rattle.commit_desk.specs.Passes.{IsResting};
-ghost use Rattle.commit_desk_tests.specs.Tested.{IsLaidBy};
+ghost use Rattle.commit_desk_tests.specs.Tested.{IsLayoutOfPool};
 ghost use Rattle.funnel_model.specs.Configuration.{IsInRange};
 
 use crate::caller::Caller;
@@ -149,7 +149,7 @@ fn run_named<C: Case, N: PoolName>(
     second: PassSeat,
 ) -> Result<(C::Seen, Commits), Fail>
     requires named { pool ≡ N.pool }
-    requires laid { IsLaidBy layout pool }
+    requires laid { IsLayoutOfPool layout pool }
     requires desk { desk.pool ≡ pool }
     requires base { base ≡ pool.config }
     requires in_range { IsInRange base }

@@ -1,6 +1,6 @@
 -- The step of an add, from its turns.
-use Rattle.std.proofs.Common.{◌≡◌, ℕ, ◌+◌, ◌≤◌, false, List, [], ◌∷◌, Option, Some, None, Result, Ok, Err, refl, sym, ap, ◌∙◌, ⊎_elim, inl, inr, arith}
-use Rattle.std.specs.Option.{is_some, option_map, option_map_or}
+use Rattle.std.proofs.Common.{◌≡◌, ℕ, ◌+◌, ◌≤◌, false, List, [], ◌∷◌, Some, Result, Ok, Err, refl, sym, ap, ⊎_elim, inl, inr, arith}
+use Rattle.std.specs.Option.{option_map, option_map_or}
 use Rattle.funnel_model.specs.declared.bit_list.Bit.{Bit}
 use Rattle.funnel_model.specs.declared.call.Call.TheVariants as call
 use Rattle.funnel_model.specs.declared.call.TheConstants.{MOST_MOVES}
@@ -10,10 +10,9 @@ use Rattle.funnel_model.specs.declared.event.Event.{Event}
 use Rattle.funnel_model.specs.declared.event.Event.TheVariants as event
 use Rattle.funnel_model.specs.declared.reply.Reply.{Reply}
 use Rattle.funnel_model.specs.declared.reply.Reply.TheVariants as reply
-use Rattle.funnel_model.specs.History.{is_live, live, live_place, place}
+use Rattle.funnel_model.specs.History.{is_live, live_place, place}
 use Rattle.funnel_model.specs.Legal.{IsIdle, IsLegal, Limits}
 use Rattle.funnel_model.specs.Steps.{IsReplyToRefused, Step, most_moves}
-use Rattle.funnel_model.proofs.LiveLemmas.{is_live-from_place}
 use Rattle.funnel_model.proofs.StepLemmas.{call_by-own}
 use Rattle.commit_desk.specs.declared.answers.AddFault.{AddFault}
 use Rattle.commit_desk.specs.declared.answers.AddFault.TheVariants as add
@@ -26,14 +25,7 @@ use Rattle.engine.specs.Adds.{AddTurns, ClaimTurns, CommitTurns, MovesFirst, Own
 use Rattle.engine.specs.Moves.{SomeMoves}
 use Rattle.engine.specs.Replies.{reply_of_add}
 use Rattle.engine.proofs.Moves.{moves_are_quiet}
-
-none_of : (o : Option ℕ) → is_some o ≡ false → o ≡ None
-none_of None none = refl
-none_of (Some n) none = cc
-
--- a number that is not live has no place
-no_place : (id : ℕ) (history : List Event) → is_live id history ≡ false → live_place id history ≡ None
-no_place id history absent = none_of (live_place id history) (sym (is_live-from_place id (live history)) ∙ absent)
+use Rattle.funnel_model.proofs.LiveLemmas.{no_place}
 
 module _ (history : List Event) (id : ℕ) where
   -- what an add is answered whose number is live, and one whose number isn't

@@ -1,8 +1,7 @@
 -- What a pass has done for its add between its turns.
-use Rattle.std.proofs.Common.{◌≡◌, ℕ, ◌<◌, ◌⊎◌, ◌↔◌, false, List, [], ◌∷◌, Result, refl, sym, ap, ◌∙◌, subst, ⊎_elim, inr, arith}
+use Rattle.std.proofs.Common.{◌≡◌, ℕ, ◌↔◌, false, List, [], ◌∷◌, Result, sym, ap, ◌∙◌, subst}
 use Rattle.std.specs.List.{All, Contains}
-use Rattle.std.proofs.lemmas.List.Elements.{All-contains}
-use Rattle.column_writer.specs.Written.{IsBitOf}
+use Rattle.column_writer.specs.Written.{SetsBits}
 use Rattle.funnel_model.specs.declared.bit_list.Bit.{Bit}
 use Rattle.funnel_model.specs.declared.claim.Claim.{Claim}
 use Rattle.funnel_model.specs.declared.config.Config.{Config}
@@ -12,11 +11,10 @@ use Rattle.funnel_model.specs.Legal.{IsInSlice, Limits}
 use Rattle.funnel_model.specs.Tunings.{treat}
 use Rattle.row_layout.specs.DocumentBits.{AreDocumentBitsIn}
 use Rattle.row_layout.specs.Layouts.{LayoutId}
-use Rattle.slice_rule.specs.declared.view.Fact.{Fact}
 use Rattle.slice_rule.specs.declared.view.Fact.TheVariants as fact
 use Rattle.slice_rule.specs.Numbers.{last_number}
 use Rattle.slice_rule.specs.Pools.{PoolId}
-use Rattle.slice_rule.specs.Seats.{HoldsClaim, PassState, number_under}
+use Rattle.slice_rule.specs.Seats.{HoldsClaim, PassState}
 use Rattle.commit_desk.specs.Answers.{AnswersCommit, events_of_commit}
 use Rattle.commit_desk.specs.Passes.{HasWritten, IsToWrite}
 use Rattle.commit_desk.specs.declared.answers.CommitFault.{CommitFault}
@@ -27,17 +25,7 @@ use Rattle.slice_recycler.specs.Turns.{IsTurn}
 use Rattle.engine.specs.Adds.{ClaimTurns, ClearsFirst, CommitTurns, TurnOfTake}
 use Rattle.engine.specs.Engines.{IsOfConfig}
 use Rattle.engine.specs.Moves.{AreBitsAt}
-
--- a pass that knew nothing under its claim has set exactly the bits that it wrote
-has_set : (number : ℕ) (bits : List Bit) (before own : List Fact) → All (λ f. number_under f < number) before → ((f : Fact) → Contains own f ↔ (Contains before f ⊎ IsBitOf number bits f)) → (b : Bit) →
-    Contains bits b ↔ Contains own (fact.BitSet number b)
-has_set number bits before own nothing has b = (
-  λ in_bits. (has (fact.BitSet number b)).1 (inr (b, in_bits, refl)),
-  λ in_own. ⊎_elim
-      (λ old. let low = All-contains (λ f. number_under f < number) before (fact.BitSet number b) nothing old in absurd (omega arith))
-      (λ is. let same : b ≡ is.0 = let h = is.2 in cc in subst (Contains bits) (sym same) is.1)
-      ((has (fact.BitSet number b)).0 in_own),
-)
+use Rattle.column_writer.proofs.Writing.{has_set}
 
 -- the layout of the slice of a column that its pass is to write: the treatment of the slice, in the room of the pool's slices
 module _ (pool : PoolId) (claim : Claim) (layout : LayoutId) (seat : PassState) (of_config : IsOfConfig pool) (start : IsToWrite pool claim layout seat) where
@@ -49,10 +37,10 @@ module _ (pool : PoolId) (claim : Claim) (layout : LayoutId) (seat : PassState) 
 
 -- a pass that set the bits of a document at its column has written it
 pub has_written : (pool : PoolId) (claim : Claim) (layout : LayoutId) (set : List (List ℕ)) (bits : List Bit) (seat next : PassState) → IsOfConfig pool → IsToWrite pool claim layout seat →
-    next ≡ record seat { own = next.own } → ((f : Fact) → Contains next.own f ↔ (Contains seat.own f ⊎ IsBitOf (last_number seat.number seat.front) bits f)) →
-    AreDocumentBitsIn layout.room layout.config set claim.slice claim.column bits → All (λ b. IsInSlice layout.room claim.slice b.word) bits →
+    SetsBits seat next bits → AreDocumentBitsIn layout.room layout.config set claim.slice claim.column bits → All (λ b. IsInSlice layout.room claim.slice b.word) bits →
     HasWritten pool claim set bits next
-has_written pool claim layout set bits seat next of_config start is has document inside =
+has_written pool claim layout set bits seat next of_config start did document inside =
+    let is = did.same in
     let words = room_is pool claim layout seat of_config start in
     let front : next.front ≡ seat.front = ap (λ (p : PassState). p.front) is in
     let by_treatment : AreDocumentBitsIn pool.limits.slice_words (treat pool.config claim.slice seat.front) set claim.slice claim.column bits =
@@ -64,7 +52,7 @@ has_written pool claim layout set bits seat next of_config start is has document
       document = subst (λ (h : List Event). AreDocumentBitsIn pool.limits.slice_words (treat pool.config claim.slice h) set claim.slice claim.column bits) (sym front) by_treatment;
       inside = subst (λ n. All (λ b. IsInSlice n claim.slice b.word) bits) words inside;
       bits_set = λ b. subst (λ n. Contains bits b ↔ Contains next.own (fact.BitSet n b)) (sym (ap (λ (p : PassState). last_number p.number p.front) is))
-          (has_set (last_number seat.number seat.front) bits seat.own next.own start.nothing has b);
+          (has_set (last_number seat.number seat.front) bits seat.own next.own start.nothing did.facts b);
     }
 
 -- the turns of a claim that cleared a slice between them

@@ -131,11 +131,6 @@ module _ {A : Type 0} (R : A → A → Type 0) (xs : List A) (x : A) (pairs : Al
       subst (λ z. R z x) (get_or-append xs (x ∷ []) y k within ∙ is)
       (subst (R (get_or (xs ++ x ∷ []) k y)) (last_is y) (pairs k (length xs) y within (omega (arith, length-append xs (x ∷ [])))))
 
--- a list without length has none
-pub none_left : {X : Type 0} (xs : List X) → length xs ≡ 0 → xs ≡ []
-none_left [] none = refl
-none_left (x ∷ xs) none = absurd (omega (arith, none))
-
 -- no slice is of two entries
 abbrev pub AreApart : FindLayout → FindLayout → Type 0
 AreApart one other = (slice : ℕ) → Contains one.slices slice → Contains other.slices slice → ⊥

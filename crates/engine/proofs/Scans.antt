@@ -21,6 +21,7 @@ use Rattle.funnel_model.specs.Sizes.{columns_of_slice}
 use Rattle.funnel_model.specs.SliceSets.{HasNoneFrom}
 use Rattle.rank_matcher.proofs.DocumentHits.{plan-bits}
 use Rattle.rank_matcher.specs.Appended.{AppendsColumns, HasBits, HasEachWithBits, appended, candidates_of}
+use Rattle.rank_matcher.specs.SliceScans.{CanScanSlice}
 use Rattle.funnel_model.specs.Legal.{IsInSlice, Limits}
 use Rattle.row_layout.specs.declared.row.Row.{Row}
 use Rattle.row_layout.specs.DocumentBits.{IsDocumentBitIn, bit_of_row}
@@ -268,6 +269,15 @@ module _ (pool : PoolId) (shared : Shared) (entry : FindLayout) (of_config : IsO
     readable = readable.among slice has;
     inside = subst (λ n. IsInSlice n slice word) (readable.layout.room ∙ sym (ap (λ (p : PoolId). p.limits.slice_words) readable.same)) inside;
   }
+
+-- so each slice of the entry can be scanned by a plan that the layout has the rows of
+pub can_scan_slice : (pool : PoolId) (rows : Shared) (entry : FindLayout) (words : List (List ℕ)) (plan : List Row) → IsOfConfig pool → CanScan pool rows entry words plan → (slice : ℕ) →
+    Contains entry.slices slice → CanScanSlice (IsInReach rows) entry.layout plan slice
+can_scan_slice pool rows entry words plan of_config can slice has = record {
+  in_range = in_layout pool rows entry of_config can.readable slice has;
+  laid = can.planned.laid;
+  reaches = in_reach pool rows entry of_config can.readable slice has;
+}
 
 -- One more slice is scanned, of which the reads are those of the rows.
 pub scanned_slice : (pool : PoolId) (before after : Shared) (entry : FindLayout) (words : List (List ℕ)) (plan : List Row) (slice : ℕ) (old new : List (ℕ × ℕ)) → IsOfConfig pool →

@@ -56,7 +56,7 @@ fn emptied(columns: Candidates) -> Candidates
 
 impl<N: PoolName> Engine<N> {
     // The candidates of the branches in the slices of an entry. There is room for what they give.
-    pub(crate) fn scan_any(
+    pub(crate) fn find_branch_candidates(
         &self,
         alloc: Global,
         pass: &mut PassSeat,
@@ -114,7 +114,7 @@ impl<N: PoolName> Engine<N> {
         ensures kept { kept_of rows.new ≡ kept_of rows.old }
     {
         let mut found = Candidates::new(Vec::new(alloc));
-        self.scan_each(
+        self.scan_slices(
             rows,
             branch.words,
             &branch.plan,
@@ -143,7 +143,7 @@ impl<N: PoolName> Engine<N> {
         let mut room = Candidates::new(Vec::new(alloc));
         let mut from = 0;
         while let Some(slice) = entry.slices.next(from) {
-            merged.begin(slice);
+            merged.begin_slice(slice);
             room = self.merge_each(rows, branches, entry, slice, room, &mut merged)?;
             from = slice + 1;
         }
@@ -195,13 +195,13 @@ impl<N: PoolName> Engine<N> {
         ensures seen_stays { (bit : Bit) → WasReadSet rows.old bit → WasReadSet rows.new bit }
         ensures kept { kept_of rows.new ≡ kept_of rows.old }
     {
-        let found = self.scan_at(rows, branch, entry, slice, room)?;
-        merged.add_all(&found)?;
+        let found = self.scan_slice(rows, branch, entry, slice, room)?;
+        merged.add_columns(&found)?;
         Ok(found)
     }
 
     // Scans a slice of an entry for one branch.
-    fn scan_at(
+    fn scan_slice(
         &self,
         rows: &mut Shared<'_>,
         branch: &Planned<'_>,

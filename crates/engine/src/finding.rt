@@ -63,7 +63,7 @@ impl<N: PoolName> Engine<N> {
         ensures call { MakesCall N.pool.limits (call.Find query.now) (reply_of_find result) pass.old pass.new }
         ensures turns { FindTurns N.pool.limits pass.old.number query.now pass.old.front pass.new.front result }
     {
-        let begun = self.begin(rt, alloc, &mut pass.seat, query, &mut pass.layouts)?;
+        let begun = self.take_token(rt, alloc, &mut pass.seat, query, &mut pass.layouts)?;
         let Begun { token, words } = begun;
         let Ok(ids) = self.finish(
             rt,
@@ -98,7 +98,7 @@ impl<N: PoolName> Engine<N> {
             mut layouts,
             of,
         } = pass;
-        match self.begin(rt, alloc, &mut seat, query, &mut layouts) {
+        match self.take_token(rt, alloc, &mut seat, query, &mut layouts) {
             Ok(begun) => Ok(OpenFind {
                 seat,
                 layouts,
@@ -141,7 +141,7 @@ impl<N: PoolName> Engine<N> {
     }
 
     // Begins a find, after it took its words. It gets the layouts by which its slices are read.
-    fn begin<R: Wait>(
+    fn take_token<R: Wait>(
         &self,
         rt: &R,
         alloc: Global,
@@ -269,7 +269,7 @@ impl<N: PoolName> Engine<N> {
 
     // The candidates in the slices of an entry, and the rest of the words, for which their documents are looked at. There is room for what
     // they give.
-    fn scan<W: Work>(
+    fn find_candidates<W: Work>(
         &self,
         alloc: Global,
         pass: &mut PassSeat,
@@ -289,13 +289,13 @@ impl<N: PoolName> Engine<N> {
         let planned = plan(alloc, entry.layout.layout(), words)?;
         let (plan, rest) = planned;
         let mut candidates = Candidates::new(Vec::new(alloc));
-        self.scan_slices(pass, token, words, &plan, entry, work, &mut candidates)?;
+        self.scan_entry(pass, token, words, &plan, entry, work, &mut candidates)?;
         out.reserve(candidates.len())?;
         Ok((candidates, rest))
     }
 
     // Scans the slices of an entry by its plan.
-    fn scan_slices<W: Work>(
+    fn scan_entry<W: Work>(
         &self,
         pass: &mut PassSeat,
         token: &Token,
@@ -312,11 +312,11 @@ impl<N: PoolName> Engine<N> {
         ensures seat { pass.new ≡ record pass.old { own = pass.new.own; told = pass.new.told } }
     {
         let mut rows = Shared::new(&self.pool, pass, token);
-        self.scan_each(&mut rows, words, plan, entry, work, out)
+        self.scan_slices(&mut rows, words, plan, entry, work, out)
     }
 
     // Scans the slices of an entry for these words, one after the other.
-    pub(crate) fn scan_each<W: Work>(
+    pub(crate) fn scan_slices<W: Work>(
         &self,
         rows: &mut Shared<'_>,
         words: &WordSet,
@@ -363,7 +363,7 @@ impl Lookup for WordSet {
         out: &mut Found,
     ) -> Result<Option<Token>, Memory> {
         let _ = pass.number();
-        let Ok(scanned) = engine.scan(alloc, pass, &token, self, entry, work, out) else {
+        let Ok(scanned) = engine.find_candidates(alloc, pass, &token, self, entry, work, out) else {
             engine.drop_find(rt, pass, token);
             return Err(Memory);
         };

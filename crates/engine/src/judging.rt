@@ -99,7 +99,14 @@ impl<J: Judge> Lookup for Judged<'_, J> {
         out: &mut Found,
     ) -> Result<Option<Token>, Memory> {
         let _ = pass.number();
-        let Ok(candidates) = engine.scan_any(alloc, pass, &token, self.branches, entry, out) else {
+        let Ok(candidates) = engine.find_branch_candidates(
+            alloc,
+            pass,
+            &token,
+            self.branches,
+            entry,
+            out,
+        ) else {
             engine.drop_find(rt, pass, token);
             return Err(Memory);
         };

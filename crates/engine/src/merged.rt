@@ -41,7 +41,7 @@ impl Merged {
     }
 
     // The next columns are of this slice, of which there is none yet.
-    pub(crate) fn begin(&mut self, slice: u32)
+    pub(crate) fn begin_slice(&mut self, slice: u32)
         requires none { (column : ℕ) → Contains self.old.list (slice, column) → ⊥ }
         ensures begun { self.new ≡ record { slice = slice; columns = self.old.columns; list = self.old.list } }
         ensures once { AllPairs (λ (c other : ℕ × ℕ). c ≡ other → ⊥) self.new.list }
@@ -51,7 +51,7 @@ impl Merged {
     }
 
     // Adds the columns of the slice that aren't there.
-    pub(crate) fn add_all(&mut self, others: &Candidates) -> Result<(), Memory>
+    pub(crate) fn add_columns(&mut self, others: &Candidates) -> Result<(), Memory>
         requires slice { (c : ℕ × ℕ) → Contains others.now c → c.0 ≡ self.old.slice }
         requires columns { (c : ℕ × ℕ) → Contains others.now c → c.1 < self.old.columns }
         ensures both { OnOk result (HasBoth self.old.list others.now self.new.list) }

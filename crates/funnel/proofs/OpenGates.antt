@@ -10,16 +10,13 @@ use Rattle.command_line.specs.declared.command.ServeCommand.{ServeCommand}
 use Rattle.funnel.specs.Runs.{limits_by}
 use Rattle.funnel.specs.Served.{AllWork, HaveAllServed, new_workers}
 use Rattle.funnel.specs.declared.ended.Why.TheVariants as why_of
+use Rattle.funnel_model.proofs.Absence.{neither}
 
 -- a worker that stopped, and whose gate neither failed nor closed, served as many connections as it may
 served_its_number : (worker : WorkerState) → IsStopped worker → worker.fault ≡ false → worker.gate.is_closed ≡ false → worker.left ≡ 0
 served_its_number worker (inl none) no_fault is_open = none
 served_its_number worker (inr (inl fault)) no_fault is_open = let other : true ≡ false = sym fault ∙ no_fault in cc
 served_its_number worker (inr (inr no_more)) no_fault is_open = let other : true ≡ false = sym no_more.closed ∙ is_open in cc
-
-neither : (a b : Bool) → (a || b) ≡ false → (a ≡ false) × (b ≡ false)
-neither false b none = (refl, none)
-neither true b none = cc
 
 all_served_their_number : (befores workers : List WorkerState) → AllWork befores workers → list_any (λ (w : WorkerState). w.fault) workers ≡ false →
     All (λ (gate : GateState). gate.is_closed ≡ false) (map (λ (w : WorkerState). w.gate) workers) → All (λ (w : WorkerState). w.left ≡ 0) workers

@@ -53,7 +53,7 @@ held_or_not limits history slice legal column =
     (held_cases is.0)
 
 -- a claimed column that isn't held is over
-over_unless_held : (history : List Event) (slice column : ℕ) (x : ColumnState) → is_claimed slice column history ≡ true → IsInState history slice column x →
+pub over_unless_held : (history : List Event) (slice column : ℕ) (x : ColumnState) → is_claimed slice column history ≡ true → IsInState history slice column x →
     (IsHeld x → ⊥) → IsOver x
 over_unless_held history slice column Unclaimed claimed is not_held = absurd (both_ways (is_claimed slice column history) is claimed)
 over_unless_held history slice column (Pending pass) claimed is not_held = not_held tt

@@ -1,3 +1,4 @@
+pub mod Absence
 pub mod AnswerLemmas
 pub mod Blocks
 pub mod CausedMoves

@@ -199,6 +199,13 @@ is_live-from_place id (d ∷ ds) = first (d.id == id) (is_live-from_place id ds)
   first true more = refl
   first false more = more
 
+-- a number that is not live has no place
+pub no_place : (id : ℕ) (history : List Event) → is_live id history ≡ false → live_place id history ≡ None
+no_place id history absent = none (live_place id history) (sym (is_live-from_place id (live history)) ∙ absent) where
+  none : (place : Option ℕ) → is_some place ≡ false → place ≡ None
+  none None is = refl
+  none (Some n) is = cc
+
 -- an answer, for one more event that deletes and adds nothing
 pub answer-silent : (history : List Event) (e : Event) (query : List ℕ) → ((id : ℕ) → deletes id e ≡ false) → added_by e ≡ None → answer (history ++ e ∷ []) query ≡ answer history query
 answer-silent history e query none adds = ap (λ ds. map (λ (d : Document). d.id) (filter (λ (d : Document). meets d.text query) ds)) (live-silent history e none adds)

@@ -1,5 +1,5 @@
 -- Sums and counts over the numbers below a number, one number more at a time.
-use Rattle.std.proofs.Common.{◌≡◌, ℕ, zero, suc, ◌+◌, Bool, cond, [], ◌∷◌, ◌++◌, ap, ◌∙◌, arith}
+use Rattle.std.proofs.Common.{◌≡◌, ℕ, zero, suc, ◌+◌, ◌<◌, Bool, true, false, cond, [], ◌∷◌, ◌++◌, sym, refl, ap, ◌∙◌, add-one, arith}
 use Rattle.std.specs.List.{range_with_len, sum_by, count_by}
 use Rattle.std.proofs.lemmas.List.Sums.{sum_by_push}
 
@@ -20,3 +20,17 @@ sum_by-range_more f n = ap (sum_by f) (range_more n) ∙ sum_by_push f (range_wi
 
 pub count_by-range_more : (p : ℕ → Bool) (n : ℕ) → count_by p (range_with_len 0 (n + 1)) ≡ count_by p (range_with_len 0 n) + cond (p n) 1 0
 count_by-range_more p n = sum_by-range_more (λ k. cond (p k) 1 0) n
+
+-- the count over one number more
+pub counted_more : (p : ℕ → Bool) (n : ℕ) → count_by p (range_with_len 0 (suc n)) ≡ count_by p (range_with_len 0 n) + cond (p n) 1 0
+counted_more p n = ap (λ k. count_by p (range_with_len 0 k)) (sym (add-one n)) ∙ count_by-range_more p n
+
+-- none is counted where none passes
+pub none_counted : (p : ℕ → Bool) (n : ℕ) → ((k : ℕ) → k < n → p k ≡ false) → count_by p (range_with_len 0 n) ≡ 0
+none_counted p zero fails = refl
+none_counted p (suc n) fails =
+    let before = none_counted p n (λ k below. fails k (omega arith)) in
+    counted_more p n ∙ one_more (count_by p (range_with_len 0 n)) (p n) before (fails n (omega arith)) where
+      one_more : (m : ℕ) (b : Bool) → m ≡ 0 → b ≡ false → m + cond b 1 0 ≡ 0
+      one_more m true none is = cc
+      one_more m false none is = omega arith

@@ -1,5 +1,5 @@
 -- How many columns of an engine are spare and ready, and that it is full where none is ready.
-use Rattle.std.proofs.Common.{◌≡◌, ℕ, zero, suc, ◌+◌, ◌<◌, ◌≤◌, ⊎_elim, Bool, true, false, cond, not, List, [], ◌∷◌, length, map, slice_index, sym, refl, ap, ◌∙◌, subst, add-one, arith, inl, inr}
+use Rattle.std.proofs.Common.{◌≡◌, ℕ, zero, suc, ◌+◌, ◌<◌, ◌≤◌, ⊎_elim, Bool, true, false, cond, not, List, [], ◌∷◌, length, map, slice_index, sym, refl, ap, ◌∙◌, subst, arith, inl, inr}
 use Rattle.std.proofs.lemmas.Bool.{both_ways, cases_lt, cases_order, true_from_ne_false}
 use Rattle.std.proofs.lemmas.Bool.Decides.{same_from_decides}
 use Rattle.std.proofs.lemmas.List.FromFn.{get_or-map-range_with_len, length-map-range_with_len}
@@ -17,22 +17,8 @@ use Rattle.funnel_model.proofs.ColumnStates.{state_of}
 use Rattle.funnel_model.proofs.ColumnsKept.{kept}
 use Rattle.funnel_model.proofs.Blocks.{least_below}
 use Rattle.funnel_model.proofs.Progress.{guarded_cases, unclaimed_cases}
-use Rattle.funnel_model.proofs.Ranges.{count_by-range_more}
+use Rattle.funnel_model.proofs.Ranges.{counted_more, none_counted}
 use Rattle.funnel_model.proofs.ReplyLemmas.{retired_cases}
-
--- the count over one number more
-counted_more : (p : ℕ → Bool) (n : ℕ) → count_by p (range_with_len 0 (suc n)) ≡ count_by p (range_with_len 0 n) + cond (p n) 1 0
-counted_more p n = ap (λ k. count_by p (range_with_len 0 k)) (sym (add-one n)) ∙ count_by-range_more p n
-
--- none is counted where none passes
-none_counted : (p : ℕ → Bool) (n : ℕ) → ((k : ℕ) → k < n → p k ≡ false) → count_by p (range_with_len 0 n) ≡ 0
-none_counted p zero fails = refl
-none_counted p (suc n) fails =
-    let before = none_counted p n (λ k below. fails k (omega arith)) in
-    counted_more p n ∙ one_more (count_by p (range_with_len 0 n)) (p n) before (fails n (omega arith)) where
-      one_more : (m : ℕ) (b : Bool) → m ≡ 0 → b ≡ false → m + cond b 1 0 ≡ 0
-      one_more m true none is = cc
-      one_more m false none is = omega arith
 
 last_fails : (m : ℕ) (b : Bool) → m + cond b 1 0 ≡ 0 → (m ≡ 0) × (b ≡ false)
 last_fails m true is = absurd (omega arith)

@@ -20,6 +20,7 @@ use Rattle.funnel_server.specs.Gates.{Sides}
 use Rattle.funnel_server.specs.Laws.{CountsAs, FitsKept, SessionEndsWell, HasCause, HasFewBytes, VisitHasNoFault, KeepsInput, TakesAll, TakesAs, TellsInput}
 use Rattle.funnel_server.specs.Sessions.{IsServed}
 use Rattle.funnel_server.specs.Workers.{GivesNoMore, IsStopped, IsVisit, Visit, WorkerState, Works, is_memory, served_by, sides_before}
+use Rattle.funnel_model.proofs.Absence.{neither}
 
 -- a limit that is told is another one's
 limit_is : (told limit : ℕ) → end_of.ByteLimit told ≡ end_of.ByteLimit limit → told ≡ MOST_BYTES → limit ≡ MOST_BYTES
@@ -239,10 +240,6 @@ without_a_fault before after works waiting is few none =
 done_one : (visit : Visit) → SessionEndsWell visit → is_memory visit.end ≡ false → visit.end ≡ end_of.Done
 done_one visit (inl done) none = done
 done_one visit (inr memory) none = let other : true ≡ false = sym (ap is_memory memory) ∙ none in cc
-
-neither : (a b : Bool) → (a || b) ≡ false → (a ≡ false) × (b ≡ false)
-neither false b none = (refl, none)
-neither true b none = cc
 
 all_done : (visits : List Visit) → list_any (λ visit. is_memory visit.end) visits ≡ false → All SessionEndsWell visits → All (λ visit. visit.end ≡ end_of.Done) visits
 all_done [] none well = All-nil (λ (visit : Visit). visit.end ≡ end_of.Done)

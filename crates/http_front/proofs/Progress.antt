@@ -28,6 +28,7 @@ use Rattle.http_front.specs.declared.cause.Cause.{Cause}
 use Rattle.http_front.specs.declared.cause.Cause.TheVariants as cause
 use Rattle.http_front.specs.declared.outcome.Outcome.{Outcome}
 use Rattle.http_front.specs.declared.outcome.Outcome.TheVariants as outcome
+use Rattle.funnel_model.proofs.Absence.{neither}
 
 -- further bytes leave a head at the front as it is
 pub HasHead-append : (bytes : List ℕ) (head : RequestHead) (after more : List ℕ) → HasHead bytes head after → HasHead (bytes ++ more) head (after ++ more)
@@ -74,10 +75,6 @@ ReadsEntry-append bytes (Refused cause.Head closing) rest more none reads = absu
 ReadsEntry-append bytes (Refused cause.Coding closing) rest more none reads = absurd (both closing reads.0 none)
 ReadsEntry-append bytes (Refused cause.Length closing) rest more none reads = absurd (both closing reads.0 none)
 ReadsEntry-append bytes (Refused cause.Long closing) rest more none reads = absurd (both closing reads.0 none)
-
-neither : (a b : Bool) → (a || b) ≡ false → (a ≡ false) × (b ≡ false)
-neither true b is = absurd (true≢false is)
-neither false b is = (refl, is)
 
 -- and so entries of which none closes
 pub BeginsWith-append : (bytes : List ℕ) (entries : List Entry) (rest more : List ℕ) → list_any is_last entries ≡ false → BeginsWith bytes entries rest

@@ -1,6 +1,7 @@
 //! Scans of slices whose row words are written out, and the reads that they take.
 ghost use Rattle.std.specs.Prelude.{◌≡◌, ◌<◌, ◌≤◌, length, All, IfOk};
 ghost use Rattle.funnel_model.specs.Configuration.{IsBetween};
+ghost use Rattle.index_tests.specs.Settings.{CanBeListed};
 ghost use Rattle.row_layout.specs.Rows.{IsRowOf};
 
 use crate::setting::{config, layout_of};
@@ -16,8 +17,7 @@ use word_cut::words;
 
 /// One listed word, of which one document in sixteen has it, so that it has a row of rank 1 and two of rank 0.
 fn otter(alloc: Global) -> Result<Listed, AllocError>
-    ensures few { IfOk result (λ words. length words ≤ 65536) }
-    ensures counts { IfOk result (λ words. All (λ entry. IsBetween 1 1000 entry.1) words) }
+    ensures { IfOk result (CanBeListed 1000) }
 {
     let otter = String::from_str(alloc, "otter")?;
     Ok(Listed::new(vec![in alloc; (otter, 62)]?))
@@ -269,6 +269,8 @@ impl<'a> Rows for Changing<'a> {
     ghost kept = { λ _. tt };
 
     ghost reads = { λ rows. rows.reads };
+
+    ghost is_read = { λ _ _ _ _. ⊤ };
 
     fn read(&mut self, word: u32) -> u64 {
         self.reads = self.reads.saturating_add(1);

@@ -1,7 +1,8 @@
 //! Configurations, listed words and layouts of the tests.
-ghost use Rattle.std.specs.Prelude.{◌≡◌, ◌≤◌, length, All, IfOk, []};
+ghost use Rattle.std.specs.Prelude.{◌≡◌, ◌≤◌, IfOk, []};
 ghost use Rattle.funnel_model.specs.Configuration.{IsBetween, IsInRange};
 ghost use Rattle.funnel_model.specs.Sizes.{columns_of_slice};
+ghost use Rattle.index_tests.specs.Settings.{CanBeListed, HasTwoSlices};
 
 use funnel_model::{Config, Listed, Memory};
 use row_layout::{Layout, LayoutFault};
@@ -22,12 +23,9 @@ pub(crate) fn config(
     requires snr { IsBetween 1 1000 snr }
     requires documents { IsBetween 1 20000 documents }
     requires tail { tail ≤ 80 }
-    requires few { length words ≤ 65536 }
-    requires counts { All (λ entry. IsBetween 1 documents entry.1) words }
+    requires words { CanBeListed documents words }
     ensures in_range { IsInRange result }
-    ensures slices { result.slices ≡ 2 }
-    ensures blocks { result.blocks ≡ 1 }
-    ensures max_rank { result.max_rank ≡ max_rank }
+    ensures slices { HasTwoSlices max_rank result }
 {
     Config {
         passes: 2,
@@ -53,8 +51,7 @@ pub(crate) fn no_words(alloc: Global) -> Listed
 
 /// A rare word, a common one and a very common one.
 pub(crate) fn three_words(alloc: Global) -> Result<Listed, AllocError>
-    ensures few { IfOk result (λ words. length words ≤ 65536) }
-    ensures counts { IfOk result (λ words. All (λ entry. IsBetween 1 1000 entry.1) words) }
+    ensures { IfOk result (CanBeListed 1000) }
 {
     let axolotl = String::from_str(alloc, "axolotl")?;
     let cat = String::from_str(alloc, "cat")?;

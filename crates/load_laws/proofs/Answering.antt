@@ -20,6 +20,7 @@ use Rattle.funnel_model.specs.Steps.{IsMade, IsReply}
 use Rattle.load_laws.specs.LonePass.{IsAlone, LoneStep, count_of_takes}
 use Rattle.load_laws.proofs.Quiet.{Quiet, alone_front, alone_rest, filled, filled-push, fills_column, quiet_calls}
 use Rattle.load_laws.proofs.Takes.{takes_filled}
+use Rattle.funnel_model.proofs.Absence.{empty_by_length}
 
 -- a front that isn't longer than another begins it
 pub shorter_begins : {A : Type 0} (front rest longer later : List A) → front ++ rest ≡ longer ++ later → length front ≤ length longer →
@@ -30,11 +31,6 @@ shorter_begins (x ∷ xs) rest (y ∷ ys) later is within =
     let same : x ≡ y = cc in
     let more = shorter_begins xs rest ys later (cc) (omega arith) in
     (more.0, cc (more.1))
-
--- a list of length 0 is empty
-none_of_length : {A : Type 0} (xs : List A) → length xs ≡ 0 → xs ≡ []
-none_of_length [] is = refl
-none_of_length (x ∷ xs) is = absurd (omega arith)
 
 -- a call that is no query was made, as it found memory and wasn't refused as spent
 is_made : (limits : Limits) (pass : ℕ) (before after : List Event) (asked : Call) (given : Reply) → is_query asked ≡ false → LoneStep limits pass before after asked given →
@@ -94,7 +90,7 @@ event_is_new pass before after asked earlier e later at =
     let all = ap length (ap (own pass) at.whole ∙ own-append pass earlier (e ∷ later) ∙ ap (λ cs. own pass earlier ++ cs) at.answers)
     ∙ length-append (own pass earlier) (asked ∷ []) in
     let parts = ap length (ap (own pass) between.1 ∙ own-append pass before between.0) ∙ length-append (own pass before) (own pass between.0) in
-    (between.0, between.1, none_of_length (own pass between.0) (omega arith)))
+    (between.0, between.1, empty_by_length (own pass between.0) (omega arith)))
     (cases_lt (length earlier) (length before))
 
 pub answered : (limits : Limits) (pass : ℕ) (before after : List Event) (asked : Call) (given : Reply) → is_query asked ≡ false → LoneStep limits pass before after asked given →

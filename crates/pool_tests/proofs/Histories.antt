@@ -6,7 +6,7 @@ use Rattle.slice_rule.specs.declared.view.Fact.{Fact}
 use Rattle.slice_rule.specs.declared.view.Fact.TheVariants as fact
 use Rattle.slice_rule.specs.Pools.{PoolId}
 use Rattle.slice_rule.specs.Seats.{HoldsToken, PassState}
-use Rattle.column_writer.specs.Written.{IsBitOf}
+use Rattle.pool_tests.specs.Written.{KnowsJust}
 use Rattle.funnel_model.specs.declared.event.Event.{Event}
 use Rattle.funnel_model.specs.declared.event.Event.TheVariants as event
 use Rattle.funnel_model.specs.Legal.{IsAllowed, IsLegal, Limits}
@@ -46,7 +46,7 @@ second_take limits legal passes slices columns = record {
 }
 
 -- a pass that set just these bits has set each of them
-pub set_just : (number : ℕ) (bits : List Bit) (own : List Fact) → ((f : Fact) → Contains own f ↔ (Contains [] f ⊎ IsBitOf number bits f)) → (b : Bit)
+pub set_just : (number : ℕ) (bits : List Bit) (own : List Fact) → KnowsJust number bits own → (b : Bit)
     → Contains bits b ↔ Contains own (fact.BitSet number b)
 set_just number bits own has b = (
   λ in_bits. (has (fact.BitSet number b)).1 (inr (b, in_bits, refl)),
@@ -58,7 +58,7 @@ set_just number bits own has b = (
 
 -- also where the number, the bits and the facts are known by other names
 pub just_set : (number other : ℕ) (bits list : List Bit) (before own : List Fact) → other ≡ number → list ≡ bits → own ≡ before
-    → ((f : Fact) → Contains before f ↔ (Contains [] f ⊎ IsBitOf number bits f)) → (b : Bit) → Contains list b ↔ Contains own (fact.BitSet other b)
+    → KnowsJust number bits before → (b : Bit) → Contains list b ↔ Contains own (fact.BitSet other b)
 just_set number other bits list before own numbers lists facts has b =
     subst (λ (n : ℕ). Contains list b ↔ Contains own (fact.BitSet n b)) (sym numbers)
     (subst (λ (bs : List Bit). Contains bs b ↔ Contains own (fact.BitSet number b)) (sym lists)

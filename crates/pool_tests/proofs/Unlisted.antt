@@ -1,5 +1,5 @@
 -- Where no word is listed no row is private, so no column owns a bit.
-use Rattle.std.proofs.Common.{◌≡◌, ℕ, zero, suc, ◌+◌, ◌<◌, Bool, false, List, [], ◌∷◌, ◌++◌, filter, get_or, length, refl, sym, ap, ◌∙◌, subst, arith}
+use Rattle.std.proofs.Common.{◌≡◌, ℕ, zero, suc, ◌+◌, ◌<◌, false, Some, List, [], ◌∷◌, ◌++◌, filter, get_or, length, refl, sym, ap, ◌∙◌, subst, arith}
 use Rattle.std.proofs.lemmas.Bool.{or_from}
 use Rattle.std.proofs.lemmas.List.Folds.{list_any-append}
 use Rattle.std.specs.List.{All, list_any}
@@ -10,14 +10,16 @@ use Rattle.funnel_model.specs.declared.config.Config.{Config}
 use Rattle.funnel_model.specs.declared.event.Event.{Event}
 use Rattle.funnel_model.specs.declared.event.Event.TheVariants as event
 use Rattle.funnel_model.specs.Events.{tuning_of}
-use Rattle.funnel_model.specs.Legal.{Limits}
+use Rattle.funnel_model.specs.History.{last_by}
+use Rattle.funnel_model.specs.Legal.{IsInSlice, Limits}
 use Rattle.funnel_model.specs.Sizes.{is_private, private_words}
 use Rattle.funnel_model.specs.Tunings.{treat}
 use Rattle.funnel_model.proofs.TuningLemmas.{treat_untuned}
 use Rattle.row_layout.specs.Owners.{Owns}
 use Rattle.row_layout.specs.Rows.{IsPrivateRow}
 use Rattle.slice_rule.specs.Pools.{PoolId}
-use Rattle.slice_rule.specs.Seats.{KeepsToColumn, PassState}
+use Rattle.slice_rule.specs.Seats.{HasNoneOutstanding, KeepsToColumn, PassState}
+use Rattle.column_writer.specs.Written.{CanWrite}
 use Rattle.pool_tests.specs.Cleared.{drops}
 
 -- nothing was tuned
@@ -38,6 +40,20 @@ keeps pool seat claim b same none untuned column owns =
 
 pub all_keep : (pool : PoolId) (seat : PassState) (claim : Claim) (bits : List Bit) → seat.pool ≡ pool → pool.config.words ≡ [] → IsUntuned seat.front → All (KeepsToColumn seat claim) bits
 all_keep pool seat claim bits same none untuned = λ k d small. keeps pool seat claim (get_or bits k d) same none untuned
+
+-- and a pass that claimed a column last may write any bits of its slice there
+pub all_writable : (pool : PoolId) (seat : PassState) (claim : Claim) (bits : List Bit) → seat.pool ≡ pool → pool.config.words ≡ [] → (number : ℕ) (front : List Event) →
+    seat.number ≡ number → seat.front ≡ front → IsUntuned front → last_by number front ≡ Some (event.Take number claim.slice claim.column) → HasNoneOutstanding seat →
+    All (λ b. IsInSlice pool.limits.slice_words claim.slice b.word) bits → All (λ b. b.bit < 64) bits → CanWrite pool seat claim bits
+all_writable pool seat claim bits same none number front number_is front_is untuned last none_outstanding inside of_words = record {
+  same = same;
+  holds = subst (λ (n : ℕ). last_by n seat.front ≡ Some (event.Take n claim.slice claim.column)) (sym number_is)
+      (subst (λ (h : List Event). last_by number h ≡ Some (event.Take number claim.slice claim.column)) (sym front_is) last);
+  none_outstanding = none_outstanding;
+  inside = inside;
+  of_words = of_words;
+  owners = all_keep pool seat claim bits same none (subst IsUntuned (sym front_is) untuned);
+}
 
 untuned_one : (history : List Event) (e : Event) → IsUntuned history → is_some (tuning_of e) ≡ false → IsUntuned (history ++ e ∷ [])
 untuned_one history e before none =

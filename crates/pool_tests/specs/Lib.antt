@@ -1,2 +1,4 @@
 pub mod Sizes
 pub mod Cleared
+pub mod Resting
+pub mod Written

@@ -1,6 +1,7 @@
 //! Pools that are opened, used and closed.
 ghost use Rattle.std.specs.Prelude.{◌≡◌, ◌+◌, ◌^◌, ◌<◌, ◌≤◌, None, length};
 ghost use Rattle.funnel_model.specs.Legal.{awaited};
+ghost use Rattle.pool_tests.specs.Resting.{AreAtRest};
 ghost use Rattle.slice_rule.specs.Seats.{IsAtRest};
 
 use crate::setting::{close_two, open_two};
@@ -32,16 +33,10 @@ fn seats_cross_threads(rt: HostRuntime) -> Result<(), Fail> {
 
 /// A pass without an open call reads the place, where no event is awaited.
 fn read_place(pool: &Pool, home: &mut Home, seat: &mut PassSeat) -> u64
-    requires home { home.old.pool ≡ pool.now }
-    requires seat { seat.old.pool ≡ pool.now }
-    requires rest { IsAtRest seat.old }
-    requires none_awaited { awaited home.old.history ≡ None }
+    requires rest { AreAtRest pool.now home.old seat.old }
     requires few { length home.old.history < 2 ^ 62 }
-    ensures home { home.new.pool ≡ pool.now }
-    ensures seat { seat.new.pool ≡ pool.now }
+    ensures rest { AreAtRest pool.now home.new seat.new }
     ensures same { seat.new.number ≡ seat.old.number }
-    ensures rest { IsAtRest seat.new }
-    ensures none_awaited { awaited home.new.history ≡ None }
     ensures number { (result ≡ length home.new.history) × (result ≡ length home.old.history + 1) }
 {
     pool.catch_up(home, seat);

@@ -1,14 +1,14 @@
 //! Two passes write columns beside each other, and a find reads the bits of both.
-ghost use Rattle.std.specs.Prelude.{◌≡◌, ◌+◌, ◌*◌, ◌<◌, ◌≤◌, ◌↔◌, ◌⊎◌, ℕ, List, All, Contains, IfOk, [], ◌∷◌, ◌++◌};
-ghost use Rattle.column_writer.specs.Written.{IsBitOf};
+ghost use Rattle.std.specs.Prelude.{◌≡◌, ◌+◌, ◌*◌, ◌<◌, ◌≤◌, ℕ, List, All, Contains, IfOk, [], ◌∷◌, ◌++◌};
+ghost use Rattle.column_writer.specs.Written.{CanWrite};
 ghost use Rattle.funnel_model.specs.declared.bit_list.Bit.{Bit};
 ghost use Rattle.funnel_model.specs.declared.event.Event.TheVariants as event;
 ghost use Rattle.funnel_model.specs.Legal.{IsInSlice};
 ghost use Rattle.funnel_model.specs.Sizes.{columns_of_slice};
 ghost use Rattle.pool_tests.specs.Sizes.{sizes_of};
-ghost use Rattle.slice_rule.specs.declared.view.Fact.{Fact};
+ghost use Rattle.pool_tests.specs.Written.{KnowsJust};
 ghost use Rattle.slice_rule.specs.Numbers.{last_number};
-ghost use Rattle.slice_rule.specs.Seats.{HasNoneOutstanding, HoldsClaim, HoldsToken, KeepsToColumn, new_home_state, new_pass_state};
+ghost use Rattle.slice_rule.specs.Seats.{HasNoneOutstanding, HoldsToken, new_home_state, new_pass_state};
 
 use crate::setting::{Opened, config, open_two};
 use column_writer::write_column;
@@ -78,7 +78,7 @@ fn add_first(pool: &Pool, home: &mut Home, seat: &mut PassSeat, text: &Text, bit
     requires sizes { (0 < pool.now.limits.passes) × (0 < pool.now.limits.commits) }
     requires home { (home.old.pool ≡ pool.now) × (home.old.history ≡ event.Take 0 0 0 ∷ event.Take 1 0 1 ∷ []) }
     requires seat { (seat.old.pool ≡ pool.now) × (seat.old.number ≡ 0) × HasNoneOutstanding seat.old }
-    requires own { (f : Fact) → Contains seat.old.own f ↔ (Contains [] f ⊎ IsBitOf 1 bits.now.bits f) }
+    requires own { KnowsJust 1 bits.now.bits seat.old.own }
     requires inside { All (λ b. IsInSlice pool.now.limits.slice_words 0 b.word) bits.now.bits }
     requires in_word { All (λ b. b.bit < 64) bits.now.bits }
     ensures home { (home.new.pool ≡ pool.now)
@@ -103,7 +103,7 @@ fn add_second(pool: &Pool, home: &mut Home, seat: &mut PassSeat, text: &Text, bi
     requires sizes { (1 < pool.now.limits.passes) × (1 < pool.now.limits.commits) }
     requires home { home.old.pool ≡ pool.now }
     requires seat { (seat.old.pool ≡ pool.now) × (seat.old.number ≡ 1) × HasNoneOutstanding seat.old }
-    requires own { (f : Fact) → Contains seat.old.own f ↔ (Contains [] f ⊎ IsBitOf 2 bits.now.bits f) }
+    requires own { KnowsJust 2 bits.now.bits seat.old.own }
     requires inside { All (λ b. IsInSlice pool.now.limits.slice_words 0 b.word) bits.now.bits }
     requires in_word { All (λ b. b.bit < 64) bits.now.bits }
     ensures home { (home.new.pool ≡ pool.now) × (home.new.history ≡ home.old.history ++ event.Add 1 5 text.now 0 1 bits.now.bits ∷ []) }
@@ -179,56 +179,38 @@ fn write_both<R: Threads + Sync>(
     low: &Bits,
     high: &Bits,
 ) -> (PassSeat, PassSeat)
-    requires first { (first.pool ≡ pool.now) × (first.number ≡ 0) × (first.front ≡ event.Take 0 0 0 ∷ []) × HasNoneOutstanding first × (first.own ≡ []) }
-    requires second { (second.pool ≡ pool.now) × (second.number ≡ 1)
-        × (second.front ≡ event.Take 0 0 0 ∷ event.Take 1 0 1 ∷ []) × HasNoneOutstanding second × (second.own ≡ []) }
-    requires low { All (λ b. IsInSlice pool.now.limits.slice_words 0 b.word) low.now.bits × All (λ b. b.bit < 64) low.now.bits }
-    requires high { All (λ b. IsInSlice pool.now.limits.slice_words 0 b.word) high.now.bits × All (λ b. b.bit < 64) high.now.bits }
-    requires low_owners { All (KeepsToColumn first (record { slice = 0; column = 0 })) low.now.bits }
-    requires high_owners { All (KeepsToColumn second (record { slice = 0; column = 1 })) high.now.bits }
+    requires first { (first.number ≡ 0) × (first.front ≡ event.Take 0 0 0 ∷ []) × (first.own ≡ []) }
+    requires second { (second.number ≡ 1) × (second.front ≡ event.Take 0 0 0 ∷ event.Take 1 0 1 ∷ []) × (second.own ≡ []) }
+    requires low { CanWrite pool.now first (record { slice = 0; column = 0 }) low.now.bits }
+    requires high { CanWrite pool.now second (record { slice = 0; column = 1 }) high.now.bits }
     ensures first { (result.0.pool ≡ pool.now) × (result.0.number ≡ 0) × HasNoneOutstanding result.0 }
     ensures second { (result.1.pool ≡ pool.now) × (result.1.number ≡ 1) × HasNoneOutstanding result.1 }
-    ensures low { (f : Fact) → Contains result.0.own f ↔ (Contains [] f ⊎ IsBitOf 1 low.now.bits f) }
-    ensures high { (f : Fact) → Contains result.1.own f ↔ (Contains [] f ⊎ IsBitOf 2 high.now.bits f) }
+    ensures low { KnowsJust 1 low.now.bits result.0.own }
+    ensures high { KnowsJust 2 high.now.bits result.1.own }
 {
     join(
         rt,
         move || -> PassSeat
-            requires pool { first.pool ≡ pool.now }
-            requires claim { HoldsClaim first (record { slice = 0; column = 0 }) }
-            requires none_outstanding { HasNoneOutstanding first }
+            requires can { CanWrite pool.now first (record { slice = 0; column = 0 }) low.now.bits }
             requires own { first.own ≡ [] }
-            requires inside { All (λ b. IsInSlice pool.now.limits.slice_words 0 b.word) low.now.bits }
-            requires of_words { All (λ b. b.bit < 64) low.now.bits }
-            requires owners { All (KeepsToColumn first (record { slice = 0; column = 0 })) low.now.bits }
             ensures seat { (result.pool ≡ pool.entry.now) × (result.number ≡ first.number) × HasNoneOutstanding result }
-            ensures bits { (f : Fact) → Contains result.own f ↔ (Contains [] f ⊎ IsBitOf (last_number first.number first.front) low.entry.now.bits f) }
+            ensures bits { KnowsJust (last_number first.number first.front) low.entry.now.bits result.own }
         { written_as(pool, first, 0, low) },
         move || -> PassSeat
-            requires pool { second.pool ≡ pool.now }
-            requires claim { HoldsClaim second (record { slice = 0; column = 1 }) }
-            requires none_outstanding { HasNoneOutstanding second }
+            requires can { CanWrite pool.now second (record { slice = 0; column = 1 }) high.now.bits }
             requires own { second.own ≡ [] }
-            requires inside { All (λ b. IsInSlice pool.now.limits.slice_words 0 b.word) high.now.bits }
-            requires of_words { All (λ b. b.bit < 64) high.now.bits }
-            requires owners { All (KeepsToColumn second (record { slice = 0; column = 1 })) high.now.bits }
             ensures seat { (result.pool ≡ pool.entry.now) × (result.number ≡ second.number) × HasNoneOutstanding result }
-            ensures bits { (f : Fact) → Contains result.own f ↔ (Contains [] f ⊎ IsBitOf (last_number second.number second.front) high.entry.now.bits f) }
+            ensures bits { KnowsJust (last_number second.number second.front) high.entry.now.bits result.own }
         { written_as(pool, second, 1, high) },
     )
 }
 
 /// A pass writes its column.
 fn written_as(pool: &Pool, mut seat: PassSeat, column: u32, bits: &Bits) -> PassSeat
-    requires pool { seat.pool ≡ pool.now }
-    requires claim { HoldsClaim seat (record { slice = 0; column = column }) }
-    requires none_outstanding { HasNoneOutstanding seat }
+    requires can { CanWrite pool.now seat (record { slice = 0; column = column }) bits.now.bits }
     requires own { seat.own ≡ [] }
-    requires inside { All (λ b. IsInSlice pool.now.limits.slice_words 0 b.word) bits.now.bits }
-    requires of_words { All (λ b. b.bit < 64) bits.now.bits }
-    requires owners { All (KeepsToColumn seat (record { slice = 0; column = column })) bits.now.bits }
     ensures seat { (result.pool ≡ pool.now) × (result.number ≡ seat.number) × HasNoneOutstanding result }
-    ensures bits { (f : Fact) → Contains result.own f ↔ (Contains [] f ⊎ IsBitOf (last_number seat.number seat.front) bits.now.bits f) }
+    ensures bits { KnowsJust (last_number seat.number seat.front) bits.now.bits result.own }
 {
     let claim = Claim { slice: 0, column };
     write_column(pool, &mut seat, &claim, bits);

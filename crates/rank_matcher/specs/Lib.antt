@@ -1,6 +1,7 @@
 pub mod Hits
 pub mod Reads
 pub mod Appended
+pub mod SliceScans
 pub mod SetBits
 pub mod Walk
 pub mod Laws

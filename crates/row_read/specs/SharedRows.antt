@@ -7,7 +7,8 @@ use Rattle.funnel_model.specs.Legal.{IsInSlice}
 use Rattle.funnel_model.specs.RowWords.{IsCommitted}
 use Rattle.row_read.specs.declared.shared.Shared.{Shared}
 use Rattle.slice_rule.specs.Pools.{PoolId}
-use Rattle.slice_rule.specs.Seats.{HasNoneOutstanding, HoldsToken, PassState, WasReadUnder}
+use Rattle.slice_rule.specs.declared.view.Fact.TheVariants as fact
+use Rattle.slice_rule.specs.Seats.{HasNoneOutstanding, HoldsToken, PassState, WasReadUnder, after_own}
 
 -- the pass is one of the pool and holds the token, and nothing that it asked is outstanding
 pub record CanRead (pool : PoolId) (seat : PassState) (token : Token) : Type 0 where
@@ -30,6 +31,10 @@ IsCommittedUnder shared b = (slice : ℕ) × Contains shared.token.now.slices sl
 -- as the pass has seen, has it
 abbrev pub WasReadSet : Shared → Bit → Type 0
 WasReadSet shared b = WasReadUnder shared.seat.now shared.token.now.opened_at b
+
+-- under the token, the pass has read one word more, once and with this value
+abbrev pub HasReadOnce : Shared → ℕ → ℕ → Shared → Type 0
+HasReadOnce before word value after = after.seat.now ≡ after_own before.seat.now (fact.WordRead before.token.now.opened_at word value)
 
 -- what no read changes: the pool, the token, which seat is borrowed, and the pass's own pool, its number, front and asked events
 pub record SharedKept : Type 0 where

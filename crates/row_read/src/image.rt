@@ -52,6 +52,8 @@ impl<'a> Rows for Image<'a> {
 
     ghost reads = { λ image. image.reads };
 
+    ghost is_read = { λ _ _ _ _. ⊤ };
+
     fn read(&mut self, word: u32) -> u64 {
         self.reads = self.reads.saturating_add(1);
         self.words[word as usize]

@@ -25,9 +25,13 @@ pub trait Rows {
     // How many words were read, up to the last value of the counter.
     ghost reads: { Self → ℕ };
 
+    // One read of this word, which gave this value, made the second of the first.
+    ghost is_read: { Self → ℕ → ℕ → Self → Type 0 };
+
     /// Reads a word.
     fn read(&mut self, word: u32) -> u64
         requires reach { reach self.old word }
+        ensures once { is_read self.old word result self.new }
         ensures told { IfSome (told self.old) (λ words. result ≡ slice_index words word) }
         ensures least { (bit : ℕ) → least self.old (record { word = word; bit = bit }) → IsBitSet result bit }
         ensures seen { (bit : Bit) → seen self.new bit ↔ (seen self.old bit ⊎ ((bit.word ≡ word) × IsBitSet result bit.bit)) }

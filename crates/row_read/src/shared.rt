@@ -37,7 +37,7 @@ impl<'a> Shared<'a> {
 
 impl<'a> Rows for Shared<'a> {
     ghost use Rattle.std.specs.Prelude.{None};
-    ghost use Rattle.row_read.specs.SharedRows.{IsCommittedUnder, IsInReach, SharedKept, WasReadSet, kept_of};
+    ghost use Rattle.row_read.specs.SharedRows.{HasReadOnce, IsCommittedUnder, IsInReach, SharedKept, WasReadSet, kept_of};
 
     ghost Kept = { SharedKept };
 
@@ -52,6 +52,8 @@ impl<'a> Rows for Shared<'a> {
     ghost kept = { kept_of };
 
     ghost reads = { λ shared. shared.count };
+
+    ghost is_read = { HasReadOnce };
 
     fn read(&mut self, word: u32) -> u64 {
         self.count = self.count.saturating_add(1);

@@ -1,5 +1,5 @@
 -- What a recycle is answered, from its turns.
-use Rattle.std.proofs.Common.{◌≡◌, ◌⊎◌, ◌↔◌, ℕ, List, [], ◌∷◌, Ok, true, refl, sym, ap, subst, inr}
+use Rattle.std.proofs.Common.{◌≡◌, ℕ, List, [], ◌∷◌, Ok, true, refl, sym, ap, subst, inr}
 use Rattle.std.specs.List.{Contains}
 use Rattle.funnel_model.specs.declared.call.Call.TheVariants as call
 use Rattle.funnel_model.specs.declared.claim.ClearJob.{ClearJob}
@@ -9,7 +9,6 @@ use Rattle.funnel_model.specs.declared.reply.Reply.TheVariants as reply
 use Rattle.funnel_model.specs.Legal.{IsIdle, IsLegal, Limits}
 use Rattle.funnel_model.specs.Steps.{Step}
 use Rattle.funnel_model.proofs.StepLemmas.{call_by-own}
-use Rattle.slice_rule.specs.declared.view.Fact.{Fact}
 use Rattle.slice_rule.specs.declared.view.Fact.TheVariants as fact
 use Rattle.slice_rule.specs.Numbers.{last_number}
 use Rattle.slice_rule.specs.Pools.{PoolId}
@@ -20,7 +19,7 @@ use Rattle.commit_desk.specs.declared.answers.ClearRefusal.{ClearRefusal}
 use Rattle.commit_desk.specs.declared.answers.ClearRefusal.TheVariants as clear
 use Rattle.commit_desk.specs.declared.answers.ToClear.{ToClear}
 use Rattle.commit_desk.proofs.CallEnds.{seated_still}
-use Rattle.slice_recycler.specs.Cleared.{IsZeroOf}
+use Rattle.slice_recycler.specs.Cleared.{CanClearSlice, ClearsSlice, IsRoomOf}
 use Rattle.slice_recycler.specs.Recycles.{IsRefusedTurn, RecycleTurns, refused_as, reply_of_recycle, work_on}
 use Rattle.slice_recycler.specs.declared.recycling.Recycled.TheVariants as recycled
 use Rattle.slice_recycler.specs.Turns.{IsTurn}
@@ -53,18 +52,26 @@ module _ (limits : Limits) (pass : ℕ) (before after : List Event) where
         step_made_after limits pass before middle after opened call.Recycle (reply.Recycled slice) idle
         (quiet_turn pass before middle (clears ∷ []) first (own-unanswered pass (clears ∷ []) refl) refl) second refl (call_by-own pass opened refl) refl refl (refl, refl) legal
 
--- a pass that made all words zero has cleared its slice
-pub has_cleared : (pool : PoolId) (job : ClearJob) (seat next : PassState) → IsToClear pool job seat → next ≡ record seat { own = next.own } →
-    ((f : Fact) → Contains next.own f ↔ (Contains seat.own f ⊎ IsZeroOf pool.limits.slice_words job.slice (last_number seat.number seat.front) f)) → HasCleared pool job next
-has_cleared pool job seat next start is zeros = record {
+-- a pass that is to clear a slice can, where each slice has room for so many words
+pub can_clear : (pool : PoolId) (seat : PassState) (job : ClearJob) (room : ℕ) → IsToClear pool job seat → IsRoomOf room pool → CanClearSlice pool seat job room
+can_clear pool seat job room start has_room = record {
+  same = start.seated.same;
+  holds = start.holds;
+  none_outstanding = start.seated.none_outstanding;
+  has_room = has_room;
+}
+
+-- and when it made all words zero, it has cleared it
+pub has_cleared : (pool : PoolId) (job : ClearJob) (seat next : PassState) → IsToClear pool job seat → ClearsSlice pool seat next job → HasCleared pool job next
+has_cleared pool job seat next start did = record {
   to_clear = record {
-    seated = seated_still pool seat next is start.seated;
-    holds = subst (λ (p : PassState). HoldsJob p job) (sym is) start.holds;
+    seated = seated_still pool seat next did.same start.seated;
+    holds = subst (λ (p : PassState). HoldsJob p job) (sym did.same) start.holds;
     in_range = start.in_range;
   };
   zeros = λ word inside.
-      subst (λ n. Contains next.own (fact.WordZero n word)) (sym (ap (λ (p : PassState). last_number p.number p.front) is))
-      ((zeros (fact.WordZero (last_number seat.number seat.front) word)).1 (inr (word, inside, refl)));
+      subst (λ n. Contains next.own (fact.WordZero n word)) (sym (ap (λ (p : PassState). last_number p.number p.front) did.same))
+      ((did.zeros (fact.WordZero (last_number seat.number seat.front) word)).1 (inr (word, inside, refl)));
 }
 
 -- the turn of a pass that did something itself since its turn before

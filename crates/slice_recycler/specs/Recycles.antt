@@ -1,18 +1,23 @@
 -- What a recycle is answered, and its turns at the desk.
-use Rattle.std.specs.Prelude.{ℕ, true, List, [], ◌∷◌, Ok, Err, Option}
+use Rattle.std.specs.Prelude.{◌≡◌, ℕ, true, List, [], ◌∷◌, Ok, Err, Option}
+use Rattle.funnel_model.specs.declared.call.Call.TheVariants as call
 use Rattle.funnel_model.specs.declared.event.Event.{Event}
 use Rattle.funnel_model.specs.declared.event.Event.TheVariants as event
 use Rattle.funnel_model.specs.declared.reply.Reply.{Reply}
 use Rattle.funnel_model.specs.declared.reply.Reply.TheVariants as reply
 use Rattle.funnel_model.specs.Legal.{Limits}
+use Rattle.funnel_model.specs.Steps.{Step}
 use Rattle.row_layout.specs.Layouts.{LayoutId}
 use Rattle.commit_desk.specs.Answers.{AnswersClear, events_of_clear}
 use Rattle.commit_desk.specs.declared.answers.ClearRefusal.{ClearRefusal}
 use Rattle.commit_desk.specs.declared.answers.ClearRefusal.TheVariants as clear
 use Rattle.commit_desk.specs.declared.answers.ToClear.{ToClear}
+use Rattle.commit_desk.specs.Passes.{IsResting}
 use Rattle.slice_recycler.specs.declared.recycling.Recycled.{Recycled}
 use Rattle.slice_recycler.specs.declared.recycling.Recycled.TheVariants as recycled
 use Rattle.slice_recycler.specs.Turns.{IsTurn}
+use Rattle.slice_rule.specs.Pools.{PoolId}
+use Rattle.slice_rule.specs.Seats.{PassState}
 
 -- the reply that says so
 abbrev pub reply_of_recycle : Recycled → Reply
@@ -45,3 +50,11 @@ RecycleTurns limits pass before after (recycled.Done slice) =
 RecycleTurns limits pass before after recycled.NoneRetired = IsRefusedTurn limits pass before after clear.NoneRetired
 RecycleTurns limits pass before after (recycled.Guarded slice guard opened_at) = IsRefusedTurn limits pass before after (clear.Guarded slice guard opened_at)
 RecycleTurns limits pass before after (recycled.Spent events) = IsRefusedTurn limits pass before after (clear.Spent events)
+
+-- A recycle is one step of the pass, from what it had seen to what it has seen now, and was answered in these turns; it is the same pass,
+-- which rests.
+pub record AnswersRecycle (pool : PoolId) (before after : PassState) (answer : Recycled) : Type 0 where
+  pub step : Step pool.limits before.number before.front after.front call.Recycle (reply_of_recycle answer)
+  pub turns : RecycleTurns pool.limits before.number before.front after.front answer
+  pub rests : IsResting pool after
+  pub number : after.number ≡ before.number

@@ -1,9 +1,6 @@
-ghost use Rattle.std.specs.Prelude.{◌≡◌, ◌+◌, ◌*◌, ◌≤◌, ◌↔◌, ◌⊎◌, Contains};
+ghost use Rattle.std.specs.Prelude.{◌≡◌, ◌+◌, ◌*◌, ◌≤◌};
 ghost use Rattle.funnel_model.specs.declared.config.TheConstants.{MOST_ROW_WORDS};
-ghost use Rattle.slice_recycler.specs.Cleared.{IsRoomOf, IsZeroOf};
-ghost use Rattle.slice_rule.specs.declared.view.Fact.{Fact};
-ghost use Rattle.slice_rule.specs.Numbers.{last_number};
-ghost use Rattle.slice_rule.specs.Seats.{HasNoneOutstanding, HoldsJob};
+ghost use Rattle.slice_recycler.specs.Cleared.{CanClearSlice, ClearsSlice};
 
 use funnel_model::ClearJob;
 use slice_rule::{PassSeat, Pool};
@@ -12,25 +9,15 @@ use slice_rule::{PassSeat, Pool};
 pub trait Clearer {
     /// Makes every word of the slice zero, of which there are `room`. It waits for nobody.
     fn clear(&mut self, pool: &Pool, seat: &mut PassSeat, room: u32, job: &ClearJob)
-        requires pool { seat.old.pool ≡ pool.now }
-        requires room { IsRoomOf room pool.now }
-        requires job { HoldsJob seat.old job.now }
-        requires none_outstanding { HasNoneOutstanding seat.old }
-        ensures seat { seat.new ≡ record seat.old { own = seat.new.own } }
-        ensures zeros { (f : Fact) → Contains seat.new.own f ↔
-            (Contains seat.old.own f ⊎ IsZeroOf pool.now.limits.slice_words job.now.slice (last_number seat.old.number seat.old.front) f) };
+        requires { CanClearSlice pool.now seat.old job.now room }
+        ensures { ClearsSlice pool.now seat.old seat.new job.now };
 }
 
 /// Makes every word of the slice that the pass clears zero, of which there are `room`. Other passes may read and write other slices beside it. It
 /// takes no memory and waits for nobody.
 pub fn clear_slice(pool: &Pool, seat: &mut PassSeat, room: u32, job: &ClearJob)
-    requires pool { seat.old.pool ≡ pool.now }
-    requires room { IsRoomOf room pool.now }
-    requires job { HoldsJob seat.old job.now }
-    requires none_outstanding { HasNoneOutstanding seat.old }
-    ensures seat { seat.new ≡ record seat.old { own = seat.new.own } }
-    ensures zeros { (f : Fact) → Contains seat.new.own f ↔
-        (Contains seat.old.own f ⊎ IsZeroOf pool.now.limits.slice_words job.now.slice (last_number seat.old.number seat.old.front) f) }
+    requires { CanClearSlice pool.now seat.old job.now room }
+    ensures { ClearsSlice pool.now seat.old seat.new job.now }
 {
     let _ = seat.number();
     let first = first_word(job.slice, room);

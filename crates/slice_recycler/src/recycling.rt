@@ -1,9 +1,7 @@
 ghost use Rattle.std.specs.Prelude.{◌≡◌};
-ghost use Rattle.funnel_model.specs.declared.call.Call.TheVariants as call;
-ghost use Rattle.funnel_model.specs.Steps.{Step};
 ghost use Rattle.commit_desk.specs.Passes.{IsResting};
 ghost use Rattle.slice_recycler.specs.Cleared.{IsRoomOf};
-ghost use Rattle.slice_recycler.specs.Recycles.{RecycleTurns, refused_as, reply_of_recycle};
+ghost use Rattle.slice_recycler.specs.Recycles.{AnswersRecycle, refused_as};
 
 use crate::clearing::{Clearer, clear_slice};
 use crate::turns::{open, start};
@@ -62,10 +60,7 @@ pub fn recycle<N: PoolName, R: Wait>(
     requires named { pool.now ≡ N.pool }
     requires room { IsRoomOf room pool.now }
     requires seat { IsResting pool.now seat.old }
-    ensures step { Step pool.now.limits seat.old.number seat.old.front seat.new.front call.Recycle (reply_of_recycle result) }
-    ensures turns { RecycleTurns pool.now.limits seat.old.number seat.old.front seat.new.front result }
-    ensures rests { IsResting pool.now seat.new }
-    ensures number { seat.new.number ≡ seat.old.number }
+    ensures { AnswersRecycle pool.now seat.old seat.new result }
 {
     recycle_by(rt, pool, desk, room, seat, &mut InPlace)
 }
@@ -82,10 +77,7 @@ pub fn recycle_by<N: PoolName, R: Wait, W: Clearer>(
     requires named { pool.now ≡ N.pool }
     requires room { IsRoomOf room pool.now }
     requires seat { IsResting pool.now seat.old }
-    ensures step { Step pool.now.limits seat.old.number seat.old.front seat.new.front call.Recycle (reply_of_recycle result) }
-    ensures turns { RecycleTurns pool.now.limits seat.old.number seat.old.front seat.new.front result }
-    ensures rests { IsResting pool.now seat.new }
-    ensures number { seat.new.number ≡ seat.old.number }
+    ensures { AnswersRecycle pool.now seat.old seat.new result }
 {
     match start(rt, pool, desk, seat) {
         Ok(to_clear) => {

@@ -32,8 +32,9 @@ use Rattle.slice_rule.specs.Numbers.{last_number}
 use Rattle.slice_rule.specs.Rule.{HasKnownBits, KnowsByRole, KnowsItsBits}
 use Rattle.slice_rule.specs.Worlds.{LacksAtMostOne, made_by}
 use Rattle.slice_rule.proofs.Bits.{zero_has_none}
-use Rattle.slice_rule.proofs.Prefixes.{empty_by_length, made_by-other, made_by-own, prefix_length, silent_where_none}
+use Rattle.slice_rule.proofs.Prefixes.{made_by-other, made_by-own, prefix_length, silent_where_none}
 use Rattle.slice_rule.proofs.Since.{number-other, split_same}
+use Rattle.funnel_model.proofs.Absence.{empty_by_length}
 
 -- a pass that asked what it made has asked no further event
 pub none_further : (made asked : List Event) (e : Event) → asked ≡ made → asked ≡ made ++ e ∷ [] → ⊥

@@ -11,6 +11,7 @@ use Rattle.funnel_model.specs.declared.event.Event.{Event}
 use Rattle.funnel_model.specs.Events.{pass_of}
 use Rattle.slice_rule.specs.Views.{longer}
 use Rattle.slice_rule.specs.Worlds.{LacksAtMostOne, made_by}
+use Rattle.funnel_model.proofs.Absence.{empty_by_length}
 
 pub prefix_self : {A : Type 0} (xs : List A) → IsPrefix xs xs
 prefix_self xs = ([], append-nil xs)
@@ -89,10 +90,6 @@ prefix_both xs ys p q = prefix_whole xs ys p (prefix_length ys xs q)
 pub none_since : (pass : ℕ) (before after asked : List Event) → asked ≡ made_by pass before → IsPrefix before after → LacksAtMostOne (made_by pass after) asked → asked ≡ made_by pass after
 none_since pass before after asked all grows lacks =
     sym (prefix_both (made_by pass after) asked lacks.begins (subst (λ (xs : List Event). IsPrefix xs (made_by pass after)) (sym all) (made_by-prefix pass before after grows)))
-
-pub empty_by_length : {A : Type 0} (xs : List A) → length xs ≡ 0 → xs ≡ []
-empty_by_length [] is = refl
-empty_by_length (x ∷ xs) is = absurd (omega arith)
 
 -- a pass made none of the events after a beginning that has all of its events
 none_later : (pass : ℕ) (before later : List Event) → made_by pass (before ++ later) ≡ made_by pass before → made_by pass later ≡ []

@@ -1,5 +1,5 @@
 -- The oldest of the tokens that were looked at.
-use Rattle.std.proofs.Common.{◌≡◌, ◌⊎◌, ⊎_elim, inl, inr, ℕ, suc, ◌+◌, ◌<◌, ◌≤◌, min, List, length, get_or, Option, Some, None, sym, refl, ap, ◌∙◌, subst, arith, MatchOption}
+use Rattle.std.proofs.Common.{◌≡◌, ◌⊎◌, ⊎_elim, inl, inr, ℕ, suc, ◌+◌, ◌<◌, ◌≤◌, List, length, get_or, Option, Some, None, sym, ap, ◌∙◌, arith, MatchOption}
 use Rattle.std.proofs.lemmas.Bool.{cases_eq}
 use Rattle.std.proofs.lemmas.Bool.Decides.{leb_tells}
 use Rattle.std.proofs.lemmas.List.{get_or_past}
@@ -25,7 +25,8 @@ some_same x y is = cc
 within : (tokens : List (Option ℕ)) (pass event : ℕ) → HasOpened tokens pass event → pass < length tokens
 within tokens pass event opened = ⊎_elim (λ is. is.1) (λ not. let none : None ≡ Some event = sym (get_or_past tokens pass None (let h = not.1 in omega arith)) ∙ opened in cc) (leb_tells (suc pass) (length tokens))
 
-le_or_lt : (a b : ℕ) → (a ≤ b) ⊎ (b < a)
+-- one number is at most the other, or greater
+pub le_or_lt : (a b : ℕ) → (a ≤ b) ⊎ (b < a)
 le_or_lt a b = ⊎_elim (λ is. inl is.1) (λ not. inr (let h = not.1 in omega arith)) (leb_tells a b)
 
 -- one more is looked at

@@ -13,9 +13,9 @@ make_event-requires-clause-allowed c =
     let history = c.catch_up.new.home.history in
     let seat = c.catch_up.new.seat in
     let same = c.catch_up.ensures in
-    let idle_old : IsIdle seat.number c.args.seat.now.front = subst (λ (p : ℕ). IsIdle p c.args.seat.now.front) (sym same.seat.number) c.requires.rest.idle in
+    let idle_old : IsIdle seat.number c.args.seat.now.front = subst (λ (p : ℕ). IsIdle p c.args.seat.now.front) (sym same.seat.number) c.requires.rest.rest.idle in
     let idle : IsIdle seat.number seat.front = subst (λ (o : Option Event). IfSome o (λ e. leaves_open e ≡ false)) (sym (last_by-front seat.number c.args.seat.now.front seat.front same.none_since)) idle_old in
-    let none : awaited history ≡ None = ap awaited same.home.history ∙ c.requires.none_awaited in
+    let none : awaited history ≡ None = ap awaited same.home.history ∙ c.requires.rest.none_awaited in
     record {
       pass = subst (λ (p : ℕ). p < c.args.pool.now.limits.passes) (sym c.number.ensures.number) same.in_range;
       at_once = subst (λ (o : Option Event). IfSome o (λ next. event.Read c.number.result call.Place ≡ next)) (sym none) tt;

@@ -8,4 +8,4 @@ use Rattle.pool_tests.proofs.writing.written_as.Goals as goal
 pub returns-clause-bits : goal.returns-clause-bits
 returns-clause-bits c =
     let number = last_number c.args.seat.number c.args.seat.front in
-    subst (λ (fs : List Fact). (f : Fact) → Contains c.write_column.new.seat.own f ↔ (Contains fs f ⊎ IsBitOf number c.args.bits.now.bits f)) c.requires.own c.write_column.ensures.bits
+    subst (λ (fs : List Fact). (f : Fact) → Contains c.write_column.new.seat.own f ↔ (Contains fs f ⊎ IsBitOf number c.args.bits.now.bits f)) c.requires.own c.write_column.ensures.facts

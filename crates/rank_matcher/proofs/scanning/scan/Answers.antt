@@ -33,7 +33,7 @@ visit-requires-clause-walk g c =
       span = omega arith;
       few = omega arith;
       readable = All-weaker (IsRowOf config) (IsReadable (g.R.Rows.reach c.args.rows.now) c.slice_range-first.result.0)
-          (λ row laid. readable-row c.args.layout.now (g.R.Rows.reach c.args.rows.now) c.args.slice c.slice_range-first.result.0 c.slice_range-first.ensures.fits c.slice_range-first.ensures.small_pool c.requires.slice c.slice_range-first.ensures.first c.requires.reach row (row-span config row laid))
+          (λ row laid. readable-row c.args.layout.now (g.R.Rows.reach c.args.rows.now) c.args.slice c.slice_range-first.result.0 c.slice_range-first.ensures.fits c.slice_range-first.ensures.small_pool c.requires.in_range c.slice_range-first.ensures.first c.requires.reaches row (row-span config row laid))
           plan c.requires.laid;
       whole = subst (λ n. All (IsWhole 0 (n / 64)) (rows_below_rank 7 plan)) (sym c.columns.ensures.value)
           (subst (All (IsWhole 0 (columns_of_slice config / 64))) (sym (all_below_rank plan (low_ranks config plan c.columns.ensures.in_range c.requires.laid))) whole);
@@ -64,19 +64,6 @@ whole_is : (g : Over) (c : After-visit g)
 whole_is g c is =
     subst (λ n. HasFound (g.R.Rows.told c.args.rows.now) (g.R.Rows.least c.args.rows.now) (g.R.Rows.seen c.visit.new.rows) n c.args.plan.now c.args.slice 0 (columns_of_slice c.args.layout.now.config) c.args.out.now c.visit.new.out) c.slice_range-first.ensures.first
     (subst (λ n. HasFound (g.R.Rows.told c.args.rows.now) (g.R.Rows.least c.args.rows.now) (g.R.Rows.seen c.visit.new.rows) c.slice_range-first.result.0 c.args.plan.now c.args.slice 0 n c.args.out.now c.visit.new.out) (end_is g c) is)
-
-pub returns-clause-appends : goal.returns-clause-appends
-returns-clause-appends g c = record {
-  appends = part-appends _ _ _ c.args.layout.now _ _ _ _ (part_is g c);
-  in_slice = part-in_slice _ _ _ c.args.layout.now _ _ _ _ (part_is g c);
-  rising = part-rising _ _ _ c.args.layout.now _ _ _ _ (part_is g c);
-}
-
-pub returns-clause-bits : goal.returns-clause-bits
-returns-clause-bits g c = record {
-  covered = on_ok c.visit.result (λ found. all-covered _ _ _ c.args.layout.now _ _ _ _ (whole_is g c found)) c.visit.ensures.found;
-  were_seen = part-seen _ _ _ c.args.layout.now _ _ _ _ (part_is g c);
-}
 
 -- what the walk reads of told words, and how many words there are
 over_is : (g : Over) (c : After-visit g) → All (SpansSlice c.args.layout.now.config) c.args.plan.now
@@ -116,5 +103,18 @@ returns-clause-told g c =
       few = omega (arith, some.is, some.told_at_most words is, reads_are g c words);
     })
 
-pub returns-clause-reads_at_most : goal.returns-clause-reads_at_most
-returns-clause-reads_at_most g c = let read = c.visit.ensures.reads_at_most in omega (arith, read.is, read.at_most, words_are g c)
+pub returns-clause-scans : goal.returns-clause-scans
+returns-clause-scans g c =
+    let read = c.visit.ensures.reads_at_most in
+    record {
+      appends = record {
+        appends = part-appends _ _ _ c.args.layout.now _ _ _ _ (part_is g c);
+        in_slice = part-in_slice _ _ _ c.args.layout.now _ _ _ _ (part_is g c);
+        rising = part-rising _ _ _ c.args.layout.now _ _ _ _ (part_is g c);
+      };
+      bits = record {
+        covered = on_ok c.visit.result (λ found. all-covered _ _ _ c.args.layout.now _ _ _ _ (whole_is g c found)) c.visit.ensures.found;
+        were_seen = part-seen _ _ _ c.args.layout.now _ _ _ _ (part_is g c);
+      };
+      reads_at_most = omega (arith, read.is, read.at_most, words_are g c);
+    }

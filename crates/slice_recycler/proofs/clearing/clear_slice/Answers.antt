@@ -19,9 +19,9 @@ first_word-first-requires c =
     let room = c.args.room in
     let slices = c.args.pool.now.limits.slices in
     let in' : slice < slices =
-    subst (λ (p : PoolId). slice < p.limits.slices) c.requires.pool (clears_in_range seat.pool.limits seat.front c.number.ensures.legal seat.number slice c.requires.job) in
+    subst (λ (p : PoolId). slice < p.limits.slices) c.requires.same (clears_in_range seat.pool.limits seat.front c.number.ensures.legal seat.number slice c.requires.holds) in
     let more : suc slice * room ≤ slices * room = mul-le (suc slice) room slices room in' (omega arith) in
-    let small = c.requires.room.small in
+    let small = c.requires.has_room.small in
     omega (arith, more, small, suc_times slice room)
 
 pub loop-word-preserved : goal.loop-word-preserved
@@ -32,26 +32,29 @@ loop-word-preserved c =
     let first = c.first_word-first.result in
     let word = c.loop-word.word in
     let k = last_number old.number old.front in
-    let same = c.loop-word.invariant.seat in
+    let same = c.loop-word.invariant.same in
     let from = c.loop-word.invariant.from in
     let more = c.loop-word-test.true in
     let number : last_number seat.number seat.front ≡ k = ap (λ (p : PassState). last_number p.number p.front) same in
     let did : after ≡ after_own seat (fact.WordZero k word) = c.clear_word.ensures ∙ ap (λ n. after_own seat (fact.WordZero n word)) number in
     let own : after.own ≡ fact.WordZero k word ∷ seat.own = ap (λ (p : PassState). p.own) did in
     record {
-      seat = did ∙ ap (λ (p : PassState). after_own p (fact.WordZero k word)) same ∙ ap (λ (fs : List Fact). record old { own = fs }) (sym own);
+      same = did ∙ ap (λ (p : PassState). after_own p (fact.WordZero k word)) same ∙ ap (λ (fs : List Fact). record old { own = fs }) (sym own);
       from = omega (arith, from);
       to = omega (arith, more);
       zeros = subst (λ (fs : List Fact). HasZeroed first (word + 1) k old.own fs) (sym own) (zeroed_more first word k old.own seat.own from c.loop-word.invariant.zeros);
     }
 
-pub returns-clause-zeros : goal.returns-clause-zeros
-returns-clause-zeros c =
+pub returns : goal.returns
+returns c =
     let old = c.args.seat.now in
-    let words = c.requires.room.words in
+    let words = c.requires.has_room.words in
     let first = c.first_word-first.result in
     let begins = c.first_word-first.ensures.first ∙ ap (λ n. c.args.job.now.slice * n) words in
     let over = c.loop-word-test.false in
     let to = c.loop-word.invariant.to in
     let ends : c.loop-word.word ≡ first + c.args.pool.now.limits.slice_words = omega (arith, words, over, to) in
-    zeroed_all c.args.pool.now.limits.slice_words c.args.job.now.slice first c.loop-word.word (last_number old.number old.front) old.own c.loop-word.seat.own begins ends c.loop-word.invariant.zeros
+    record {
+      same = c.loop-word.invariant.same;
+      zeros = zeroed_all c.args.pool.now.limits.slice_words c.args.job.now.slice first c.loop-word.word (last_number old.number old.front) old.own c.loop-word.seat.own begins ends c.loop-word.invariant.zeros;
+    }

@@ -1,23 +1,22 @@
-use Rattle.std.proofs.Common.{refl, sym, subst}
+use Rattle.std.proofs.Common.{sym, subst}
 use Rattle.commit_desk.specs.Layouts.{IsLayoutOf}
 use Rattle.commit_desk.proofs.CallEnds.{seated_still, taken_after}
 use Rattle.slice_rule.specs.Pools.{PoolId}
 use Rattle.slice_rule.specs.Seats.{PassState}
-use Rattle.commit_desk_tests.proofs.Settings.{cleared, room_of}
+use Rattle.commit_desk_tests.proofs.Settings.{can_clear_slice, cleared}
 use Rattle.commit_desk_tests.proofs.setting.Setting.open_and_claim.Goals as goal
 
 pub opened_take-claim-requires-clause-cleared : goal.opened_take-claim-requires-clause-cleared
 opened_take-claim-requires-clause-cleared g c =
     let reusing = c.reusing.inside in
-    let did = c.clear_slice.ensures in
-    let has = cleared g.N.PoolName.pool c.self.inside.layout c.self.inside.pool c.self.inside.desk.pool c.self.inside.base c.self.invariant reusing.seat c.clear_slice.new.seat did.seat reusing.to_clear.job c.reusing.invariant.0 did.zeros in
+    let has = cleared g.N.PoolName.pool c.self.inside.layout c.self.inside.pool c.self.inside.desk.pool c.self.inside.base c.self.invariant reusing.seat c.clear_slice.new.seat reusing.to_clear.job c.reusing.invariant.0 c.clear_slice.ensures in
     record { holds = has.to_clear.holds; zeros = has.zeros }
 
-pub clear_slice-requires-clause-room : goal.clear_slice-requires-clause-room
-clear_slice-requires-clause-room g c =
+pub clear_slice-requires : goal.clear_slice-requires
+clear_slice-requires g c =
     let reusing = c.reusing.inside in
     let range = c.slice_range-room.ensures in
-    room_of g.N.PoolName.pool c.self.inside.layout c.self.inside.pool c.self.inside.desk.pool c.self.inside.base c.self.invariant reusing.seat reusing.seat refl range.small_pool c.slice_range-room.result.1 range.words
+    can_clear_slice g.N.PoolName.pool c.self.inside.layout c.self.inside.pool c.self.inside.desk.pool c.self.inside.base c.self.invariant reusing.seat reusing.to_clear.job c.reusing.invariant.0 range.small_pool c.slice_range-room.result.1 range.words
 
 pub invariant_of-result : goal.invariant_of-result
 invariant_of-result g c =
@@ -27,9 +26,9 @@ invariant_of-result g c =
     let middle = c.clear_slice.new.seat in
     let start = c.reusing.invariant in
     let opened = c.opened_take-claim.ensures in
-    let seated = seated_still name reusing.seat middle did.seat start.0.seated in
+    let seated = seated_still name reusing.seat middle did.same start.0.seated in
     let laid : IsLayoutOf middle.pool.config reusing.to_clear.job.slice middle.front reusing.layout =
-    subst (λ (p : PassState). IsLayoutOf p.pool.config reusing.to_clear.job.slice p.front reusing.layout) (sym did.seat)
+    subst (λ (p : PassState). IsLayoutOf p.pool.config reusing.to_clear.job.slice p.front reusing.layout) (sym did.same)
     (subst (λ (p : PoolId). IsLayoutOf p.config reusing.to_clear.job.slice reusing.seat.front reusing.layout) (sym start.0.seated.same) start.2) in
     taken_after name c.self.inside.desk c.opened_take-claim.new.self middle c.opened_take-claim.new.seat reusing.to_clear.job c.opened_take-claim.result reusing.layout seated opened.none_outstanding
     c.self.invariant.desk_of_name start.0.in_range opened.claim opened.events opened.prepared laid

@@ -10,7 +10,7 @@ returns-in_err-begun-clause-call g c =
     let limits = g.N.PoolName.pool.limits in
     let query = c.args.query.now in
     let seat = c.pass.inside.seat in
-    let next = c.begin.new.pass in
+    let next = c.take_token.new.pass in
     let did = c.in_err-begun.ensures in
     rw (p.1, p.2)
     (rw (← c.pass.view_is)
@@ -24,7 +24,7 @@ returns-clause-call g c =
     let limits = g.N.PoolName.pool.limits in
     let seat = c.pass.inside.seat in
     let query = c.args.query.now in
-    let middle = c.begin.new.pass in
+    let middle = c.take_token.new.pass in
     let end = c.finish.new.pass in
     let began = c.in_ok-begun.ensures in
     let did = c.in-Ok.ensures in
@@ -45,7 +45,7 @@ returns-clause-turns g c =
     let began = c.in_ok-begun.ensures in
     let did = c.in-Ok.ensures in
     rw (← c.pass.view_is)
-    (found_turns limits seat.number query seat.front c.begin.new.pass began.number began.turns after did.ended c.in-Ok.ids did.found)
+    (found_turns limits seat.number query seat.front c.take_token.new.pass began.number began.turns after did.ended c.in-Ok.ids did.found)
 
 pub returns-in_default-clause-call : goal.returns-in_default-clause-call
 returns-in_default-clause-call g c =
@@ -59,7 +59,7 @@ returns-in_default-clause-call g c =
     rw (← c.pass.view_is)
     (record {
       step = dropped_step limits seat.number query seat.front end.front c.pass.invariant.idle did.legal (subst (λ n. IsIdle n end.front) number did.rests.idle)
-          (ended_turns limits seat.number query seat.front c.begin.new.pass began.number began.turns end.front did.ended);
+          (ended_turns limits seat.number query seat.front c.take_token.new.pass began.number began.turns end.front did.ended);
       number = number;
     })
 
@@ -71,4 +71,4 @@ returns-in_default-clause-turns g c =
     let after = c.finish.new.pass.front in
     let began = c.in_ok-begun.ensures in
     rw (← c.pass.view_is)
-    (inr (ended_turns limits seat.number query seat.front c.begin.new.pass began.number began.turns after c.finish.ensures.ended))
+    (inr (ended_turns limits seat.number query seat.front c.take_token.new.pass began.number began.turns after c.finish.ensures.ended))

@@ -3,7 +3,7 @@ use Rattle.std.proofs.lemmas.Bool.{eqb-true}
 use Rattle.std.proofs.lemmas.List.Elements.{Contains-append_left, Contains-append_right}
 use Rattle.commit_desk.specs.declared.find_layouts.FindLayout.{FindLayout}
 use Rattle.commit_desk.specs.Passes.{IsFinding}
-use Rattle.engine.proofs.FindParts.{adds_later, can_look, ended_from, found_more, found_none, none_left, query_later, rest_apart}
+use Rattle.engine.proofs.FindParts.{adds_later, can_look, ended_from, found_more, found_none, query_later, rest_apart}
 use Rattle.engine.proofs.Moves.{front_goes_on, front_refl, turn_from}
 use Rattle.engine.specs.Finds.{CanLookIn, IsOpenOrEnded, IsFoundBut}
 use Rattle.funnel_model.specs.declared.claim.Token.{Token}
@@ -11,6 +11,7 @@ use Rattle.funnel_model.specs.declared.event.Event.TheVariants as event
 use Rattle.funnel_model.specs.History.{IsFrontOf}
 use Rattle.slice_recycler.specs.Turns.{IsTurn}
 use Rattle.engine.proofs.engine.Engine.find_each.Goals as goal
+use Rattle.funnel_model.proofs.Absence.{empty_by_length}
 
 pub loop-entry-init : goal.loop-entry-init
 loop-entry-init g c =
@@ -95,7 +96,7 @@ returns-in-Ok-None-clause-found g c =
     let on = subst (λ (o : Option Token). IsOpenOrEnded g.N.PoolName.pool c.loop-entry.token c.is_empty-last.result c.loop-entry.pass c.look_in.new.pass o) c.in-Ok-None.field-0-is c.in-Ok-None.ensures.goes_on in
     let none = eqb-true _ 0 (sym c.is_empty-last.ensures ∙ on.0) in
     let count : length rest ≡ 0 = search (rules, none) in
-    subst (λ (es : List FindLayout). IsFoundBut (g.L.Lookup.test c.args.lookup.now) pass token es c.look_in.new.out.found) (none_left rest count)
+    subst (λ (es : List FindLayout). IsFoundBut (g.L.Lookup.test c.args.lookup.now) pass token es c.look_in.new.out.found) (empty_by_length rest count)
     (found_more (g.L.Lookup.test c.args.lookup.now) pass token rest left entry popped inv.apart c.loop-entry.out.found c.look_in.new.out.found inv.found
     (adds_later (g.L.Lookup.test c.args.lookup.now) pass before token c.loop-entry.token entry.slices c.loop-entry.out.found c.look_in.new.out.found inv.same inv.number inv.seen did.found))
 
@@ -123,7 +124,7 @@ pub returns-clause-found : goal.returns-clause-found
 returns-clause-found g c =
     let none = c.in_default.ensures.cases.0 in
     let count : length c.loop-entry.layouts.entries.items ≡ 0 = search (rules, none) in
-    subst (λ (es : List FindLayout). IsFoundBut (g.L.Lookup.test c.args.lookup.now) c.args.pass.now c.args.token es c.loop-entry.out.found) (none_left c.loop-entry.layouts.entries.items count) c.loop-entry.invariant.found
+    subst (λ (es : List FindLayout). IsFoundBut (g.L.Lookup.test c.args.lookup.now) c.args.pass.now c.args.token es c.loop-entry.out.found) (empty_by_length c.loop-entry.layouts.entries.items count) c.loop-entry.invariant.found
 
 pub returns-clause-ended : goal.returns-clause-ended
 returns-clause-ended g c =

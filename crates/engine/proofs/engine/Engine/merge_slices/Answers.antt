@@ -28,8 +28,8 @@ loop-slice-init g c =
       kept = refl;
     }
 
-pub begin-requires : goal.begin-requires
-begin-requires g c =
+pub begin_slice-requires : goal.begin_slice-requires
+begin_slice-requires g c =
     let rows = c.loop-slice.rows in
     let entry = c.args.entry.now in
     let branches = words_of_each c.args.branches.now in
@@ -48,9 +48,9 @@ merge_each-requires-clause-scan g c =
 
 pub merge_each-requires-clause-merging : goal.merge_each-requires-clause-merging
 merge_each-requires-clause-merging g c = record {
-  at = ap (λ (m : MergedState). m.slice) c.begin.ensures.begun;
-  columns_are = ap (λ (m : MergedState). m.columns) c.begin.ensures.begun ∙ c.loop-slice.invariant.columns;
-  once = c.begin.ensures.once;
+  at = ap (λ (m : MergedState). m.slice) c.begin_slice.ensures.begun;
+  columns_are = ap (λ (m : MergedState). m.columns) c.begin_slice.ensures.begun ∙ c.loop-slice.invariant.columns;
+  once = c.begin_slice.ensures.once;
 }
 
 pub overflow_add-from : goal.overflow_add-from
@@ -78,7 +78,7 @@ loop-slice-preserved g c =
       scanned =
           any_more entry rows after did.kept did.seen_stays branches slice old new next.in_set
           (any_without entry.layout.config rows.seat.now (part_of entry rows) branches c.loop-slice.from slice old next.from_on next.lowest inv.scanned)
-          (subst (λ (m : MergedState). AddsEach entry.layout.config after.seat.now (part_of entry after) slice branches m.list new) c.begin.ensures.begun did.added) did.merging.once;
+          (subst (λ (m : MergedState). AddsEach entry.layout.config after.seat.now (part_of entry after) slice branches m.list new) c.begin_slice.ensures.begun did.added) did.merging.once;
       columns = did.merging.columns_are;
       kept = did.kept ∙ inv.kept;
     }

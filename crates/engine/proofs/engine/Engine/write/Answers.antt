@@ -6,6 +6,7 @@ use Rattle.funnel_model.specs.declared.config.Config.{Config}
 use Rattle.row_layout.specs.DocumentBits.{AreDocumentBitsIn}
 use Rattle.row_layout.specs.Layouts.{LayoutId}
 use Rattle.slice_rule.specs.Pools.{PoolId}
+use Rattle.column_writer.specs.Written.{CanWrite}
 use Rattle.engine.specs.Engines.{IsOfConfig}
 use Rattle.row_layout.specs.Owners.{IsOwnedOnlyAt}
 use Rattle.commit_desk.proofs.CallEnds.{keep_to_column}
@@ -26,24 +27,28 @@ fill_bits-requires-clause-column g c =
     subst (λ n. c.args.claim.now.column < n)
     (ap (λ (l : Limits). l.columns) of_config.limits ∙ sym (ap (λ (l : LayoutId). columns_of_slice l.config) c.layout.ensures ∙ ap columns_of_slice start.laid.suits.sized)) start.column
 
-pub write-requires-clause-inside : goal.write-requires-clause-inside
-write-requires-clause-inside g c =
+pub write-requires : goal.write-requires
+write-requires g c =
     let pool = g.N.PoolName.pool in
     let claim = c.args.claim.now in
+    let layout = c.args.layout.now in
+    let pass = c.args.pass.now in
     let bits = c.fill_bits.new.bits.bits in
+    let start = c.requires.claimed in
+    let filled = c.fill_bits.ensures in
     let view : c.self.inside.pool ≡ pool = c.self.invariant.of_name in
     let of_config = subst IsOfConfig view c.self.invariant.of_config in
-    let inside = subst (λ (l : LayoutId). All (λ b. IsInSlice l.room claim.slice b.word) bits) c.layout.ensures c.fill_bits.ensures.inside in
-    subst (λ n. All (λ b. IsInSlice n claim.slice b.word) bits) (room_is pool claim c.args.layout.now c.args.pass.now of_config c.requires.claimed ∙ sym (ap (λ (p : PoolId). p.limits.slice_words) view)) inside
-
-pub write-requires-clause-owners : goal.write-requires-clause-owners
-write-requires-clause-owners g c =
-    let pool = g.N.PoolName.pool in
-    let claim = c.args.claim.now in
-    let bits = c.fill_bits.new.bits.bits in
-    let of_config = subst IsOfConfig c.self.invariant.of_name c.self.invariant.of_config in
-    keep_to_column pool claim c.args.layout.now bits c.args.pass.now (ap (λ (l : Limits). l.slice_words) of_config.limits) c.requires.claimed
-    (subst (λ (l : LayoutId). All (IsOwnedOnlyAt l.room l.config claim.slice claim.column) bits) c.layout.ensures c.fill_bits.ensures.own)
+    subst (λ (p : PoolId). CanWrite p pass claim bits) (sym view)
+    (record {
+      same = start.seated.same;
+      holds = start.holds;
+      none_outstanding = start.seated.none_outstanding;
+      inside = subst (λ n. All (λ b. IsInSlice n claim.slice b.word) bits) (room_is pool claim layout pass of_config start)
+          (subst (λ (l : LayoutId). All (λ b. IsInSlice l.room claim.slice b.word) bits) c.layout.ensures filled.inside);
+      of_words = filled.of_words;
+      owners = keep_to_column pool claim layout bits pass (ap (λ (l : Limits). l.slice_words) of_config.limits) start
+          (subst (λ (l : LayoutId). All (IsOwnedOnlyAt l.room l.config claim.slice claim.column) bits) c.layout.ensures filled.own);
+    })
 
 pub returns-clause-written : goal.returns-clause-written
 returns-clause-written g c =
@@ -52,6 +57,6 @@ returns-clause-written g c =
     let set = c.args.words.now in
     let bits = c.fill_bits.new.bits.bits in
     let of_config = subst IsOfConfig c.self.invariant.of_name c.self.invariant.of_config in
-    has_written pool claim c.args.layout.now set bits c.args.pass.now c.write.new.seat of_config c.requires.claimed c.write.ensures.seat c.write.ensures.bits
+    has_written pool claim c.args.layout.now set bits c.args.pass.now c.write.new.seat of_config c.requires.claimed c.write.ensures
     (subst (λ (l : LayoutId). AreDocumentBitsIn l.room l.config set claim.slice claim.column bits) c.layout.ensures c.fill_bits.ensures.document_bits)
     (subst (λ (l : LayoutId). All (λ b. IsInSlice l.room claim.slice b.word) bits) c.layout.ensures c.fill_bits.ensures.inside)

@@ -1,4 +1,4 @@
-use Rattle.std.proofs.Common.{◌≡◌, ℕ, ◌+◌, ◌≤◌, List, length, get_or, Option, None, MatchOption, refl, sym, ◌∙◌, subst, arith}
+use Rattle.std.proofs.Common.{◌≡◌, ℕ, ◌+◌, List, length, get_or, Option, None, MatchOption, refl, sym, ◌∙◌, subst, arith}
 use Rattle.token_manager.specs.Guarding.{IsOldest, NoneOpen}
 use Rattle.token_manager.proofs.Oldest.{IsOldestOf, oldest-all, oldest-more}
 use Rattle.token_manager.proofs.tokens.Tokens.oldest.Goals as goal

@@ -3,7 +3,7 @@ use Rattle.engine.specs.Scans.{AreScannedBelow, part_of}
 use Rattle.funnel_model.specs.declared.bit_list.Bit.{Bit}
 use Rattle.funnel_model.specs.declared.config.TheConstants.{MOST_SLICES}
 use Rattle.row_read.specs.SharedRows.{WasReadSet, kept_of}
-use Rattle.engine.proofs.engine.Engine.scan_each.Given as goal
+use Rattle.engine.proofs.engine.Engine.scan_slices.Given as goal
 
 -- the slices before this one are scanned
 abbrev pub invariant-loop-slice : goal.invariant-loop-slice

@@ -2,7 +2,7 @@ use Rattle.std.proofs.Common.{inl, refl, subst}
 use Rattle.engine.proofs.Finds.{not_begun, refused_find, scan_begun}
 use Rattle.funnel_model.specs.Legal.{IsLegal}
 use Rattle.slice_rule.specs.Pools.{PoolId}
-use Rattle.engine.proofs.engine.Engine.begin.Goals as goal
+use Rattle.engine.proofs.engine.Engine.take_token.Goals as goal
 
 pub returns-in_default-clause-legal : goal.returns-in_default-clause-legal
 returns-in_default-clause-legal g c = subst (λ (p : PoolId). IsLegal p.limits c.args.pass.now.front) c.requires.pass.seated.same c.number.ensures.legal

@@ -1,6 +1,6 @@
 use Rattle.std.proofs.Common.{◌≡◌, ℕ, take, AllPairs}
 use Rattle.engine.specs.Branches.{HasBoth}
-use Rattle.engine.proofs.merged.Merged.add_all.Given as goal
+use Rattle.engine.proofs.merged.Merged.add_columns.Given as goal
 
 -- those so far were added
 abbrev pub invariant-loop-column : goal.invariant-loop-column

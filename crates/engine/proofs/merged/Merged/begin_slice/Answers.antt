@@ -2,7 +2,7 @@ use Rattle.std.proofs.Common.{Bool, List, subst, sym, Contains}
 use Rattle.engine.proofs.MergedColumns.{marked_none}
 use Rattle.engine.specs.Branches.{MergedState}
 use Rattle.engine.specs.Marks.{AreMarked}
-use Rattle.engine.proofs.merged.Merged.begin.Goals as goal
+use Rattle.engine.proofs.merged.Merged.begin_slice.Goals as goal
 
 pub invariant_of-self : goal.invariant_of-self
 invariant_of-self c =

@@ -3,7 +3,7 @@ use Rattle.std.proofs.lemmas.List.{take_all, take_more}
 use Rattle.std.proofs.lemmas.List.Elements.{Contains-get_or}
 use Rattle.engine.proofs.MergedColumns.{both_more}
 use Rattle.engine.specs.Branches.{HasBoth}
-use Rattle.engine.proofs.merged.Merged.add_all.Goals as goal
+use Rattle.engine.proofs.merged.Merged.add_columns.Goals as goal
 
 pub add-requires : goal.add-requires
 add-requires c =

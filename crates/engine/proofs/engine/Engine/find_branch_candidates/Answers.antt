@@ -3,7 +3,7 @@ use Rattle.commit_desk.specs.Judging.{AreScannedForAny}
 use Rattle.commit_desk.specs.Scans.{token_of}
 use Rattle.engine.specs.Branches.{IsPlannedBranch, words_of_each}
 use Rattle.row_layout.specs.Layouts.{LayoutId}
-use Rattle.engine.proofs.engine.Engine.scan_any.Goals as goal
+use Rattle.engine.proofs.engine.Engine.find_branch_candidates.Goals as goal
 
 pub scan_branches-requires-clause-planned : goal.scan_branches-requires-clause-planned
 scan_branches-requires-clause-planned g c =
