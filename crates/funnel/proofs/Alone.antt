@@ -17,7 +17,7 @@ use Rattle.funnel_model.specs.declared.config.Config.{Config}
 use Rattle.row_layout.specs.Sound.{IsSound}
 use Rattle.session.specs.Ends.{Serves}
 use Rattle.slice_rule.specs.Pools.{PoolId}
-use Rattle.funnel.specs.declared.ended.Why.{Why}
+use Rattle.funnel.specs.declared.ends.Why.{Why}
 use Rattle.session.specs.declared.serving.TheConstants.{MOST_BYTES}
 use Rattle.funnel.specs.Ends.{why_of_end}
 use Rattle.funnel.specs.Runs.{IsOfFirst, Ran, first_caller, limits_by}

@@ -29,7 +29,7 @@ use Rattle.session.specs.Sessions.{Answers, AnswersItem, Session}
 use Rattle.funnel.specs.Laws.{AnswersInput, AreDue, CallTakesMemory, IsDue, RepliesAreDue}
 use Rattle.funnel.specs.Runs.{Ran, first_caller, limits_by}
 use Rattle.session.specs.declared.serving.TheConstants.{MOST_BYTES}
-use Rattle.funnel.specs.declared.ended.Why.{Why}
+use Rattle.funnel.specs.declared.ends.Why.{Why}
 
 -- the cut after a byte that ends a line, or doesn't
 abbrev next_cut : Cut → ℕ → Bool → Cut

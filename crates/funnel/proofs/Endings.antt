@@ -5,12 +5,11 @@ use Rattle.std.specs.List.{AllZip}
 use Rattle.std.specs.Option.{is_some}
 use Rattle.std.specs.Prelude.{IfNone, IfSome}
 use Rattle.engine.specs.Engines.{ClosedState}
-use Rattle.funnel_io.specs.Calls.{Read, Write}
 use Rattle.funnel_io.specs.Streams.{Incoming, Outgoing}
-use Rattle.funnel_io.specs.declared.end.End.{End}
-use Rattle.funnel_io.specs.declared.gate.Next.{Next}
-use Rattle.funnel_io.specs.declared.gate.Opening.{Opening}
-use Rattle.funnel_server.specs.Gates.{GateState}
+use Rattle.funnel_io.specs.declared.gate.Gate as Gate
+use Rattle.funnel_io.specs.declared.sink.Sink as Sink
+use Rattle.funnel_io.specs.declared.source.Source as Source
+use Rattle.funnel_server.specs.Gates.{GateState, gate_state}
 use Rattle.funnel_model.specs.declared.config.Config.{Config}
 use Rattle.funnel_model.specs.History.{base}
 use Rattle.funnel_model.specs.Legal.{Limits}
@@ -20,12 +19,12 @@ use Rattle.command_line.specs.declared.command.Command.{Command}
 use Rattle.command_line.specs.declared.command.Command.TheVariants as command
 use Rattle.command_line.specs.declared.command.FitCommand.{FitCommand}
 use Rattle.command_line.specs.declared.command.ServeCommand.{ServeCommand}
-use Rattle.funnel.specs.declared.ended.Why.{Why}
-use Rattle.funnel.specs.declared.ended.Why.TheVariants as why_of
+use Rattle.funnel.specs.declared.ends.Why.{Why}
+use Rattle.funnel.specs.declared.ends.Why.TheVariants as why_of
 use Rattle.funnel.specs.Misfits.{misfit_of}
 use Rattle.funnel.specs.Programs.{Ends, IsConfigured, Streams}
 use Rattle.funnel.specs.Runs.{KeepsLast, RanOrNot, limits_by}
-use Rattle.funnel.specs.Served.{EndsServe, OneDidNotOpen}
+use Rattle.funnel.specs.ServeRuns.{EndsServe, OneDidNotOpen}
 use Rattle.funnel.specs.Turns.{AreOpened, AreOpenedUntilOneFails, EndsInTurns, OpenGatesGoInTurns, ServeGoesInTurns}
 use Rattle.funnel.specs.Workers.{EndsOpenServeInTurns, EndsServeInTurns}
 
@@ -53,87 +52,80 @@ are_no_fit words asked words_are other = ap is_fit words_are ∙ no_fit_is asked
 
 -- ---- the calls on gates
 
--- what is told of the calls of a serve aside, an end is an end
-pub plain_end : {G C : Type 0} (open_gives : G → Opening → G → Type 0) (next_gives : G → Next C → G → Type 0) (done_gives : G → C → End → G → Type 0) (end_gives : G → G → Type 0)
-    (read_gives : C → Read → C → Type 0) (write_gives : C → Write → C → Type 0) (incoming : C → Incoming) (outgoing : C → Outgoing)
-    (words : List (List ℕ)) (before after : Streams) (why : Why) (closed : Option ClosedState) (gates laters : List G) →
-    EndsInTurns open_gives next_gives done_gives end_gives read_gives write_gives incoming outgoing words before after why closed gates laters → Ends words before after why closed
-plain_end open_gives next_gives done_gives end_gives read_gives write_gives incoming outgoing words before after why closed gates laters (inl ends) = inl ends
-plain_end open_gives next_gives done_gives end_gives read_gives write_gives incoming outgoing words before after why closed gates laters (inr (inl ends)) = inr (inl ends)
-plain_end open_gives next_gives done_gives end_gives read_gives write_gives incoming outgoing words before after why closed gates laters (inr (inr (inl ends))) = inr (inr (inl ends))
-plain_end open_gives next_gives done_gives end_gives read_gives write_gives incoming outgoing words before after why closed gates laters (inr (inr (inr (inl ends)))) = inr (inr (inr (inl ends)))
-plain_end open_gives next_gives done_gives end_gives read_gives write_gives incoming outgoing words before after why closed gates laters (inr (inr (inr (inr (inl serve))))) = inr (inr (inr (inr (inl serve.ends))))
-plain_end open_gives next_gives done_gives end_gives read_gives write_gives incoming outgoing words before after why closed gates laters (inr (inr (inr (inr (inr (inl ends)))))) = inr (inr (inr (inr (inr (inl ends)))))
-plain_end open_gives next_gives done_gives end_gives read_gives write_gives incoming outgoing words before after why closed gates laters (inr (inr (inr (inr (inr (inr ends)))))) = inr (inr (inr (inr (inr (inr ends)))))
+module _ {G C : Type 0} (gate : Gate.Ghosts G C) (source : Source.Ghosts C) (sink : Sink.Ghosts C) where
+  -- what is told of the calls of a serve aside, an end is an end
+  pub plain_end : (words : List (List ℕ)) (before after : Streams) (why : Why) (closed : Option ClosedState) (gates laters : List G) →
+      EndsInTurns gate source sink words before after why closed gates laters → Ends words before after why closed
+  plain_end words before after why closed gates laters (inl ends) = inl ends
+  plain_end words before after why closed gates laters (inr (inl ends)) = inr (inl ends)
+  plain_end words before after why closed gates laters (inr (inr (inl ends))) = inr (inr (inl ends))
+  plain_end words before after why closed gates laters (inr (inr (inr (inl ends)))) = inr (inr (inr (inl ends)))
+  plain_end words before after why closed gates laters (inr (inr (inr (inr (inl serve))))) = inr (inr (inr (inr (inl serve.ends))))
+  plain_end words before after why closed gates laters (inr (inr (inr (inr (inr (inl ends)))))) = inr (inr (inr (inr (inr (inl ends)))))
+  plain_end words before after why closed gates laters (inr (inr (inr (inr (inr (inr ends)))))) = inr (inr (inr (inr (inr (inr ends)))))
 
--- a serve ended so between these states of its gates
-record ServedInTurns {G C : Type 0} (open_gives : G → Opening → G → Type 0) (next_gives : G → Next C → G → Type 0) (done_gives : G → C → End → G → Type 0) (end_gives : G → G → Type 0)
-    (read_gives : C → Read → C → Type 0) (write_gives : C → Write → C → Type 0) (incoming : C → Incoming) (outgoing : C → Outgoing)
-    (config : Config) (serve : ServeCommand) (before after : List GateState) (gates laters : List G) (why : Why) (closed : Option ClosedState) : Type 0 where
-  ends : EndsServe config serve before after why closed
-  in_turns : ServeGoesInTurns open_gives next_gives done_gives end_gives read_gives write_gives incoming outgoing config serve before after why closed ends gates laters
+  abbrev state : G → GateState
+  state = gate_state gate source sink
 
-pub serve_in_turns : {G C : Type 0} (open_gives : G → Opening → G → Type 0) (next_gives : G → Next C → G → Type 0) (done_gives : G → C → End → G → Type 0) (end_gives : G → G → Type 0)
-    (read_gives : C → Read → C → Type 0) (write_gives : C → Write → C → Type 0) (incoming : C → Incoming) (outgoing : C → Outgoing)
-    (state : G → GateState) (words : List (List ℕ)) (before after : Streams) (why : Why) (closed : Option ClosedState) (gates laters : List G)
-    (serve : ServeCommand) (config : Config) → before.gates ≡ map state gates → after.gates ≡ map state laters →
-    IsConfigured words before after (command.Serve serve) config → misfit_of (command.Serve serve) (length before.gates) config ≡ None →
-    after.input ≡ before.input → after.output ≡ before.output →
-    EndsServeInTurns open_gives next_gives done_gives end_gives read_gives write_gives incoming outgoing state config serve gates laters why closed →
-    IfSome closed (KeepsLast config) →
-    EndsInTurns open_gives next_gives done_gives end_gives read_gives write_gives incoming outgoing words before after why closed gates laters
-serve_in_turns {G} {C} open_gives next_gives done_gives end_gives read_gives write_gives incoming outgoing state words before after why closed gates laters serve config from to configured fits input output served kept =
-    let told : ServedInTurns open_gives next_gives done_gives end_gives read_gives write_gives incoming outgoing config serve before.gates after.gates gates laters why closed =
-    subst (λ (gs : List GateState). ServedInTurns open_gives next_gives done_gives end_gives read_gives write_gives incoming outgoing config serve gs after.gates gates laters why closed) (sym from)
-    (subst (λ (gs : List GateState). ServedInTurns open_gives next_gives done_gives end_gives read_gives write_gives incoming outgoing config serve (map state gates) gs gates laters why closed) (sym to)
-    (record { ends = served.ends; in_turns = served.in_turns })) in
-    inr (inr (inr (inr (inl (record {
-      ends = record { serve = serve; config = config; configured = configured; fits = fits; input = input; output = output; served = told.ends; kept = kept };
-      in_turns = told.in_turns;
-    })))))
+  -- a serve ended so between these states of its gates
+  record ServedInTurns (config : Config) (serve : ServeCommand) (before after : List GateState) (gates laters : List G) (why : Why) (closed : Option ClosedState) : Type 0 where
+    ends : EndsServe config serve before after why closed
+    in_turns : ServeGoesInTurns gate source sink config serve before after why closed ends gates laters
 
--- ---- the gates of a serve are opened and ended
+  pub serve_in_turns : (words : List (List ℕ)) (before after : Streams) (why : Why) (closed : Option ClosedState) (gates laters : List G)
+      (serve : ServeCommand) (config : Config) → before.gates ≡ map state gates → after.gates ≡ map state laters →
+      IsConfigured words before after (command.Serve serve) config → misfit_of (command.Serve serve) (length before.gates) config ≡ None →
+      after.input ≡ before.input → after.output ≡ before.output → EndsServeInTurns gate source sink config serve gates laters why closed →
+      IfSome closed (KeepsLast config) → EndsInTurns gate source sink words before after why closed gates laters
+  serve_in_turns words before after why closed gates laters serve config from to configured fits input output served kept =
+      let told : ServedInTurns config serve before.gates after.gates gates laters why closed =
+      subst (λ (gs : List GateState). ServedInTurns config serve gs after.gates gates laters why closed) (sym from)
+      (subst (λ (gs : List GateState). ServedInTurns config serve (map state gates) gs gates laters why closed) (sym to)
+      (record { ends = served.ends; in_turns = served.in_turns })) in
+      inr (inr (inr (inr (inl (record {
+        ends = record { serve = serve; config = config; configured = configured; fits = fits; input = input; output = output; served = told.ends; kept = kept };
+        in_turns = told.in_turns;
+      })))))
 
-module _ {G C : Type 0} (open_gives : G → Opening → G → Type 0) (next_gives : G → Next C → G → Type 0) (done_gives : G → C → End → G → Type 0)
-    (end_gives : G → G → Type 0) (read_gives : C → Read → C → Type 0) (write_gives : C → Write → C → Type 0) (incoming : C → Incoming) (outgoing : C → Outgoing)
-    (state : G → GateState) (config : Config) (serve : ServeCommand) (gates opened : List G) where
-  abbrev EndsServing : List G → Why → Option ClosedState → Type 0
-  EndsServing = EndsServeInTurns open_gives next_gives done_gives end_gives read_gives write_gives incoming outgoing state config serve gates
+  -- ---- the gates of a serve are opened and ended
 
-  abbrev EndsServingOpen : List G → Why → Option ClosedState → Type 0
-  EndsServingOpen = EndsOpenServeInTurns next_gives done_gives end_gives read_gives write_gives incoming outgoing state config serve opened
+  module _ (config : Config) (serve : ServeCommand) (gates opened : List G) where
+    abbrev EndsServing : List G → Why → Option ClosedState → Type 0
+    EndsServing = EndsServeInTurns gate source sink config serve gates
 
-  -- one of them was not opened
-  pub not_opened : (laters : List G) → OneDidNotOpen (map state gates) (map state opened) → AreOpenedUntilOneFails open_gives gates opened →
-      map state laters ≡ map state opened → AllZip end_gives opened laters → EndsServing laters why_of.GateFault None
-  not_opened laters one fails same ended = record {
-    ends = inr (refl, subst (OneDidNotOpen (map state gates)) (sym same) one);
-    in_turns = record { tried = opened; opened = inr (refl, fails); ended = ended };
-  }
+    abbrev EndsServingOpen : List G → Why → Option ClosedState → Type 0
+    EndsServingOpen = EndsOpenServeInTurns gate source sink config serve opened
 
-  -- they were opened, and there was no memory for an engine
-  pub without_engine : (laters : List G) → map state opened ≡ map state gates → AreOpened open_gives gates opened →
-      map state laters ≡ map state opened → AllZip end_gives opened laters → EndsServing laters why_of.Memory None
-  without_engine laters told opens same ended = record {
-    ends = inl (refl, same ∙ told);
-    in_turns = record { tried = opened; opened = inl (refl, opens); ended = ended };
-  }
+    -- one of them was not opened
+    pub not_opened : (laters : List G) → OneDidNotOpen (map state gates) (map state opened) → AreOpenedUntilOneFails gate gates opened →
+        map state laters ≡ map state opened → AllZip gate.end_gives opened laters → EndsServing laters why_of.GateFault None
+    not_opened laters one fails same ended = record {
+      ends = inr (refl, subst (OneDidNotOpen (map state gates)) (sym same) one);
+      in_turns = record { tried = opened; opened = inr (refl, fails); ended = ended };
+    }
 
-  -- they were opened and served, as gates that tell what they told before
-  record Served (laters : List G) (before : List GateState) (why : Why) (closed : Option ClosedState) : Type 0 where
-    ends : EndsServe config serve before (map state laters) why closed
-    in_turns : OpenGatesGoInTurns next_gives done_gives end_gives read_gives write_gives incoming outgoing config serve before (map state laters) why closed ends
-        opened laters
+    -- they were opened, and there was no memory for an engine
+    pub without_engine : (laters : List G) → map state opened ≡ map state gates → AreOpened gate gates opened →
+        map state laters ≡ map state opened → AllZip gate.end_gives opened laters → EndsServing laters why_of.Memory None
+    without_engine laters told opens same ended = record {
+      ends = inl (refl, same ∙ told);
+      in_turns = record { tried = opened; opened = inl (refl, opens); ended = ended };
+    }
 
-  pub opened_and_served : (laters : List G) (why : Why) (closed : ClosedState) → map state opened ≡ map state gates → AreOpened open_gives gates opened →
-      EndsServingOpen laters why (Some closed) → EndsServing laters why (Some closed)
-  opened_and_served laters why closed told opens served =
-      let all : Served laters (map state gates) why (Some closed) =
-      subst (λ (before : List GateState). Served laters before why (Some closed)) told (record { ends = served.ends; in_turns = served.in_turns }) in
-      record { ends = all.ends; in_turns = (opened, opens, all.in_turns) }
+    -- they were opened and served, as gates that tell what they told before
+    record ServedOpen (laters : List G) (before : List GateState) (why : Why) (closed : Option ClosedState) : Type 0 where
+      ends : EndsServe config serve before (map state laters) why closed
+      in_turns : OpenGatesGoInTurns gate source sink config serve before (map state laters) why closed ends opened laters
 
-  -- so where something is left of an engine
-  pub served_where_left : (laters : List G) (why : Why) (closed : Option ClosedState) → is_some closed ≡ true → map state opened ≡ map state gates → AreOpened open_gives gates opened →
-      EndsServingOpen laters why closed → EndsServing laters why closed
-  served_where_left laters why None left told opens served = absurd (false≢true left)
-  served_where_left laters why (Some closed) left told opens served = opened_and_served laters why closed told opens served
+    pub opened_and_served : (laters : List G) (why : Why) (closed : ClosedState) → map state opened ≡ map state gates → AreOpened gate gates opened →
+        EndsServingOpen laters why (Some closed) → EndsServing laters why (Some closed)
+    opened_and_served laters why closed told opens served =
+        let all : ServedOpen laters (map state gates) why (Some closed) =
+        subst (λ (before : List GateState). ServedOpen laters before why (Some closed)) told (record { ends = served.ends; in_turns = served.in_turns }) in
+        record { ends = all.ends; in_turns = (opened, opens, all.in_turns) }
+
+    -- so where something is left of an engine
+    pub served_where_left : (laters : List G) (why : Why) (closed : Option ClosedState) → is_some closed ≡ true → map state opened ≡ map state gates → AreOpened gate gates opened →
+        EndsServingOpen laters why closed → EndsServing laters why closed
+    served_where_left laters why None left told opens served = absurd (false≢true left)
+    served_where_left laters why (Some closed) left told opens served = opened_and_served laters why closed told opens served

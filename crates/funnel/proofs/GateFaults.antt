@@ -4,14 +4,12 @@ use Rattle.std.specs.List.{AllZip, list_any}
 use Rattle.engine.specs.Engines.{ClosedState}
 use Rattle.fit.specs.declared.ends.FitEnd.{FitEnd}
 use Rattle.fit.specs.declared.ends.FitEnd.TheVariants as fit_end
-use Rattle.funnel_io.specs.Calls.{Read, Write}
 use Rattle.funnel_io.specs.Streams.{Incoming, Outgoing}
 use Rattle.funnel_io.specs.declared.end.End.{End}
 use Rattle.funnel_io.specs.declared.end.End.TheVariants as end_of
-use Rattle.funnel_io.specs.declared.gate.Next.{Next}
-use Rattle.funnel_io.specs.declared.gate.Next.TheVariants as next
-use Rattle.funnel_io.specs.declared.gate.Opening.{Opening}
-use Rattle.funnel_io.specs.declared.gate.Opening.TheVariants as opening
+use Rattle.funnel_io.specs.declared.gate.Gate as Gate
+use Rattle.funnel_io.specs.declared.sink.Sink as Sink
+use Rattle.funnel_io.specs.declared.source.Source as Source
 use Rattle.funnel_model.specs.declared.config.Config.{Config}
 use Rattle.funnel_server.proofs.GateTurns.{asked_in_vain}
 use Rattle.funnel_server.specs.Gates.{GateState}
@@ -21,15 +19,15 @@ use Rattle.funnel_stats.specs.declared.fault.ConfigFault.{ConfigFault}
 use Rattle.funnel_stats.specs.declared.fault.ConfigFault.TheVariants as config
 use Rattle.command_line.specs.declared.command.ServeCommand.{ServeCommand}
 use Rattle.command_line.specs.declared.command.LoadCommand.{LoadCommand}
-use Rattle.funnel.specs.declared.ended.Why.{Why}
-use Rattle.funnel.specs.declared.ended.Why.TheVariants as why_of
+use Rattle.funnel.specs.declared.ends.Why.{Why}
+use Rattle.funnel.specs.declared.ends.Why.TheVariants as why_of
 use Rattle.command_line.specs.Commands.{command_of}
 use Rattle.funnel.specs.Ends.{why_of_config, why_of_end, why_of_fit}
 use Rattle.funnel.specs.Laws.{OneFailed}
 use Rattle.funnel.specs.LoadRuns.{EndsLoad}
 use Rattle.funnel.specs.Programs.{Ends, Streams}
 use Rattle.funnel.specs.Runs.{RanOrNot, limits_by}
-use Rattle.funnel.specs.Served.{AllWork, EndsServe, OneDidNotOpen, new_workers}
+use Rattle.funnel.specs.ServeRuns.{AllWork, EndsServe, OneDidNotOpen, new_workers}
 use Rattle.funnel.specs.Turns.{AreOpened, AreOpenedUntilOneFails, EndsInTurns, GatesGoInTurns, ServeGoesInTurns}
 
 -- other ends are told otherwise
@@ -68,14 +66,13 @@ some_fault true memory is = refl
 some_fault false true is = cc
 some_fault false false is = cc
 
-module _ {G C : Type 0} (open_gives : G → Opening → G → Type 0) (next_gives : G → Next C → G → Type 0) (done_gives : G → C → End → G → Type 0)
-    (end_gives : G → G → Type 0) (read_gives : C → Read → C → Type 0) (write_gives : C → Write → C → Type 0) (incoming : C → Incoming) (outgoing : C → Outgoing) where
+module _ {G C : Type 0} (gate : Gate.Ghosts G C) (source : Source.Ghosts C) (sink : Sink.Ghosts C) where
   abbrev Failed : List G → Type 0
-  Failed = OneFailed open_gives next_gives end_gives
+  Failed = OneFailed gate
 
   -- what one of some gates answered, one of more gates did
-  one_more : (gate : G) (laters : List G) → Failed laters → Failed (gate ∷ laters)
-  one_more gate laters one = record {
+  one_more : (other : G) (laters : List G) → Failed laters → Failed (other ∷ laters)
+  one_more other laters one = record {
     called = one.called;
     failed = one.failed;
     answer = one.answer;
@@ -86,23 +83,23 @@ module _ {G C : Type 0} (open_gives : G → Opening → G → Type 0) (next_give
 
   -- of workers that worked turn by turn, one whose gate failed was told so
   one_failed : (befores afters : List WorkerState) (work : AllWork befores afters) (gates laters : List G) →
-      GatesGoInTurns next_gives done_gives end_gives read_gives write_gives incoming outgoing befores afters work gates laters →
+      GatesGoInTurns gate source sink befores afters work gates laters →
       list_any (λ (w : WorkerState). w.fault) afters ≡ true → Failed laters
   one_failed [] [] work gates laters turns some = cc
   one_failed [] (after ∷ afters) work gates laters turns some = absurd work
   one_failed (before ∷ befores) [] work gates laters turns some = absurd work
   one_failed (before ∷ befores) (after ∷ afters) work [] laters turns some = absurd turns
-  one_failed (before ∷ befores) (after ∷ afters) work (gate ∷ gates) [] turns some = absurd turns
-  one_failed (before ∷ befores) (after ∷ afters) work (gate ∷ gates) (later ∷ laters) turns some =
+  one_failed (before ∷ befores) (after ∷ afters) work (first ∷ gates) [] turns some = absurd turns
+  one_failed (before ∷ befores) (after ∷ afters) work (first ∷ gates) (later ∷ laters) turns some =
       by_case after.fault refl (one_failed befores afters work.1 gates laters turns.1) where
-        works : WorksInTurns next_gives done_gives end_gives read_gives write_gives incoming outgoing (record { gate = gate; state = before }) (record { gate = later; state = after })
+        works : WorksInTurns gate source sink (record { gate = first; state = before }) (record { gate = later; state = after })
         works = record { works = work.0; in_turns = turns.0 }
 
         by_case : (fault : Bool) → after.fault ≡ fault → (list_any (λ (w : WorkerState). w.fault) afters ≡ true → Failed laters) → Failed (later ∷ laters)
         by_case true is others = record {
           called = works.in_turns.served;
           failed = works.in_turns.stopped;
-          answer = inr (asked_in_vain next_gives done_gives end_gives read_gives write_gives incoming outgoing (record { gate = gate; state = before }) (record { gate = later; state = after }) works is);
+          answer = inr (asked_in_vain gate source sink (record { gate = first; state = before }) (record { gate = later; state = after }) works is);
           later = later;
           ended = works.in_turns.ended;
           there = (0, omega arith, refl);
@@ -110,26 +107,26 @@ module _ {G C : Type 0} (open_gives : G → Opening → G → Type 0) (next_give
         by_case false is others = one_more later laters (others (subst (λ b. (b || list_any (λ (w : WorkerState). w.fault) afters) ≡ true) is some))
 
   -- of gates that were opened until one failed, that one was told so
-  one_not_opened : (gates tried laters : List G) → AreOpenedUntilOneFails open_gives gates tried → AllZip end_gives tried laters → Failed laters
+  one_not_opened : (gates tried laters : List G) → AreOpenedUntilOneFails gate gates tried → AllZip gate.end_gives tried laters → Failed laters
   one_not_opened [] tried laters opened ended = absurd opened
-  one_not_opened (gate ∷ gates) [] laters opened ended = absurd opened
-  one_not_opened (gate ∷ gates) (one ∷ tried) [] opened ended = absurd ended
-  one_not_opened (gate ∷ gates) (one ∷ tried) (later ∷ laters) (inl fails) ended = record {
-    called = gate;
+  one_not_opened (first ∷ gates) [] laters opened ended = absurd opened
+  one_not_opened (first ∷ gates) (one ∷ tried) [] opened ended = absurd ended
+  one_not_opened (first ∷ gates) (one ∷ tried) (later ∷ laters) (inl fails) ended = record {
+    called = first;
     failed = one;
     answer = inl fails.0;
     later = later;
     ended = ended.0;
     there = (0, omega arith, refl);
   }
-  one_not_opened (gate ∷ gates) (one ∷ tried) (later ∷ laters) (inr opens) ended = one_more later laters (one_not_opened gates tried laters opens.1 ended.1)
+  one_not_opened (first ∷ gates) (one ∷ tried) (later ∷ laters) (inr opens) ended = one_more later laters (one_not_opened gates tried laters opens.1 ended.1)
 
   of_serve : (config : Config) (serve : ServeCommand) (before after : List GateState) (why : Why) (closed : Option ClosedState)
       (served : EndsServe config serve before after why closed) (gates laters : List G) →
-      ServeGoesInTurns open_gives next_gives done_gives end_gives read_gives write_gives incoming outgoing config serve before after why closed served gates laters →
+      ServeGoesInTurns gate source sink config serve before after why closed served gates laters →
       why ≡ why_of.GateFault → Failed laters
   of_serve config serve before after why None served gates laters turns is = by_cause turns.opened where
-    by_cause : ((why ≡ why_of.Memory) × AreOpened open_gives gates turns.tried) ⊎ ((why ≡ why_of.GateFault) × AreOpenedUntilOneFails open_gives gates turns.tried) → Failed laters
+    by_cause : ((why ≡ why_of.Memory) × AreOpened gate gates turns.tried) ⊎ ((why ≡ why_of.GateFault) × AreOpenedUntilOneFails gate gates turns.tried) → Failed laters
     by_cause (inl memory) = let other : why_of.Memory ≡ why_of.GateFault = sym memory.0 ∙ is in cc
     by_cause (inr fails) = one_not_opened gates turns.tried laters fails.1 turns.ended
   of_serve config serve before after why (Some closed) served gates laters turns is =
@@ -137,7 +134,7 @@ module _ {G C : Type 0} (open_gives : G → Opening → G → Type 0) (next_give
       (some_fault (list_any (λ (w : WorkerState). w.fault) served.workers) (list_any (λ (w : WorkerState). w.memory) served.workers) (sym served.cause ∙ is))
 
   module _ (words : List (List ℕ)) (before after : Streams) (why : Why) (closed : Option ClosedState) (gates laters : List G) where
-    pub told_by_gate : EndsInTurns open_gives next_gives done_gives end_gives read_gives write_gives incoming outgoing words before after why closed gates laters →
+    pub told_by_gate : EndsInTurns gate source sink words before after why closed gates laters →
         why ≡ why_of.GateFault → Failed laters
     told_by_gate (inl ends) is = by_cause ends.cause where
       by_cause : ((why ≡ why_of.Usage) × (command_of words ≡ None)) ⊎ (why ≡ why_of.Memory) → Failed laters

@@ -27,9 +27,9 @@ use Rattle.command_line.specs.declared.command.Command.TheVariants as command
 use Rattle.command_line.specs.declared.command.FitCommand.{FitCommand}
 use Rattle.command_line.specs.declared.command.LoadCommand.{LoadCommand}
 use Rattle.command_line.specs.declared.command.ServeCommand.{ServeCommand}
-use Rattle.funnel.specs.declared.ended.Misfit.{Misfit}
-use Rattle.funnel.specs.declared.ended.Why.{Why}
-use Rattle.funnel.specs.declared.ended.Why.TheVariants as why_of
+use Rattle.funnel.specs.declared.ends.Misfit.{Misfit}
+use Rattle.funnel.specs.declared.ends.Why.{Why}
+use Rattle.funnel.specs.declared.ends.Why.TheVariants as why_of
 use Rattle.session.specs.declared.serving.TheConstants.{MOST_BYTES}
 use Rattle.command_line.specs.Commands.{command_of, is_fit}
 use Rattle.funnel.specs.Ends.{why_of_config, why_of_end, why_of_fit}
@@ -41,7 +41,7 @@ use Rattle.funnel.specs.LoadRuns.{EndsLoad}
 use Rattle.funnel.specs.Misfits.{misfit_of}
 use Rattle.funnel.specs.Programs.{Ends, EndsAtConfig, EndsAtMisfit, EndsAtWords, EndsAfterFit, EndsAfterLoad, EndsAfterRun, EndsAfterServe, Streams}
 use Rattle.funnel.specs.Runs.{Ran, RanOrNot, first_caller, limits_by}
-use Rattle.funnel.specs.Served.{AllWork, EndsServe, OneDidNotOpen, new_workers}
+use Rattle.funnel.specs.ServeRuns.{AllWork, EndsServe, OneDidNotOpen, new_workers}
 use Rattle.funnel.proofs.ServedGates.{gates_without_a_fault, not_failed, raised_rose}
 
 -- bytes that were taken up to the end of a source are all that it told
@@ -207,13 +207,13 @@ same_load load other is = cc
 -- a run that was begun
 module _ (value : Config) (before after : Streams) (why : Why) (closed : ClosedState) (none : NoStreamFailed before after)
     (ran : Ran value before.input after.input before.output after.output why closed) where
-  abbrev Served : End → Type 0
-  Served end = Serves (first_caller value (limits_by value)) MOST_BYTES (record { front = []; incoming = before.input; outgoing = before.output })
+  abbrev AnswersRun : End → Type 0
+  AnswersRun end = Serves (first_caller value (limits_by value)) MOST_BYTES (record { front = []; incoming = before.input; outgoing = before.output })
       (record { front = closed.history; incoming = after.input; outgoing = after.output }) end
 
   ran_well : EndsWell why
   ran_well = subst EndsWell (sym ran.answered) (by_end ran.end ran.serves) where
-    by_end : (end : End) → Served end → EndsWell (why_of_end end)
+    by_end : (end : End) → AnswersRun end → EndsWell (why_of_end end)
     by_end end_of.Done serves = tt
     by_end end_of.ReadFault serves = absurd (none.input (raised_rose before.input.faults after.input.faults serves.faults.reads))
     by_end end_of.WriteFault serves = absurd (none.output (raised_rose before.output.faults after.output.faults serves.faults.writes))
@@ -221,7 +221,7 @@ module _ (value : Config) (before after : Streams) (why : Why) (closed : ClosedS
     by_end end_of.Memory serves = tt
 
   module _ (bytes : List ℕ) (input : TellsFew before.input bytes) where
-    ran_whole : (end : End) (serves : Served end) →
+    ran_whole : (end : End) (serves : AnswersRun end) →
         CompletesRun value bytes before.output after.output (why_of_end end) (Some closed)
     ran_whole end_of.Done serves =
         let all = all_taken before.input after.input serves.taken bytes serves.takes serves.leaves input.told in

@@ -10,7 +10,7 @@ pub mod Loaded
 pub mod OpenGates
 pub mod Opened
 pub mod Passes
-pub mod Served
+pub mod ServeRuns
 pub mod ServedCalls
 pub mod ServedGates
 pub mod Turns

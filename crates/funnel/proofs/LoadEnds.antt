@@ -21,8 +21,8 @@ use Rattle.row_layout.specs.Sound.{IsSound}
 use Rattle.engine.specs.Passes.{PassView}
 use Rattle.slice_rule.specs.Pools.{PoolId}
 use Rattle.command_line.specs.declared.command.LoadCommand.{LoadCommand}
-use Rattle.funnel.specs.declared.ended.Why.{Why}
-use Rattle.funnel.specs.declared.ended.Why.TheVariants as why_of
+use Rattle.funnel.specs.declared.ends.Why.{Why}
+use Rattle.funnel.specs.declared.ends.Why.TheVariants as why_of
 use Rattle.funnel.specs.LoadRuns.{EndsLoad, IsPartOfLoad, IsWholeLoad, Tells}
 use Rattle.funnel.specs.Misfits.{misfit_of_load}
 use Rattle.funnel.specs.Runs.{limits_by}

@@ -8,9 +8,9 @@ use Rattle.funnel_server.specs.Gates.{GateState}
 use Rattle.funnel_server.specs.Workers.{IsStopped, WorkerState}
 use Rattle.command_line.specs.declared.command.ServeCommand.{ServeCommand}
 use Rattle.funnel.specs.Runs.{limits_by}
-use Rattle.funnel.specs.Served.{AllWork, HaveAllServed, new_workers}
-use Rattle.funnel.specs.declared.ended.Why.TheVariants as why_of
 use Rattle.funnel_model.proofs.Absence.{neither}
+use Rattle.funnel.specs.ServeRuns.{AllWork, HaveAllServed, new_workers}
+use Rattle.funnel.specs.declared.ends.Why.TheVariants as why_of
 
 -- a worker that stopped, and whose gate neither failed nor closed, served as many connections as it may
 served_its_number : (worker : WorkerState) → IsStopped worker → worker.fault ≡ false → worker.gate.is_closed ≡ false → worker.left ≡ 0

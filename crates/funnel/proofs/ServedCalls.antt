@@ -17,10 +17,10 @@ use Rattle.funnel_server.specs.Workers.{Visit, WorkerState, Works}
 use Rattle.line_proto.specs.Services.{Caller}
 use Rattle.load_laws.proofs.FrontLemmas.{calls_in_front}
 use Rattle.command_line.specs.declared.command.ServeCommand.{ServeCommand}
-use Rattle.funnel.specs.declared.ended.Why.{Why}
+use Rattle.funnel.specs.declared.ends.Why.{Why}
 use Rattle.funnel.specs.Laws.{AllCallsAreOfSessions, CallsAreOfSessions}
 use Rattle.funnel.specs.Runs.{limits_by}
-use Rattle.funnel.specs.Served.{AllWork, HaveAllServed, new_worker, new_workers}
+use Rattle.funnel.specs.ServeRuns.{AllWork, HaveAllServed, new_worker, new_workers}
 
 -- what was seen stands in each history that goes on from there
 seen_later : (front history : List Event) → IsPrefix front history → (visit : Visit) → HasSeen front visit → HasSeen history visit

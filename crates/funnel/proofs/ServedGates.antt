@@ -16,11 +16,11 @@ use Rattle.funnel_server.specs.Laws.{FitsKept, HasCause, HasFewBytes}
 use Rattle.funnel_server.specs.Workers.{IsVisit, Visit, WorkerState, Works, is_memory, served_by, sides_before}
 use Rattle.line_proto.specs.Services.{Caller}
 use Rattle.command_line.specs.declared.command.ServeCommand.{ServeCommand}
-use Rattle.funnel.specs.declared.ended.Why.{Why}
-use Rattle.funnel.specs.declared.ended.Why.TheVariants as why_of
+use Rattle.funnel.specs.declared.ends.Why.{Why}
+use Rattle.funnel.specs.declared.ends.Why.TheVariants as why_of
 use Rattle.funnel.specs.Laws.{GateIsServed, IsKeptOf, IsServedUnlessFailed, KeepsGoodEnd, KeepsNoFault}
 use Rattle.funnel.specs.Runs.{limits_by}
-use Rattle.funnel.specs.Served.{AllWork, HaveAllServed, new_worker, new_workers}
+use Rattle.funnel.specs.ServeRuns.{AllWork, HaveAllServed, new_worker, new_workers}
 
 -- a count that was raised rose
 pub raised_rose : (before after : ℕ) → after ≡ raised before → Rose before after

@@ -10,8 +10,8 @@ use Rattle.funnel_stats.specs.declared.fault.ConfigFault.{ConfigFault}
 use Rattle.funnel_stats.specs.declared.fault.ConfigFault.TheVariants as config
 use Rattle.funnel.specs.Ends.{why_of_config, why_of_end}
 use Rattle.funnel.specs.Turns.{RunsInTurns, reads_input, writes_output}
-use Rattle.funnel.specs.declared.ended.Why.{Why}
-use Rattle.funnel.specs.declared.ended.Why.TheVariants as why_of
+use Rattle.funnel.specs.declared.ends.Why.{Why}
+use Rattle.funnel.specs.declared.ends.Why.TheVariants as why_of
 
 -- calls that lead on, where each state is seen as another
 leads_as : {S T C : Type 0} (gives : S → C → S → Type 0) (gives_as : T → C → T → Type 0) (seen : S → T) →

@@ -6,21 +6,21 @@ use Rattle.funnel_io.specs.declared.end.End.{End}
 use Rattle.funnel_io.specs.declared.end.End.TheVariants as end_of
 use Rattle.funnel_stats.specs.declared.fault.ConfigFault.{ConfigFault}
 use Rattle.funnel_stats.specs.declared.fault.ConfigFault.TheVariants as config
-use Rattle.funnel.specs.declared.ended.Misfit.TheVariants as misfit
-use Rattle.funnel.specs.declared.ended.Why.{Why}
-use Rattle.funnel.specs.declared.ended.Why.TheVariants as why_of
+use Rattle.funnel.specs.declared.ends.Misfit.TheVariants as misfit
+use Rattle.funnel.specs.declared.ends.Why.{Why}
+use Rattle.funnel.specs.declared.ends.Why.TheVariants as why_of
 
 -- the exit status
-abbrev pub status_of : Why → ℕ
-status_of why_of.Done = 0
-status_of why_of.Usage = 1
-status_of (why_of.Config fault) = 2
-status_of why_of.ReadFault = 3
-status_of why_of.WriteFault = 4
-status_of why_of.Memory = 5
-status_of why_of.GateFault = 6
-status_of (why_of.ByteLimit count) = 7
-status_of (why_of.Misfit misfit) = 8
+abbrev pub exit_status_of : Why → ℕ
+exit_status_of why_of.Done = 0
+exit_status_of why_of.Usage = 1
+exit_status_of (why_of.Config fault) = 2
+exit_status_of why_of.ReadFault = 3
+exit_status_of why_of.WriteFault = 4
+exit_status_of why_of.Memory = 5
+exit_status_of why_of.GateFault = 6
+exit_status_of (why_of.ByteLimit count) = 7
+exit_status_of (why_of.Misfit misfit) = 8
 
 -- how it ends where its session ends so
 abbrev pub why_of_end : End → Why

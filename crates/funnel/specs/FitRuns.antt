@@ -5,7 +5,7 @@ use Rattle.fit.specs.declared.ends.FitEnd.{FitEnd}
 use Rattle.funnel_io.specs.Streams.{Incoming, Outgoing}
 use Rattle.funnel.specs.Ends.{why_of_fit}
 use Rattle.command_line.specs.declared.command.FitCommand.{FitCommand}
-use Rattle.funnel.specs.declared.ended.Why.{Why}
+use Rattle.funnel.specs.declared.ends.Why.{Why}
 use Rattle.session.specs.declared.serving.TheConstants.{MOST_BYTES}
 
 -- what a fit takes, which is no more than a run may, and what it writes

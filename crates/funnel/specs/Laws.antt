@@ -11,9 +11,8 @@ use Rattle.funnel_io.specs.Served.{Served}
 use Rattle.funnel_io.specs.Streams.{Incoming, Outgoing, Writes}
 use Rattle.funnel_io.specs.declared.end.End.{End}
 use Rattle.funnel_io.specs.declared.end.End.TheVariants as end_of
-use Rattle.funnel_io.specs.declared.gate.Next.{Next}
+use Rattle.funnel_io.specs.declared.gate.Gate as Gate
 use Rattle.funnel_io.specs.declared.gate.Next.TheVariants as next
-use Rattle.funnel_io.specs.declared.gate.Opening.{Opening}
 use Rattle.funnel_io.specs.declared.gate.Opening.TheVariants as opening
 use Rattle.funnel_model.specs.declared.call.Call.{Call}
 use Rattle.funnel_model.specs.declared.call.Call.TheVariants as call
@@ -36,14 +35,14 @@ use Rattle.funnel.specs.LoadRuns.{IsWholeLoad}
 use Rattle.funnel.specs.Misfits.{misfit_of}
 use Rattle.funnel.specs.Programs.{Streams}
 use Rattle.funnel.specs.Runs.{IsOfFirst, first_caller, limits_by}
-use Rattle.funnel.specs.Served.{AllWork, HaveAllServed}
+use Rattle.funnel.specs.ServeRuns.{AllWork, HaveAllServed}
 use Rattle.command_line.specs.declared.command.Command.{Command}
 use Rattle.command_line.specs.declared.command.LoadCommand.{LoadCommand}
 use Rattle.command_line.specs.declared.command.ServeCommand.{ServeCommand}
 use Rattle.session.specs.declared.serving.TheConstants.{MOST_BYTES}
-use Rattle.funnel.specs.declared.ended.Misfit.TheVariants as misfit
-use Rattle.funnel.specs.declared.ended.Why.{Why}
-use Rattle.funnel.specs.declared.ended.Why.TheVariants as why_of
+use Rattle.funnel.specs.declared.ends.Misfit.TheVariants as misfit
+use Rattle.funnel.specs.declared.ends.Why.{Why}
+use Rattle.funnel.specs.declared.ends.Why.TheVariants as why_of
 
 -- no call of a gate failed
 abbrev pub NoneFailed : List GateState → List GateState → Type 0
@@ -196,13 +195,12 @@ CompletesServe config serve before after why_of.Memory None = after ≡ before
 CompletesServe config serve before after _ closed = ⊥
 
 -- a gate answered that it failed, as it was opened or asked for a connection, was ended, and is one of these since
-pub record OneFailed {G C : Type 0} (open_gives : G → Opening → G → Type 0) (next_gives : G → Next C → G → Type 0) (end_gives : G → G → Type 0)
-    (laters : List G) : Type 0 where
+pub record OneFailed {G C : Type 0} (gate : Gate.Ghosts G C) (laters : List G) : Type 0 where
   pub called : G
   pub failed : G
-  pub answer : open_gives called opening.Fault failed ⊎ next_gives called next.Fault failed
+  pub answer : gate.open_gives called opening.Fault failed ⊎ gate.next_gives called next.Fault failed
   pub later : G
-  pub ended : end_gives failed later
+  pub ended : gate.end_gives failed later
   pub there : Contains laters later
 
 -- the program did all, or memory ran out, or as many bytes were read as may be

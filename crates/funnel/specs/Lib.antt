@@ -5,8 +5,9 @@ pub mod LoadRuns
 pub mod Misfits
 pub mod Programs
 pub mod Runs
-pub mod Served
+pub mod ServeRuns
 pub mod Serving
 pub mod Texts
 pub mod Turns
+pub mod Words
 pub mod Workers

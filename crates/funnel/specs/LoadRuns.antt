@@ -17,8 +17,8 @@ use Rattle.row_layout.specs.Sound.{IsSound}
 use Rattle.command_line.specs.Commands.{IsLoadInRange}
 use Rattle.funnel.specs.Misfits.{misfit_of_load}
 use Rattle.command_line.specs.declared.command.LoadCommand.{LoadCommand}
-use Rattle.funnel.specs.declared.ended.Why.{Why}
-use Rattle.funnel.specs.declared.ended.Why.TheVariants as why_of
+use Rattle.funnel.specs.declared.ends.Why.{Why}
+use Rattle.funnel.specs.declared.ends.Why.TheVariants as why_of
 use Rattle.funnel.specs.Runs.{limits_by}
 use Rattle.funnel.specs.Texts.{IsTextWritten}
 

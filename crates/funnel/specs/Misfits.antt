@@ -7,8 +7,8 @@ use Rattle.command_line.specs.declared.command.Command.TheVariants as command
 use Rattle.command_line.specs.declared.command.LoadCommand.{LoadCommand}
 use Rattle.command_line.specs.declared.command.ServeCommand.{ServeCommand}
 use Rattle.command_line.specs.declared.command.TheConstants.{MOST_PORT}
-use Rattle.funnel.specs.declared.ended.Misfit.{Misfit}
-use Rattle.funnel.specs.declared.ended.Misfit.TheVariants as misfit
+use Rattle.funnel.specs.declared.ends.Misfit.{Misfit}
+use Rattle.funnel.specs.declared.ends.Misfit.TheVariants as misfit
 
 -- each worker needs a pass of its own, and each document a column
 abbrev pub misfit_of_load : LoadCommand → Config → Option Misfit

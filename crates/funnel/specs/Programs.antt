@@ -13,15 +13,15 @@ use Rattle.funnel.specs.FitRuns.{EndsFit}
 use Rattle.funnel.specs.LoadRuns.{EndsLoad}
 use Rattle.funnel.specs.Misfits.{misfit_of}
 use Rattle.funnel.specs.Runs.{KeepsLast, RanOrNot}
-use Rattle.funnel.specs.Served.{EndsServe}
+use Rattle.funnel.specs.ServeRuns.{EndsServe}
 use Rattle.command_line.specs.declared.command.Command.{Command}
 use Rattle.command_line.specs.declared.command.Command.TheVariants as command
 use Rattle.command_line.specs.declared.command.FitCommand.{FitCommand}
 use Rattle.command_line.specs.declared.command.LoadCommand.{LoadCommand}
 use Rattle.command_line.specs.declared.command.ServeCommand.{ServeCommand}
-use Rattle.funnel.specs.declared.ended.Misfit.{Misfit}
-use Rattle.funnel.specs.declared.ended.Why.{Why}
-use Rattle.funnel.specs.declared.ended.Why.TheVariants as why_of
+use Rattle.funnel.specs.declared.ends.Misfit.{Misfit}
+use Rattle.funnel.specs.declared.ends.Why.{Why}
+use Rattle.funnel.specs.declared.ends.Why.TheVariants as why_of
 
 -- what a program reads and writes: its configuration, its input and its output, and the gates that it was handed
 pub record Streams : Type 0 where

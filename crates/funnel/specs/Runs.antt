@@ -15,8 +15,8 @@ use Rattle.row_layout.specs.Sound.{IsSound}
 use Rattle.session.specs.Ends.{Serves}
 use Rattle.slice_rule.specs.Pools.{PoolId, limits_of}
 use Rattle.funnel.specs.Ends.{why_of_end}
-use Rattle.funnel.specs.declared.ended.Why.{Why}
-use Rattle.funnel.specs.declared.ended.Why.TheVariants as why_of
+use Rattle.funnel.specs.declared.ends.Why.{Why}
+use Rattle.funnel.specs.declared.ends.Why.TheVariants as why_of
 use Rattle.session.specs.declared.serving.TheConstants.{MOST_BYTES}
 
 -- the limits of an engine with this configuration

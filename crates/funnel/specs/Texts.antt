@@ -3,8 +3,8 @@ use Rattle.std.specs.Prelude.{◌≡◌, ℕ, List, [], ◌∷◌, true, ◌||�
 use Rattle.std.specs.Str.{bytes_eq}
 use Rattle.funnel_io.specs.Counts.{counted}
 use Rattle.funnel_io.specs.Streams.{Outgoing, Writes, WritesPart}
-use Rattle.funnel.specs.declared.ended.Why.{Why}
-use Rattle.funnel.specs.declared.ended.Why.TheVariants as why_of
+use Rattle.funnel.specs.declared.ends.Why.{Why}
+use Rattle.funnel.specs.declared.ends.Why.TheVariants as why_of
 use Rattle.funnel.specs.declared.text.Text.{Text}
 use Rattle.funnel.specs.declared.text.Text.TheVariants as text
 use Rattle.funnel.specs.declared.text.TheConstants.{HELP, VERSION}

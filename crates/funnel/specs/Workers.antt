@@ -1,23 +1,21 @@
 -- How the gates and the passes go to the workers of a serve and come back, for the clauses of functions that are not public.
-use Rattle.std.specs.Prelude.{◌≡◌, ℕ, ◌+◌, ◌-◌, List, [], ◌++◌, length, map, All, Option}
+use Rattle.std.specs.Prelude.{◌≡◌, ◌+◌, ◌-◌, List, [], ◌++◌, length, map, Option}
 use Rattle.engine.specs.Engines.{ClosedState}
 use Rattle.engine.specs.Passes.{PassView}
 use Rattle.funnel_io.specs.Answers.{MatchOpening}
-use Rattle.funnel_io.specs.Calls.{Read, Write}
-use Rattle.funnel_io.specs.Streams.{Incoming, Outgoing}
-use Rattle.funnel_io.specs.declared.end.End.{End}
-use Rattle.funnel_io.specs.declared.gate.Next.{Next}
+use Rattle.funnel_io.specs.declared.gate.Gate as Gate
 use Rattle.funnel_io.specs.declared.gate.Opening.{Opening}
+use Rattle.funnel_io.specs.declared.sink.Sink as Sink
+use Rattle.funnel_io.specs.declared.source.Source as Source
 use Rattle.funnel_model.specs.declared.config.Config.{Config}
-use Rattle.funnel_model.specs.declared.event.Event.{Event}
-use Rattle.funnel_server.specs.Gates.{GateState}
+use Rattle.funnel_server.specs.Gates.{GateState, gate_state}
 use Rattle.funnel_server.specs.Workers.{WorkerState, WorkerWithGate}
 use Rattle.slice_rule.specs.Pools.{PoolId}
-use Rattle.funnel.specs.Served.{AllWork, EndsServe, OneDidNotOpen, new_workers, why_of_workers}
+use Rattle.funnel.specs.ServeRuns.{AllWork, EndsServe, OneDidNotOpen, new_workers, why_of_workers}
 use Rattle.funnel.specs.Serving.{new_passes}
 use Rattle.funnel.specs.Turns.{GatesGoInTurns, OpenGatesGoInTurns, ServeGoesInTurns}
 use Rattle.command_line.specs.declared.command.ServeCommand.{ServeCommand}
-use Rattle.funnel.specs.declared.ended.Why.{Why}
+use Rattle.funnel.specs.declared.ends.Why.{Why}
 
 -- the pass of a worker
 abbrev pub pass_of_worker : WorkerState → PassView
@@ -30,14 +28,6 @@ states_of workers = map (λ worker. worker.state) workers
 -- and their gates
 abbrev pub gates_of : {G : Type 0} → List (WorkerWithGate G) → List G
 gates_of workers = map (λ worker. worker.gate) workers
-
--- the gates tell what they told before
-abbrev pub TellTheSame : {G : Type 0} → (G → GateState) → List G → List G → Type 0
-TellTheSame state gates laters = map state laters ≡ map state gates
-
--- so do gates that were opened; or one of them failed as it was opened
-abbrev pub TellOfOpening : {G : Type 0} → (G → GateState) → Opening → List G → List G → Type 0
-TellOfOpening state answer gates laters = MatchOpening answer (TellTheSame state gates laters) (OneDidNotOpen (map state gates) (map state laters))
 
 -- each gate went to the worker of its place, and none is left
 pub record ArePassedOn {G : Type 0} (gates left : List G) (workers : List (WorkerWithGate G)) : Type 0 where
@@ -65,26 +55,30 @@ pub record HaveWorked (pool : PoolId) (serve : ServeCommand) (before after : Lis
   pub cause : why ≡ why_of_workers workers
   pub back : passes ≡ new_passes (length before) (pool.config.passes - length before) ++ map pass_of_worker workers
 
--- and the calls on the gates are those of the workers' sessions, turn by turn
-pub record HaveWorkedInTurns {G C : Type 0} (next_gives : G → Next C → G → Type 0) (done_gives : G → C → End → G → Type 0) (end_gives : G → G → Type 0)
-    (read_gives : C → Read → C → Type 0) (write_gives : C → Write → C → Type 0) (incoming : C → Incoming) (outgoing : C → Outgoing)
-    (state : G → GateState) (pool : PoolId) (serve : ServeCommand) (gates laters : List G) (why : Why) (passes : List PassView) : Type 0 where
-  pub worked : HaveWorked pool serve (map state gates) (map state laters) why passes
-  pub in_turns : GatesGoInTurns next_gives done_gives end_gives read_gives write_gives incoming outgoing
-      (new_workers pool.config pool.limits serve 0 (map state gates)) worked.workers worked.work gates laters
+module _ {G C : Type 0} (gate : Gate.Ghosts G C) (source : Source.Ghosts C) (sink : Sink.Ghosts C) where
+  -- what gates tell
+  abbrev pub told_by : List G → List GateState
+  told_by gates = map (gate_state gate source sink) gates
 
--- a serve of gates that were opened ended so, and the calls on them are those of the sessions that its end tells of
-pub record EndsOpenServeInTurns {G C : Type 0} (next_gives : G → Next C → G → Type 0) (done_gives : G → C → End → G → Type 0) (end_gives : G → G → Type 0)
-    (read_gives : C → Read → C → Type 0) (write_gives : C → Write → C → Type 0) (incoming : C → Incoming) (outgoing : C → Outgoing)
-    (state : G → GateState) (config : Config) (serve : ServeCommand) (gates laters : List G) (why : Why) (closed : Option ClosedState) : Type 0 where
-  pub ends : EndsServe config serve (map state gates) (map state laters) why closed
-  pub in_turns : OpenGatesGoInTurns next_gives done_gives end_gives read_gives write_gives incoming outgoing
-      config serve (map state gates) (map state laters) why closed ends gates laters
+  -- the gates tell what they told before
+  abbrev pub TellTheSame : List G → List G → Type 0
+  TellTheSame gates laters = told_by laters ≡ told_by gates
 
--- a serve ended so, and the calls on its gates are those of their opening, of these sessions and of their end
-pub record EndsServeInTurns {G C : Type 0} (open_gives : G → Opening → G → Type 0) (next_gives : G → Next C → G → Type 0) (done_gives : G → C → End → G → Type 0) (end_gives : G → G → Type 0)
-    (read_gives : C → Read → C → Type 0) (write_gives : C → Write → C → Type 0) (incoming : C → Incoming) (outgoing : C → Outgoing)
-    (state : G → GateState) (config : Config) (serve : ServeCommand) (gates laters : List G) (why : Why) (closed : Option ClosedState) : Type 0 where
-  pub ends : EndsServe config serve (map state gates) (map state laters) why closed
-  pub in_turns : ServeGoesInTurns open_gives next_gives done_gives end_gives read_gives write_gives incoming outgoing
-      config serve (map state gates) (map state laters) why closed ends gates laters
+  -- so do gates that were opened; or one of them failed as it was opened
+  abbrev pub TellOfOpening : Opening → List G → List G → Type 0
+  TellOfOpening answer gates laters = MatchOpening answer (TellTheSame gates laters) (OneDidNotOpen (told_by gates) (told_by laters))
+
+  -- the gates had workers that worked, and the calls on them are those of the workers' sessions, turn by turn
+  pub record HaveWorkedInTurns (pool : PoolId) (serve : ServeCommand) (gates laters : List G) (why : Why) (passes : List PassView) : Type 0 where
+    pub worked : HaveWorked pool serve (told_by gates) (told_by laters) why passes
+    pub in_turns : GatesGoInTurns gate source sink (new_workers pool.config pool.limits serve 0 (told_by gates)) worked.workers worked.work gates laters
+
+  -- a serve of gates that were opened ended so, and the calls on them are those of the sessions that its end tells of
+  pub record EndsOpenServeInTurns (config : Config) (serve : ServeCommand) (gates laters : List G) (why : Why) (closed : Option ClosedState) : Type 0 where
+    pub ends : EndsServe config serve (told_by gates) (told_by laters) why closed
+    pub in_turns : OpenGatesGoInTurns gate source sink config serve (told_by gates) (told_by laters) why closed ends gates laters
+
+  -- a serve ended so, and the calls on its gates are those of their opening, of these sessions and of their end
+  pub record EndsServeInTurns (config : Config) (serve : ServeCommand) (gates laters : List G) (why : Why) (closed : Option ClosedState) : Type 0 where
+    pub ends : EndsServe config serve (told_by gates) (told_by laters) why closed
+    pub in_turns : ServeGoesInTurns gate source sink config serve (told_by gates) (told_by laters) why closed ends gates laters

@@ -3,7 +3,7 @@ ghost use Rattle.funnel_model.specs.Configuration.{IsInRange};
 ghost use Rattle.command_line.specs.Commands.{HasNumbersInRange, IsServeInRange};
 ghost use Rattle.funnel.specs.Misfits.{last_port_of, misfit_of, misfit_of_load, misfit_of_serve};
 
-use crate::ended::Misfit;
+use crate::ends::Misfit;
 use command_line::{Command, LoadCommand, MOST_PORT, ServeCommand};
 use funnel_model::Config;
 use treatment::sizes;

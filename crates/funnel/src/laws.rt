@@ -12,13 +12,13 @@ ghost use Rattle.command_line.specs.declared.command.Command.TheVariants as comm
 ghost use Rattle.command_line.specs.declared.command.FitCommand.{FitCommand};
 ghost use Rattle.command_line.specs.declared.command.LoadCommand.{LoadCommand};
 ghost use Rattle.command_line.specs.declared.command.ServeCommand.{ServeCommand};
-ghost use Rattle.funnel.specs.declared.ended.Why.{Why};
+ghost use Rattle.funnel.specs.declared.ends.Why.{Why};
 ghost use Rattle.command_line.specs.Commands.{command_of};
 ghost use Rattle.funnel.specs.Laws.{AllCallsAreOfSessions, AnswersInput, AreDue, CompletesFit, CompletesLoad, CompletesRun, CompletesServe};
 ghost use Rattle.funnel.specs.Laws.{EndsWell, GateIsServed, IsAccepted, IsServedUnlessFailed, KeepsNoFault, NoStreamFailed, OneFailed, RepliesAreDue, TellsFew};
 ghost use Rattle.funnel.specs.Programs.{Ends, Streams};
 ghost use Rattle.funnel.specs.Runs.{Ran, first_caller, limits_by};
-ghost use Rattle.funnel.specs.Served.{HaveAllServed, OneDidNotOpen, new_workers};
+ghost use Rattle.funnel.specs.ServeRuns.{HaveAllServed, OneDidNotOpen, new_workers};
 ghost use Rattle.funnel.specs.Turns.{EndsInTurns};
 
 use funnel_io::{End, Gate};
@@ -83,16 +83,13 @@ pub fn connections_without_a_fault_are_done()
 /// What `funnel_main` tells of an end is told with the calls of a serve on its gates; the laws here need no more than the end.
 pub fn ends_are_told_with_their_turns<G: Gate>()
     ensures { (words : List (List ℕ)) (before after : Streams) (why : Why) (closed : Option ClosedState) (gates laters : List G) →
-        EndsInTurns G.open_gives G.next_gives G.done_gives G.end_gives G.Conn.read_gives G.Conn.write_gives G.Conn.incoming G.Conn.outgoing
-        words before after why closed gates laters → Ends words before after why closed }
+        EndsInTurns G.Gate G.Conn.Source.own G.Conn.Sink.own words before after why closed gates laters → Ends words before after why closed }
 {}
 
 /// A program ends with a gate fault only where a gate answered that it failed, as it was opened or asked for a connection.
 pub fn gate_faults_are_answers_of_gates<G: Gate>()
     ensures { (words : List (List ℕ)) (before after : Streams) (why : Why) (closed : Option ClosedState) (gates laters : List G) →
-        EndsInTurns G.open_gives G.next_gives G.done_gives G.end_gives G.Conn.read_gives G.Conn.write_gives G.Conn.incoming G.Conn.outgoing
-        words before after why closed gates laters →
-        why ≡ Why.GateFault → OneFailed G.open_gives G.next_gives G.end_gives laters }
+        EndsInTurns G.Gate G.Conn.Source.own G.Conn.Sink.own words before after why closed gates laters → why ≡ Why.GateFault → OneFailed G.Gate laters }
 {}
 
 /// A program that had no engine ends with a gate fault only where one gate failed as it was opened: the count of its faults rose, and

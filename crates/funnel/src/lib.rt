@@ -4,14 +4,14 @@
 //! does, or streams in memory, as `program_tests` does.
 //!
 //! [`ports`], [`shares_port`] and [`idle`] tell on which ports a serve listens, whether that is one for all workers, and how
-//! long its connections may wait, and [`gates_on`] makes the gates, before the call, which opens them. [`Ended`] is what a
+//! long its connections may wait, and [`gates_on`] makes the gates, before the call, which opens them. [`ProgramEnd`] is what a
 //! program gives back: why it ended, which tells its exit status, its gates, and what is left of its engine.
 //!
 //! Words may ask for the help or the version instead, which [`tell_asked`] tells. What is wrong with words that are
 //! neither is a [`UsageFault`].
 #![tactic(auto)]
 
-mod ended;
+mod ends;
 mod first_pass;
 mod fitting;
 mod laws;
@@ -29,7 +29,7 @@ pub use command_line::{
     MOST_PORT, ServeCommand, UsageFault, read_command, usage_fault,
     words_are_a_command_where_clap_takes_them,
 };
-pub use ended::{Ended, Misfit, Why};
+pub use ends::{Misfit, ProgramEnd, Why};
 pub use laws::{
     connections_without_a_fault_are_done, ends_are_told_with_their_turns,
     gate_faults_are_answers_of_gates, gates_that_do_not_open_leave_their_connections,

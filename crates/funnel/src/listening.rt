@@ -3,7 +3,8 @@ ghost use Rattle.std.specs.Prelude.{◌≡◌, ◌+◌, ◌<◌, map, IfOk};
 ghost use Rattle.std.specs.List.{range_with_len};
 ghost use Rattle.std.specs.Option.{is_some};
 ghost use Rattle.funnel_io.specs.Std.{new_gate};
-ghost use Rattle.command_line.specs.Commands.{IsServeInRange, command_of, idle_of, ports_of, ports_of_serve, shares_port};
+ghost use Rattle.command_line.specs.Commands.{IsServeInRange, idle_of, ports_of, ports_of_serve, shares_port};
+ghost use Rattle.funnel.specs.Words.{command_in};
 
 use crate::port_list::Ports;
 use command_line::{Command, CommandFault, ServeCommand, read_command};
@@ -16,7 +17,7 @@ use std::time::Clock;
 /// The ports that the words ask for, one for each worker of a serve: the stated one for all where they share it, or from that
 /// one up, also where there is no such port. All other words ask for none.
 pub fn ports(alloc: Global, words: &[&str]) -> Result<Ports, Memory>
-    ensures { IfOk result (λ ports. ports ≡ ports_of (command_of (map (λ word. word.now) words.now))) }
+    ensures { IfOk result (λ ports. ports ≡ ports_of (command_in words.now)) }
 {
     let ports = match read_command(alloc, words) {
         Ok(Command::Serve(serve)) => ports_of_serve(alloc, serve)?,
@@ -28,7 +29,7 @@ pub fn ports(alloc: Global, words: &[&str]) -> Result<Ports, Memory>
 
 /// For how many seconds the words let the reads and writes of a connection wait: 0 where they ask for no limit, or for no serve.
 pub fn idle(alloc: Global, words: &[&str]) -> Result<u32, Memory>
-    ensures { IfOk result (λ idle. idle ≡ idle_of (command_of (map (λ word. word.now) words.now))) }
+    ensures { IfOk result (λ idle. idle ≡ idle_of (command_in words.now)) }
 {
     match read_command(alloc, words) {
         Ok(Command::Serve(serve)) => Ok(serve.idle),
@@ -39,7 +40,7 @@ pub fn idle(alloc: Global, words: &[&str]) -> Result<u32, Memory>
 
 /// Whether the words let all workers take connections at one port.
 pub fn shares_port(alloc: Global, words: &[&str]) -> Result<bool, Memory>
-    ensures { IfOk result (λ shares. shares ≡ shares_port (command_of (map (λ word. word.now) words.now))) }
+    ensures { IfOk result (λ shares. shares ≡ shares_port (command_in words.now)) }
 {
     match read_command(alloc, words) {
         Ok(Command::Serve(serve)) => Ok(serve.one_port),

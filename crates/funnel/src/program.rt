@@ -1,12 +1,13 @@
 ghost use Rattle.std.specs.Prelude.{◌≡◌, ◌⊎◌, Some, true, false, length, map, IfNone, IfSome};
 ghost use Rattle.engine.specs.Engines.{IsClosed};
 ghost use Rattle.funnel_server.specs.Gates.{gate_state};
-ghost use Rattle.command_line.specs.Commands.{command_of, is_fit, is_serve};
+ghost use Rattle.command_line.specs.Commands.{is_fit, is_serve};
 ghost use Rattle.funnel.specs.Turns.{AreOpenedInVain, EndsInTurns, RunsInTurns};
+ghost use Rattle.funnel.specs.Words.{command_in, words_in};
 ghost use Rattle.command_line.specs.declared.command.Command.TheVariants as command;
 ghost use Rattle.command_line.specs.declared.command.LoadCommand.{LoadCommand};
 
-use crate::ended::{Ended, Why};
+use crate::ends::{ProgramEnd, Why};
 use crate::fitting::misfit;
 use crate::running::run_command;
 use crate::sampling::fit_command;
@@ -37,45 +38,44 @@ pub fn funnel_main<R: Threads + Wait + Sync, C: Source, S: Source, K: Sink, G: G
     input: &mut S,
     output: &mut K,
     gates: Vec<G>,
-) -> Ended<G>
+) -> ProgramEnd<G>
 where
     G::Conn: Send,
-    ensures ends { EndsInTurns G.open_gives G.next_gives G.done_gives G.end_gives G.Conn.read_gives G.Conn.write_gives G.Conn.incoming G.Conn.outgoing
-        (map (λ word. word.now) words.now)
+    ensures ends { let state = gate_state G.Gate G.Conn.Source.own G.Conn.Sink.own in
+        EndsInTurns G.Gate G.Conn.Source.own G.Conn.Sink.own (words_in words.now)
         record {
           config = C.incoming config.old;
           input = S.incoming input.old;
           output = K.outgoing output.old;
-          gates = map (gate_state G.is_closed G.gate_faults G.waiting G.Conn.incoming G.Conn.outgoing G.served) gates.items;
+          gates = map state gates.items;
         }
         record {
           config = C.incoming config.new;
           input = S.incoming input.new;
           output = K.outgoing output.new;
-          gates = map (gate_state G.is_closed G.gate_faults G.waiting G.Conn.incoming G.Conn.outgoing G.served) result.gates.items;
+          gates = map state result.gates.items;
         }
         result.why result.closed gates.items result.gates.items }
-    ensures in_turns { command_of (map (λ word. word.now) words.now) ≡ Some command.Run →
+    ensures in_turns { command_in words.now ≡ Some command.Run →
         RunsInTurns S.read_gives K.write_gives (result.why ≡ Why.Done) (input.old, output.old) (input.new, output.new) }
     ensures closed { IfSome result.closed IsClosed }
-    ensures load_reads_nothing { (load : LoadCommand) → command_of (map (λ word. word.now) words.now) ≡ Some (command.Load load) → input.new ≡ input.old }
-    ensures serve_uses_gates { is_serve (command_of (map (λ word. word.now) words.now)) ≡ true → (input.new ≡ input.old) × (output.new ≡ output.old) }
+    ensures load_reads_nothing { (load : LoadCommand) → command_in words.now ≡ Some (command.Load load) → input.new ≡ input.old }
+    ensures serve_uses_gates { is_serve (command_in words.now) ≡ true → (input.new ≡ input.old) × (output.new ≡ output.old) }
 
     // A run and a load that found no memory read and wrote nothing. A serve uses neither stream; of its sessions, and of what a fit
     // read, tells `ends`.
-    ensures without_memory { is_serve (command_of (map (λ word. word.now) words.now)) ≡ false → is_fit (command_of (map (λ word. word.now) words.now)) ≡ false →
-        result.why ≡ Why.Memory → (input.new ≡ input.old) × (output.new ≡ output.old) }
+    ensures without_memory { is_serve (command_in words.now) ≡ false → is_fit (command_in words.now) ≡ false → result.why ≡ Why.Memory →
+        (input.new ≡ input.old) × (output.new ≡ output.old) }
     ensures config_untouched { result.why ≡ Why.Usage → config.new ≡ config.old }
-    ensures fit_reads_no_config { is_fit (command_of (map (λ word. word.now) words.now)) ≡ true → config.new ≡ config.old }
+    ensures fit_reads_no_config { is_fit (command_in words.now) ≡ true → config.new ≡ config.old }
 
     // But for a fit, nothing is read and written without an engine.
-    ensures input_untouched { is_fit (command_of (map (λ word. word.now) words.now)) ≡ false → IfNone result.closed (input.new ≡ input.old) }
-    ensures output_untouched { is_fit (command_of (map (λ word. word.now) words.now)) ≡ false → IfNone result.closed (output.new ≡ output.old) }
+    ensures input_untouched { is_fit (command_in words.now) ≡ false → IfNone result.closed (input.new ≡ input.old) }
+    ensures output_untouched { is_fit (command_in words.now) ≡ false → IfNone result.closed (output.new ≡ output.old) }
 
     // With no engine the gates are as they came, or those of a serve that opened them in vain.
-    ensures gates_untouched { IfNone result.closed
-        ((result.gates ≡ gates) ⊎ AreOpenedInVain G.open_gives G.end_gives result.why gates.items result.gates.items) }
-    ensures gates_unused { is_serve (command_of (map (λ word. word.now) words.now)) ≡ false → result.gates ≡ gates }
+    ensures gates_untouched { IfNone result.closed ((result.gates ≡ gates) ⊎ AreOpenedInVain G.Gate result.why gates.items result.gates.items) }
+    ensures gates_unused { is_serve (command_in words.now) ≡ false → result.gates ≡ gates }
     ensures gates_count { length result.gates.items ≡ length gates.items }
     ensures config_borrowed { C.borrowed config.new ≡ C.borrowed config.old }
     ensures input_borrowed { S.borrowed input.new ≡ S.borrowed input.old }
@@ -83,29 +83,29 @@ where
 {
     let command = match read_command(alloc, words) {
         Ok(command) => command,
-        Err(CommandFault::Usage) => return Ended::unopened(Why::Usage, gates),
-        Err(CommandFault::Memory) => return Ended::unopened(Why::Memory, gates),
+        Err(CommandFault::Usage) => return ProgramEnd::unopened(Why::Usage, gates),
+        Err(CommandFault::Memory) => return ProgramEnd::unopened(Why::Memory, gates),
     };
     if let Command::Fit(fit) = command {
         let why = fit_command(alloc, fit, input, output);
-        return Ended::unopened(why, gates);
+        return ProgramEnd::unopened(why, gates);
     }
     let config = match read_config(alloc, config) {
         Ok(config) => config,
-        Err(fault) => return Ended::unopened(Why::from(fault), gates),
+        Err(fault) => return ProgramEnd::unopened(Why::from(fault), gates),
     };
     if let Some(misfit) = misfit(command, gates.len(), &config) {
-        return Ended::unopened(Why::Misfit(misfit), gates);
+        return ProgramEnd::unopened(Why::Misfit(misfit), gates);
     }
     match command {
         Command::Run => {
             let (why, closed) = run_command(rt, alloc, &config, input, output);
-            Ended { why, gates, closed }
+            ProgramEnd { why, gates, closed }
         }
         Command::Serve(serve) => serve_command(rt, alloc, &config, serve, gates),
         Command::Load(load) => {
             let (why, closed) = load_command(rt, alloc, &config, load, output);
-            Ended { why, gates, closed }
+            ProgramEnd { why, gates, closed }
         }
         // It has ended already.
         Command::Fit(_) => unreachable!(),

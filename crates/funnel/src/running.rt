@@ -8,7 +8,7 @@ ghost use Rattle.funnel.specs.Turns.{RunsInTurns};
 ghost use Rattle.session.specs.declared.serving.TheConstants.{MOST_BYTES};
 ghost use Rattle.session.specs.Ends.{Serves};
 
-use crate::ended::Why;
+use crate::ends::Why;
 use crate::first_pass::{first_client, hand_back};
 use engine::{Blank, Closed, Engine, Pass, PoolName};
 use funnel_io::{End, Pair, Sink, Source};

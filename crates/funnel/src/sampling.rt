@@ -3,7 +3,7 @@ ghost use Rattle.command_line.specs.Commands.{IsFitInRange};
 ghost use Rattle.funnel.specs.FitRuns.{EndsFit};
 ghost use Rattle.funnel.specs.Runs.{HoldTheSame};
 
-use crate::ended::Why;
+use crate::ends::Why;
 use command_line::FitCommand;
 use fit::fit;
 use funnel_io::{Sink, Source};

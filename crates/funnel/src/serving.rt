@@ -4,15 +4,14 @@ ghost use Rattle.std.specs.List.{AllZip, list_any};
 ghost use Rattle.engine.specs.Engines.{IsClosed};
 ghost use Rattle.funnel_model.specs.Configuration.{IsValid};
 ghost use Rattle.funnel_io.specs.Answers.{MatchOpening};
-ghost use Rattle.funnel_server.specs.Gates.{gate_state};
 ghost use Rattle.funnel.specs.Runs.{IsBlankFor, KeepsLast};
-ghost use Rattle.funnel.specs.Served.{new_workers};
+ghost use Rattle.funnel.specs.ServeRuns.{new_workers};
 ghost use Rattle.funnel.specs.Serving.{new_passes};
 ghost use Rattle.funnel.specs.Turns.{AreOpened, AreOpenedInVain, AreOpenedUntilOneFails};
-ghost use Rattle.funnel.specs.Workers.{gates_of, pass_of_worker, states_of};
+ghost use Rattle.funnel.specs.Workers.{gates_of, pass_of_worker, states_of, told_by};
 ghost use Rattle.funnel.specs.Workers.{ArePassedOn, EndsOpenServeInTurns, EndsServeInTurns, HaveWorkedInTurns, TellOfOpening, TellTheSame};
 
-use crate::ended::{Ended, Why};
+use crate::ends::{ProgramEnd, Why};
 use command_line::ServeCommand;
 use engine::{Blank, Client, Engine, Pass, PoolName};
 use funnel_io::{Gate, Opening};
@@ -32,39 +31,34 @@ pub(crate) fn serve_command<R: Threads + Wait + Sync, G: Gate + Send + Drop>(
     config: &Config,
     serve: ServeCommand,
     mut gates: Vec<G>,
-) -> Ended<G>
+) -> ProgramEnd<G>
 where
     G::Conn: Send,
     requires valid { IsValid config.now }
     requires enough { length gates.items ≤ config.now.passes }
-    ensures ends { EndsServeInTurns G.open_gives G.next_gives G.done_gives G.end_gives G.Conn.read_gives G.Conn.write_gives G.Conn.incoming G.Conn.outgoing
-        (gate_state G.is_closed G.gate_faults G.waiting G.Conn.incoming G.Conn.outgoing G.served)
-        config.now serve gates.items result.gates.items result.why result.closed }
+    ensures ends { EndsServeInTurns G.Gate G.Conn.Source.own G.Conn.Sink.own config.now serve gates.items result.gates.items result.why result.closed }
     ensures closed { IfSome result.closed IsClosed }
     ensures kept { IfSome result.closed (KeepsLast config.now) }
-    ensures unserved { IfNone result.closed (AreOpenedInVain G.open_gives G.end_gives result.why gates.items result.gates.items) }
+    ensures unserved { IfNone result.closed (AreOpenedInVain G.Gate result.why gates.items result.gates.items) }
     ensures count { length result.gates.items ≡ length gates.items }
 {
     let Opening::Open = open_all(&mut gates) else {
         end_all(&mut gates);
-        return Ended::unopened(Why::GateFault, gates);
+        return ProgramEnd::unopened(Why::GateFault, gates);
     };
     let ended = serve_open(rt, alloc, config, serve, gates);
     if ended.closed.is_some() {
         return ended;
     }
-    let Ended { why, mut gates, .. } = ended;
+    let ProgramEnd { why, mut gates, .. } = ended;
     end_all(&mut gates);
-    Ended::unopened(why, gates)
+    ProgramEnd::unopened(why, gates)
 }
 
 /// Opens the gates in order, and none after one that fails.
 fn open_all<G: Gate>(gates: &mut [G]) -> Opening
-    ensures opened { MatchOpening result
-        (AreOpened G.open_gives gates.old gates.new)
-        (AreOpenedUntilOneFails G.open_gives gates.old gates.new) }
-    ensures told { TellOfOpening (gate_state G.is_closed G.gate_faults G.waiting G.Conn.incoming G.Conn.outgoing G.served)
-        result gates.old gates.new }
+    ensures opened { MatchOpening result (AreOpened G.Gate gates.old gates.new) (AreOpenedUntilOneFails G.Gate gates.old gates.new) }
+    ensures told { TellOfOpening G.Gate G.Conn.Source.own G.Conn.Sink.own result gates.old gates.new }
     ensures count { length gates.new ≡ length gates.old }
 {
     let Some((gate, others)) = gates.split_first_mut() else {
@@ -79,7 +73,7 @@ fn open_all<G: Gate>(gates: &mut [G]) -> Opening
 /// Ends each gate.
 fn end_all<G: Gate>(gates: &mut [G])
     ensures ended { AllZip G.end_gives gates.old gates.new }
-    ensures told { TellTheSame (gate_state G.is_closed G.gate_faults G.waiting G.Conn.incoming G.Conn.outgoing G.served) gates.old gates.new }
+    ensures told { TellTheSame G.Gate G.Conn.Source.own G.Conn.Sink.own gates.old gates.new }
     ensures count { length gates.new ≡ length gates.old }
 {
     if let Some((gate, others)) = gates.split_first_mut() {
@@ -96,21 +90,19 @@ fn serve_open<R: Threads + Wait + Sync, G: Gate + Send + Drop>(
     config: &Config,
     serve: ServeCommand,
     gates: Vec<G>,
-) -> Ended<G>
+) -> ProgramEnd<G>
 where
     G::Conn: Send,
     requires valid { IsValid config.now }
     requires enough { length gates.items ≤ config.now.passes }
-    ensures ends { EndsOpenServeInTurns G.next_gives G.done_gives G.end_gives G.Conn.read_gives G.Conn.write_gives G.Conn.incoming G.Conn.outgoing
-        (gate_state G.is_closed G.gate_faults G.waiting G.Conn.incoming G.Conn.outgoing G.served)
-        config.now serve gates.items result.gates.items result.why result.closed }
+    ensures ends { EndsOpenServeInTurns G.Gate G.Conn.Source.own G.Conn.Sink.own config.now serve gates.items result.gates.items result.why result.closed }
     ensures closed { IfSome result.closed IsClosed }
     ensures kept { IfSome result.closed (KeepsLast config.now) }
     ensures untouched { IfNone result.closed ((result.why ≡ Why.Memory) × (result.gates ≡ gates)) }
     ensures count { length result.gates.items ≡ length gates.items }
 {
     let Ok(blank) = Blank::new(alloc, config) else {
-        return Ended::unopened(Why::Memory, gates);
+        return ProgramEnd::unopened(Why::Memory, gates);
     };
     serve_gates::<Brand, _, _>(rt, alloc, config, blank, serve, gates)
 }
@@ -124,28 +116,26 @@ fn serve_gates<N: PoolName + Send + Sync, R: Threads + Wait + Sync, G: Gate + Se
     blank: Blank,
     serve: ServeCommand,
     gates: Vec<G>,
-) -> Ended<G>
+) -> ProgramEnd<G>
 where
     G::Conn: Send,
     requires blank { IsBlankFor config.now N.pool blank }
     requires enough { length gates.items ≤ config.now.passes }
-    ensures ends { EndsOpenServeInTurns G.next_gives G.done_gives G.end_gives G.Conn.read_gives G.Conn.write_gives G.Conn.incoming G.Conn.outgoing
-        (gate_state G.is_closed G.gate_faults G.waiting G.Conn.incoming G.Conn.outgoing G.served)
-        config.now serve gates.items result.gates.items result.why result.closed }
+    ensures ends { EndsOpenServeInTurns G.Gate G.Conn.Source.own G.Conn.Sink.own config.now serve gates.items result.gates.items result.why result.closed }
     ensures closed { IfSome result.closed IsClosed }
     ensures kept { IfSome result.closed (KeepsLast config.now) }
     ensures untouched { IfNone result.closed ((result.why ≡ Why.Memory) × (result.gates ≡ gates)) }
     ensures count { length result.gates.items ≡ length gates.items }
 {
     let Ok(room) = Vec::with_capacity(alloc, gates.len()) else {
-        return Ended::unopened(Why::Memory, gates);
+        return ProgramEnd::unopened(Why::Memory, gates);
     };
     let Ok((engine, passes)) = Engine::<N>::open(alloc, config, blank) else {
-        return Ended::unopened(Why::Memory, gates);
+        return ProgramEnd::unopened(Why::Memory, gates);
     };
     let (why, gates, passes) = answer_all(rt, alloc, &engine, passes, serve, gates, room);
     let closed = Some(engine.close(passes));
-    Ended { why, gates, closed }
+    ProgramEnd { why, gates, closed }
 }
 
 /// Answers the connections of each gate by one of the engine's passes, which are new. Gives why that ended, and all gates and
@@ -165,9 +155,7 @@ where
     requires enough { length gates.items ≤ N.pool.config.passes }
     requires empty { room.items ≡ [] }
     requires room { length gates.items ≤ vec_capacity room }
-    ensures { HaveWorkedInTurns G.next_gives G.done_gives G.end_gives G.Conn.read_gives G.Conn.write_gives G.Conn.incoming G.Conn.outgoing
-        (gate_state G.is_closed G.gate_faults G.waiting G.Conn.incoming G.Conn.outgoing G.served)
-        N.pool serve gates.items result.1.items result.0 result.2.items }
+    ensures { HaveWorkedInTurns G.Gate G.Conn.Source.own G.Conn.Sink.own N.pool serve gates.items result.1.items result.0 result.2.items }
 {
     let mut gates = gates;
     let mut passes = passes;
@@ -202,7 +190,7 @@ fn equip<'a, N: PoolName, R: Wait, G: Gate + Drop>(
     requires empty { workers.old.items ≡ [] }
     requires room { length gates.old.items ≤ vec_capacity workers.old }
     ensures workers { states_of workers.new.items ≡ new_workers N.pool.config N.pool.limits serve 0
-        (map (gate_state G.is_closed G.gate_faults G.waiting G.Conn.incoming G.Conn.outgoing G.served) gates.old.items) }
+        (told_by G.Gate G.Conn.Source.own G.Conn.Sink.own gates.old.items) }
     ensures gates { ArePassedOn gates.old.items gates.new.items workers.new.items }
     ensures passes { passes.new.items ≡ new_passes (length gates.old.items)
         (N.pool.config.passes - length gates.old.items) }
@@ -274,9 +262,8 @@ fn take_back<N: PoolName, R: Wait, G: Gate + Drop>(
     requires room_of_gates { length gates.old.items + length workers.items ≤ vec_capacity gates.old }
     requires room_of_passes { length passes.old.items + length workers.items ≤ vec_capacity passes.old }
     ensures gates { gates.new.items ≡ gates.old.items ++ gates_of workers.entry.items }
-    ensures told { map (gate_state G.is_closed G.gate_faults G.waiting G.Conn.incoming G.Conn.outgoing G.served) gates.new.items
-        ≡ map (gate_state G.is_closed G.gate_faults G.waiting G.Conn.incoming G.Conn.outgoing G.served) gates.old.items
-        ++ map (λ worker. worker.gate) (states_of workers.entry.items) }
+    ensures told { let told = told_by G.Gate G.Conn.Source.own G.Conn.Sink.own in
+        told gates.new.items ≡ told gates.old.items ++ map (λ worker. worker.gate) (states_of workers.entry.items) }
     ensures passes { passes.new.items ≡ passes.old.items ++ map pass_of_worker (states_of workers.entry.items) }
 {
     for worker in workers {

@@ -1,10 +1,11 @@
 //! What the program tells of itself.
-ghost use Rattle.std.specs.Prelude.{◌≡◌, ℕ, List, IsSome, MatchOption, None, map};
+ghost use Rattle.std.specs.Prelude.{◌≡◌, ℕ, List, IsSome, MatchOption, None};
 ghost use Rattle.std.specs.Option.{IsSomeAnd};
 ghost use Rattle.command_line.specs.Commands.{command_of};
 ghost use Rattle.funnel.specs.Texts.{IsTextWritten, text_asked, text_by, text_of};
+ghost use Rattle.funnel.specs.Words.{words_in};
 
-use crate::ended::Why;
+use crate::ends::Why;
 use funnel_io::{Sink, write_all};
 
 /// A text that words alone ask for.
@@ -77,7 +78,7 @@ impl Text {
 
 /// The text that the words ask for: `--help`, `-h` and `help` are for the help, `--version` and `-V` for the version, each alone.
 pub fn text_asked(words: &[&str]) -> Option<Text>
-    ensures { result ≡ text_asked (map (λ word. word.now) words.now) }
+    ensures { result ≡ text_asked (words_in words.now) }
 {
     match words {
         [word] => text_by(word),
@@ -99,9 +100,8 @@ fn text_by(word: &str) -> Option<Text>
 /// written and None. It takes no memory.
 pub fn tell_asked<K: Sink>(words: &[&str], output: &mut K) -> Option<Why>
     ensures told { MatchOption result
-        ((text_asked (map (λ word. word.now) words.now) ≡ None) × (output.new ≡ output.old))
-        (λ why. IsSomeAnd (text_asked (map (λ word. word.now) words.now)) (λ text.
-        IsTextWritten (text_of text) (K.outgoing output.old) (K.outgoing output.new) why)) }
+        ((text_asked (words_in words.now) ≡ None) × (output.new ≡ output.old))
+        (λ why. IsSomeAnd (text_asked (words_in words.now)) (λ text. IsTextWritten (text_of text) (K.outgoing output.old) (K.outgoing output.new) why)) }
     ensures borrowed { K.borrowed output.new ≡ K.borrowed output.old }
 {
     let text = text_asked(words)?;

@@ -6,7 +6,7 @@ ghost use Rattle.load_gen.specs.Summary.{summary_text};
 ghost use Rattle.funnel.specs.LoadRuns.{EndsLoad, IsLoadThatFits, Tells};
 ghost use Rattle.funnel.specs.Runs.{IsBlankFor, KeepsLast};
 
-use crate::ended::Why;
+use crate::ends::Why;
 use command_line::LoadCommand;
 use engine::{Blank, Closed, Engine, PoolName};
 use funnel_io::{Sink, write_all};

@@ -1,7 +1,7 @@
 //! What a program was refused for, or what failed, in words for the person who reads standard error.
 use crate::CONFIG_PATH;
 use crate::spoken_gate::SpokenGate;
-use funnel::{Ended, MOST_PORT, Misfit, Why, usage_fault};
+use funnel::{MOST_PORT, Misfit, ProgramEnd, Why, usage_fault};
 use funnel_model::{MOST_COLUMNS, MOST_ROW_WORDS};
 use funnel_stats::{ConfigFault, Key};
 use serde_json::Value;
@@ -19,7 +19,7 @@ pub(crate) struct Errors {
 pub(crate) fn say_cause(
     rt: &HostRuntime,
     words: &[&str],
-    ended: &Ended<SpokenGate<'_>>,
+    ended: &ProgramEnd<SpokenGate<'_>>,
     errors: &Errors,
 ) -> io::Result<()> {
     match &ended.why {

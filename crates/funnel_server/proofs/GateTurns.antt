@@ -1,31 +1,29 @@
 -- A worker's turns, one after another.
 use Rattle.std.proofs.Common.{◌≡◌, ◌<◌, ◌⊎◌, true, false, List, [], ◌∷◌, reverse, refl, sym, ap, ◌∙◌, subst, inl, inr, arith}
 use Rattle.std.proofs.lemmas.List.{reverse-append}
-use Rattle.funnel_io.specs.Calls.{Leads, Read, Write}
-use Rattle.funnel_io.specs.Streams.{Incoming, Outgoing}
-use Rattle.funnel_io.specs.declared.end.End.{End}
+use Rattle.funnel_io.specs.Calls.{Leads}
 use Rattle.funnel_io.specs.declared.end.End.TheVariants as end_of
-use Rattle.funnel_io.specs.declared.gate.Next.{Next}
+use Rattle.funnel_io.specs.declared.gate.Gate as Gate
 use Rattle.funnel_io.specs.declared.gate.Next.TheVariants as next
+use Rattle.funnel_io.specs.declared.sink.Sink as Sink
+use Rattle.funnel_io.specs.declared.source.Source as Source
 use Rattle.funnel_server.proofs.Visits.{serves_none, serves_one, stops_at_limit, stops_without}
 use Rattle.funnel_server.specs.Gates.{sides_of}
 use Rattle.funnel_server.specs.GateTurns.{AsksNoMore, GetsNoMore, TakesTurn, WorksInTurns, none_by}
 use Rattle.funnel_server.specs.Turns.{AsksInVain, ServesInTurn, StopsInTurns, WorksOnInTurns}
 use Rattle.funnel_server.specs.Workers.{HasMetNoFault, Visit, WorkerState, WorkerWithGate, Works, sides_after, sides_before}
 
-module _ {G C : Type 0} (next_gives : G → Next C → G → Type 0) (done_gives : G → C → End → G → Type 0)
-    (read_gives : C → Read → C → Type 0) (write_gives : C → Write → C → Type 0) (incoming : C → Incoming) (outgoing : C → Outgoing) where
+module _ {G C : Type 0} (gate : Gate.Ghosts G C) (source : Source.Ghosts C) (sink : Sink.Ghosts C) where
   abbrev Turn : G → Visit → G → Type 0
-  Turn = TakesTurn next_gives done_gives read_gives write_gives incoming outgoing
+  Turn = TakesTurn gate source sink
 
   -- a worker that is ready took no turn yet
-  pub no_turn : (worker : WorkerWithGate G) → HasMetNoFault worker.state → WorksOnInTurns next_gives done_gives read_gives write_gives incoming outgoing worker worker
+  pub no_turn : (worker : WorkerWithGate G) → HasMetNoFault worker.state → WorksOnInTurns gate source sink worker worker
   no_turn worker ready = record { so_far = serves_none worker.state ready; turns = refl }
 
   -- it took one more
-  pub one_turn : (start before after : WorkerWithGate G) → WorksOnInTurns next_gives done_gives read_gives write_gives incoming outgoing start before →
-      ServesInTurn next_gives done_gives read_gives write_gives incoming outgoing before after →
-      WorksOnInTurns next_gives done_gives read_gives write_gives incoming outgoing start after
+  pub one_turn : (start before after : WorkerWithGate G) → WorksOnInTurns gate source sink start before →
+      ServesInTurn gate source sink before after → WorksOnInTurns gate source sink start after
   one_turn start before after on then = record {
     so_far = serves_one start.state before.state after.state on.so_far then.serves;
     turns = subst (λ (visits : List Visit). Leads Turn start.gate visits after.gate) (sym (reverse-append on.so_far.visits (then.serves.visit ∷ [])))
@@ -33,8 +31,8 @@ module _ {G C : Type 0} (next_gives : G → Next C → G → Type 0) (done_gives
   }
 
   -- it asked once more, and got no connection
-  pub stops_in_vain : (start before after : WorkerWithGate G) → WorksOnInTurns next_gives done_gives read_gives write_gives incoming outgoing start before →
-      AsksInVain next_gives before after → StopsInTurns next_gives done_gives read_gives write_gives incoming outgoing start after
+  pub stops_in_vain : (start before after : WorkerWithGate G) → WorksOnInTurns gate source sink start before →
+      AsksInVain gate before after → StopsInTurns gate source sink start after
   stops_in_vain start before after on then = record {
     works = stops_without start.state before.state after.state on.so_far then.gets;
     served = before.gate;
@@ -43,8 +41,8 @@ module _ {G C : Type 0} (next_gives : G → Next C → G → Type 0) (done_gives
   }
 
   -- it may serve no more
-  pub stops_in_time : (start now : WorkerWithGate G) → WorksOnInTurns next_gives done_gives read_gives write_gives incoming outgoing start now →
-      now.state.left ≡ 0 → StopsInTurns next_gives done_gives read_gives write_gives incoming outgoing start now
+  pub stops_in_time : (start now : WorkerWithGate G) → WorksOnInTurns gate source sink start now →
+      now.state.left ≡ 0 → StopsInTurns gate source sink start now
   stops_in_time start now on none = record {
     works = stops_at_limit start.state now.state on.so_far none;
     served = now.gate;
@@ -54,40 +52,39 @@ module _ {G C : Type 0} (next_gives : G → Next C → G → Type 0) (done_gives
 
   -- a turn that touched nothing leaves the sides as they came
   pub sides_stay : (before after : G) (visit : Visit) → Turn before visit after → visit.end ≡ end_of.Memory → sides_after visit ≡ sides_before visit
-  sides_stay before after visit turn none = turn.went ∙ ap (sides_of incoming outgoing) (turn.untouched none) ∙ sym turn.came
+  sides_stay before after visit turn none = turn.went ∙ ap (sides_of source sink) (turn.untouched none) ∙ sym turn.came
 
--- once it has stopped and its gate is ended, which tells what it told before, all its calls are told
-module _ {G C : Type 0} (next_gives : G → Next C → G → Type 0) (done_gives : G → C → End → G → Type 0) (end_gives : G → G → Type 0)
-    (read_gives : C → Read → C → Type 0) (write_gives : C → Write → C → Type 0) (incoming : C → Incoming) (outgoing : C → Outgoing) where
+  -- ---- once it has stopped and its gate is ended, which tells what it told before, all its calls are told
+
   -- what it served up to here, by what a worker tells of itself
   record Stopped (start : WorkerWithGate G) (served stopped : G) (state : WorkerState) : Type 0 where
     works : Works start.state state
-    turns : Leads (TakesTurn next_gives done_gives read_gives write_gives incoming outgoing) start.gate (reverse works.visits) served
-    stops : AsksNoMore served stopped state ⊎ GetsNoMore next_gives served stopped state
+    turns : Leads (TakesTurn gate source sink) start.gate (reverse works.visits) served
+    stops : AsksNoMore served stopped state ⊎ GetsNoMore gate served stopped state
 
-  pub ends_in_turns : (start now after : WorkerWithGate G) → StopsInTurns next_gives done_gives read_gives write_gives incoming outgoing start now →
-      now.state ≡ after.state → end_gives now.gate after.gate → WorksInTurns next_gives done_gives end_gives read_gives write_gives incoming outgoing start after
+  pub ends_in_turns : (start now after : WorkerWithGate G) → StopsInTurns gate source sink start now →
+      now.state ≡ after.state → gate.end_gives now.gate after.gate → WorksInTurns gate source sink start after
   ends_in_turns start now after stops same ended =
       let told : Stopped start stops.served now.gate after.state =
       subst (Stopped start stops.served now.gate) same (record { works = stops.works; turns = stops.turns; stops = stops.stops }) in
       record { works = told.works; in_turns = record { served = stops.served; turns = told.turns; stopped = now.gate; stops = told.stops; ended = ended } }
 
   -- what its gate answered a worker that asked for no connection in vain
-  module _ (before after : WorkerWithGate G) (works : WorksInTurns next_gives done_gives end_gives read_gives write_gives incoming outgoing before after) where
+  module _ (before after : WorkerWithGate G) (works : WorksInTurns gate source sink before after) where
     abbrev served : G
     served = works.in_turns.served
 
     abbrev stopped : G
     stopped = works.in_turns.stopped
 
-    pub asked_again : 0 < after.state.left → next_gives served (none_by after.state.fault) stopped
+    pub asked_again : 0 < after.state.left → gate.next_gives served (none_by after.state.fault) stopped
     asked_again more = by_stop works.in_turns.stops where
-      by_stop : AsksNoMore served stopped after.state ⊎ GetsNoMore next_gives served stopped after.state → next_gives served (none_by after.state.fault) stopped
+      by_stop : AsksNoMore served stopped after.state ⊎ GetsNoMore gate served stopped after.state → gate.next_gives served (none_by after.state.fault) stopped
       by_stop (inl no_more) = absurd (omega (arith, no_more.none_left, more))
       by_stop (inr none) = none.asked
 
-    pub asked_in_vain : after.state.fault ≡ true → next_gives served next.Fault stopped
+    pub asked_in_vain : after.state.fault ≡ true → gate.next_gives served next.Fault stopped
     asked_in_vain fault = by_stop works.in_turns.stops where
-      by_stop : AsksNoMore served stopped after.state ⊎ GetsNoMore next_gives served stopped after.state → next_gives served next.Fault stopped
+      by_stop : AsksNoMore served stopped after.state ⊎ GetsNoMore gate served stopped after.state → gate.next_gives served next.Fault stopped
       by_stop (inl no_more) = let both : true ≡ false = sym fault ∙ no_more.no_fault in cc
-      by_stop (inr none) = subst (λ b. next_gives served (none_by b) stopped) fault none.asked
+      by_stop (inr none) = subst (λ b. gate.next_gives served (none_by b) stopped) fault none.asked

@@ -2,10 +2,10 @@
 use Rattle.std.specs.Prelude.{◌≡◌, ◌<◌, ◌+◌, ◌||◌, true, false, List, [], ◌∷◌, ◌++◌, reverse, ◌⊎◌}
 use Rattle.std.specs.Option.{option_map}
 use Rattle.funnel_io.specs.Counts.{counted}
-use Rattle.funnel_io.specs.Calls.{Leads, Read, Write}
-use Rattle.funnel_io.specs.Streams.{Incoming, Outgoing}
-use Rattle.funnel_io.specs.declared.end.End.{End}
-use Rattle.funnel_io.specs.declared.gate.Next.{Next}
+use Rattle.funnel_io.specs.Calls.{Leads}
+use Rattle.funnel_io.specs.declared.gate.Gate as Gate
+use Rattle.funnel_io.specs.declared.sink.Sink as Sink
+use Rattle.funnel_io.specs.declared.source.Source as Source
 use Rattle.funnel_server.specs.GateTurns.{AsksNoMore, GetsNoMore, TakesTurn, none_by}
 use Rattle.funnel_server.specs.Workers.{GivesNoMore, HasServedVisits, IsVisit, Visit, WorkerState, WorkerWithGate, Works, is_memory, served_by, sides_before}
 
@@ -40,30 +40,25 @@ pub record WorksOn (before now : WorkerState) : Type 0 where
   pub serves : HasServedVisits before now visits
   pub no_fault : now.fault ≡ false
 
--- a worker served the first of the connections that waited, in one turn
-pub record ServesInTurn {G C : Type 0} (next_gives : G → Next C → G → Type 0) (done_gives : G → C → End → G → Type 0)
-    (read_gives : C → Read → C → Type 0) (write_gives : C → Write → C → Type 0) (incoming : C → Incoming) (outgoing : C → Outgoing)
-    (before after : WorkerWithGate G) : Type 0 where
-  pub serves : ServesNext before.state after.state
-  pub turn : TakesTurn next_gives done_gives read_gives write_gives incoming outgoing before.gate serves.visit after.gate
-
 -- a worker asked its gate once, and got none
-pub record AsksInVain {G C : Type 0} (next_gives : G → Next C → G → Type 0) (before after : WorkerWithGate G) : Type 0 where
+pub record AsksInVain {G C : Type 0} (gate : Gate.Ghosts G C) (before after : WorkerWithGate G) : Type 0 where
   pub gets : GetsNone before.state after.state
-  pub asked : next_gives before.gate (none_by after.state.fault) after.gate
+  pub asked : gate.next_gives before.gate (none_by after.state.fault) after.gate
 
--- so far a worker served these connections, one in each turn, and its gate did not fail
-pub record WorksOnInTurns {G C : Type 0} (next_gives : G → Next C → G → Type 0) (done_gives : G → C → End → G → Type 0)
-    (read_gives : C → Read → C → Type 0) (write_gives : C → Write → C → Type 0) (incoming : C → Incoming) (outgoing : C → Outgoing)
-    (before now : WorkerWithGate G) : Type 0 where
-  pub so_far : WorksOn before.state now.state
-  pub turns : Leads (TakesTurn next_gives done_gives read_gives write_gives incoming outgoing) before.gate (reverse so_far.visits) now.gate
+module _ {G C : Type 0} (gate : Gate.Ghosts G C) (source : Source.Ghosts C) (sink : Sink.Ghosts C) where
+  -- a worker served the first of the connections that waited, in one turn
+  pub record ServesInTurn (before after : WorkerWithGate G) : Type 0 where
+    pub serves : ServesNext before.state after.state
+    pub turn : TakesTurn gate source sink before.gate serves.visit after.gate
 
--- a worker served some connections, one in each turn, and stopped; its gate is not ended yet
-pub record StopsInTurns {G C : Type 0} (next_gives : G → Next C → G → Type 0) (done_gives : G → C → End → G → Type 0)
-    (read_gives : C → Read → C → Type 0) (write_gives : C → Write → C → Type 0) (incoming : C → Incoming) (outgoing : C → Outgoing)
-    (before now : WorkerWithGate G) : Type 0 where
-  pub works : Works before.state now.state
-  pub served : G
-  pub turns : Leads (TakesTurn next_gives done_gives read_gives write_gives incoming outgoing) before.gate (reverse works.visits) served
-  pub stops : AsksNoMore served now.gate now.state ⊎ GetsNoMore next_gives served now.gate now.state
+  -- so far a worker served these connections, one in each turn, and its gate did not fail
+  pub record WorksOnInTurns (before now : WorkerWithGate G) : Type 0 where
+    pub so_far : WorksOn before.state now.state
+    pub turns : Leads (TakesTurn gate source sink) before.gate (reverse so_far.visits) now.gate
+
+  -- a worker served some connections, one in each turn, and stopped; its gate is not ended yet
+  pub record StopsInTurns (before now : WorkerWithGate G) : Type 0 where
+    pub works : Works before.state now.state
+    pub served : G
+    pub turns : Leads (TakesTurn gate source sink) before.gate (reverse works.visits) served
+    pub stops : AsksNoMore served now.gate now.state ⊎ GetsNoMore gate served now.gate now.state

@@ -47,19 +47,16 @@ pub fn sessions_without_a_fault_end_well()
 
 /// A turn whose session found no memory leaves its connection as it came.
 pub fn turns_without_memory_leave_the_connection<G: Gate>()
-    ensures { (before after : G) (visit : Visit) →
-        TakesTurn G.next_gives G.done_gives G.Conn.read_gives G.Conn.write_gives G.Conn.incoming G.Conn.outgoing before visit after →
+    ensures { (before after : G) (visit : Visit) → TakesTurn G.Gate G.Conn.Source.own G.Conn.Sink.own before visit after →
         visit.end ≡ End.Memory → sides_after visit ≡ sides_before visit }
 {}
 
 /// A worker that stopped though it may serve more asked its gate once more, and got no connection. One whose gate failed had that
 /// answer of it.
 pub fn workers_ask_until_they_get_none<G: Gate>()
-    ensures more { (before after : WorkerWithGate G)
-        (works : WorksInTurns G.next_gives G.done_gives G.end_gives G.Conn.read_gives G.Conn.write_gives G.Conn.incoming G.Conn.outgoing before after) →
+    ensures more { (before after : WorkerWithGate G) (works : WorksInTurns G.Gate G.Conn.Source.own G.Conn.Sink.own before after) →
         0 < after.state.left → G.next_gives works.in_turns.served (none_by after.state.fault) works.in_turns.stopped }
-    ensures failed { (before after : WorkerWithGate G)
-        (works : WorksInTurns G.next_gives G.done_gives G.end_gives G.Conn.read_gives G.Conn.write_gives G.Conn.incoming G.Conn.outgoing before after) →
+    ensures failed { (before after : WorkerWithGate G) (works : WorksInTurns G.Gate G.Conn.Source.own G.Conn.Sink.own before after) →
         after.state.fault ≡ true → G.next_gives works.in_turns.served Next.Fault works.in_turns.stopped }
 {}
 

@@ -44,7 +44,7 @@ impl<'a, G: Gate, N: PoolName, R: Wait> Model for Worker<'a, G, N, R> {
     ghost view = { λ w. record {
       gate = w.gate;
       state = record {
-        gate = gate_state G.is_closed G.gate_faults G.waiting G.Conn.incoming G.Conn.outgoing G.served w.gate;
+        gate = gate_state G.Gate G.Conn.Source G.Conn.Sink w.gate;
         caller = caller_of N.pool.config N.pool.limits w.client;
         front = w.client.front;
         http = w.http;
@@ -59,7 +59,7 @@ impl<'a, G: Gate, N: PoolName, R: Wait> Worker<'a, G, N, R> {
     /// Serves the connections of its gate, until it stops, and ends the gate.
     pub(crate) fn work(&mut self)
         requires { HasMetNoFault self.old.state }
-        ensures { WorksInTurns G.next_gives G.done_gives G.end_gives G.Conn.read_gives G.Conn.write_gives G.Conn.incoming G.Conn.outgoing self.old self.new }
+        ensures { WorksInTurns G.Gate G.Conn.Source.own G.Conn.Sink.own self.old self.new }
     {
         self.serve_all();
         self.gate.end();
@@ -68,7 +68,7 @@ impl<'a, G: Gate, N: PoolName, R: Wait> Worker<'a, G, N, R> {
     /// Serves the connections of its gate, until it stops.
     fn serve_all(&mut self)
         requires { HasMetNoFault self.old.state }
-        ensures { StopsInTurns G.next_gives G.done_gives G.Conn.read_gives G.Conn.write_gives G.Conn.incoming G.Conn.outgoing self.old self.new }
+        ensures { StopsInTurns G.Gate G.Conn.Source.own G.Conn.Sink.own self.old self.new }
     {
         while self.left > 0 {
             if !self.serve_next() {
@@ -82,8 +82,8 @@ impl<'a, G: Gate, N: PoolName, R: Wait> Worker<'a, G, N, R> {
         requires some { 0 < self.old.state.left }
         requires no_fault { self.old.state.fault ≡ false }
         ensures { MatchBool result
-            (ServesInTurn G.next_gives G.done_gives G.Conn.read_gives G.Conn.write_gives G.Conn.incoming G.Conn.outgoing self.old self.new)
-            (AsksInVain G.next_gives self.old self.new) }
+            (ServesInTurn G.Gate G.Conn.Source.own G.Conn.Sink.own self.old self.new)
+            (AsksInVain G.Gate self.old self.new) }
     {
         let mut conn = match self.gate.next() {
             Next::Conn(conn) => conn,

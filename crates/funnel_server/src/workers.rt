@@ -20,8 +20,7 @@ where
     requires ready { All (λ worker. HasMetNoFault worker.state) workers.items }
     ensures all { length result.items ≡ length workers.entry.items }
     ensures work { (k : ℕ) (d : _) → k < length workers.entry.items →
-        WorksInTurns G.next_gives G.done_gives G.end_gives G.Conn.read_gives G.Conn.write_gives G.Conn.incoming G.Conn.outgoing
-        (slice_index_or workers.entry.items k d) (slice_index_or result.items k d) }
+        WorksInTurns G.Gate G.Conn.Source.own G.Conn.Sink.own (slice_index_or workers.entry.items k d) (slice_index_or result.items k d) }
 {
     let threads = workers.len();
     if threads > 0 {
@@ -31,8 +30,7 @@ where
             threads,
             &|_, worker: &mut Worker<G, N, R>|
                 requires { HasMetNoFault worker.old.state }
-                ensures { WorksInTurns G.next_gives G.done_gives G.end_gives G.Conn.read_gives G.Conn.write_gives G.Conn.incoming G.Conn.outgoing
-                    worker.old worker.new }
+                ensures { WorksInTurns G.Gate G.Conn.Source.own G.Conn.Sink.own worker.old worker.new }
             { worker.work() },
         );
     }

@@ -1,6 +1,6 @@
 //! What is left of the engine of a run and of a load.
 use crate::setting::{UNREAD, end_of};
-use funnel::Ended;
+use funnel::ProgramEnd;
 use funnel_io::{MemGate, MemSink};
 use std::alloc::Global;
 use std::sync::Wait;
@@ -8,7 +8,7 @@ use std::test::Fail;
 use std::thread::Threads;
 
 // Whether the last three of four commits are left.
-fn leaves_three(ended: &Ended<MemGate>) -> bool {
+fn leaves_three(ended: &ProgramEnd<MemGate>) -> bool {
     let Some(closed) = &ended.closed else {
         return false;
     };
@@ -35,7 +35,7 @@ fn the_last_commits_are_left(rt: HostRuntime) -> Result<(), Fail> {
 }
 
 // How often the adds go over from documents of one worker to those of the other: one has the odd numbers.
-fn turns(ended: &Ended<MemGate>) -> u64 {
+fn turns(ended: &ProgramEnd<MemGate>) -> u64 {
     let Some(closed) = &ended.closed else {
         return 0;
     };

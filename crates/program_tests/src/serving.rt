@@ -3,7 +3,7 @@ ghost use Rattle.std.specs.Prelude.{IfOk};
 ghost use Rattle.funnel_io.specs.MemGates.{IsUnused};
 
 use crate::setting::{UNREAD, end_of, expect, source_of};
-use funnel::Ended;
+use funnel::ProgramEnd;
 use funnel_io::{End, MemConn, MemGate, MemSink};
 use std::alloc::Global;
 use std::process::Abort;
@@ -140,7 +140,7 @@ pub(crate) fn serve<R: Threads + Wait + Abort + Sync>(
     alloc: Global,
     words: &[&str],
     gates: Vec<MemGate>,
-) -> Result<Ended<MemGate>, Fail> {
+) -> Result<ProgramEnd<MemGate>, Fail> {
     let mut output = MemSink::new(alloc, 100, Vec::new(alloc))?;
     let ended = end_of(rt, alloc, words, b"", UNREAD, &mut output, gates)?;
     expect(rt, output.bytes(), b"".as_slice());

@@ -1,7 +1,7 @@
 //! What the tests share.
 ghost use Rattle.std.specs.Prelude.{◌≡◌, [], IfOk};
 
-use funnel::{Ended, funnel_main};
+use funnel::{ProgramEnd, funnel_main};
 use funnel_io::{Gate, MemSink, MemSource};
 use std::alloc::{AllocError, Global};
 use std::fmt::Debug;
@@ -38,7 +38,7 @@ pub(crate) fn end_of<R: Threads + Wait + Sync, G: Gate + Send + Drop>(
     lines: &[u8],
     output: &mut MemSink,
     gates: Vec<G>,
-) -> Result<Ended<G>, Fail>
+) -> Result<ProgramEnd<G>, Fail>
 where
     G::Conn: Send,
 {

@@ -1,12 +1,13 @@
-use Rattle.std.proofs.Common.{rules, ◌≡◌, false, List, length, map, Some, None, inl, inr, refl, sym, ap, ◌∙◌, subst}
+use Rattle.std.proofs.Common.{rules, ◌≡◌, false, length, map, Some, None, inl, inr, refl, sym, ap, ◌∙◌, subst}
 use Rattle.std.proofs.lemmas.List.{length-map}
 use Rattle.funnel_server.specs.Gates.{gate_state}
 use Rattle.command_line.specs.Commands.{command_of, is_fit}
 use Rattle.funnel.specs.Ends.{why_of_config}
 use Rattle.funnel.specs.Misfits.{misfit_of}
 use Rattle.funnel.specs.Programs.{Streams}
+use Rattle.funnel.specs.Words.{words_in}
 use Rattle.command_line.specs.declared.command.Command.TheVariants as command
-use Rattle.funnel.specs.declared.ended.Why.TheVariants as why_of
+use Rattle.funnel.specs.declared.ends.Why.TheVariants as why_of
 use Rattle.funnel.proofs.Endings.{are_no_fit, serve_in_turns, without_memory}
 use Rattle.funnel.proofs.Turns.{refused_not_done, runs_nowhere}
 use Rattle.funnel.proofs.program.funnel_main.Goals as goal
@@ -23,10 +24,10 @@ returns-in-Err-clause-in_turns g c is_run =
 
 pub returns-in-Serve-clause-ends : goal.returns-in-Serve-clause-ends
 returns-in-Serve-clause-ends g c =
-    let state = gate_state g.G.Gate.is_closed g.G.Gate.gate_faults g.G.Gate.waiting g.G.Conn.Source.incoming g.G.Conn.Sink.outgoing g.G.Gate.served in
+    let state = gate_state g.G.Gate g.G.Conn.Source g.G.Conn.Sink in
     let serve = c.in-Serve.serve in
     let config = c.in-Ok-read_config.config in
-    let words : List (List _) = map (λ word. word.now) c.args.words.now in
+    let words = words_in c.args.words.now in
     let before : Streams = record {
       config = g.C.Source.incoming c.args.config.now;
       input = g.S.Source.incoming c.args.input.now;
@@ -36,24 +37,23 @@ returns-in-Serve-clause-ends g c =
     let after : Streams = record before { config = g.C.Source.incoming c.read_config.new.source; gates = map state c.serve_command.result.gates.items } in
     let fits : misfit_of (command.Serve serve) (length c.args.gates.items) config ≡ None = search rules in
     let words_are : command_of words ≡ Some (command.Serve serve) = search rules in
-    serve_in_turns g.G.Gate.open_gives g.G.Gate.next_gives g.G.Gate.done_gives g.G.Gate.end_gives g.G.Conn.Source.read_gives g.G.Conn.Sink.write_gives g.G.Conn.Source.incoming g.G.Conn.Sink.outgoing
-    state words before after c.serve_command.result.why c.serve_command.result.closed c.args.gates.items c.serve_command.result.gates.items serve config refl refl
+    serve_in_turns g.G.Gate g.G.Conn.Source g.G.Conn.Sink words before after c.serve_command.result.why c.serve_command.result.closed c.args.gates.items c.serve_command.result.gates.items serve config refl refl
     (record { words_are = words_are; no_fit = ap is_fit words_are; read = search rules; faults = search rules })
     (subst (λ n. misfit_of (command.Serve serve) n config ≡ None) (sym (length-map c.args.gates.items state)) fits) refl refl c.serve_command.ensures.ends c.serve_command.ensures.kept
 
 pub returns-in-Err-clause-ends : goal.returns-in-Err-clause-ends
 returns-in-Err-clause-ends g c =
-    let words : List (List _) = map (λ word. word.now) c.args.words.now in
+    let words = words_in c.args.words.now in
     let words_are : command_of words ≡ Some c.in-Ok.command = search rules in
     let no_fit : is_fit (command_of words) ≡ false = are_no_fit words c.in-Ok.command words_are c.in_default.not-Fit in
     search (rules, no_fit)
 
 pub returns-in-Some-clause-ends : goal.returns-in-Some-clause-ends
 returns-in-Some-clause-ends g c =
-    let state = gate_state g.G.Gate.is_closed g.G.Gate.gate_faults g.G.Gate.waiting g.G.Conn.Source.incoming g.G.Conn.Sink.outgoing g.G.Gate.served in
+    let state = gate_state g.G.Gate g.G.Conn.Source g.G.Conn.Sink in
     let asked = c.in-Ok.command in
     let config = c.in-Ok-read_config.config in
-    let words : List (List _) = map (λ word. word.now) c.args.words.now in
+    let words = words_in c.args.words.now in
     let words_are : command_of words ≡ Some asked = search rules in
     let misfits : misfit_of asked (length c.args.gates.items) config ≡ Some c.in-Some.misfit = search rules in
     inr (inr (inl (record {
@@ -69,7 +69,7 @@ returns-in-Some-clause-ends g c =
 
 pub returns-in-Load-clause-ends : goal.returns-in-Load-clause-ends
 returns-in-Load-clause-ends g c =
-    let words : List (List _) = map (λ word. word.now) c.args.words.now in
+    let words = words_in c.args.words.now in
     let words_are : command_of words ≡ Some (command.Load c.in-Load.load) = search rules in
     let no_fit : is_fit (command_of words) ≡ false = ap is_fit words_are in
     search (rules, no_fit)

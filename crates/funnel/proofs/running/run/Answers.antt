@@ -3,7 +3,7 @@ use Rattle.funnel.proofs.Alone.{have_run}
 use Rattle.funnel.proofs.Endings.{keeps_last}
 use Rattle.funnel.proofs.Opened.{opened_config, opened_limits}
 use Rattle.funnel.proofs.Turns.{runs_by, runs_nowhere}
-use Rattle.funnel.specs.declared.ended.Why.TheVariants as why_of
+use Rattle.funnel.specs.declared.ends.Why.TheVariants as why_of
 use Rattle.funnel.proofs.running.run.Goals as goal
 
 pub returns-in_default-clause-in_turns : goal.returns-in_default-clause-in_turns

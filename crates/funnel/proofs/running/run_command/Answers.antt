@@ -1,6 +1,6 @@
 use Rattle.std.proofs.Common.{refl}
 use Rattle.funnel.proofs.Turns.{runs_nowhere}
-use Rattle.funnel.specs.declared.ended.Why.TheVariants as why_of
+use Rattle.funnel.specs.declared.ends.Why.TheVariants as why_of
 use Rattle.funnel.proofs.running.run_command.Goals as goal
 
 pub returns-in_default-clause-in_turns : goal.returns-in_default-clause-in_turns

@@ -4,11 +4,11 @@ use Rattle.std.specs.List.{All, list_any}
 use Rattle.engine.specs.Passes.{new_pass}
 use Rattle.funnel_server.specs.Gates.{gate_state}
 use Rattle.funnel_server.specs.Workers.{HasMetNoFault, WorkerState, WorkerWithGate}
-use Rattle.funnel.specs.declared.ended.Why.TheVariants as why_of
-use Rattle.funnel.specs.Served.{why_of_workers}
+use Rattle.funnel.specs.declared.ends.Why.TheVariants as why_of
+use Rattle.funnel.specs.ServeRuns.{why_of_workers}
 use Rattle.funnel.specs.Workers.{states_of}
 use Rattle.std.proofs.lemmas.List.{length-map}
-use Rattle.funnel.proofs.Served.{all_ready, all_with_gate, any_of_states, as_many, have_worked, workers_count}
+use Rattle.funnel.proofs.ServeRuns.{all_ready, all_with_gate, any_of_states, as_many, have_worked, workers_count}
 use Rattle.funnel.proofs.serving.answer_all.Goals as goal
 
 pub run_workers-workers-requires-clause-ready : goal.run_workers-workers-requires-clause-ready
@@ -18,7 +18,7 @@ run_workers-workers-requires-clause-ready g c κs within =
 pub take_back-requires-clause-room_of_gates : goal.take_back-requires-clause-room_of_gates
 take_back-requires-clause-room_of_gates g c =
     let fits : length c.args.gates.items ≤ vec_capacity c.args.gates = search rules in
-    let count = workers_count (gate_state g.G.Gate.is_closed g.G.Gate.gate_faults g.G.Gate.waiting g.G.Conn.Source.incoming g.G.Conn.Sink.outgoing g.G.Gate.served) g.N.PoolName.pool.config g.N.PoolName.pool.limits c.args.serve c.args.gates.items (states_of c.equip.new.workers.items) (states_of c.run_workers-workers.result.items) c.equip.ensures.workers (as_many c.equip.new.workers.items c.run_workers-workers.result.items c.run_workers-workers.ensures.all) in
+    let count = workers_count (gate_state g.G.Gate g.G.Conn.Source g.G.Conn.Sink) g.N.PoolName.pool.config g.N.PoolName.pool.limits c.args.serve c.args.gates.items (states_of c.equip.new.workers.items) (states_of c.run_workers-workers.result.items) c.equip.ensures.workers (as_many c.equip.new.workers.items c.run_workers-workers.result.items c.run_workers-workers.ensures.all) in
     omega (arith, fits, count, length-map c.run_workers-workers.result.items (λ (worker : WorkerWithGate _). worker.state), ap length c.equip.ensures.gates.none_left, c.equip.ensures.room.0)
 
 pub take_back-requires-clause-room_of_passes : goal.take_back-requires-clause-room_of_passes
@@ -27,7 +27,7 @@ take_back-requires-clause-room_of_passes g c =
     let fits : length c.args.passes.items ≤ vec_capacity c.args.passes = search rules in
     let all = ap length c.requires.new ∙ length-map-range_with_len new_pass 0 passes in
     let left = ap length c.equip.ensures.passes ∙ length-map-range_with_len new_pass (length c.args.gates.items) (passes - length c.args.gates.items) in
-    let count = workers_count (gate_state g.G.Gate.is_closed g.G.Gate.gate_faults g.G.Gate.waiting g.G.Conn.Source.incoming g.G.Conn.Sink.outgoing g.G.Gate.served) g.N.PoolName.pool.config g.N.PoolName.pool.limits c.args.serve c.args.gates.items (states_of c.equip.new.workers.items) (states_of c.run_workers-workers.result.items) c.equip.ensures.workers (as_many c.equip.new.workers.items c.run_workers-workers.result.items c.run_workers-workers.ensures.all) in
+    let count = workers_count (gate_state g.G.Gate g.G.Conn.Source g.G.Conn.Sink) g.N.PoolName.pool.config g.N.PoolName.pool.limits c.args.serve c.args.gates.items (states_of c.equip.new.workers.items) (states_of c.run_workers-workers.result.items) c.equip.ensures.workers (as_many c.equip.new.workers.items c.run_workers-workers.result.items c.run_workers-workers.ensures.all) in
     omega (arith, fits, count, length-map c.run_workers-workers.result.items (λ (worker : WorkerWithGate _). worker.state), all, left, c.requires.enough, c.equip.ensures.room.1)
 
 pub returns : goal.returns
@@ -38,8 +38,7 @@ returns g c =
     let cause : c.why_of_workers-why.result ≡ why_of_workers (states_of workers) =
     why ∙ ap₂ (λ fault memory. cond fault why_of.GateFault (cond memory why_of.Memory why_of.Done))
     (any_of_states (λ (w : WorkerState). w.fault) workers) (any_of_states (λ (w : WorkerState). w.memory) workers) in
-    have_worked g.G.Gate.next_gives g.G.Gate.done_gives g.G.Gate.end_gives g.G.Conn.Source.read_gives g.G.Conn.Sink.write_gives g.G.Conn.Source.incoming g.G.Conn.Sink.outgoing
-    (gate_state g.G.Gate.is_closed g.G.Gate.gate_faults g.G.Gate.waiting g.G.Conn.Source.incoming g.G.Conn.Sink.outgoing g.G.Gate.served) g.N.PoolName.pool c.args.serve
+    have_worked g.G.Gate g.G.Conn.Source g.G.Conn.Sink g.N.PoolName.pool c.args.serve
     c.args.gates.items c.equip.new.gates.items c.take_back.new.gates.items c.why_of_workers-why.result c.equip.new.passes.items c.take_back.new.passes.items
     c.equip.new.workers.items c.run_workers-workers.result.items c.equip.ensures.workers c.equip.ensures.gates.theirs c.equip.ensures.gates.none_left
     c.equip.ensures.passes c.run_workers-workers.ensures.all c.run_workers-workers.ensures.work c.take_back.ensures.told c.take_back.ensures.gates cause

@@ -1,11 +1,10 @@
-use Rattle.std.proofs.Common.{◌≡◌, ◌≤◌, ◌++◌, length, map, vec_capacity}
-use Rattle.funnel_server.specs.Gates.{gate_state}
-use Rattle.funnel.specs.Workers.{AreEquipped, gates_of, states_of}
+use Rattle.std.proofs.Common.{◌≡◌, ◌≤◌, ◌++◌, length, vec_capacity}
+use Rattle.funnel.specs.Workers.{AreEquipped, gates_of, states_of, told_by}
 use Rattle.funnel.proofs.serving.equip.Given as goal
 
 abbrev pub invariant-loop-alloc : goal.invariant-loop-alloc
 invariant-loop-alloc g l =
-    let states = map (gate_state g.G.Gate.is_closed g.G.Gate.gate_faults g.G.Gate.waiting g.G.Conn.Source.incoming g.G.Conn.Sink.outgoing g.G.Gate.served) in
+    let states = told_by g.G.Gate g.G.Conn.Source g.G.Conn.Sink in
     AreEquipped g.N.PoolName.pool l.serve (states l.fn.gates.items) (states l.gates.items) l.passes.items (states_of l.workers.items)
     × (gates_of l.workers.items ++ l.gates.items ≡ l.fn.gates.items)
     × (length l.fn.gates.items ≤ vec_capacity l.workers)

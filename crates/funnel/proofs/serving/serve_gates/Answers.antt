@@ -4,7 +4,7 @@ use Rattle.funnel_model.specs.declared.config.Config.{Config}
 use Rattle.funnel_server.specs.Gates.{gate_state}
 use Rattle.funnel.proofs.Endings.{keeps_last}
 use Rattle.funnel.proofs.Opened.{opened_config, opened_counted, opened_limits}
-use Rattle.funnel.proofs.Served.{has_served, worked_count}
+use Rattle.funnel.proofs.ServeRuns.{has_served, worked_count}
 use Rattle.funnel.proofs.serving.serve_gates.Goals as goal
 
 pub returns-clause-ends : goal.returns-clause-ends
@@ -14,11 +14,9 @@ returns-clause-ends g c =
     let config_is = opened_config pool c.args.blank c.args.config.now (sym c.requires.blank.named) c.requires.blank.made_with in
     let counted = opened_counted pool c.args.blank c.args.config.now (sym c.requires.blank.named) c.requires.blank.made_with c.requires.blank.limits in
     let enough = subst (λ (k : Config). length c.args.gates.items ≤ k.passes) (sym (opened_config pool c.args.blank c.args.config.now (sym c.requires.blank.named) c.requires.blank.made_with)) c.requires.enough in
-    has_served g.G.Gate.next_gives g.G.Gate.done_gives g.G.Gate.end_gives g.G.Conn.Source.read_gives g.G.Conn.Sink.write_gives g.G.Conn.Source.incoming g.G.Conn.Sink.outgoing
-    (gate_state g.G.Gate.is_closed g.G.Gate.gate_faults g.G.Gate.waiting g.G.Conn.Source.incoming g.G.Conn.Sink.outgoing g.G.Gate.served)
-    pool c.args.config.now c.args.serve c.args.gates.items c.answer_all-why.result.1.items c.answer_all-why.result.0 c.answer_all-why.result.2.items
+    has_served g.G.Gate g.G.Conn.Source g.G.Conn.Sink pool c.args.config.now c.args.serve c.args.gates.items c.answer_all-why.result.1.items c.answer_all-why.result.0 c.answer_all-why.result.2.items
     c.close.result limits_are config_is counted
-    (omega (arith, enough, length-map c.args.gates.items (gate_state g.G.Gate.is_closed g.G.Gate.gate_faults g.G.Gate.waiting g.G.Conn.Source.incoming g.G.Conn.Sink.outgoing g.G.Gate.served)))
+    (omega (arith, enough, length-map c.args.gates.items (gate_state g.G.Gate g.G.Conn.Source g.G.Conn.Sink)))
     c.answer_all-why.ensures c.close.ensures.legal c.close.ensures.caused c.close.ensures.sound c.close.ensures.passes
 
 pub returns-clause-kept : goal.returns-clause-kept
@@ -29,7 +27,7 @@ returns-clause-kept g c =
 
 pub returns-clause-count : goal.returns-clause-count
 returns-clause-count g c =
-    let state = gate_state g.G.Gate.is_closed g.G.Gate.gate_faults g.G.Gate.waiting g.G.Conn.Source.incoming g.G.Conn.Sink.outgoing g.G.Gate.served in
+    let state = gate_state g.G.Gate g.G.Conn.Source g.G.Conn.Sink in
     sym (length-map c.answer_all-why.result.1.items state)
     ∙ worked_count g.N.PoolName.pool c.args.serve _ _ c.answer_all-why.result.0 c.answer_all-why.result.2.items c.answer_all-why.ensures.worked
     ∙ length-map c.args.gates.items state

@@ -4,7 +4,7 @@ use Rattle.std.specs.Vec.Iter.{into_iter_items}
 use Rattle.funnel_server.specs.Gates.{gate_state}
 use Rattle.funnel_server.specs.Workers.{WorkerWithGate}
 use Rattle.funnel.specs.Workers.{gates_of, pass_of_worker, states_of}
-use Rattle.funnel.proofs.Served.{back-begin, back-more, moved_back}
+use Rattle.funnel.proofs.ServeRuns.{back-begin, back-more, moved_back}
 use Rattle.funnel.proofs.serving.take_back.Goals as goal
 
 pub loop-worker-init : goal.loop-worker-init
@@ -19,7 +19,7 @@ loop-worker-init g c =
 
 pub loop-worker-preserved : goal.loop-worker-preserved
 loop-worker-preserved g c =
-    let state = gate_state g.G.Gate.is_closed g.G.Gate.gate_faults g.G.Gate.waiting g.G.Conn.Source.incoming g.G.Conn.Sink.outgoing g.G.Gate.served in
+    let state = gate_state g.G.Gate g.G.Conn.Source g.G.Conn.Sink in
     let pass = c.client.inside.pass in
     let worker = c.in-Some.worker in
     let next : into_iter_items c.loop-worker.worker-iterator ≡ worker ∷ into_iter_items c.next.new.self = search rules in

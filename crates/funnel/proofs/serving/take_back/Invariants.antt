@@ -1,12 +1,11 @@
-use Rattle.std.proofs.Common.{◌≡◌, ◌≤◌, ◌+◌, ◌++◌, length, map, vec_capacity}
+use Rattle.std.proofs.Common.{◌≡◌, ◌≤◌, ◌+◌, ◌++◌, length, vec_capacity}
 use Rattle.std.specs.Vec.Iter.{into_iter_items}
-use Rattle.funnel_server.specs.Gates.{gate_state}
-use Rattle.funnel.specs.Workers.{GaveBack, gates_of, states_of}
+use Rattle.funnel.specs.Workers.{GaveBack, gates_of, states_of, told_by}
 use Rattle.funnel.proofs.serving.take_back.Given as goal
 
 abbrev pub invariant-loop-worker : goal.invariant-loop-worker
 invariant-loop-worker g l =
-    let states = map (gate_state g.G.Gate.is_closed g.G.Gate.gate_faults g.G.Gate.waiting g.G.Conn.Source.incoming g.G.Conn.Sink.outgoing g.G.Gate.served) in
+    let states = told_by g.G.Gate g.G.Conn.Source g.G.Conn.Sink in
     GaveBack (states_of l.fn.workers.items) (states_of (into_iter_items l.worker-iterator)) (states l.fn.gates.items) (states l.gates.items) l.fn.passes.items l.passes.items
     × (l.gates.items ++ gates_of (into_iter_items l.worker-iterator) ≡ l.fn.gates.items ++ gates_of l.fn.workers.items)
     × (length l.gates.items + length (into_iter_items l.worker-iterator) ≤ vec_capacity l.gates)

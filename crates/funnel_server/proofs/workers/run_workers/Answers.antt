@@ -14,7 +14,7 @@ taken_back {X} before now len same is =
 
 pub returns-then-threads-gt0-clause-work : goal.returns-then-threads-gt0-clause-work
 returns-then-threads-gt0-clause-work g c k d below =
-    let Works = WorksInTurns g.G.Gate.next_gives g.G.Gate.done_gives g.G.Gate.end_gives g.G.Conn.Source.read_gives g.G.Conn.Sink.write_gives g.G.Conn.Source.incoming g.G.Conn.Sink.outgoing in
+    let Works = WorksInTurns g.G.Gate g.G.Conn.Source g.G.Conn.Sink in
     let before = c.args.workers.items in
     let now = c.for_each_mut.new.s in
     let whole : take c.args.workers.len (now ++ drop (length now) before) ≡ now =

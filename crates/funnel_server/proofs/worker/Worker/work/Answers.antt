@@ -8,11 +8,11 @@ use Rattle.funnel_server.proofs.worker.Worker.work.Goals as goal
 
 pub returns : goal.returns
 returns g c =
-    let state = gate_state g.G.Gate.is_closed g.G.Gate.gate_faults g.G.Gate.waiting g.G.Conn.Source.incoming g.G.Conn.Sink.outgoing g.G.Gate.served in
+    let state = gate_state g.G.Gate g.G.Conn.Source g.G.Conn.Sink in
     let gate : state c.self.inside.gate ≡ state c.end.new.self = λ i. record {
       is_closed = sym c.end.ensures.is_closed i;
       faults = sym c.end.ensures.faults i;
-      waiting = option_map (map (sides_of g.G.Conn.Source.incoming g.G.Conn.Sink.outgoing)) (sym c.end.ensures.waiting i);
+      waiting = option_map (map (sides_of g.G.Conn.Source g.G.Conn.Sink)) (sym c.end.ensures.waiting i);
       served = sym c.end.ensures.served i;
     } in
     let worker : GateState → WorkerState = λ told. record {
@@ -24,6 +24,6 @@ returns g c =
       fault = c.self.inside.fault;
       memory = c.self.inside.memory;
     } in
-    ends_in_turns g.G.Gate.next_gives g.G.Gate.done_gives g.G.Gate.end_gives g.G.Conn.Source.read_gives g.G.Conn.Sink.write_gives g.G.Conn.Source.incoming g.G.Conn.Sink.outgoing
+    ends_in_turns g.G.Gate g.G.Conn.Source g.G.Conn.Sink
     _ _ _ c.serve_all.ensures (sym (ap (λ (w : WorkerWithGate _). w.state) c.self.view_is) ∙ ap worker gate)
     (subst (λ (w : WorkerWithGate _). g.G.Gate.end_gives w.gate c.end.new.self) c.self.view_is c.end.ensures.gives)

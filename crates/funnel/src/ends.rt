@@ -1,5 +1,5 @@
 ghost use Rattle.std.specs.Prelude.{◌≡◌, None};
-ghost use Rattle.funnel.specs.Ends.{status_of, why_of_config, why_of_end, why_of_fit};
+ghost use Rattle.funnel.specs.Ends.{exit_status_of, why_of_config, why_of_end, why_of_fit};
 
 use engine::Closed;
 use fit::FitEnd;
@@ -52,7 +52,7 @@ pub enum Misfit {
 impl Why {
     /// The exit status.
     pub fn status(&self) -> u8
-        ensures { result ≡ status_of self.now }
+        ensures { result ≡ exit_status_of self.now }
     {
         match self {
             Why::Done => 0,
@@ -129,24 +129,24 @@ impl From<ConfigFault> for Why {
 /// What a program of funnel gives back at its end: the gates that it was handed, and what is left of its engine where
 /// it opened one.
 #[derive(Drop)]
-pub struct Ended<G> {
+pub struct ProgramEnd<G> {
     pub why: Why,
     pub gates: Vec<G>,
     pub closed: Option<Closed>,
 }
 
-impl<G> Ended<G> {
+impl<G> ProgramEnd<G> {
     /// Ends without an engine, with the gates as they came.
-    pub(crate) fn unopened(why: Why, gates: Vec<G>) -> Ended<G>
+    pub(crate) fn unopened(why: Why, gates: Vec<G>) -> ProgramEnd<G>
         ensures { result ≡ record { why = why; gates = gates; closed = None } }
     {
         let closed = None;
-        Ended { why, gates, closed }
+        ProgramEnd { why, gates, closed }
     }
 
     /// The exit status.
     pub fn status(&self) -> u8
-        ensures { result ≡ status_of self.now.why }
+        ensures { result ≡ exit_status_of self.now.why }
     {
         self.why.status()
     }

@@ -13,23 +13,22 @@ use Rattle.funnel_model.specs.declared.event.Event.{Event}
 use Rattle.funnel_model.specs.Events.{pass_of}
 use Rattle.funnel_model.specs.History.{IsFrontOf, MovesAreCaused}
 use Rattle.funnel_model.specs.Legal.{IsLegal, Limits}
-use Rattle.funnel_io.specs.Calls.{Read, Write}
-use Rattle.funnel_io.specs.Streams.{Incoming, Outgoing}
-use Rattle.funnel_io.specs.declared.end.End.{End}
-use Rattle.funnel_io.specs.declared.gate.Next.{Next}
-use Rattle.funnel_server.specs.Gates.{GateState}
+use Rattle.funnel_io.specs.declared.gate.Gate as Gate
+use Rattle.funnel_io.specs.declared.sink.Sink as Sink
+use Rattle.funnel_io.specs.declared.source.Source as Source
+use Rattle.funnel_server.specs.Gates.{GateState, gate_state}
 use Rattle.funnel_server.specs.GateTurns.{WorksInTurns}
 use Rattle.funnel_server.specs.Workers.{HasMetNoFault, WorkerState, WorkerWithGate}
 use Rattle.row_layout.specs.Sound.{IsSound}
 use Rattle.slice_rule.specs.Pools.{PoolId}
 use Rattle.funnel.proofs.Passes.{of_first_passes}
 use Rattle.command_line.specs.declared.command.ServeCommand.{ServeCommand}
-use Rattle.funnel.specs.declared.ended.Why.{Why}
+use Rattle.funnel.specs.declared.ends.Why.{Why}
 use Rattle.funnel.specs.Runs.{limits_by}
-use Rattle.funnel.specs.Served.{AllWork, new_worker, new_workers, why_of_workers}
+use Rattle.funnel.specs.ServeRuns.{AllWork, new_worker, new_workers, why_of_workers}
 use Rattle.funnel.specs.Serving.{new_passes}
 use Rattle.funnel.specs.Turns.{GatesGoInTurns}
-use Rattle.funnel.specs.Workers.{AreEquipped, EndsOpenServeInTurns, GaveBack, HaveWorked, HaveWorkedInTurns, gates_of, pass_of_worker, states_of}
+use Rattle.funnel.specs.Workers.{AreEquipped, EndsOpenServeInTurns, GaveBack, HaveWorked, HaveWorkedInTurns, gates_of, pass_of_worker, states_of, told_by}
 
 -- ---- the gates and passes go to workers
 
@@ -152,16 +151,18 @@ all_with_gate {G} (worker ∷ workers) ready =
 -- ---- the workers work
 
 -- of workers with their gates
-module _ {G C : Type 0} (next_gives : G → Next C → G → Type 0) (done_gives : G → C → End → G → Type 0) (end_gives : G → G → Type 0)
-    (read_gives : C → Read → C → Type 0) (write_gives : C → Write → C → Type 0) (incoming : C → Incoming) (outgoing : C → Outgoing) where
+module _ {G C : Type 0} (gate : Gate.Ghosts G C) (source : Source.Ghosts C) (sink : Sink.Ghosts C) where
+  abbrev state : G → GateState
+  state = gate_state gate source sink
+
   -- they did their work, turn by turn
   record WorkInTurns (befores afters : List WorkerState) (gates laters : List G) : Type 0 where
     pub work : AllWork befores afters
-    pub turns : GatesGoInTurns next_gives done_gives end_gives read_gives write_gives incoming outgoing befores afters work gates laters
+    pub turns : GatesGoInTurns gate source sink befores afters work gates laters
 
   work_in_turns : (befores afters : List (WorkerWithGate G)) → length afters ≡ length befores →
       ((k : ℕ) (d : WorkerWithGate G) → k < length befores →
-      WorksInTurns next_gives done_gives end_gives read_gives write_gives incoming outgoing (slice_index_or befores k d) (slice_index_or afters k d)) →
+      WorksInTurns gate source sink (slice_index_or befores k d) (slice_index_or afters k d)) →
       WorkInTurns (states_of befores) (states_of afters) (gates_of befores) (gates_of afters)
   work_in_turns [] [] same work = record { work = tt; turns = tt }
   work_in_turns (before ∷ befores) [] same work = absurd (omega (arith, same))
@@ -172,16 +173,16 @@ module _ {G C : Type 0} (next_gives : G → Next C → G → Type 0) (done_gives
       record { work = (first.works, others.work); turns = (first.in_turns, others.turns) }
 
   -- the gates had workers, and all came back
-  pub have_worked : (state : G → GateState) (pool : PoolId) (serve : ServeCommand) (gates none back : List G) (why : Why) (left passes : List PassView)
+  pub have_worked : (pool : PoolId) (serve : ServeCommand) (gates none back : List G) (why : Why) (left passes : List PassView)
       (befores afters : List (WorkerWithGate G)) →
       states_of befores ≡ new_workers pool.config pool.limits serve 0 (map state gates) → gates_of befores ≡ gates → none ≡ [] →
       left ≡ new_passes (length gates) (pool.config.passes - length gates) → length afters ≡ length befores →
       ((k : ℕ) (d : WorkerWithGate G) → k < length befores →
-      WorksInTurns next_gives done_gives end_gives read_gives write_gives incoming outgoing (slice_index_or befores k d) (slice_index_or afters k d)) →
+      WorksInTurns gate source sink (slice_index_or befores k d) (slice_index_or afters k d)) →
       map state back ≡ map state none ++ map (λ (worker : WorkerState). worker.gate) (states_of afters) → back ≡ none ++ gates_of afters →
       why ≡ why_of_workers (states_of afters) → passes ≡ left ++ map pass_of_worker (states_of afters) →
-      HaveWorkedInTurns next_gives done_gives end_gives read_gives write_gives incoming outgoing state pool serve gates back why passes
-  have_worked state pool serve gates none back why left passes befores afters made theirs empty left_are same work told back_are cause come =
+      HaveWorkedInTurns gate source sink pool serve gates back why passes
+  have_worked pool serve gates none back why left passes befores afters made theirs empty left_are same work told back_are cause come =
       let came : back ≡ gates_of afters = back_are ∙ ap (λ (gs : List G). gs ++ gates_of afters) empty in
       let all : WorkInTurns (new_workers pool.config pool.limits serve 0 (map state gates)) (states_of afters) gates back =
       subst (λ (ws : List WorkerState). WorkInTurns ws (states_of afters) gates back) made
@@ -316,22 +317,21 @@ module _ (pool : PoolId) (serve : ServeCommand) (before after : List GateState) 
     workers_end = fronts worked.workers used_end
 
 -- so the gates were served
-module _ {G C : Type 0} (next_gives : G → Next C → G → Type 0) (done_gives : G → C → End → G → Type 0) (end_gives : G → G → Type 0)
-    (read_gives : C → Read → C → Type 0) (write_gives : C → Write → C → Type 0) (incoming : C → Incoming) (outgoing : C → Outgoing) where
-  pub has_served : (state : G → GateState) (pool : PoolId) (config : Config) (serve : ServeCommand) (gates laters : List G) (why : Why) (passes : List PassView)
+module _ {G C : Type 0} (gate : Gate.Ghosts G C) (source : Source.Ghosts C) (sink : Sink.Ghosts C) where
+  pub has_served : (pool : PoolId) (config : Config) (serve : ServeCommand) (gates laters : List G) (why : Why) (passes : List PassView)
       (closed : ClosedState) → pool.limits ≡ limits_by config → pool.config ≡ config → pool.limits.passes ≡ pool.config.passes →
-      length (map state gates) ≤ pool.config.passes →
-      HaveWorkedInTurns next_gives done_gives end_gives read_gives write_gives incoming outgoing state pool serve gates laters why passes →
+      length (told_by gate source sink gates) ≤ pool.config.passes →
+      HaveWorkedInTurns gate source sink pool serve gates laters why passes →
       IsLegal pool.limits closed.history → MovesAreCaused closed.history → IsSound pool.config closed.history → All (EndsIn closed.history) passes →
-      EndsOpenServeInTurns next_gives done_gives end_gives read_gives write_gives incoming outgoing state config serve gates laters why (Some closed)
-  has_served state pool config serve gates laters why passes closed limits_are config_is counted enough did legal caused sound ends =
-      let before = map state gates in
-      let after = map state laters in
+      EndsOpenServeInTurns gate source sink config serve gates laters why (Some closed)
+  has_served pool config serve gates laters why passes closed limits_are config_is counted enough did legal caused sound ends =
+      let before = told_by gate source sink gates in
+      let after = told_by gate source sink laters in
       let worked = did.worked in
-      let all : WorkInTurns next_gives done_gives end_gives read_gives write_gives incoming outgoing (new_workers config (limits_by config) serve 0 before) worked.workers gates laters =
-      subst (λ (k : Config). WorkInTurns next_gives done_gives end_gives read_gives write_gives incoming outgoing (new_workers k (limits_by config) serve 0 before) worked.workers gates laters)
+      let all : WorkInTurns gate source sink (new_workers config (limits_by config) serve 0 before) worked.workers gates laters =
+      subst (λ (k : Config). WorkInTurns gate source sink (new_workers k (limits_by config) serve 0 before) worked.workers gates laters)
       config_is
-      (subst (λ (l : Limits). WorkInTurns next_gives done_gives end_gives read_gives write_gives incoming outgoing (new_workers pool.config l serve 0 before) worked.workers gates laters)
+      (subst (λ (l : Limits). WorkInTurns gate source sink (new_workers pool.config l serve 0 before) worked.workers gates laters)
       limits_are (record { work = worked.work; turns = did.in_turns })) in
       record {
         ends = record {

@@ -12,8 +12,8 @@ use Rattle.funnel_server.specs.Workers.{WorkerState, Works}
 use Rattle.row_layout.specs.Sound.{IsSound}
 use Rattle.funnel.specs.Runs.{limits_by}
 use Rattle.command_line.specs.declared.command.ServeCommand.{ServeCommand}
-use Rattle.funnel.specs.declared.ended.Why.{Why}
-use Rattle.funnel.specs.declared.ended.Why.TheVariants as why_of
+use Rattle.funnel.specs.declared.ends.Why.{Why}
+use Rattle.funnel.specs.declared.ends.Why.TheVariants as why_of
 
 -- the worker of a gate before its first connection
 abbrev pub new_worker : Config → Limits → ServeCommand → ℕ → GateState → WorkerState
