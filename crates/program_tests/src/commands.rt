@@ -1,11 +1,13 @@
 //! Which commands words are, on which ports a serve listens, and what doesn't fit.
-use crate::setting::{UNREAD, end_of, expect};
+use crate::endings::Wanted;
+use crate::gates::CLOSED;
+use crate::rows::{Row, expect_all};
+use crate::setting::{SOUND, UNREAD, expect};
 use funnel::{
-    Command, FitCommand, LoadCommand, Misfit, ServeCommand, Why, ports, read_command, shares_port,
+    Command, FitCommand, LoadCommand, Misfit, ServeCommand, ports, read_command, shares_port,
 };
-use funnel_io::{MemGate, MemSink};
-use std::alloc::{AllocError, Global};
-use std::process::Abort;
+use funnel_model::Memory;
+use std::alloc::Global;
 use std::test::Fail;
 
 // What the rows of the gate don't show: the numbers that are meant where none are given, and those of a serve.
@@ -138,20 +140,12 @@ static PORTS: [(&[&str], &[u32]); 8] = [
     (&["fit", "--documents", "7"], &[]),
 ];
 
-fn expect_ports<R: Abort>(
-    rt: &R,
-    alloc: Global,
-    words: &[&str],
-    numbers: &[u32],
-) -> Result<(), Fail> {
+/// Whether a serve by these words listens on these ports.
+fn are_ports(alloc: Global, words: &[&str], numbers: &[u32]) -> Result<bool, Memory> {
     let ports = ports(alloc, words)?;
-    expect(
-        rt,
-        (ports.as_slice(), ports.len()),
-        (numbers, numbers.len()),
-    );
-    expect(rt, ports.into_inner().as_slice(), numbers);
-    Ok(())
+    let are_lent = ports.len() == numbers.len() && ports.as_slice() == numbers;
+    let inner = ports.into_inner();
+    Ok(are_lent && inner.as_slice() == numbers)
 }
 
 /// Whether the words let all workers listen on one port.
@@ -172,120 +166,118 @@ fn one_port_is_asked_for(rt: HostRuntime) {
 #[test]
 fn a_serve_listens_on_a_port_for_each_worker(rt: HostRuntime) -> Result<(), Fail> {
     for (words, numbers) in &PORTS {
-        expect_ports(&rt, rt.alloc(), words, numbers)?;
+        let are_ports = are_ports(rt.alloc(), words, numbers)?;
+        expect(&rt, (words, are_ports), (words, true));
     }
     Ok(())
 }
 
-/// The words of a program, the number of its gates, its configuration, and what is told.
-static MISFITS: [(&[&str], u64, &[u8], Misfit); 10] = [
-    (
+static MISFITS: [Row; 10] = [
+    Row(
         &["serve", "--port", "7000", "--workers", "2"],
-        1,
-        b"",
-        Misfit::Gates {
+        (b"", UNREAD),
+        SOUND,
+        &[CLOSED],
+        8,
+        Wanted::Misfit(Misfit::Gates {
             stated: 2,
             given: 1,
-        },
+        }),
     ),
-    (
+    Row(
         &["serve", "--port", "65535", "--workers", "3"],
-        0,
-        br#"{"passes":2}"#,
-        Misfit::Gates {
+        (br#"{"passes":2}"#, UNREAD),
+        SOUND,
+        &[],
+        8,
+        Wanted::Misfit(Misfit::Gates {
             stated: 3,
             given: 0,
-        },
+        }),
     ),
-    (
+    Row(
         &["serve", "--port", "65535", "--workers", "3"],
-        3,
-        br#"{"passes":2}"#,
-        Misfit::Workers {
+        (br#"{"passes":2}"#, UNREAD),
+        SOUND,
+        &[CLOSED, CLOSED, CLOSED],
+        8,
+        Wanted::Misfit(Misfit::Workers {
             asked: 3,
             passes: 2,
-        },
+        }),
     ),
-    (
+    Row(
         &["serve", "--port", "65535", "--workers", "2"],
-        2,
-        b"",
-        Misfit::Ports { last: 65_536 },
+        (b"", UNREAD),
+        SOUND,
+        &[CLOSED, CLOSED],
+        8,
+        Wanted::Misfit(Misfit::Ports { last: 65_536 }),
     ),
-    (
+    Row(
         &["serve", "--port", "65473", "--workers", "64"],
-        64,
-        br#"{"passes":64}"#,
-        Misfit::Ports { last: 65_536 },
+        (br#"{"passes":64}"#, UNREAD),
+        SOUND,
+        &[CLOSED; 64],
+        8,
+        Wanted::Misfit(Misfit::Ports { last: 65_536 }),
     ),
-    (
+    Row(
         &["load", "--docs", "129", "--workers", "3"],
-        0,
-        b"",
-        Misfit::Workers {
+        (b"", UNREAD),
+        SOUND,
+        &[],
+        8,
+        Wanted::Misfit(Misfit::Workers {
             asked: 3,
             passes: 2,
-        },
+        }),
     ),
-    (
+    Row(
         &["load", "--docs", "1", "--workers", "64"],
-        64,
-        br#"{"passes":63}"#,
-        Misfit::Workers {
+        (br#"{"passes":63}"#, UNREAD),
+        SOUND,
+        &[CLOSED; 64],
+        8,
+        Wanted::Misfit(Misfit::Workers {
             asked: 64,
             passes: 63,
-        },
+        }),
     ),
-    (
+    Row(
         &["load", "--docs", "129"],
-        1,
-        br#"{"commits":1}"#,
-        Misfit::Columns {
+        (br#"{"commits":1}"#, UNREAD),
+        SOUND,
+        &[CLOSED],
+        8,
+        Wanted::Misfit(Misfit::Columns {
             docs: 129,
             columns: 128,
-        },
+        }),
     ),
-    (
+    Row(
         &["load", "--docs", "129"],
-        0,
-        b"",
-        Misfit::Columns {
+        (b"", UNREAD),
+        SOUND,
+        &[],
+        8,
+        Wanted::Misfit(Misfit::Columns {
             docs: 129,
             columns: 128,
-        },
+        }),
     ),
-    (
+    Row(
         &["fit", "--documents", "129"],
-        1,
-        b"{",
-        Misfit::Sample(fit::Misfit::NoAdds),
+        (b"{", UNREAD),
+        SOUND,
+        &[CLOSED],
+        8,
+        Wanted::Misfit(Misfit::Sample(fit::Misfit::NoAdds)),
     ),
 ];
 
-/// So many gates without a connection.
-fn closed_gates(alloc: Global, count: u64) -> Result<Vec<MemGate>, Fail> {
-    let mut gates = Vec::new(alloc);
-    for _ in 0..count {
-        gates.push(MemGate::new(alloc, Vec::new(alloc), Vec::new(alloc))?)?;
-    }
-    Ok(gates)
-}
-
 #[test]
 fn the_first_misfit_is_told(rt: HostRuntime) -> Result<(), Fail> {
-    for (words, count, config, told) in &MISFITS {
-        let mut output = MemSink::new(rt.alloc(), 100, Vec::new(rt.alloc()))?;
-        let gates = closed_gates(rt.alloc(), *count)?;
-        let ended = end_of(&rt, rt.alloc(), words, config, UNREAD, &mut output, gates)?;
-        expect_misfit(&rt, words, &ended.why, *told);
-        expect(&rt, output.bytes(), b"".as_slice());
-    }
+    expect_all(&rt, rt.alloc(), &MISFITS)?;
     Ok(())
-}
-
-fn expect_misfit<R: Abort>(rt: &R, words: &[&str], why: &Why, told: Misfit) {
-    match why {
-        Why::Misfit(misfit) => expect(rt, (words, *misfit), (words, told)),
-        why => expect(rt, why.status(), 8),
-    }
 }

@@ -1,11 +1,9 @@
 //! Runs, loads and fits of which a read or a write fails, in the configuration, the input or the output.
-use crate::setting::{expect, source_of};
-use funnel::{Why, funnel_main};
-use funnel_io::{MemGate, MemSink};
-use std::alloc::Global;
-use std::sync::Wait;
+use crate::endings::Wanted;
+use crate::rows::{Row, expect_all};
+use crate::setting::{Inputs, NONE};
+use funnel::Why;
 use std::test::Fail;
-use std::thread::Threads;
 
 const RUN: &[&str] = &["run"];
 
@@ -13,71 +11,54 @@ const LOAD: &[&str] = &["load", "--docs", "1"];
 
 const FIT: &[&str] = &["fit", "--documents", "1"];
 
+const LINES: &[u8] = b"add 7 The cat sat\nfind CAT\n";
+
 // The same lines in one piece, and in one for each.
-const WHOLE: &[&[u8]] = &[b"add 7 The cat sat\nfind CAT\n"];
+const WHOLE: Inputs = (b"", (LINES, 27));
 
-const PARTS: &[&[u8]] = &[b"add 7 The cat sat\n", b"find CAT\n"];
+const PARTS: Inputs = (b"", (LINES, 18));
 
-const PLACES: &[&[u8]] = &[b"place\nplace\nplace\n"];
+const PLACE: Inputs = (b"", (b"place\nplace\nplace\n", 18));
 
-// After both of these a line has begun.
-const CUT: &[&[u8]] = &[b"add 1 a\nfi", b"nd a\npla"];
+// After both of its pieces a line has begun.
+const CUT: Inputs = (b"", (b"add 1 a\nfind a\npla", 10));
 
 const ADDED: &str = "added 1\n";
 
 const FOUND: &str = "added 1\nfound 1 7\n";
 
+const FIRST: &str = "added 1\nfound 1 1\n";
+
+const PLACED: &str = "place 0\n";
+
 const FITTED: &str =
     "{\"documents\":1,\"max_rank\":0,\"passes\":64,\"reserve\":64,\"slices\":2,\"tail\":1,\"words\":{\"cat\":1,\"sat\":1,\"the\":1}}\n";
 
-const NONE: &[u64] = &[];
-
-/// The words, the pieces of the input, which reads of the configuration and of the input and which writes fail, the status, and
-/// what is written.
-static FAULTS: [(&[&str], &[&[u8]], [&[u64]; 3], u8, &str); 18] = [
-    (RUN, PARTS, [NONE, &[1], NONE], 3, ""),
-    (RUN, PARTS, [NONE, &[2], NONE], 3, ADDED),
-    (RUN, PARTS, [NONE, &[3], NONE], 3, FOUND),
-    (RUN, PARTS, [NONE, NONE, &[1]], 4, ""),
-    (RUN, PARTS, [NONE, NONE, &[2]], 4, ADDED),
-    (RUN, PARTS, [NONE, NONE, &[3]], 0, FOUND),
-    (RUN, WHOLE, [NONE, &[1], NONE], 3, ""),
-    (RUN, WHOLE, [NONE, &[2], NONE], 3, FOUND),
-    (RUN, WHOLE, [NONE, NONE, &[1]], 4, ""),
-    (RUN, WHOLE, [NONE, NONE, &[2]], 4, ADDED),
-    (RUN, WHOLE, [NONE, NONE, &[3]], 0, FOUND),
-    (RUN, PLACES, [NONE, NONE, &[2]], 4, "place 0\n"),
-    (RUN, CUT, [NONE, &[3], NONE], 3, "added 1\nfound 1 1\n"),
-    (RUN, WHOLE, [&[1], NONE, NONE], 3, ""),
-    (LOAD, WHOLE, [NONE, NONE, &[1]], 4, ""),
-    (FIT, PARTS, [NONE, &[2], NONE], 3, ""),
-    (FIT, WHOLE, [NONE, NONE, &[1]], 4, ""),
-    (FIT, WHOLE, [&[1], NONE, &[2]], 0, FITTED),
+static FAULTS: [Row; 18] = [
+    Row(RUN, PARTS, [NONE, &[1], NONE], &[], 3, Wanted::Text("")),
+    Row(RUN, PARTS, [NONE, &[2], NONE], &[], 3, Wanted::Text(ADDED)),
+    Row(RUN, PARTS, [NONE, &[3], NONE], &[], 3, Wanted::Text(FOUND)),
+    Row(RUN, PARTS, [NONE, NONE, &[1]], &[], 4, Wanted::Text("")),
+    Row(RUN, PARTS, [NONE, NONE, &[2]], &[], 4, Wanted::Text(ADDED)),
+    Row(RUN, PARTS, [NONE, NONE, &[3]], &[], 0, Wanted::Text(FOUND)),
+    Row(RUN, WHOLE, [NONE, &[1], NONE], &[], 3, Wanted::Text("")),
+    Row(RUN, WHOLE, [NONE, &[2], NONE], &[], 3, Wanted::Text(FOUND)),
+    Row(RUN, WHOLE, [NONE, NONE, &[1]], &[], 4, Wanted::Text("")),
+    Row(RUN, WHOLE, [NONE, NONE, &[2]], &[], 4, Wanted::Text(ADDED)),
+    Row(RUN, WHOLE, [NONE, NONE, &[3]], &[], 0, Wanted::Text(FOUND)),
+    Row(RUN, PLACE, [NONE, NONE, &[2]], &[], 4, Wanted::Text(PLACED)),
+    Row(RUN, CUT, [NONE, &[3], NONE], &[], 3, Wanted::Text(FIRST)),
+    Row(RUN, WHOLE, [&[1], NONE, NONE], &[], 3, Wanted::Text("")),
+    Row(LOAD, WHOLE, [NONE, NONE, &[1]], &[], 4, Wanted::Text("")),
+    Row(FIT, PARTS, [NONE, &[2], NONE], &[], 3, Wanted::Text("")),
+    Row(FIT, WHOLE, [NONE, NONE, &[1]], &[], 4, Wanted::Text("")),
+    Row(FIT, WHOLE, [&[1], NONE, &[2]], &[], 0, Wanted::Text(FITTED)),
 ];
 
 #[test]
 fn the_first_fault_ends_a_command(rt: HostRuntime) -> Result<(), Fail> {
-    for (words, pieces, fails, status, written) in &FAULTS {
-        let mut output = MemSink::new(rt.alloc(), 1_000, fails[2].to_vec(rt.alloc())?)?;
-        let why = end_with_faults(&rt, rt.alloc(), words, pieces, fails, &mut output)?;
-        expect(&rt, (words, why.status()), (words, *status));
-        expect(&rt, output.bytes(), written.as_bytes());
-    }
+    expect_all(&rt, rt.alloc(), &FAULTS)?;
     Ok(())
-}
-
-fn end_with_faults<R: Threads + Wait + Sync>(
-    rt: &R,
-    alloc: Global,
-    words: &[&str],
-    pieces: &[&[u8]],
-    fails: &[&[u64]; 3],
-    output: &mut MemSink,
-) -> Result<Why, Fail> {
-    let mut config = source_of(alloc, &[], fails[0])?;
-    let mut input = source_of(alloc, pieces, fails[1])?;
-    let gates: Vec<MemGate> = Vec::new(alloc);
-    Ok(funnel_main(rt, alloc, words, &mut config, &mut input, output, gates).why)
 }
 
 // An input of 2^40 bytes would have to be read for it.

@@ -1,38 +1,67 @@
 //! What a fit reads and writes.
-use crate::setting::{end_of, expect};
-use funnel_io::{MemGate, MemSink};
+use crate::endings::Wanted;
+use crate::rows::{Row, expect_all};
+use crate::setting::SOUND;
 use std::test::Fail;
 
 /// Bytes that are no configuration: a fit reads none.
 const NO_CONFIG: &[u8] = b"{";
 
-/// The words, the lines, the status, and what is written.
-static FITS: [(&[&str], &[u8], u8, &str); 5] = [
-    (
+static FITS: [Row; 5] = [
+    Row(
         &["fit", "--documents", "100"],
-        b"add 1 The cat\nadd 1 the dog, the\nfind x\nadd x y\nadd 3\r\ndel 1\nadd 4 dog",
+        (
+            NO_CONFIG,
+            (
+                b"add 1 The cat\nadd 1 the dog, the\nfind x\nadd x y\nadd 3\r\ndel 1\nadd 4 dog",
+                1_000,
+            ),
+        ),
+        SOUND,
+        &[],
         0,
-        "{\"documents\":4,\"max_rank\":0,\"passes\":64,\"reserve\":64,\"slices\":3,\"tail\":1,\"words\":{\"cat\":1,\"dog\":2,\"the\":2}}\n",
+        Wanted::Text(
+            "{\"documents\":4,\"max_rank\":0,\"passes\":64,\"reserve\":64,\"slices\":3,\"tail\":1,\"words\":{\"cat\":1,\"dog\":2,\"the\":2}}\n",
+        ),
     ),
-    (
+    Row(
         &["fit", "--documents=+20000"],
-        b"add 1 cat\n",
+        (NO_CONFIG, (b"add 1 cat\n", 1_000)),
+        SOUND,
+        &[],
         0,
-        "{\"documents\":1,\"max_rank\":4,\"passes\":64,\"reserve\":1024,\"slices\":22,\"tail\":1,\"words\":{\"cat\":1}}\n",
+        Wanted::Text(
+            "{\"documents\":1,\"max_rank\":4,\"passes\":64,\"reserve\":1024,\"slices\":22,\"tail\":1,\"words\":{\"cat\":1}}\n",
+        ),
     ),
-    (&["fit", "--documents=1"], b"", 8, ""),
-    (&["fit", "--documents=1"], b"find x\nadd\n", 8, ""),
-    (&["fit", "--documents=4194304"], b"add 1 cat\n", 8, ""),
+    Row(
+        &["fit", "--documents=1"],
+        (NO_CONFIG, (b"", 1_000)),
+        SOUND,
+        &[],
+        8,
+        Wanted::Text(""),
+    ),
+    Row(
+        &["fit", "--documents=1"],
+        (NO_CONFIG, (b"find x\nadd\n", 1_000)),
+        SOUND,
+        &[],
+        8,
+        Wanted::Text(""),
+    ),
+    Row(
+        &["fit", "--documents=4194304"],
+        (NO_CONFIG, (b"add 1 cat\n", 1_000)),
+        SOUND,
+        &[],
+        8,
+        Wanted::Text(""),
+    ),
 ];
 
 #[test]
 fn a_configuration_is_fitted_to_the_add_lines(rt: HostRuntime) -> Result<(), Fail> {
-    for (words, lines, status, written) in &FITS {
-        let mut output = MemSink::new(rt.alloc(), 1_000, Vec::new(rt.alloc()))?;
-        let gates: Vec<MemGate> = Vec::new(rt.alloc());
-        let ended = end_of(&rt, rt.alloc(), words, NO_CONFIG, lines, &mut output, gates)?;
-        expect(&rt, (words, ended.status()), (words, *status));
-        expect(&rt, output.bytes(), written.as_bytes());
-    }
+    expect_all(&rt, rt.alloc(), &FITS)?;
     Ok(())
 }

@@ -8,13 +8,19 @@ mod closed;
 #[cfg(test)]
 mod commands;
 #[cfg(test)]
+mod endings;
+#[cfg(test)]
 mod faults;
 #[cfg(test)]
 mod fits;
 #[cfg(test)]
+mod gates;
+#[cfg(test)]
 mod meetings;
 #[cfg(test)]
 mod requests;
+#[cfg(test)]
+mod rows;
 #[cfg(test)]
 mod serving;
 #[cfg(test)]

@@ -1,11 +1,13 @@
 //! Connections of a serve that wait for each other.
-use crate::setting::{UNREAD, end_of, expect, source_of};
+use crate::setting::{
+    NONE, Pieces, SOUND, Streams, UNREAD, end_of, expect, sink_of, source_of, streams_of,
+};
 use funnel_io::{
-    Borrower, Connection, End, Gate, Got, MemSink, MemSource, Next, Opening, Put, Sink, Source,
+    Borrower, Connection, End, Gate, Got, MemSink, MemSource, Memory, Next, Opening, Put, Sink,
+    Source,
 };
 use std::alloc::Global;
 use std::marker::Model;
-use std::process::Abort;
 use std::sync::Wait;
 use std::sync::atomic::{AtomicBool, Ordering};
 use std::test::Fail;
@@ -141,14 +143,16 @@ impl<'a> Gate for MeetingGate<'a> {
 
 fn meeting_gate<'a>(
     alloc: Global,
-    pieces: &[&[u8]],
+    pieces: Pieces,
     waits_at: u64,
     replied: &'a AtomicBool,
     awaited: &'a AtomicBool,
-) -> Result<MeetingGate<'a>, Fail> {
+) -> Result<MeetingGate<'a>, Memory> {
+    let source = source_of(alloc, pieces, NONE)?;
+    let sink = sink_of(alloc, 100, NONE)?;
     let conn = Meeting {
-        source: source_of(alloc, pieces, &[])?,
-        sink: MemSink::new(alloc, 100, Vec::new(alloc))?,
+        source,
+        sink,
         faults: 0,
         write_faults: 0,
         reads: 0,
@@ -162,40 +166,62 @@ fn meeting_gate<'a>(
     })
 }
 
-fn expect_served<R: Abort>(rt: &R, gate: &MeetingGate, replies: &[u8]) -> Result<(), Fail> {
-    let Some((conn, end)) = &gate.served else {
-        return Err(Fail::new("a served connection"));
-    };
-    expect(rt, *end, End::Done);
-    expect(rt, conn.sink.bytes(), replies);
-    Ok(())
+// Gates of two connections, each of which waits for a reply of the other.
+fn meeting_gates<'a>(
+    alloc: Global,
+    first: &'a AtomicBool,
+    second: &'a AtomicBool,
+) -> Result<Vec<MeetingGate<'a>>, Memory> {
+    let mut gates = Vec::new(alloc);
+    gates.push(meeting_gate(alloc, (b"add 1 a\n", 8), 1, first, second)?)?;
+    gates.push(meeting_gate(alloc, (b"add 2 b\nplace\n", 8), 2, second, first)?)?;
+    Ok(gates)
 }
 
-// Serves two connections, each of which waits for a reply of the other.
-fn meet<R: Threads + Wait + Abort + Sync>(
+// Whether the connection was served, and got these replies.
+fn is_served(gate: &MeetingGate, replies: &[u8]) -> bool {
+    match &gate.served {
+        Some((conn, end)) => *end == End::Done && conn.sink.bytes() == replies,
+        None => false,
+    }
+}
+
+fn are_served(gates: &[MeetingGate]) -> bool {
+    match gates {
+        [one, two] => is_served(one, b"added 2\n") && is_served(two, b"added 1\nplace 2\n"),
+        _ => false,
+    }
+}
+
+const WORDS: &[&str] = &["serve", "--port", "7000", "--workers", "2"];
+
+fn serve_gates<R: Threads + Wait + Sync>(
+    rt: &R,
+    alloc: Global,
+    streams: &mut Streams,
+    gates: Vec<MeetingGate>,
+) -> (u8, bool) {
+    let ended = end_of(rt, alloc, WORDS, streams, gates);
+    (ended.status(), are_served(&ended.gates))
+}
+
+// The status of a serve of both, and whether they were served.
+fn meet<R: Threads + Wait + Sync>(
     rt: &R,
     alloc: Global,
     first: &AtomicBool,
     second: &AtomicBool,
-) -> Result<(), Fail> {
-    let mut gates = Vec::new(alloc);
-    gates.push(meeting_gate(alloc, &[b"add 1 a\n"], 1, first, second)?)?;
-    let pieces: [&[u8]; 2] = [b"add 2 b\n", b"place\n"];
-    gates.push(meeting_gate(alloc, &pieces, 2, second, first)?)?;
-    let words = ["serve", "--port", "7000", "--workers", "2"];
-    let mut output = MemSink::new(alloc, 100, Vec::new(alloc))?;
-    let ended = end_of(rt, alloc, &words, b"", UNREAD, &mut output, gates)?;
-    expect(rt, ended.status(), 0);
-    let [one, two] = ended.gates.as_slice() else {
-        return Err(Fail::new("two gates"));
-    };
-    expect_served(rt, one, b"added 2\n")?;
-    expect_served(rt, two, b"added 1\nplace 2\n")
+) -> Result<(u8, bool), Memory> {
+    let mut streams = streams_of(alloc, (b"", UNREAD), SOUND)?;
+    let gates = meeting_gates(alloc, first, second)?;
+    Ok(serve_gates(rt, alloc, &mut streams, gates))
 }
 
 #[test]
 fn workers_answer_beside_each_other(rt: HostRuntime) -> Result<(), Fail> {
     let first = AtomicBool::new(false);
     let second = AtomicBool::new(false);
-    meet(&rt, rt.alloc(), &first, &second)
+    let met = meet(&rt, rt.alloc(), &first, &second)?;
+    expect(&rt, met, (0, true));
+    Ok(())
 }

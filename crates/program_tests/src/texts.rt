@@ -1,10 +1,10 @@
 //! What the program tells of itself.
 use crate::setting::expect;
 use funnel::{
-    Command, HELP, MOST_CONNECTIONS, MOST_FITTED, MOST_IDLE, MOST_PORT, VERSION, Why, read_command,
-    tell_asked, text_asked,
+    Command, HELP, LoadCommand, MOST_CONNECTIONS, MOST_FITTED, MOST_IDLE, MOST_PORT, ServeCommand,
+    VERSION, read_command, tell_asked, text_asked,
 };
-use funnel_io::MemSink;
+use funnel_io::{MemSink, Memory};
 use funnel_model::MOST_PASSES;
 use funnel_stats::{KEYS, Key};
 use load_gen::{MOST_DOCS, MOST_WORDS};
@@ -46,106 +46,62 @@ fn help_tells_the_numbers_of_each_key(rt: HostRuntime) -> Result<(), Fail> {
     Ok(())
 }
 
-/// Expects the help to tell the greatest number of an option, and its default where it has one.
-fn expect_number<R: Abort>(
-    rt: &R,
-    alloc: Global,
-    start: &str,
-    most: u64,
-    default: Option<u64>,
-) -> Result<(), Fail> {
-    let line = match default {
-        Some(default) => format!(in alloc; "{start}{most}, default {default}: ")?,
-        None => format!(in alloc; "{start}{most}: ")?,
-    };
-    expect_told(rt, line.as_str());
+/// How the line of an option begins, its greatest number, and its default where it has one.
+type Number = (&'static str, u64, Option<u64>);
+
+/// Expects the help to tell the numbers of each option.
+fn expect_numbers<R: Abort>(rt: &R, alloc: Global, numbers: &[Number]) -> Result<(), AllocError> {
+    for (start, most, default) in numbers {
+        let line = match default {
+            Some(default) => format!(in alloc; "{start}{most}, default {default}: ")?,
+            None => format!(in alloc; "{start}{most}: ")?,
+        };
+        expect_told(rt, line.as_str());
+    }
     Ok(())
 }
 
-fn expect_serve<R: Abort>(rt: &R, alloc: Global) -> Result<(), Fail> {
-    let Ok(Command::Serve(serve)) = read_command(alloc, &["serve", "--port", "1", "--workers", "1"])
-    else {
-        return Err(Fail::new("no serve"));
-    };
-    let connections = Some(serve.connections);
-    let idle = Some(u64::from(serve.idle));
-    expect_number(
-        rt,
-        alloc,
-        "--port P         1 to ",
-        u64::from(MOST_PORT),
-        None,
-    )?;
-    expect_number(
-        rt,
-        alloc,
-        "--workers W      1 to ",
-        u64::from(MOST_PASSES),
-        None,
-    )?;
-    expect_number(
-        rt,
-        alloc,
-        "--connections C  1 to ",
-        MOST_CONNECTIONS,
-        connections,
-    )?;
-    expect_number(
-        rt,
-        alloc,
-        "--idle S         0 to ",
-        u64::from(MOST_IDLE),
-        idle,
-    )
+/// A serve with what is meant where no numbers are given.
+fn least_serve(alloc: Global) -> Result<ServeCommand, Fail> {
+    match read_command(alloc, &["serve", "--port", "1", "--workers", "1"]) {
+        Ok(Command::Serve(serve)) => Ok(serve),
+        _ => Err(Fail::new("no serve")),
+    }
 }
 
-fn expect_load<R: Abort>(rt: &R, alloc: Global) -> Result<(), Fail> {
-    let Ok(Command::Load(load)) = read_command(alloc, &["load", "--docs", "1"]) else {
-        return Err(Fail::new("no load"));
-    };
+/// So a load.
+fn least_load(alloc: Global) -> Result<LoadCommand, Fail> {
+    match read_command(alloc, &["load", "--docs", "1"]) {
+        Ok(Command::Load(load)) => Ok(load),
+        _ => Err(Fail::new("no load")),
+    }
+}
+
+/// The numbers of each option, where these are meant by default.
+fn numbers(serve: ServeCommand, load: LoadCommand) -> [Number; 9] {
+    let connections = Some(serve.connections);
+    let idle = Some(u64::from(serve.idle));
     let workers = Some(u64::from(load.workers));
     let words = Some(u64::from(load.words));
-    expect_number(
-        rt,
-        alloc,
-        "--docs D         1 to ",
-        u64::from(MOST_DOCS),
-        None,
-    )?;
-    expect_number(
-        rt,
-        alloc,
-        "--workers W      1 to ",
-        u64::from(MOST_PASSES),
-        workers,
-    )?;
-    expect_number(
-        rt,
-        alloc,
-        "--words L        0 to ",
-        u64::from(MOST_WORDS),
-        words,
-    )?;
-    expect_number(
-        rt,
-        alloc,
-        "--seed X         0 to ",
-        u64::MAX,
-        Some(load.seed),
-    )
+    [
+        ("--port P         1 to ", u64::from(MOST_PORT), None),
+        ("--workers W      1 to ", u64::from(MOST_PASSES), None),
+        ("--connections C  1 to ", MOST_CONNECTIONS, connections),
+        ("--idle S         0 to ", u64::from(MOST_IDLE), idle),
+        ("--docs D         1 to ", u64::from(MOST_DOCS), None),
+        ("--workers W      1 to ", u64::from(MOST_PASSES), workers),
+        ("--words L        0 to ", u64::from(MOST_WORDS), words),
+        ("--seed X         0 to ", u64::MAX, Some(load.seed)),
+        ("--documents N    1 to ", u64::from(MOST_FITTED), None),
+    ]
 }
 
 #[test]
 fn help_tells_the_numbers_of_each_option(rt: HostRuntime) -> Result<(), Fail> {
-    expect_serve(&rt, rt.alloc())?;
-    expect_load(&rt, rt.alloc())?;
-    expect_number(
-        &rt,
-        rt.alloc(),
-        "--documents N    1 to ",
-        u64::from(MOST_FITTED),
-        None,
-    )
+    let serve = least_serve(rt.alloc())?;
+    let load = least_load(rt.alloc())?;
+    expect_numbers(&rt, rt.alloc(), &numbers(serve, load))?;
+    Ok(())
 }
 
 /// Words alone, and the text that they ask for.
@@ -157,22 +113,32 @@ static ASKED: [(&str, &str); 5] = [
     ("-V", VERSION),
 ];
 
+fn status_of(word: &str, output: &mut MemSink) -> Option<u8> {
+    match tell_asked(&[word], output) {
+        Some(why) => Some(why.status()),
+        None => None,
+    }
+}
+
+/// The status of a program that is asked for a text by the word, and whether it writes this text within so much room.
+fn told(alloc: Global, word: &str, room: usize, text: &str) -> Result<(Option<u8>, bool), Memory> {
+    let mut output = MemSink::new(alloc, room, Vec::new(alloc))?;
+    let status = status_of(word, &mut output);
+    Ok((status, output.bytes() == text.as_bytes()))
+}
+
+fn expect_text<R: Abort>(rt: &R, alloc: Global, word: &str, text: &str) -> Result<(), Memory> {
+    let whole = told(alloc, word, 4_000, text)?;
+    expect(rt, (word, whole), (word, (Some(0), true)));
+    let cut = told(alloc, word, 4, text)?;
+    expect(rt, (word, cut), (word, (Some(4), false)));
+    Ok(())
+}
+
 #[test]
 fn a_text_that_is_asked_for_is_told(rt: HostRuntime) -> Result<(), Fail> {
-    let alloc = rt.alloc();
     for (word, text) in &ASKED {
-        let mut output = MemSink::new(alloc, 4_000, Vec::new(alloc))?;
-        assert!(rt;
-            matches!(tell_asked(&[*word], &mut output), Some(Why::Done)),
-            "{word}"
-        );
-        expect(&rt, output.bytes(), text.as_bytes());
-        assert!(rt;
-            matches!(
-                tell_asked(&[*word], &mut MemSink::new(alloc, 4, Vec::new(alloc))?),
-                Some(Why::WriteFault)
-            )
-        );
+        expect_text(&rt, rt.alloc(), word, text)?;
     }
     Ok(())
 }

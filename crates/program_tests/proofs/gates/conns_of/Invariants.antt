@@ -1,6 +1,6 @@
 use Rattle.std.specs.List.{All}
 use Rattle.funnel_io.specs.MemGates.{IsUnused}
-use Rattle.program_tests.proofs.serving.gate_of.Given as goal
+use Rattle.program_tests.proofs.gates.conns_of.Given as goal
 
 -- the connections so far are unused
 abbrev pub invariant-loop-conn : goal.invariant-loop-conn
