@@ -7,31 +7,30 @@ import sys
 
 PROGRAM = sys.argv[1]
 WORDS = ["run", *["x"] * 100000]
-STEP = 1 << 18
+STEP, MOST = 1 << 18, 1 << 28
+UNLOADED = 127  # the status that the loader gives
 
 
 def ended(words, most):
-    """What the program said where the system gives it so many bytes, and its status; None where it could not be started."""
+    """What the program said where the system gives it so many bytes, and its status; None where the system didn't load it, or ended it."""
     def limit():
         resource.setrlimit(resource.RLIMIT_AS, (most, most))
     try:
         run = subprocess.run([PROGRAM, *words], preexec_fn=limit, stdin=subprocess.DEVNULL, capture_output=True, text=True)
     except OSError:
         return None
-    return f"{run.stderr.splitlines()[0] if run.stderr else ''} status {run.returncode}"
+    return None if run.returncode < 0 or run.returncode == UNLOADED else f"{run.stderr.partition(chr(10))[0]} status {run.returncode}"
 
 
 def main():
-    most, plain = STEP, "funnel: usage status 1"
-    while ended(["x"], most) != plain:
-        most += STEP
-    ends = []
-    while ends[-1:] != [plain]:
+    usage, ends = "funnel: usage status 1", [None]
+    for most in range(STEP, MOST, STEP):
         end = ended(WORDS, most)
-        if end not in ends[-1:]:
+        if end != ends[-1]:
             ends.append(end)
-        most += STEP
-    print("\n".join(ends))
+        if end == usage:
+            break
+    print("\n".join(map(str, ends[1:])))
 
 
 main()
