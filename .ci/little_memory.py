@@ -1,5 +1,5 @@
 """Runs the program with so many words that it has to take memory for them, by more and more memory: little_memory.py PROGRAM.
-Prints how it ended, each end once, in the order in which they came."""
+Prints each end that is another than the one before, from the first that the program told itself."""
 
 import resource
 import subprocess
@@ -17,7 +17,7 @@ def ended(words, most):
         resource.setrlimit(resource.RLIMIT_AS, (most, most))
     try:
         run = subprocess.run([PROGRAM, *words], preexec_fn=limit, stdin=subprocess.DEVNULL, capture_output=True, text=True)
-    except OSError:
+    except (OSError, subprocess.SubprocessError):
         return None
     return None if run.returncode < 0 or run.returncode == UNLOADED else f"{run.stderr.partition(chr(10))[0]} status {run.returncode}"
 

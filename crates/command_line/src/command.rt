@@ -151,7 +151,7 @@ pub(crate) fn funnel_app<'a>(alloc: Global) -> Result<clap::Command<'a>, AllocEr
         .subcommands(subcommands)
 }
 
-// Each is handed on as it was made, so that no other one has to be let go where a later one can't be made.
+// Each goes into the list as soon as it is made, so that this function holds no other one where a later one can't be made.
 fn subcommands<'a>(alloc: Global) -> Result<Vec<clap::Command<'a>>, AllocError>
     ensures { IfOk result (λ all. AreSubcommands all.items (run_form ∷ serve_form ∷ load_form ∷ fit_form ∷ [])) }
 {

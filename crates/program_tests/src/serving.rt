@@ -103,6 +103,7 @@ fn a_fault_ends_a_worker_or_a_session_alone(rt: HostRuntime) -> Result<(), Fail>
 
 const MANY: usize = 4_200;
 
+/// Its gate is made by `many_connections`.
 static MANY_CONNECTIONS: Row = Row(
     ONE,
     (b"", UNREAD),

@@ -113,17 +113,18 @@ static ASKED: [(&str, &str); 5] = [
     ("-V", VERSION),
 ];
 
-fn status_of(word: &str, output: &mut MemSink) -> Option<u8> {
+/// The status of a program that is asked for a text by the word, if it is.
+fn status_told(word: &str, output: &mut MemSink) -> Option<u8> {
     match tell_asked(&[word], output) {
         Some(why) => Some(why.status()),
         None => None,
     }
 }
 
-/// The status of a program that is asked for a text by the word, and whether it writes this text within so much room.
+/// This status, and whether the program writes this text within so much room.
 fn told(alloc: Global, word: &str, room: usize, text: &str) -> Result<(Option<u8>, bool), Memory> {
     let mut output = MemSink::new(alloc, room, Vec::new(alloc))?;
-    let status = status_of(word, &mut output);
+    let status = status_told(word, &mut output);
     Ok((status, output.bytes() == text.as_bytes()))
 }
 

@@ -25,7 +25,7 @@ pub trait Rows {
     // How many words were read, up to the last value of the counter.
     ghost reads: { Self → ℕ };
 
-    // One read of this word, which gave this value, made the second of the first.
+    // What else the words tell of a read: that one read of this word, which gave this value, leads from one state to the next.
     ghost is_read: { Self → ℕ → ℕ → Self → Type 0 };
 
     /// Reads a word.
