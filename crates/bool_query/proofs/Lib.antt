@@ -1,3 +1,4 @@
+pub mod Cuts
 pub mod FaultLemmas
 pub mod Lexing
 pub mod Progress

@@ -35,8 +35,10 @@ pub mod ReadingSound
 pub mod RecycleFacts
 pub mod ReplyLemmas
 pub mod ReserveLemmas
+pub mod RequiredLemmas
 pub mod Retirement
 pub mod Searches
+pub mod SearchLemmas
 pub mod RowWords
 pub mod SeenColumns
 pub mod SetBits

@@ -40,7 +40,7 @@ has-same xs ys same word =
     (λ has. (Contains-has word xs).0 ((same word).1 ((Contains-has word ys).1 has)))
 
 -- a test that holds of each word of the list holds of all
-list_all-from_each : (test : List ℕ → Bool) (xs : List (List ℕ))
+pub list_all-from_each : (test : List ℕ → Bool) (xs : List (List ℕ))
     → ((word : List ℕ) → list_any (bytes_eq word) xs ≡ true → test word ≡ true) → list_all test xs ≡ true
 list_all-from_each test [] each = refl
 list_all-from_each test (x ∷ xs) each =

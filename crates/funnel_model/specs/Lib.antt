@@ -12,9 +12,11 @@ pub mod Queries
 pub mod Readings
 pub mod Reserve
 pub mod ReserveExample
+pub mod Required
 pub mod RowWords
 pub mod Sizes
 pub mod SliceSets
+pub mod Searches
 pub mod Slices
 pub mod Steps
 pub mod Tokens
@@ -23,4 +25,5 @@ pub mod TreatmentLaws
 pub mod TuneExample
 pub mod Tunings
 pub mod Words
+pub mod WordExprs
 pub mod WordSets

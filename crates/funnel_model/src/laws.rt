@@ -18,6 +18,7 @@ pub mod moves;
 pub mod queries;
 pub mod replies;
 pub mod reserve;
+pub mod searches;
 pub mod tunings;
 
 /// A history is legal exactly where each of its events is allowed after those before it.

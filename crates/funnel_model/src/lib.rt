@@ -21,6 +21,7 @@ mod reply;
 mod slice_set;
 mod text;
 pub mod treatment_laws;
+mod word_expr;
 mod word_set;
 
 pub use bit_list::{Bit, BitList};
@@ -44,4 +45,5 @@ pub use memory::Memory;
 pub use reply::Reply;
 pub use slice_set::SliceSet;
 pub use text::Text;
+pub use word_expr::WordExpr;
 pub use word_set::{WordSet, Words};

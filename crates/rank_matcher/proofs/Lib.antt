@@ -1,3 +1,6 @@
+pub mod Entries
+pub mod RowReads
+pub mod SearchReads
 pub mod Bits
 pub mod Blocks
 pub mod SetBits

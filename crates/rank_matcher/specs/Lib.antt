@@ -4,4 +4,5 @@ pub mod Appended
 pub mod SliceScans
 pub mod SetBits
 pub mod Walk
+pub mod Evaluation
 pub mod Laws

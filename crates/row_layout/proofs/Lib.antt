@@ -9,6 +9,7 @@ pub mod Ranked
 pub mod Owners
 pub mod SoundHistories
 pub mod SetBits
+pub mod ReadSearches
 pub mod Standing
 pub mod OneList
 pub mod InOrder

@@ -6,6 +6,7 @@ use Rattle.funnel_model.specs.Events.{bits_on, clears}
 use Rattle.funnel_model.specs.History.{Document}
 use Rattle.funnel_model.specs.Legal.{Limits, IsAllowed, IsLegal}
 use Rattle.funnel_model.specs.RowWords.{IsSetIn}
+use Rattle.funnel_model.specs.Searches.{Search, AreAlike, is_kept, may, sure}
 use Rattle.funnel_model.specs.Slices.{IsLiveOn, IsPutOn}
 use Rattle.funnel_model.specs.Tunings.{treat}
 use Rattle.funnel_model.specs.Words.{words, meets}
@@ -14,6 +15,7 @@ use Rattle.funnel_model.specs.declared.config.Config.{Config}
 use Rattle.funnel_model.specs.declared.event.Event.{Event}
 use Rattle.funnel_model.specs.declared.event.Event.TheVariants as event
 use Rattle.funnel_model.specs.Sizes.{columns_of_slice, words_of_slice}
+use Rattle.row_layout.specs.AtomReads.{AtomRead, WasReadAfter, is_known, is_ruled_out}
 use Rattle.row_layout.specs.DocumentBits.{AreDocumentBitsIn, IsDocumentBitIn, bit_of_row}
 use Rattle.row_layout.specs.Owners.{IsOfExactWord, KeepToOwners, Owns, OwnsIn, is_exact}
 use Rattle.row_layout.specs.Rows.{IsPrivateRow, IsRowOf, rows_of_word}
@@ -146,3 +148,15 @@ TakenColumnsOwnNoSetBits =
     (limits : Limits) (opening : Config) (history : List Event) (pool : List ℕ) (pass slice column : ℕ) (bit : Bit) → IsLegal limits history
     → KeepToOwners limits opening history (IsSetIn pool) → IsAllowed limits history (event.Take pass slice column) → IsSetIn pool bit
     → Owns limits opening history slice column bit → ⊥
+
+-- In a sound history of such an engine: where a document was live on a column as a find began, and the find read the atoms of a search
+-- there, a search that keeps the document's text may, and one that is sure keeps it.
+abbrev pub ReadSearchesTellTexts : Type 0
+ReadSearchesTellTexts =
+    (limits : Limits) (opening : Config) (history : List Event) (slice column : ℕ) (document : Document) (since : ℕ)
+    (search : Search (List (List ℕ))) (read : Search AtomRead) → IsLegal limits history → IsSound opening history
+    → limits.slice_words ≡ words_of_slice opening → IsInRange (treat opening slice history) → column < limits.columns
+    → column < columns_of_slice (treat opening slice history) → words_of_slice (treat opening slice history) ≤ words_of_slice opening
+    → IsLiveOn history slice column document since → AreAlike (WasReadAfter limits opening history slice column) search read
+    → (is_kept search document.text ≡ true → may is_ruled_out is_known read ≡ true)
+    × (sure is_ruled_out is_known read ≡ true → is_kept search document.text ≡ true)

@@ -2,7 +2,9 @@ pub mod Rows
 pub mod Orders
 pub mod Owners
 pub mod DocumentBits
+pub mod SearchPlans
 pub mod Sound
 pub mod WordTables
+pub mod AtomReads
 pub mod Layouts
 pub mod Laws

@@ -6,7 +6,7 @@ ghost use Rattle.funnel_model.specs.declared.bit_list.Bit.{Bit};
 ghost use Rattle.funnel_model.specs.declared.config.Config.{Config};
 ghost use Rattle.funnel_model.specs.declared.event.Event.{Event};
 ghost use Rattle.funnel_model.specs.declared.event.Event.TheVariants as event;
-ghost use Rattle.row_layout.specs.Laws.{BitsHaveOneOwner, DocumentsHaveBitsOfParts, DocumentsHaveOneListOfBits, DocumentsKeepTheirBits, EachRowHasItsBit, ExactWordsHaveOwnedBits, OwnedBitsTellWords, OwnedBitsTellWordsOfDocuments, PrivateRowsHaveOwnedBits, RowsKeepToTheirColumn, SetBitsAreOfExactWords, SetBitsAreOfLiveDocuments, SetBitsTellWords, SoundBitsStandAtTheirColumn, TakenColumnsOwnNoSetBits, TextsHaveBitsOfQueries, TreatedBitsHaveOneOwner};
+ghost use Rattle.row_layout.specs.Laws.{BitsHaveOneOwner, DocumentsHaveBitsOfParts, DocumentsHaveOneListOfBits, DocumentsKeepTheirBits, EachRowHasItsBit, ExactWordsHaveOwnedBits, OwnedBitsTellWords, OwnedBitsTellWordsOfDocuments, PrivateRowsHaveOwnedBits, ReadSearchesTellTexts, RowsKeepToTheirColumn, SetBitsAreOfExactWords, SetBitsAreOfLiveDocuments, SetBitsTellWords, SoundBitsStandAtTheirColumn, TakenColumnsOwnNoSetBits, TextsHaveBitsOfQueries, TreatedBitsHaveOneOwner};
 ghost use Rattle.row_layout.specs.Sound.{HasItsBits, IsSound};
 
 /// The bits of a document have one for each of its words and each row of that word.
@@ -64,6 +64,12 @@ pub fn set_bits_tell_words()
     ensures live { SetBitsAreOfLiveDocuments }
     ensures words { SetBitsTellWords }
     ensures taken { TakenColumnsOwnNoSetBits }
+{}
+
+/// What a find read of the atoms of a search, at a column on which a document was live as it began, is right of the document's text: a
+/// search that keeps the text may, and one that is sure keeps it.
+pub fn read_searches_tell_texts()
+    ensures { ReadSearchesTellTexts }
 {}
 
 /// A history is sound event by event: the empty one is, and one more event keeps it so where it has its bits. Its fronts are sound.

@@ -15,6 +15,7 @@ mod listed_rows;
 mod looking_up;
 mod plan;
 mod row;
+mod search_plan;
 mod word_rows;
 mod word_table;
 
@@ -24,8 +25,9 @@ pub use laws::{
     columns_have_the_bits_of_their_events, documents_have_bits_of_parts,
     documents_have_one_list_of_bits, documents_keep_their_bits, each_row_has_its_bit,
     histories_are_sound_event_by_event, owned_bits_have_one_owner, owned_bits_tell_words,
-    set_bits_tell_words,
+    read_searches_tell_texts, set_bits_tell_words,
 };
 pub use layout::Layout;
 pub use plan::Plan;
 pub use row::{MOST_ROWS, Row};
+pub use search_plan::{Node, NodeKind, SearchPlan};
