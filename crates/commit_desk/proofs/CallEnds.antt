@@ -155,6 +155,7 @@ module _ (pool : PoolId) (before after : DeskState) (seat next : PassState) (her
         old_slots work may.3,
         subst (λ (p : PoolId). IsLayoutOf p.config work.job.slice next.front layout) (made.same ∙ here) laid,
       )
+      is_to_do id text (taken.Wait slice) may nothing made = rests_none idle made
       is_to_do id text (taken.Refused (add.Spent events)) may nothing made = rests_none idle made
       is_to_do id text (taken.Refused (add.Present added)) may nothing made = rests_one (event.No seat.number (call.Add id text)) refl refl made
       is_to_do id text (taken.Refused (add.Full blocks)) may nothing made = rests_one (event.No seat.number (call.Add id text)) refl refl made

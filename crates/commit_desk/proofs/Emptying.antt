@@ -1,8 +1,8 @@
 -- How many columns are spare, ready and held, by what is kept of the slices.
-use Rattle.std.proofs.Common.{◌≡◌, ⊎_elim, inl, inr, ℕ, zero, suc, ◌+◌, ◌-◌, ◌<◌, ◌≤◌, Bool, true, false, not, cond, List, [], ◌∷◌, length, get_or, take, map, count_by, Option, Some, None, sym, refl, ap, ◌∙◌, subst, add-one, ltb-false, ltb-true, arith}
-use Rattle.std.proofs.lemmas.Bool.{both_ways, cases_lt, false_from_ne_true, false≢true}
+use Rattle.std.proofs.Common.{◌≡◌, ⊎_elim, inl, inr, ℕ, zero, suc, ◌+◌, ◌-◌, ◌<◌, ◌≤◌, Bool, true, false, not, ◌&&◌, cond, List, [], ◌∷◌, length, get_or, take, map, count_by, Option, Some, None, sym, refl, ap, ◌∙◌, subst, add-one, ltb-false, ltb-true, arith}
+use Rattle.std.proofs.lemmas.Bool.{both_ways, cases_lt, false_from_ne_true, false≢true, true_from_ne_false}
 use Rattle.std.proofs.lemmas.Bool.Decides.{leb_tells}
-use Rattle.std.proofs.lemmas.List.{get_or-map, length-map, take_all}
+use Rattle.std.proofs.lemmas.List.{get_or-map, get_or_past, length-map, take_all}
 use Rattle.std.proofs.lemmas.List.Sums.{sum_by-cons, sum_by_more}
 use Rattle.std.specs.List.{list_any, range_with_len, sum, sum_by}
 use Rattle.std.specs.Prelude.{MatchOption, ◌==◌}
@@ -15,11 +15,12 @@ use Rattle.funnel_model.specs.Legal.{IsLegal, Limits}
 use Rattle.funnel_model.specs.Reserve.{CanBeEmptied, HasReadyColumns, HasReadyIn, HasSpareColumns, HasSpareIn, HoldsColumns, IsSource, unclaimed_in}
 use Rattle.funnel_model.specs.Slices.{AllOver, ColumnState, Deleted, Dropped, Live, Pending, Unclaimed, IsFilled, IsInState, IsOver, claimed, is_claimed, is_clearing}
 use Rattle.funnel_model.proofs.Blocks.{by_is_clearing}
+use Rattle.funnel_model.proofs.Claims.{claimed_in_range}
 use Rattle.funnel_model.proofs.ClaimLemmas.{any_in_range, filled_by, none_in_range, unclaimed_next}
 use Rattle.funnel_model.proofs.Columns.{clearing_is_over, one_state, some_state}
 use Rattle.funnel_model.proofs.Ranges.{counted_more, none_counted}
 use Rattle.funnel_model.proofs.ReserveLemmas.{emptied_holds, one_held_count}
-use Rattle.slice_stages.specs.Stages.{StageTable, IsUsed, empty_stage, ready_in, ready_of, spare_in, spare_of, stage_of}
+use Rattle.slice_stages.specs.Stages.{StageTable, IsUsed, empty_stage, held_in, ready_in, ready_of, spare_in, spare_of, stage_of}
 use Rattle.slice_stages.specs.declared.stage.Stage.{Stage}
 use Rattle.slice_stages.specs.declared.stage.Stage.TheVariants as stage
 use Rattle.commit_desk.specs.Kept.{AreStages, AreTokens, IsAtStage, IsNextMark, IsUsedSlice}
@@ -170,6 +171,114 @@ module _ (limits : Limits) (history : List Event) (table : Table) (tokens : List
             let all : count_by is_over (take limits.columns slots) ≡ count_by is_over slots = ap (count_by is_over) (take_all limits.columns slots (omega (arith, long))) in
             omega (arith, both, all);
       }
+
+  -- of the first columns those that are held, those that are over and those that aren't claimed are all
+  held_over_and_others : (slice : ℕ) → slice < limits.slices → is_clearing slice history ≡ false → (n : ℕ) → n ≤ limits.columns →
+      count_by (λ c. is_claimed slice c history && not (is_over (get_or (slots_of table slice) c free_slot))) (range_with_len 0 n)
+      + count_by is_over (take n (slots_of table slice)) + unclaimed_in n slice history ≡ n
+  held_over_and_others slice in' uncleared zero within = omega arith
+  held_over_and_others slice in' uncleared (suc n) within =
+      let slots = slots_of table slice in
+      let long : length slots ≡ limits.columns = length-slots_of table slice (let h = recorded.slices_are in omega arith) recorded.size ∙ recorded.columns_are in
+      let before = held_over_and_others slice in' uncleared n (omega (arith, within)) in
+      let held = counted_more (λ c. is_claimed slice c history && not (is_over (get_or slots c free_slot))) n in
+      let others = counted_more (λ c. not (is_claimed slice c history)) n in
+      let over : count_by is_over (take (suc n) slots) ≡ count_by is_over (take n slots) + cond (is_over (get_or slots n free_slot)) 1 0 =
+      ap (λ k. count_by is_over (take k slots)) (sym (add-one n)) ∙ sum_by_more (λ x. cond (is_over x) 1 0) slots n free_slot (omega (arith, long, within)) in
+      let one = one_of (is_claimed slice n history) (is_over (get_or slots n free_slot)) (unclaimed_not_over n (omega (arith, within))) in
+      omega (arith, before, held, others, over, one) where
+        one_of : (claims over : Bool) → (claims ≡ false → over ≡ false) → cond {A = ℕ} (claims && not over) 1 0 + cond {A = ℕ} over 1 0 + cond {A = ℕ} (not claims) 1 0 ≡ 1
+        one_of true true none = refl
+        one_of true false none = refl
+        one_of false true none = let h = none refl in cc
+        one_of false false none = refl
+
+        unclaimed_not_over : (c : ℕ) → c < limits.columns → is_claimed slice c history ≡ false → is_over (get_or (slots_of table slice) c free_slot) ≡ false
+        unclaimed_not_over c below is =
+            let at' = in_table limits history table legal recorded slice c in' below in
+            let at : IsColumn table slice c = record { slice_in_range = at'.slice_in_range; column_in_range = at'.column_in_range } in
+            ap is_over (sym (slot_at-slots_of table slice c at.column_in_range))
+            ∙ not_over_by_state limits history table legal recorded slice c at uncleared Unclaimed (state_is limits history table legal recorded slice c Unclaimed in' below uncleared is) (λ over. over)
+
+  -- a column that is held is claimed
+  held_is_claimed : (slice column : ℕ) (x : ColumnState) → IsInState history slice column x → IsHeld x → is_claimed slice column history ≡ true
+  held_is_claimed slice column x is held =
+      true_from_ne_false (is_claimed slice column history) (λ unclaimed. subst IsHeld (one_state limits history slice column x Unclaimed legal is unclaimed) held)
+
+  -- in a slice in use those columns are held that are claimed and not over
+  holds_claimed : (slice first over : ℕ) → slice < limits.slices → IsUsedSlice limits.columns history table slice first over → HoldsColumns limits.columns history slice (first - over)
+  holds_claimed slice first over in' used =
+      let slots = slots_of table slice in
+      let uncleared = used.not_clearing in
+      let long : length slots ≡ limits.columns = length-slots_of table slice (let h = recorded.slices_are in omega arith) recorded.size ∙ recorded.columns_are in
+      record {
+        is_held = λ column. is_claimed slice column history && not (is_over (get_or slots column free_slot));
+        tells = λ column below.
+            let at' = in_table limits history table legal recorded slice column in' below in
+            let at : IsColumn table slice column = record { slice_in_range = at'.slice_in_range; column_in_range = at'.column_in_range } in
+            let is = recorded.each slice column at' uncleared in
+            let same : is_over (slot_at table slice column) ≡ is_over (get_or slots column free_slot) = ap is_over (slot_at-slots_of table slice column at.column_in_range) in
+            let x = state_of (slot_at table slice column) in (
+              λ free.
+                  let two = both_true (is_claimed slice column history) (not (is_over (get_or slots column free_slot))) free in (
+                    x,
+                    is.state,
+                    held_state slice column x is.state two.0
+                        (λ over'. both_ways (is_over (get_or slots column free_slot)) (not_false (is_over (get_or slots column free_slot)) two.1)
+                        (sym same ∙ column_by_over (slot_at table slice column) is.fits over')),
+                  ),
+              λ held.
+                  let state = state_is limits history table legal recorded slice column held.0 in' below uncleared held.1 in
+                  true_both (is_claimed slice column history) (not (is_over (get_or slots column free_slot)))
+                  (held_is_claimed slice column held.0 held.1 held.2)
+                  (ap not (sym same ∙ not_over_by_state limits history table legal recorded slice column at uncleared held.0 state (held_not_over held.0 held.2))),
+            );
+        count =
+            let all = held_over_and_others slice in' uncleared limits.columns (omega arith) in
+            let past = unclaimed_past slice first history used.claims limits.columns in
+            let whole : count_by is_over (take limits.columns slots) ≡ count_by is_over slots = ap (count_by is_over) (take_all limits.columns slots (omega (arith, long))) in
+            let within = used.within in
+            let counts = used.count in
+            omega (arith, all, past, whole, within, counts);
+      } where
+        both_true : (a b : Bool) → a && b ≡ true → (a ≡ true) × (b ≡ true)
+        both_true true true is = (refl, refl)
+        both_true true false is = cc
+        both_true false b is = cc
+
+        true_both : (a b : Bool) → a ≡ true → b ≡ true → a && b ≡ true
+        true_both true true one two = refl
+        true_both true false one two = cc
+        true_both false b one two = cc
+
+  -- none is held where none can be
+  none_held_in : (slice : ℕ) → ((column : ℕ) → column < limits.columns → (x : ColumnState) → IsInState history slice column x → IsHeld x → ⊥) → HoldsColumns limits.columns history slice 0
+  none_held_in slice none = record {
+    is_held = λ column. false;
+    tells = λ column below. (λ no. absurd (both_ways false refl no), λ held. absurd (none column below held.0 held.1 held.2));
+    count = sym (none_counted (λ column. false) limits.columns (λ k below. refl));
+  }
+
+  -- so many columns of a slice are held, as its stage tells; and of no slice none is
+  pub held_kept : (slice : ℕ) → HoldsColumns limits.columns history slice (held_in (stage_of stages slice))
+  held_kept slice = ⊎_elim
+      (λ (in' : slice < limits.slices). by_stage in' (stage_of stages slice) (at_stage slice in'))
+      (λ (out : limits.slices ≤ slice).
+      let past : stage_of stages slice ≡ empty_stage = get_or_past stages.stages slice empty_stage (let c = staged.count in omega (arith, c, out)) in
+      subst (λ (s : Stage). HoldsColumns limits.columns history slice (held_in s)) (sym past)
+      (none_held_in slice (λ column below x is held. let one = claimed_in_range limits history slice column legal (held_is_claimed slice column x is held) in let low = one.0 in omega (arith, low, out))))
+      (cases_lt slice limits.slices) where
+        by_over : AllOver limits.columns slice history → HoldsColumns limits.columns history slice 0
+        by_over over = none_held_in slice (λ column below x is held.
+            let was = over column below in
+            held_not_over x held (subst IsOver (one_state limits history slice column was.0 x legal was.1 is) was.2))
+
+        by_stage : slice < limits.slices → (s : Stage) → IsAtStage limits.columns history table slice s → HoldsColumns limits.columns history slice (held_in s)
+        by_stage in' (stage.InUse first over) at = holds_claimed slice first over in' at
+        by_stage in' (stage.Retired number) at = by_over (retired_since limits.columns slice number history at).over
+        by_stage in' (stage.Clearing pass) at = by_over (λ column below.
+            let state = some_state limits history slice column legal in
+            (state.0, state.1, clearing_is_over limits history slice column state.0 legal (by_is_clearing pass slice history at) below state.1))
 
   -- ---- slices of which some columns are held, and not all
 

@@ -1,5 +1,5 @@
 -- What each call of the desk answers, after the events of a history and in the order of its checks, and the events that it makes.
-use Rattle.std.specs.Prelude.{◌≡◌, ℕ, ◌+◌, ◌<◌, ◌≤◌, ◌↔◌, true, false, List, [], ◌∷◌, length, Option, None, Result, Ok, Err, Some, Contains}
+use Rattle.std.specs.Prelude.{◌≡◌, ℕ, ◌+◌, ◌<◌, ◌≤◌, ◌↔◌, ◌⊎◌, Bool, true, false, List, [], ◌∷◌, length, Option, None, Result, Ok, Err, Some, Contains}
 use Rattle.funnel_model.specs.Blocks.{AreBlocks, IsLowestGuard}
 use Rattle.funnel_model.specs.declared.bit_list.Bit.{Bit}
 use Rattle.funnel_model.specs.declared.call.Call.TheVariants as call
@@ -11,7 +11,7 @@ use Rattle.funnel_model.specs.declared.event.Event.{Event}
 use Rattle.funnel_model.specs.declared.event.Event.TheVariants as event
 use Rattle.funnel_model.specs.History.{base, commits_after, is_live, live_place, place}
 use Rattle.funnel_model.specs.Legal.{HasRoom, IsFull, IsIdle, Limits, MayClear, MayTake, NoneCanClear}
-use Rattle.funnel_model.specs.Slices.{IsInUse, IsRetired}
+use Rattle.funnel_model.specs.Slices.{IsInUse, IsRetired, is_clearing}
 use Rattle.funnel_model.specs.Steps.{NoneRetired}
 use Rattle.funnel_model.specs.Tunings.{tunings}
 use Rattle.slice_rule.specs.Pools.{PoolId}
@@ -69,19 +69,41 @@ RefusesAdd most limits history id (add.Present added) = TakesCalls most history 
 RefusesAdd most limits history id (add.Full blocks) = MayEnter most history id × IsFull limits history × AreBlocks limits history blocks
 RefusesAdd most limits history id add.Memory = MayEnter most history id × (IsFull limits history → ⊥)
 
+-- a slice is being cleared
+abbrev pub IsBeingCleared : Limits → List Event → ℕ → Type 0
+IsBeingCleared limits history slice = (slice < limits.slices) × (is_clearing slice history ≡ true)
+
+-- and none is
+abbrev pub NoneIsCleared : Limits → List Event → Type 0
+NoneIsCleared limits history = (slice : ℕ) → IsBeingCleared limits history slice → ⊥
+
 -- an add takes the next column of the lowest slice with room; where none has room, it is to clear the lowest slice that can be cleared,
--- with as many old slots as a slice has columns; else it is refused
+-- with as many old slots as a slice has columns; it waits only where nothing but a slice that is being cleared can have room for it; else
+-- it is refused
 abbrev pub AnswersTake : ℕ → Limits → List Event → ℕ → ℕ → Taken → Type 0
 AnswersTake most limits history pass id (taken.Claim claim layout) = MayEnter most history id × MayTake limits history pass claim.slice claim.column
 AnswersTake most limits history pass id (taken.Clear work layout) =
     MayEnter most history id × ((slice : ℕ) → slice < limits.slices → HasRoom limits.columns history slice → ⊥) × MayClear limits history pass work.job.slice
     × (work.slots ≡ limits.columns)
+AnswersTake most limits history pass id (taken.Wait slice) = MayEnter most history id × IsFull limits history × IsBeingCleared limits history slice
 AnswersTake most limits history pass id (taken.Refused fault) = RefusesAdd most limits history id fault
+
+-- an add doesn't wait where this is its last look; and at any other it is refused as full only where no slice is being cleared
+abbrev pub WaitsUnlessLast : Limits → List Event → Bool → Taken → Type 0
+WaitsUnlessLast limits history last (taken.Wait slice) = last ≡ false
+WaitsUnlessLast limits history last (taken.Refused (add.Full blocks)) = (last ≡ true) ⊎ NoneIsCleared limits history
+WaitsUnlessLast limits history last answer = Unit {0}
+
+-- an add is answered so at a look, which may be its last
+pub record AnswersLastTake (most : ℕ) (limits : Limits) (history : List Event) (pass id : ℕ) (last : Bool) (answer : Taken) : Type 0 where
+  pub answers : AnswersTake most limits history pass id answer
+  pub waits : WaitsUnlessLast limits history last answer
 
 -- and these are its events
 abbrev pub events_of_take : ℕ → ℕ → List ℕ → Taken → List Event
 events_of_take pass id text (taken.Claim claim layout) = event.Take pass claim.slice claim.column ∷ []
 events_of_take pass id text (taken.Clear work layout) = event.Clear pass work.job.slice ∷ []
+events_of_take pass id text (taken.Wait slice) = []
 events_of_take pass id text (taken.Refused (add.Spent events)) = []
 events_of_take pass id text (taken.Refused add.Memory) = []
 events_of_take pass id text (taken.Refused _) = event.No pass (call.Add id text) ∷ []

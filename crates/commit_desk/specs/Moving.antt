@@ -1,5 +1,5 @@
 -- Which document is moved next so that its slice retires, and what the turns of a move answer.
-use Rattle.std.specs.Prelude.{◌≡◌, ◌≢◌, ℕ, ◌+◌, ◌*◌, ◌/◌, ◌<◌, ◌≤◌, ◌⊎◌, Bool, true, false, List, [], ◌∷◌, length, slice_index_or, slice_set, nat_lt, MatchOption, Option, Some, None, Result, Ok, Err}
+use Rattle.std.specs.Prelude.{◌≡◌, ◌≢◌, ℕ, ◌+◌, ◌/◌, ◌<◌, ◌≤◌, ◌⊎◌, ◌==◌, ◌&&◌, Bool, true, false, List, [], ◌∷◌, length, slice_set, nat_lt, MatchOption, Option, Some, None, Result, Ok, Err}
 use Rattle.std.specs.List.{list_any}
 use mathlib.Core.List.{IsPrefix}
 use Rattle.funnel_model.specs.declared.bit_list.Bit.{Bit}
@@ -11,7 +11,7 @@ use Rattle.funnel_model.specs.Events.{deletes_or_drops}
 use Rattle.funnel_model.specs.History.{Document}
 use Rattle.funnel_model.specs.Legal.{HasRoom, Limits, MayTake}
 use Rattle.funnel_model.specs.Reserve.{HasReadyColumns, HasSpareColumns, HoldsColumns, IsSource}
-use Rattle.funnel_model.specs.Slices.{IsFilled, IsInState, Live}
+use Rattle.funnel_model.specs.Slices.{IsFilled, IsInState, Live, claimed}
 use Rattle.funnel_model.specs.Words.{AreWordsOf}
 use Rattle.slice_rule.specs.Seats.{PassState}
 use Rattle.commit_desk.specs.Answers.{MayEnter, TakesCalls}
@@ -23,18 +23,38 @@ use Rattle.commit_desk.specs.Records.{document_added_at}
 abbrev pub document_of : Look → Document
 document_of look = document_added_at look.place look.doc
 
--- the columns that open looks name, by a mark for each; those of a slice stand together
-pub record LooksState : Type 0 where
-  pub columns : ℕ
-  pub marks : List Bool
+-- for each pass the slice and the column that its open look names, if it has one open
+abbrev pub LooksState : Type 0
+LooksState = List (Option (ℕ × ℕ))
+
+-- whether it is this column that is named
+abbrev pub names : ℕ → ℕ → Option (ℕ × ℕ) → Bool
+names slice column None = false
+names slice column (Some named) = named.0 == slice && named.1 == column
 
 -- whether an open look names the column
 abbrev pub is_named : LooksState → ℕ → ℕ → Bool
-is_named looks slice column = slice_index_or looks.marks (slice * looks.columns + column) false
+is_named looks slice column = list_any (names slice column) looks
 
--- the looks with another mark for one column
-abbrev pub with_mark : LooksState → ℕ → ℕ → Bool → LooksState
-with_mark looks slice column mark = record looks { marks = slice_set looks.marks (slice * looks.columns + column) mark }
+-- the looks with another for one pass
+abbrev pub with_look : LooksState → ℕ → Option (ℕ × ℕ) → LooksState
+with_look looks pass named = slice_set looks pass named
+
+-- The ready columns suffice for what is held of the slice, and for one more for each sixteen of them.
+pub record HasRoomToEmpty (limits : Limits) (history : List Event) (slice : ℕ) : Type 0 where
+  pub held : ℕ
+  pub holds : HoldsColumns limits.columns history slice held
+  pub ready : ℕ
+  pub are_ready : HasReadyColumns limits history ready
+  pub enough : held + (held + 15) / 16 ≤ ready
+
+-- they don't
+pub record LacksRoomToEmpty (limits : Limits) (history : List Event) (slice : ℕ) : Type 0 where
+  pub held : ℕ
+  pub holds : HoldsColumns limits.columns history slice held
+  pub ready : ℕ
+  pub are_ready : HasReadyColumns limits history ready
+  pub fewer : ready < held + (held + 15) / 16
 
 -- Documents are to be moved out of the slice, of which so many columns are held, before a document with this number is added: nothing but
 -- want of room keeps that one out; fewer columns are spare than are to be kept free; the slice is the next to be emptied; and the others
@@ -96,18 +116,26 @@ pub record IsNextLook (reserve most : ℕ) (limits : Limits) (looks : LooksState
 abbrev pub NoneToMove : ℕ → ℕ → Limits → List Event → ℕ → Type 0
 NoneToMove reserve most limits history id = (slice held : ℕ) → IsToBeEmptied reserve most limits history id slice held → ⊥
 
+-- the look is at the next document to be moved
+abbrev pub IsLookAtNext : ℕ → ℕ → Limits → LooksState → List Event → ℕ → Look → Type 0
+IsLookAtNext reserve most limits looks history id look =
+    IsNextLook reserve most limits looks history id look.slice look.column (document_of look) look.since
+
+-- some document is to be moved
+abbrev pub HasNextLook : ℕ → ℕ → Limits → LooksState → List Event → ℕ → Type 0
+HasNextLook reserve most limits looks history id =
+    (slice : ℕ) × (column : ℕ) × (document : Document) × (since : ℕ) × IsNextLook reserve most limits looks history id slice column document since
+
 -- a pass looks at the next document to be moved before it adds one with this number; want of memory is answered only where there is such
 -- a document
-abbrev pub AnswersLook : ℕ → ℕ → Limits → LooksState → List Event → ℕ → Result (Option Look) Memory → Type 0
-AnswersLook reserve most limits looks history id (Ok (Some look)) =
-    IsNextLook reserve most limits looks history id look.slice look.column (document_of look) look.since
-AnswersLook reserve most limits looks history id (Ok None) = NoneToMove reserve most limits history id
-AnswersLook reserve most limits looks history id (Err memory) =
-    (slice column : ℕ) × (document : Document) × (since : ℕ) × IsNextLook reserve most limits looks history id slice column document since
+abbrev pub AnswersLook : ℕ → ℕ → Limits → LooksState → List Event → ℕ → ℕ → Result (Option Look) Memory → Type 0
+AnswersLook reserve most limits looks history pass id (Ok (Some look)) = IsLookAtNext reserve most limits looks history id look × (look.opened ≡ pass)
+AnswersLook reserve most limits looks history pass id (Ok None) = NoneToMove reserve most limits history id
+AnswersLook reserve most limits looks history pass id (Err memory) = HasNextLook reserve most limits looks history id
 
--- the looks after it: the column that is looked at is named
+-- the looks after it: that of the pass names the column that is looked at
 abbrev pub looks_after : LooksState → Result (Option Look) Memory → LooksState
-looks_after looks (Ok (Some look)) = with_mark looks look.slice look.column true
+looks_after looks (Ok (Some look)) = with_look looks look.opened (Some (look.slice, look.column))
 looks_after looks _ = looks
 
 -- the pass has seen the document where it looked: the document was put there by the event with this number, and has the words of its
@@ -119,16 +147,30 @@ pub record HoldsLook (seat : PassState) (look : Look) : Type 0 where
   pub of_text : AreWordsOf look.doc.words look.doc.text
   pub cause : list_any deletes_or_drops seat.front ≡ true
 
--- For a move a column is claimed as for an add, in another slice than the one that is emptied. Else nothing is done: calls are taken no
--- more, no slice has room, or the lowest that has is the one that is emptied. Want of memory is answered only where a column may be claimed.
+-- a pass may claim the next column of the slice for a document that is moved out of the other one
+pub record MayClaimFor (most : ℕ) (limits : Limits) (history : List Event) (pass from slice : ℕ) : Type 0 where
+  pub takes_calls : TakesCalls most history
+  pub may : MayTake limits history pass slice (length (claimed slice history))
+  pub other : slice ≢ from
+  pub room : HasRoomToEmpty limits history from
+
+-- why none is claimed: calls are taken no more, no slice has room, the lowest that has is the one that is emptied, or there isn't room any
+-- more for all that is held of it
+abbrev pub ClaimsNoneFor : ℕ → Limits → List Event → ℕ → ℕ → Type 0
+ClaimsNoneFor most limits history pass from =
+    (most ≤ length history) ⊎ ((slice : ℕ) → slice < limits.slices → HasRoom limits.columns history slice → ⊥)
+    ⊎ ((column : ℕ) × MayTake limits history pass from column) ⊎ LacksRoomToEmpty limits history from
+
+-- For a move a column is claimed as for an add, in another slice than the one that is emptied, where there is room still for all that is held
+-- of this one; else nothing is done. Want of memory is answered only where a column may be claimed.
 abbrev pub AnswersTakeMove : ℕ → Limits → List Event → ℕ → Look → Result (Option TakenMove) Memory → Type 0
 AnswersTakeMove most limits history pass look (Ok (Some taken)) =
     TakesCalls most history × MayTake limits history pass taken.claim.slice taken.claim.column × (taken.claim.slice ≢ look.slice) × (taken.look ≡ look)
-AnswersTakeMove most limits history pass look (Ok None) =
-    (most ≤ length history) ⊎ ((slice : ℕ) → slice < limits.slices → HasRoom limits.columns history slice → ⊥)
-    ⊎ ((column : ℕ) × MayTake limits history pass look.slice column)
+    × HasRoomToEmpty limits history look.slice
+AnswersTakeMove most limits history pass look (Ok None) = ClaimsNoneFor most limits history pass look.slice
 AnswersTakeMove most limits history pass look (Err memory) =
-    TakesCalls most history × (slice : ℕ) × (column : ℕ) × MayTake limits history pass slice column × (slice ≢ look.slice)
+    TakesCalls most history × HasRoomToEmpty limits history look.slice
+    × (slice : ℕ) × (column : ℕ) × MayTake limits history pass slice column × (slice ≢ look.slice)
 
 abbrev pub events_of_take_move : ℕ → Result (Option TakenMove) Memory → List Event
 events_of_take_move pass (Ok (Some taken)) = event.Take pass taken.claim.slice taken.claim.column ∷ []
@@ -137,7 +179,7 @@ events_of_take_move pass _ = []
 -- the look ends where no column was claimed
 abbrev pub looks_after_take : LooksState → Look → Result (Option TakenMove) Memory → LooksState
 looks_after_take looks look (Ok (Some taken)) = looks
-looks_after_take looks look _ = with_mark looks look.slice look.column false
+looks_after_take looks look _ = with_look looks look.opened None
 
 -- the document is moved where it is live still in the column that was looked at, by the very event that put it there then
 abbrev pub IsThereStill : List Event → Look → Type 0

@@ -65,4 +65,5 @@ abbrev pub IsToDo : PoolId → Taken → PassState → Type 0
 IsToDo pool (taken.Claim claim layout) seat = IsToWrite pool claim layout seat
 IsToDo pool (taken.Clear work layout) seat =
     IsToClear pool work.job seat × (work.slots ≡ pool.limits.columns) × IsLayoutOf pool.config work.job.slice seat.front layout
+IsToDo pool (taken.Wait slice) seat = IsResting pool seat
 IsToDo pool (taken.Refused fault) seat = IsResting pool seat

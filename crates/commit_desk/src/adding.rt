@@ -6,7 +6,7 @@ ghost use Rattle.funnel_model.specs.History.{is_live, place};
 ghost use Rattle.funnel_model.specs.Legal.{IsIdle, IsRefused, MayClear, MayTake};
 ghost use Rattle.funnel_model.specs.Slices.{claimed};
 ghost use Rattle.slice_rule.specs.Seats.{HasNoneOutstanding, HoldsClaim, IsSeated};
-ghost use Rattle.commit_desk.specs.Answers.{AnswersCommit, AnswersTake, IsClearWork, MayAdd, MayMakeRoom, TakesCalls};
+ghost use Rattle.commit_desk.specs.Answers.{AnswersCommit, AnswersLastTake, IsClearWork, MayAdd, MayMakeRoom, TakesCalls};
 ghost use Rattle.commit_desk.specs.Answers.{events_of_commit, events_of_opened_take, events_of_take};
 ghost use Rattle.commit_desk.specs.Desks.{HandsOver, IsCaughtUp, IsFresh, IsReused, IsUnwritten, Makes};
 ghost use Rattle.commit_desk.specs.Layouts.{IsCurrentLayout, IsLayoutOf};
@@ -23,7 +23,8 @@ use slice_rule::{PassSeat, Pool};
 
 impl Desk {
     /// Claims a column for a document, or begins to clear a slice for it, or says why the document can't be added. With a column or a
-    /// slice comes the layout by which the document's bits are to be set; where it can't be shared, no event is made. `room` is an empty
+    /// slice comes the layout by which the document's bits are to be set; where it can't be shared, no event is made. Where the engine is
+    /// full but another pass is clearing a slice, it makes no event either, unless this is the `last` look of the add. `room` is an empty
     /// list with room for a block of each slice, for the answer `Full`, which alone takes it: else it stays the caller's, who drops it
     /// where the desk is free.
     pub fn take(
@@ -32,12 +33,13 @@ impl Desk {
         seat: &mut PassSeat,
         doc: &Doc,
         room: &mut Option<Vec<Block>>,
+        last: bool,
     ) -> Taken
         requires pool { pool.now ≡ self.old.pool }
         requires seat { IsSeated self.old.pool seat.old }
         requires idle { IsIdle seat.old.number seat.old.front }
         requires room { MatchOption room.old ⊥ (λ empty. (empty.items ≡ []) × (self.old.pool.limits.slices ≤ vec_capacity empty)) }
-        ensures answer { AnswersTake self.old.events_limit self.old.pool.limits self.old.history seat.old.number doc.now.id result }
+        ensures answer { AnswersLastTake self.old.events_limit self.old.pool.limits self.old.history seat.old.number doc.now.id last result }
         ensures events { Makes (events_of_take seat.old.number doc.now.id doc.now.text result) self.old self.new seat.old seat.new }
         ensures none_outstanding { HasNoneOutstanding seat.new }
         ensures handed { HandsOver self.old result seat.new room.old room.new }
@@ -50,7 +52,7 @@ impl Desk {
             self.refuse_add(pool, seat, doc);
             return Taken::Refused(AddFault::Present(place));
         }
-        self.take_room(pool, seat, doc, room)
+        self.take_room(pool, seat, doc, room, last)
     }
 
     /// Opens the slice that the pass cleared for an add, and claims its first column. Its slots, which the pass has emptied,
@@ -134,12 +136,13 @@ impl Desk {
         seat: &mut PassSeat,
         doc: &Doc,
         room: &mut Option<Vec<Block>>,
+        last: bool,
     ) -> Taken
         requires pool { pool.now ≡ self.old.pool }
         requires caught_up { IsCaughtUp self.old seat.old }
         requires may { MayAdd self.old.events_limit self.old.history seat.old.number doc.now.id }
         requires room { MatchOption room.old ⊥ (λ empty. (empty.items ≡ []) × (self.old.pool.limits.slices ≤ vec_capacity empty)) }
-        ensures answer { AnswersTake self.old.events_limit self.old.pool.limits self.old.history seat.old.number doc.now.id result }
+        ensures answer { AnswersLastTake self.old.events_limit self.old.pool.limits self.old.history seat.old.number doc.now.id last result }
         ensures events { Makes (events_of_take seat.old.number doc.now.id doc.now.text result) self.old self.new seat.old seat.new }
         ensures none_outstanding { HasNoneOutstanding seat.new }
         ensures handed { HandsOver self.old result seat.new room.old room.new }
@@ -150,22 +153,24 @@ impl Desk {
                 Err(Memory) => Taken::Refused(AddFault::Memory),
             };
         }
-        self.make_room(pool, seat, doc, room)
+        self.make_room(pool, seat, doc, room, last)
     }
 
-    // Begins to clear a slice, where none has room, or refuses the document for want of a slice or of memory.
+    // Begins to clear a slice, where none has room, or waits for one that is being cleared, or refuses the document for want of a slice or
+    // of memory.
     fn make_room(
         &mut self,
         pool: &Pool,
         seat: &mut PassSeat,
         doc: &Doc,
         room: &mut Option<Vec<Block>>,
+        last: bool,
     ) -> Taken
         requires pool { pool.now ≡ self.old.pool }
         requires caught_up { IsCaughtUp self.old seat.old }
         requires may { MayMakeRoom self.old.events_limit self.old.pool.limits self.old.history seat.old.number doc.now.id }
         requires room { MatchOption room.old ⊥ (λ empty. (empty.items ≡ []) × (self.old.pool.limits.slices ≤ vec_capacity empty)) }
-        ensures answer { AnswersTake self.old.events_limit self.old.pool.limits self.old.history seat.old.number doc.now.id result }
+        ensures answer { AnswersLastTake self.old.events_limit self.old.pool.limits self.old.history seat.old.number doc.now.id last result }
         ensures events { Makes (events_of_take seat.old.number doc.now.id doc.now.text result) self.old self.new seat.old seat.new }
         ensures none_outstanding { HasNoneOutstanding seat.new }
         ensures handed { HandsOver self.old result seat.new room.old room.new }
@@ -176,6 +181,11 @@ impl Desk {
                 Ok((work, layout)) => Taken::Clear(work, layout),
                 Err(Memory) => Taken::Refused(AddFault::Memory),
             };
+        }
+        if !last {
+            if let Some(slice) = self.being_cleared() {
+                return Taken::Wait(slice);
+            }
         }
         let Some(room) = room.take() else {
             unreachable!()

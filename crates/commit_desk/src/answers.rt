@@ -28,6 +28,9 @@ pub enum Taken {
     /// No slice has a column left, and the pass is to clear this slice, which has this layout from now on. Then `opened_take` claims
     /// its first column.
     Clear(ToClear, SharedLayout),
+    /// No slice has a column left, and none can be cleared, but another pass is clearing this one: the add is to be made again once it
+    /// is open.
+    Wait(u32),
     /// The add is refused.
     Refused(AddFault),
 }

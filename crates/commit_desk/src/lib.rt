@@ -35,6 +35,6 @@ pub use answers::{
 };
 pub use desk::Desk;
 pub use find_layouts::{FindLayout, FindLayouts};
-pub use look::{Look, Looks};
+pub use look::{Look, Looks, OpenLook};
 pub use named::Named;
 pub use shared_layout::SharedLayout;

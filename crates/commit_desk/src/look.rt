@@ -1,5 +1,5 @@
-ghost use Rattle.std.specs.Prelude.{◌≡◌, ◌+◌, ◌*◌, IfOk, false, true, replicate};
-ghost use Rattle.commit_desk.specs.Moving.{is_named, with_mark};
+ghost use Rattle.std.specs.Prelude.{◌≡◌, IfOk, None, Some, replicate};
+ghost use Rattle.commit_desk.specs.Moving.{is_named, names, with_look};
 
 use document_store::Doc;
 use funnel_model::Memory;
@@ -7,7 +7,7 @@ use std::alloc::Global;
 use std::marker::Model;
 
 /// A document that a pass has looked at, to move it: its column, the place of its add, the number of the event that put it
-/// there, and a copy of it. It must be spent.
+/// there, and a copy of it. It must be spent, since the look that it has open must be.
 #[derive(Debug)]
 pub struct Look {
     pub slice: u32,
@@ -15,13 +15,29 @@ pub struct Look {
     pub place: u64,
     pub since: u64,
     pub doc: Doc,
+    pub opened: OpenLook,
 }
 
-/// The columns that open looks name, so that passes move documents of different columns while there are some. Only `new` takes memory.
+/// That a pass has a look open. Nobody else can make one or take it apart, so it ends where the desk ends the move, or in `Looks::end`.
+/// Contracts see the pass.
+#[derive(Debug)]
+pub struct OpenLook {
+    pub(crate) pass: u32,
+}
+
+impl Model for OpenLook {
+    ghost use Rattle.std.specs.Prelude.{ℕ};
+
+    ghost Value = { ℕ };
+
+    ghost view = { λ look. look.pass };
+}
+
+/// The column that each pass's open look names, so that passes move documents of different columns while there are some. A pass has
+/// one look open at most. Only `new` takes memory.
 #[derive(Debug, Drop)]
 pub struct Looks {
-    columns: u32,
-    marks: Vec<bool>,
+    columns: Vec<Option<(u32, u32)>>,
 }
 
 impl Model for Looks {
@@ -29,68 +45,72 @@ impl Model for Looks {
 
     ghost Value = { LooksState };
 
-    ghost view = { λ l. record { columns = l.columns; marks = l.marks.items } };
+    ghost view = { λ l. l.columns.items };
 }
 
 impl Looks {
-    /// No look, with a mark for each of so many columns of so many slices.
-    pub fn new(alloc: Global, slices: u32, columns: u32) -> Result<Looks, Memory>
-        ensures { IfOk result (λ looks. looks ≡ record { columns = columns; marks = replicate (slices * columns) false }) }
+    /// No look, of so many passes.
+    pub fn new(alloc: Global, passes: u32) -> Result<Looks, Memory>
+        ensures { IfOk result (λ looks. looks ≡ replicate passes None) }
     {
         Ok(Looks {
-            columns,
-            marks: vec![in alloc; false; slices as usize * columns as usize]?,
+            columns: vec![in alloc; None; passes as usize]?,
         })
     }
 
-    /// Ends a look without a move.
-    pub fn drop_look(&mut self, look: Look)
-        ensures { self.new ≡ with_mark self.old look.slice look.column false }
+    /// Ends a look without a move, and gives its document back, for its owner to drop where the desk is free. Other passes' looks stay
+    /// as they are.
+    pub fn end(&mut self, look: Look) -> Doc
+        ensures looks { self.new ≡ with_look self.old look.opened None }
+        ensures doc { result ≡ look.doc }
     {
         let Look {
-            slice,
-            column,
+            slice: _,
+            column: _,
             place: _,
             since: _,
-            doc: _,
+            doc,
+            opened,
         } = look;
-        self.unname(slice, column);
+        self.close(opened);
+        doc
+    }
+
+    // The look names no column any more.
+    pub(crate) fn close(&mut self, opened: OpenLook)
+        ensures { self.new ≡ with_look self.old opened None }
+    {
+        let OpenLook { pass } = opened;
+        if let Some(column) = self.columns.get_mut(pass as usize) {
+            *column = None;
+        }
     }
 
     // Whether an open look names the column.
     pub(crate) fn is_named(&self, slice: u32, column: u32) -> bool
         ensures { result ≡ is_named self.now slice column }
     {
-        match self.marks.get(self.index(slice, column)) {
-            Some(mark) => *mark,
-            None => false,
-        }
+        self.columns
+            .iter()
+            .any(|named| names(*named, slice, column))
     }
 
-    // A look names the column.
-    pub(crate) fn name(&mut self, slice: u32, column: u32)
-        ensures { self.new ≡ with_mark self.old slice column true }
+    // The look names its column.
+    pub(crate) fn name(&mut self, look: &Look)
+        ensures { self.new ≡ with_look self.old look.now.opened (Some (look.now.slice, look.now.column)) }
     {
-        let index = self.index(slice, column);
-        if let Some(mark) = self.marks.get_mut(index) {
-            *mark = true;
+        if let Some(column) = self.columns.get_mut(look.opened.pass as usize) {
+            *column = Some((look.slice, look.column));
         }
     }
+}
 
-    // No look names it any more.
-    pub(crate) fn unname(&mut self, slice: u32, column: u32)
-        ensures { self.new ≡ with_mark self.old slice column false }
-    {
-        let index = self.index(slice, column);
-        if let Some(mark) = self.marks.get_mut(index) {
-            *mark = false;
-        }
-    }
-
-    // Where the mark of the column stands.
-    fn index(&self, slice: u32, column: u32) -> usize
-        ensures { result ≡ slice * self.now.columns + column }
-    {
-        slice as usize * self.columns as usize + column as usize
+// Whether it is this column that is named.
+fn names(named: Option<(u32, u32)>, slice: u32, column: u32) -> bool
+    ensures { result ≡ names slice column named }
+{
+    match named {
+        Some((of, at)) => of == slice && at == column,
+        None => false,
     }
 }

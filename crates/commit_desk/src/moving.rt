@@ -1,25 +1,25 @@
 //! Moves: documents go from the slice that holds the fewest to others, so that it retires.
-ghost use Rattle.std.specs.Prelude.{◌≡◌, ◌↔◌, ℕ, ◌<◌, [], ◌∷◌, All, IfOk, IfSome, IsTrue, false, true, MatchOption};
+ghost use Rattle.std.specs.Prelude.{◌≡◌, ◌↔◌, ℕ, ◌+◌, ◌/◌, ◌<◌, [], ◌∷◌, All, IfOk, IfSome, IsTrue, None, cond, true, MatchOption};
 ghost use Rattle.funnel_model.specs.History.{Document};
 ghost use Rattle.funnel_model.specs.Legal.{IsIdle};
 ghost use Rattle.funnel_model.specs.declared.event.Event.TheVariants as event;
 ghost use Rattle.funnel_model.specs.Events.{deletes_or_drops};
-ghost use Rattle.funnel_model.specs.Reserve.{HasReadyColumns, HasSpareColumns, IsSource};
+ghost use Rattle.funnel_model.specs.Reserve.{HasReadyColumns, HasSpareColumns, HoldsColumns, IsSource};
 ghost use Rattle.funnel_model.specs.Slices.{IsInState, Live};
 ghost use Rattle.funnel_model.specs.Words.{AreWordsOf};
 ghost use Rattle.std.specs.List.{list_any};
 ghost use Rattle.slice_rule.specs.Seats.{HasNoneOutstanding, HoldsClaim, IsSeated};
 ghost use Rattle.commit_desk.specs.Desks.{IsCaughtUp, IsFresh, Makes};
 ghost use Rattle.commit_desk.specs.Passes.{HasWritten};
-ghost use Rattle.commit_desk.specs.Moving.{AnswersLook, AnswersTakeMove, HoldsLook, HasLive, HasOneToMove, IsLowestFree};
+ghost use Rattle.commit_desk.specs.Moving.{AnswersLook, AnswersTakeMove, ClaimsNoneFor, HoldsLook, MayClaimFor, HasLive, HasOneToMove, HasRoomToEmpty, IsLowestFree, LacksRoomToEmpty};
 ghost use Rattle.commit_desk.specs.Moving.{IsLowestLiveOrNone, IsPartlyHeld, IsFreeToMove, IsNextToMove, IsThereStill, IsToBeEmptied};
-ghost use Rattle.commit_desk.specs.Moving.{document_of, is_fewer, event_of_move, events_of_take_move, looks_after, looks_after_take, with_mark};
+ghost use Rattle.commit_desk.specs.Moving.{document_of, is_fewer, event_of_move, events_of_take_move, looks_after, looks_after_take, with_look};
 
 use crate::answers::TakenMove;
 use crate::clearing::move_mark;
 use crate::desk::Desk;
 use crate::entries::Moves;
-use crate::look::{Look, Looks};
+use crate::look::{Look, Looks, OpenLook};
 use document_store::Column;
 use funnel_model::{Claim, Event, Memory};
 use row_layout::Bits;
@@ -29,7 +29,7 @@ use std::alloc::Global;
 
 impl Desk {
     /// Looks at the next document that is to be moved before one with this number is added, where there is one. The look is
-    /// handed on to `take_move` and then to `end_move`, or spent by `drop_look`. Its document is a copy, for which memory is taken.
+    /// handed on to `take_move` and then to `end_move`, or spent by `Looks::end`. Its document is a copy, for which memory is taken.
     pub fn look(
         &mut self,
         alloc: Global,
@@ -42,7 +42,7 @@ impl Desk {
         requires pool { pool.now ≡ self.old.pool }
         requires seat { IsSeated self.old.pool seat.old }
         requires idle { IsIdle seat.old.number seat.old.front }
-        ensures answer { AnswersLook reserve self.old.events_limit self.old.pool.limits looks.old self.old.history id result }
+        ensures answer { AnswersLook reserve self.old.events_limit self.old.pool.limits looks.old self.old.history seat.old.number id result }
         ensures events { Makes [] self.old self.new seat.old seat.new }
         ensures looks { looks.new ≡ looks_after looks.old result }
         ensures look { IfOk result (λ found. IfSome found (HoldsLook seat.new)) }
@@ -53,13 +53,14 @@ impl Desk {
             return Ok(None);
         };
         let column = self.next_to_move(looks, slice);
-        let look = self.look_at(alloc, slice, column)?;
-        looks.name(slice, column);
+        let look = self.look_at(alloc, seat.number(), slice, column)?;
+        looks.name(&look);
         Ok(Some(look))
     }
 
-    /// Claims a column for the document that was looked at, and tells the layout of its slice. Where it claims none the look is over:
-    /// so it is also where the layout can't be shared.
+    /// Claims a column for the document that was looked at, and tells the layout of its slice. It looks again whether there is room for
+    /// all that is held of the document's slice, which other looks may have been given too. Where it claims none the look is over: so it
+    /// is also where the layout can't be shared.
     pub fn take_move(
         &mut self,
         pool: &Pool,
@@ -77,25 +78,21 @@ impl Desk {
         ensures none_outstanding { HasNoneOutstanding seat.new }
     {
         pool.catch_up(&mut self.home, seat);
-        if !self.is_spent() {
-            if let Some(slice) = self.stages.with_room() {
-                if slice != look.slice {
-                    return match self.claim_laid(pool, seat, slice) {
-                        Ok((claim, layout)) => Ok(Some(TakenMove {
-                            claim,
-                            look,
-                            layout,
-                        })),
-                        Err(Memory) => {
-                            looks.drop_look(look);
-                            Err(Memory)
-                        }
-                    };
-                }
+        let Some(slice) = self.slice_for_move(look.slice) else {
+            looks.end(look);
+            return Ok(None);
+        };
+        match self.claim_laid(pool, seat, slice) {
+            Ok((claim, layout)) => Ok(Some(TakenMove {
+                claim,
+                look,
+                layout,
+            })),
+            Err(Memory) => {
+                looks.end(look);
+                Err(Memory)
             }
         }
-        looks.drop_look(look);
-        Ok(None)
     }
 
     /// Moves the document to the column that was claimed for it, all of whose bits the pass has set; or leaves the column void where
@@ -114,22 +111,15 @@ impl Desk {
         requires written { HasWritten self.old.pool claim look.doc.words bits.now.bits seat.old }
         ensures answer { IsTrue result ↔ IsThereStill self.old.history look }
         ensures events { Makes (event_of_move seat.old.number look claim bits.now.bits result ∷ []) self.old self.new seat.old seat.new }
-        ensures looks { looks.new ≡ with_mark looks.old look.slice look.column false }
+        ensures looks { looks.new ≡ with_look looks.old look.opened None }
         ensures none_outstanding { HasNoneOutstanding seat.new }
     {
         pool.catch_up(&mut self.home, seat);
-        looks.unname(look.slice, look.column);
         if self.is_there_still(&look) {
-            self.make_move(pool, seat, claim, look, bits);
+            looks.close(self.make_move(pool, seat, claim, look, bits));
             return true;
         }
-        let Look {
-            slice: _,
-            column: _,
-            place: _,
-            since: _,
-            doc: _,
-        } = look;
+        looks.end(look);
         self.make_void(pool, seat, claim);
         false
     }
@@ -147,10 +137,46 @@ impl Desk {
         let Some((slice, held)) = self.source() else {
             return None;
         };
-        if self.ready() < held as u64 + held.div_ceil(16) as u64 {
+        if self.ready() < room_for(held) {
             return None;
         }
         Some(slice)
+    }
+
+    // The slice of which a column is claimed for a document that is moved out of this one, where one is.
+    fn slice_for_move(&mut self, from: u32) -> Option<u32>
+        ensures answer { (pass : ℕ) → IsIdle pass self.old.history →
+            MatchOption result (ClaimsNoneFor self.old.events_limit self.old.pool.limits self.old.history pass from)
+            (MayClaimFor self.old.events_limit self.old.pool.limits self.old.history pass from) }
+        ensures same { self.new ≡ self.old }
+    {
+        if self.is_spent() {
+            return None;
+        }
+        let Some(slice) = self.stages.with_room() else {
+            return None;
+        };
+        if slice == from || !self.has_room_to_empty(from) {
+            return None;
+        }
+        Some(slice)
+    }
+
+    // Whether the columns that are ready suffice for what is held of the slice, and for one more for each sixteen of them.
+    fn has_room_to_empty(&mut self, slice: u32) -> bool
+        ensures room { cond result (HasRoomToEmpty self.old.pool.limits self.old.history slice) (LacksRoomToEmpty self.old.pool.limits self.old.history slice) }
+        ensures same { self.new ≡ self.old }
+    {
+        let held = self.count_held(slice);
+        room_for(held) <= self.ready()
+    }
+
+    // How many columns of the slice are held.
+    fn count_held(&self, slice: u32) -> u32
+        ensures { HoldsColumns self.now.pool.limits.columns self.now.history slice result }
+    {
+        let _ = &self.home;
+        self.stages.held(slice)
     }
 
     // How many columns are spare.
@@ -272,13 +298,14 @@ impl Desk {
         }
     }
 
-    // A look at the column, which has a live document.
-    fn look_at(&self, alloc: Global, slice: u32, column: u32) -> Result<Look, Memory>
+    // A look of the pass at the column, which has a live document.
+    fn look_at(&self, alloc: Global, pass: u32, slice: u32, column: u32) -> Result<Look, Memory>
         requires slice { slice < self.now.pool.limits.slices }
         requires column { column < self.now.pool.limits.columns }
         requires live { (document : Document) × (since : ℕ) × IsInState self.now.history slice column (Live document since) }
         ensures slice { IfOk result (λ look. look.slice ≡ slice) }
         ensures column { IfOk result (λ look. look.column ≡ column) }
+        ensures opened { IfOk result (λ look. look.opened ≡ pass) }
         ensures live { IfOk result (λ look. IsInState self.now.history slice column (Live (document_of look) look.since)) }
         ensures of_text { IfOk result (λ look. AreWordsOf look.doc.words look.doc.text) }
     {
@@ -296,6 +323,7 @@ impl Desk {
             place,
             since,
             doc,
+            opened: OpenLook { pass },
         })
     }
 
@@ -316,8 +344,15 @@ impl Desk {
         }
     }
 
-    // Makes the move.
-    fn make_move(&mut self, pool: &Pool, seat: &mut PassSeat, claim: Claim, look: Look, bits: &Bits)
+    // Makes the move. The look is left to be ended.
+    fn make_move(
+        &mut self,
+        pool: &Pool,
+        seat: &mut PassSeat,
+        claim: Claim,
+        look: Look,
+        bits: &Bits,
+    ) -> OpenLook
         requires pool { pool.now ≡ self.old.pool }
         requires caught_up { IsCaughtUp self.old seat.old }
         requires written { HasWritten self.old.pool claim look.doc.words bits.now.bits seat.old }
@@ -326,6 +361,7 @@ impl Desk {
         requires there { IsThereStill self.old.history look }
         ensures made { Makes (event.Move seat.old.number look.doc.id claim.slice claim.column bits.now.bits ∷ []) self.old self.new seat.old seat.new }
         ensures none_outstanding { HasNoneOutstanding seat.new }
+        ensures opened { result ≡ look.opened }
     {
         let pass = seat.number();
         let id = look.doc.id();
@@ -343,6 +379,7 @@ impl Desk {
             place,
             since: _,
             doc,
+            opened,
         } = look;
         self.records.delete(from, left, number);
         self.records.live(slice, column, doc, place, number);
@@ -350,6 +387,7 @@ impl Desk {
         self.live.add(id, slice, column);
         self.stages.end_column(from, number);
         self.events = number;
+        opened
     }
 
     // Leaves the column that was claimed without a document.
@@ -373,6 +411,13 @@ impl Desk {
         self.stages.end_column(slice, number);
         self.events = number;
     }
+}
+
+// How many columns have to be ready so that a slice of which so many are held may be emptied.
+fn room_for(held: u32) -> u64
+    ensures { result ≡ held + (held + 15) / 16 }
+{
+    held as u64 + held.div_ceil(16) as u64
 }
 
 // Whether so many are fewer than those of the source so far.

@@ -1,11 +1,11 @@
-ghost use Rattle.std.specs.Prelude.{◌≡◌, ◌*◌, ◌^◌, length};
+ghost use Rattle.std.specs.Prelude.{◌≡◌, ◌^◌, length};
 
 use crate::desk::Desk;
 use crate::look::Looks;
 use slice_rule::PoolName;
 use std::marker::PhantomData;
 
-/// The desk of the pool that `N` names, with the engine's limit of events, and a mark for each of its columns: what an engine's lock
+/// The desk of the pool that `N` names, with the engine's limit of events, and the open look of each of its passes: what an engine's lock
 /// holds.
 #[derive(Drop)]
 pub struct Named<N: PoolName> {
@@ -15,6 +15,5 @@ pub struct Named<N: PoolName> {
     pub ghost of_pool: { desk.pool ≡ N.pool },
     pub ghost limit: { desk.events_limit ≡ 2 ^ 62 },
     pub ghost pool_limit: { desk.pool.limits.events ≡ 2 ^ 62 },
-    pub ghost columns: { looks.columns ≡ desk.pool.limits.columns },
-    pub ghost marks: { length looks.marks ≡ desk.pool.limits.slices * desk.pool.limits.columns },
+    pub ghost each_pass: { length looks ≡ desk.pool.limits.passes },
 }

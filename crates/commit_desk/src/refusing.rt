@@ -1,9 +1,9 @@
 //! What the refusals of adds for want of room, and of recycles, say: they walk over the slices.
-ghost use Rattle.std.specs.Prelude.{◌≡◌, ◌<◌, ◌≤◌, false, [], vec_capacity};
+ghost use Rattle.std.specs.Prelude.{◌≡◌, ◌<◌, ◌≤◌, false, [], MatchOption, vec_capacity};
 ghost use Rattle.funnel_model.specs.Blocks.{AreBlocks, IsBlock};
 ghost use Rattle.funnel_model.specs.Legal.{IsFull, NoneCanClear};
 ghost use Rattle.funnel_model.specs.Slices.{IsFilled, IsRetired, is_clearing};
-ghost use Rattle.commit_desk.specs.Answers.{RefusesClear};
+ghost use Rattle.commit_desk.specs.Answers.{IsBeingCleared, NoneIsCleared, RefusesClear};
 
 use crate::answers::ClearRefusal;
 use crate::desk::Desk;
@@ -60,6 +60,27 @@ impl Desk {
             }
         }
         unreachable!()
+    }
+
+    // The lowest slice that is being cleared.
+    pub(crate) fn being_cleared(&self) -> Option<u32>
+        ensures { MatchOption result (NoneIsCleared self.now.pool.limits self.now.history) (IsBeingCleared self.now.pool.limits self.now.history) }
+    {
+        for slice in 0..self.slices {
+            if self.is_clearing(slice) {
+                return Some(slice);
+            }
+        }
+        None
+    }
+
+    /// Whether a pass is clearing the slice.
+    pub fn is_clearing(&self, slice: u32) -> bool
+        requires { slice < self.now.pool.limits.slices }
+        ensures { result ≡ is_clearing slice self.now.history }
+    {
+        let _ = &self.home;
+        matches!(self.stages.stage(slice), Stage::Clearing { .. })
     }
 
     // Why no slice can be cleared, where none can.

@@ -49,7 +49,10 @@ impl<N: PoolName> Setting<N> {
         let mut room = Some(room);
         let Caller { mut seat, of } = caller;
         let cleared = false;
-        match self.desk.take(&self.pool, &mut seat, &draft.doc, &mut room) {
+        match self
+            .desk
+            .take(&self.pool, &mut seat, &draft.doc, &mut room, true)
+        {
             Taken::Claim(claim, layout) => Ok(Claiming {
                 seat,
                 claim,
@@ -66,6 +69,7 @@ impl<N: PoolName> Setting<N> {
                 };
                 Ok(self.open_and_claim(reusing, draft))
             }
+            Taken::Wait(_) => unreachable!(),
             Taken::Refused(fault) => Err((Caller { seat, of }, fault)),
         }
     }

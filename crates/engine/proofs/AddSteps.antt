@@ -3,7 +3,6 @@ use Rattle.std.proofs.Common.{◌≡◌, ℕ, ◌+◌, ◌≤◌, false, List, [
 use Rattle.std.specs.Option.{option_map, option_map_or}
 use Rattle.funnel_model.specs.declared.bit_list.Bit.{Bit}
 use Rattle.funnel_model.specs.declared.call.Call.TheVariants as call
-use Rattle.funnel_model.specs.declared.call.TheConstants.{MOST_MOVES}
 use Rattle.funnel_model.specs.declared.claim.Claim.{Claim}
 use Rattle.funnel_model.specs.declared.config.Config.{Config}
 use Rattle.funnel_model.specs.declared.event.Event.{Event}
@@ -21,10 +20,10 @@ use Rattle.commit_desk.specs.declared.answers.CommitFault.TheVariants as commit
 use Rattle.commit_desk.specs.declared.answers.Taken.TheVariants as taken
 use Rattle.slice_recycler.specs.Turns.{IsTurn}
 use Rattle.slice_recycler.proofs.Steps.{IsQuiet, idle_still, own-unanswered, quiet_trans, quiet_turn, quiet_weaker, step_add_without_memory, step_made_after, step_spent_after}
-use Rattle.engine.specs.Adds.{AddTurns, ClaimTurns, CommitTurns, MovesFirst, OwnTurns, TurnOfTake, fault_of_drop}
-use Rattle.engine.specs.Moves.{SomeMoves}
+use Rattle.engine.specs.Adds.{AddTurns, ClaimTurns, CommitTurns, MovesFirst, OwnTurns, RefusedTurn, TurnOfTake, fault_of_drop}
+use Rattle.engine.specs.Moves.{MovesAll}
 use Rattle.engine.specs.Replies.{reply_of_add}
-use Rattle.engine.proofs.Moves.{moves_are_quiet}
+use Rattle.engine.proofs.Moves.{all_moved, moves_are_quiet}
 use Rattle.funnel_model.proofs.LiveLemmas.{no_place}
 
 module _ (history : List Event) (id : ℕ) where
@@ -50,11 +49,11 @@ module _ (limits : Limits) (pass id : ℕ) (text : List ℕ) where
       turns
 
   module _ (before after : List Event) where
-    pub refused_turns : (config : Config) (fault : AddFault) → TurnOfTake limits pass id text before after (taken.Refused fault) → OwnTurns config limits pass id text before after (Err fault)
-    refused_turns config (add.Present added) turn = inl turn
-    refused_turns config (add.Full blocks) turn = turn
-    refused_turns config (add.Spent events) turn = turn
-    refused_turns config add.Memory turn = turn
+    pub refused_turns : (config : Config) (fault : AddFault) → RefusedTurn limits pass id text before after fault → OwnTurns config limits pass id text before after (Err fault)
+    refused_turns config (add.Present added) refused = inl refused.turn
+    refused_turns config (add.Full blocks) refused = refused
+    refused_turns config (add.Spent events) refused = refused.turn
+    refused_turns config add.Memory refused = refused.turn
 
     pub dropped_turns : (config : Config) (fault : CommitFault) → CommitTurns config limits pass id text before after (Err fault) → OwnTurns config limits pass id text before after (Err (fault_of_drop fault))
     dropped_turns config (commit.Present added) turns = inr turns
@@ -96,16 +95,16 @@ module _ (limits : Limits) (pass id : ℕ) (text : List ℕ) where
         (λ turn. refused_by (reply.Present added) turn (present_reply turn.earlier id added reply.Full turn.answer.1.live))
         (λ late. dropped_by (reply.Present added) late.middle late.claim late.claimed late.committed (ap (option_map reply.Present) late.committed.answer.live))
         turns
-    own_step config (Err (add.Full blocks)) turn = refused_by reply.Full turn (absent_reply turn.earlier id reply.Full turn.answer.0.absent)
+    own_step config (Err (add.Full blocks)) refused = refused_by reply.Full refused.turn (absent_reply refused.turn.earlier id reply.Full refused.turn.answer.0.absent)
     own_step config (Err (add.Spent events)) turn = step_spent_after limits pass before start after (call.Add id text) idle idle_start first turn turn.answer.many legal
     own_step config (Err add.Memory) turn =
         let most = most_moves (call.Add id text) in
         step_add_without_memory limits pass before after idle legal (idle_still pass start after turn idle_start) id text
         (quiet_weaker pass (most + 0) most before after (omega arith) (quiet_trans pass most 0 before start after first (quiet_turn pass start after [] turn refl refl)))
 
-  module _ (config : Config) (before start after : List Event) (moves : ℕ) (few : moves ≤ MOST_MOVES) (moved : SomeMoves config limits pass id before start moves) where
+  module _ (config : Config) (before start after : List Event) (all : MovesAll config limits pass id before start) where
     first_moved : (answer : Result ℕ AddFault) → OwnTurns config limits pass id text start after answer → MovesFirst config limits pass id text before after answer
-    first_moved answer own = record { moves = moves; few = few; middle = start; moved = moved; own = own }
+    first_moved answer own = record { middle = start; moves = all; own = own }
 
     pub moved_turns : (answer : Result ℕ AddFault) → OwnTurns config limits pass id text start after answer → AddTurns config limits pass id text before after answer
     moved_turns (Ok added) own = first_moved (Ok added) own
@@ -117,4 +116,4 @@ module _ (limits : Limits) (pass id : ℕ) (text : List ℕ) where
     pub moved_step : (answer : Result ℕ AddFault) → OwnTurns config limits pass id text start after answer → IsIdle pass before → IsIdle pass start → IsLegal limits after →
         Step limits pass before after (call.Add id text) (reply_of_add answer)
     moved_step answer own idle idle_start legal =
-        own_step before start after idle idle_start (quiet_weaker pass moves (most_moves (call.Add id text)) before start few (moves_are_quiet config limits pass id moves before start moved)) legal config answer own
+        own_step before start after idle idle_start (quiet_weaker pass all.moves (most_moves (call.Add id text)) before start all.few (moves_are_quiet config limits pass id all.moves before start (all_moved config limits pass id before start all))) legal config answer own

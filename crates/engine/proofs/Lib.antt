@@ -17,3 +17,4 @@ pub mod MergedColumns
 pub mod WordExprs
 pub mod QueryCalls
 pub mod TuneCalls
+mod Waits

@@ -11,7 +11,7 @@ use Rattle.funnel_model.specs.declared.event.Event.{Event}
 use Rattle.funnel_model.specs.declared.event.Event.TheVariants as event
 use Rattle.funnel_model.specs.declared.memory.Memory.{Memory}
 use Rattle.funnel_model.specs.Events.{deletes_or_drops}
-use Rattle.funnel_model.specs.History.{last_by}
+use Rattle.funnel_model.specs.History.{IsFrontOf, last_by}
 use Rattle.funnel_model.specs.Legal.{IsIdle, IsLegal, Limits}
 use Rattle.funnel_model.proofs.Claims.{take_within}
 use Rattle.funnel_model.proofs.Histories.{allowed_within, legal_before}
@@ -24,12 +24,13 @@ use Rattle.commit_desk.specs.declared.look.Look.{Look}
 use Rattle.commit_desk.specs.declared.answers.TakenMove.{TakenMove}
 use Rattle.commit_desk.specs.Desks.{DeskState, IsFresh, Makes}
 use Rattle.commit_desk.specs.Layouts.{IsLayoutOf}
-use Rattle.commit_desk.specs.Moving.{AnswersLook, AnswersTakeMove, HoldsLook, IsThereStill, LooksState, event_of_move, events_of_take_move}
+use Rattle.commit_desk.specs.Moving.{AnswersTakeMove, ClaimsNoneFor, HoldsLook, IsThereStill, document_of, event_of_move, events_of_take_move}
 use Rattle.commit_desk.specs.Passes.{IsResting, IsToWrite}
 use Rattle.commit_desk.proofs.CallEnds.{rests_one}
 use Rattle.slice_recycler.specs.Turns.{IsTurn}
 use Rattle.slice_recycler.proofs.Steps.{idle_still}
-use Rattle.engine.specs.Moves.{AreBitsAt, IsToBeMoved, MoveTurns, TakesFor, WritesOrRests}
+use Rattle.engine.proofs.Moves.{front_refl}
+use Rattle.engine.specs.Moves.{AreBitsAt, HasOneToMove, IsLookForMove, IsToBeMoved, LacksMemory, LooksInVain, MoveTurns, TakesFor, WritesOrRests}
 
 -- a pass that looked at a document holds its look while its front grows
 pub holds_on : (seat next : PassState) (look : Look) → IsPrefix seat.front next.front → HoldsLook seat look → HoldsLook next look
@@ -92,18 +93,65 @@ module _ (pool : PoolId) (before after : DeskState) (seat next : PassState) (non
     writes_or_rests rests most look (Err memory) may fresh made = rests_on rests made
 
 -- the document that the desk names is to be moved
-to_be_moved : (reserve : ℕ) (limits : Limits) (looks : LooksState) (history : List Event) (id : ℕ) (look : Look) → AnswersLook reserve limits.events limits looks history id (Ok (Some look)) →
+to_be_moved : (reserve : ℕ) (limits : Limits) (pass id : ℕ) (look : Look) (history : List Event) → IsLookForMove reserve limits pass id (Ok (Some look)) history →
     IsToBeMoved reserve limits history id look
-to_be_moved reserve limits looks history id look next = record { held = next.held; empties = next.empties; live = next.next.live }
+to_be_moved reserve limits pass id look history looked = record { looks = looked.looks; each_pass = looked.each_pass; at_next = looked.answers.0 }
+
+-- so it is in the turn in which it was looked at
+turn_of_look : (reserve : ℕ) (limits : Limits) (pass id : ℕ) (look : Look) (before after : List Event) → IsTurn pass before after (IsLookForMove reserve limits pass id (Ok (Some look))) [] →
+    IsTurn pass before after (λ history. IsToBeMoved reserve limits history id look) []
+turn_of_look reserve limits pass id look before after turn = record {
+  earlier = turn.earlier;
+  seen = turn.seen;
+  answer = to_be_moved reserve limits pass id look turn.earlier turn.answer;
+  made = turn.made;
+}
+
+-- a document that was looked at is to be moved
+turn_of_one : (reserve : ℕ) (limits : Limits) (pass id : ℕ) (look : Look) (before after : List Event) → IsTurn pass before after (IsLookForMove reserve limits pass id (Ok (Some look))) [] →
+    IsTurn pass before after (λ history. HasOneToMove reserve limits history id) []
+turn_of_one reserve limits pass id look before after turn =
+    let looked = turn.answer in
+    record {
+      earlier = turn.earlier;
+      seen = turn.seen;
+      answer = record { looks = looked.looks; each_pass = looked.each_pass; has = (look.slice, look.column, document_of look, look.since, looked.answers.0) };
+      made = turn.made;
+    }
+
+module _ (config : Config) (limits : Limits) (pass id : ℕ) (before : List Event) where
+  -- a look for which there was no memory ends the moves
+  pub lacks_memory : (after : List Event) (memory : Memory) → IsTurn pass before after (IsLookForMove config.reserve limits pass id (Err memory)) [] → LacksMemory config limits pass id before after
+  lacks_memory after memory turn =
+      let looked = turn.answer in
+      record {
+        seen = after;
+        looked = record {
+          earlier = turn.earlier;
+          seen = turn.seen;
+          answer = record { looks = looked.looks; each_pass = looked.each_pass; has = looked.answers };
+          made = turn.made;
+        };
+        later = front_refl pass after;
+      }
+
+  module _ (seen : List Event) (look : Look) (looked : IsTurn pass before seen (IsLookForMove config.reserve limits pass id (Ok (Some look))) []) where
+    -- so does one for whose document there was none later
+    pub lacks_later : (after : List Event) → IsFrontOf pass seen after → LacksMemory config limits pass id before after
+    lacks_later after later = record { seen = seen; looked = turn_of_one config.reserve limits pass id look before seen looked; later = later }
+
+    -- and one for which no column was claimed
+    pub looks_in_vain : (after : List Event) → IsTurn pass seen after (λ history. ClaimsNoneFor limits.events limits history pass look.slice) [] → LooksInVain config limits pass id before after
+    looks_in_vain after turn = record { look = look; seen = seen; looked = turn_of_look config.reserve limits pass id look before seen looked; none = turn }
 
 -- the column that was taken for it
 takes_for : (limits : Limits) (history : List Event) (pass : ℕ) (look : Look) (taken : TakenMove) → AnswersTakeMove limits.events limits history pass look (Ok (Some taken)) →
     TakesFor limits history pass look taken.claim
-takes_for limits history pass look taken may = record { takes_calls = may.0; may = may.1; other = may.2 }
+takes_for limits history pass look taken may = record { takes_calls = may.0; may = may.1; other = may.2; room = may.4 }
 
 -- The turns of a move whose pass wrote the bits before the last one.
 module _ (config : Config) (limits : Limits) (pass id : ℕ) (before after : List Event) (look : Look) (taken : TakenMove) (bits : List Bit) (moved : Bool) (seen took wrote : PassState) where
-  pub move_turns : IsTurn pass before seen.front (λ history. (looks : LooksState) × AnswersLook config.reserve limits.events limits looks history id (Ok (Some look))) [] → seen.number ≡ pass →
+  pub move_turns : IsTurn pass before seen.front (IsLookForMove config.reserve limits pass id (Ok (Some look))) [] → seen.number ≡ pass →
       IsTurn seen.number seen.front took.front (λ history. AnswersTakeMove limits.events limits history seen.number look (Ok (Some taken))) (event.Take seen.number taken.claim.slice taken.claim.column ∷ []) →
       taken.look ≡ look → took.number ≡ seen.number → wrote ≡ record took { own = wrote.own } → AreBitsAt config limits wrote.front look.doc.text taken.claim bits →
       IsTurn wrote.number wrote.front after (λ history. IsTrue moved ↔ IsThereStill history taken.look) (event_of_move wrote.number taken.look taken.claim bits moved ∷ []) →
@@ -115,12 +163,7 @@ module _ (config : Config) (limits : Limits) (pass id : ℕ) (before after : Lis
     moved = moved;
     seen = seen.front;
     middle = took.front;
-    looked = record {
-      earlier = looked.earlier;
-      seen = looked.seen;
-      answer = to_be_moved config.reserve limits looked.answer.0 looked.earlier id look looked.answer.1;
-      made = looked.made;
-    };
+    looked = turn_of_look config.reserve limits pass id look before seen.front looked;
     took =
         subst (λ (n : ℕ). IsTurn n seen.front took.front (λ history. TakesFor limits history n look taken.claim) (event.Take n taken.claim.slice taken.claim.column ∷ [])) number
         (record {

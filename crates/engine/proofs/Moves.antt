@@ -1,5 +1,5 @@
 -- The turns of moves: what they do to the front of their pass.
-use Rattle.std.proofs.Common.{◌≡◌, ℕ, zero, suc, ◌+◌, ◌≤◌, Bool, true, false, ◌==◌, ◌&&◌, cond, List, [], ◌∷◌, ◌++◌, length, refl, sym, ap, ◌∙◌, subst, append-nil, append_assoc, arith}
+use Rattle.std.proofs.Common.{◌≡◌, ℕ, zero, suc, ◌+◌, ◌≤◌, Bool, true, false, ◌==◌, ◌&&◌, cond, List, [], ◌∷◌, ◌++◌, length, refl, sym, ap, ◌∙◌, ⊎_elim, subst, append-nil, append_assoc, arith}
 use Rattle.std.proofs.lemmas.Bool.{or_from}
 use Rattle.std.proofs.lemmas.List.{length-append}
 use Rattle.std.proofs.lemmas.List.Folds.{list_any-append}
@@ -17,7 +17,7 @@ use Rattle.commit_desk.specs.declared.look.Look.{Look}
 use Rattle.commit_desk.specs.Moving.{event_of_move}
 use Rattle.slice_recycler.specs.Turns.{IsTurn}
 use Rattle.slice_recycler.proofs.Steps.{IsQuiet, own-unanswered, quiet_front, quiet_trans, quiet_turn, quiet_weaker}
-use Rattle.engine.specs.Moves.{MoveTurns, SomeMoves}
+use Rattle.engine.specs.Moves.{MoveTurns, MovesAll, MovesNone, SomeMoves}
 
 -- a front is one of itself, and of what goes on from it
 pub front_refl : (pass : ℕ) (front : List Event) → IsFrontOf pass front front
@@ -94,6 +94,22 @@ module _ (config : Config) (limits : Limits) (pass id : ℕ) where
   moves_go_on zero before middle after seen more = front_goes_on pass before middle after seen more
   moves_go_on (suc moves) before middle after some more = (some.0, some.1, moves_go_on moves some.0 middle after some.2 more)
 
+  -- what keeps a pass from one move more makes no event
+  none_goes_on : (before after : List Event) → MovesNone config limits pass id before after → IsFrontOf pass before after
+  none_goes_on before after none = ⊎_elim
+      (λ looked. silent_turn pass before after looked)
+      (λ vain. front_goes_on pass before vain.seen after (silent_turn pass before vain.seen vain.looked) (silent_turn pass vain.seen after vain.none))
+      none
+
+  -- the moves of an add
+  pub all_moved : (before after : List Event) (all : MovesAll config limits pass id before after) → SomeMoves config limits pass id before after all.moves
+  all_moved before after all =
+      moves_go_on all.moves before all.last after all.moved (⊎_elim (λ most. most.1)
+      (λ rest. ⊎_elim (λ none. none_goes_on all.last after none)
+      (λ lacks. front_goes_on pass all.last lacks.seen after (silent_turn pass all.last lacks.seen lacks.looked) lacks.later)
+      rest)
+      all.ended)
+
   -- the turn that ends a move answers nothing
   ended_quietly : {answers : List Event → Type 0} (middle after : List Event) (look : Look) (claim : Claim) (bits : List Bit) (moved : Bool) →
       IsTurn pass middle after answers (event_of_move pass look claim bits moved ∷ []) → IsQuiet pass 1 middle after
@@ -125,7 +141,7 @@ module _ (config : Config) (limits : Limits) (pass id : ℕ) where
   none_moved_late zero before after many seen = seen
   none_moved_late (suc moves) before after many some =
       let looked = some.1.looked in
-      let few = looked.answer.empties.may.takes_calls in
+      let few = looked.answer.at_next.empties.may.takes_calls in
       let grows = no_shorter pass before looked.earlier looked.seen in
       absurd (omega (arith, many, few, grows))
 
@@ -133,6 +149,6 @@ module _ (config : Config) (limits : Limits) (pass id : ℕ) where
   pub none_moved_without_reserve : (moves : ℕ) (before after : List Event) → config.reserve ≡ 0 → SomeMoves config limits pass id before after moves → IsFrontOf pass before after
   none_moved_without_reserve zero before after none seen = seen
   none_moved_without_reserve (suc moves) before after none some =
-      let short = some.1.looked.answer.empties.short in
+      let short = some.1.looked.answer.at_next.empties.short in
       let fewer = short.2 in
       absurd (omega (arith, none, fewer))

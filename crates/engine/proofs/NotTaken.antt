@@ -17,7 +17,7 @@ use Rattle.slice_recycler.proofs.Steps.{quiet_adds_none, quiet_front, quiet_tran
 use Rattle.slice_recycler.specs.Turns.{IsTurn}
 use Rattle.engine.specs.Adds.{AddTurns, ClaimTurns, CommitTurns, MovesFirst, OwnTurns}
 use Rattle.engine.specs.Replies.{reply_of_add}
-use Rattle.engine.proofs.Moves.{no_shorter, none_moved_late}
+use Rattle.engine.proofs.Moves.{all_moved, no_shorter, none_moved_late}
 
 module _ (limits : Limits) (pass id : ℕ) (text : List ℕ) where
   -- no call is taken by a desk that has as many events
@@ -45,7 +45,7 @@ module _ (limits : Limits) (pass id : ℕ) (text : List ℕ) where
     of (Ok added) turns = absurd (committed_late config start after (Ok added) many_now turns)
     of (Err (add.Present added)) turns =
         absurd (⊎_elim (λ turn. taken_late start after _ turn many_now turn.answer.0) (λ late. committed_late config start after _ many_now late) turns)
-    of (Err (add.Full blocks)) turns = absurd (taken_late start after _ turns many_now turns.answer.0.takes_calls)
+    of (Err (add.Full blocks)) turns = absurd (taken_late start after _ turns.turn many_now turns.turn.answer.0.takes_calls)
     of (Err (add.Spent events)) turns =
         record { reply = inl refl; call = quiet_adds_none pass 0 before after (quiet_trans pass 0 0 before start after (quiet_front pass before start seen) (quiet_turn pass start after [] turns refl refl)) }
     of (Err add.Memory) turns = absurd (taken_late start after _ turns many_now turns.answer.0.takes_calls)
@@ -54,7 +54,7 @@ module _ (limits : Limits) (pass id : ℕ) (text : List ℕ) where
     moved_not_taken : (config : Config) (after : List Event) (answer : Result ℕ AddFault) → MovesFirst config limits pass id text before after answer →
         IsNotTaken (record { opening = config; limits = limits; pass = pass }) before after (reply_of_add answer)
     moved_not_taken config after answer turns =
-        own_not_taken config before turns.middle after answer many (none_moved_late config limits pass id turns.moves before turns.middle many turns.moved) turns.own
+        own_not_taken config before turns.middle after answer many (none_moved_late config limits pass id turns.moves.moves before turns.middle many (all_moved config limits pass id before turns.middle turns.moves)) turns.own
 
     pub add_not_taken : (config : Config) (after : List Event) (answer : Result ℕ AddFault) → AddTurns config limits pass id text before after answer →
         IsNotTaken (record { opening = config; limits = limits; pass = pass }) before after (reply_of_add answer)

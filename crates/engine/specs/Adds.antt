@@ -1,21 +1,22 @@
 -- The turns of an add at the desk: those of its moves, and those for its own document.
-use Rattle.std.specs.Prelude.{◌≡◌, ℕ, ◌*◌, ◌≤◌, ◌⊎◌, List, [], length, Option, Result, Ok, Err}
+use Rattle.std.specs.Prelude.{◌≡◌, ℕ, zero, suc, ◌*◌, ◌≤◌, ◌⊎◌, Bool, false, List, [], length, IfSome, Option, Result, Ok, Err}
 use Rattle.document_store.specs.Documents.{Parts}
 use Rattle.funnel_model.specs.declared.bit_list.Bit.{Bit}
-use Rattle.funnel_model.specs.declared.call.TheConstants.{MOST_MOVES}
 use Rattle.funnel_model.specs.declared.claim.Claim.{Claim}
 use Rattle.funnel_model.specs.declared.config.Config.{Config}
 use Rattle.funnel_model.specs.declared.event.Event.{Event}
-use Rattle.funnel_model.specs.Legal.{Limits}
+use Rattle.funnel_model.specs.History.{IsFrontOf}
+use Rattle.funnel_model.specs.Legal.{IsFull, Limits}
+use Rattle.funnel_model.specs.Slices.{is_clearing}
 use Rattle.funnel_model.specs.Words.{AreWordsOf}
-use Rattle.commit_desk.specs.Answers.{AnswersCommit, AnswersTake, events_of_commit, events_of_opened_take, events_of_take}
+use Rattle.commit_desk.specs.Answers.{AnswersCommit, AnswersLastTake, AnswersTake, IsBeingCleared, NoneIsCleared, events_of_commit, events_of_opened_take, events_of_take}
 use Rattle.commit_desk.specs.declared.answers.AddFault.{AddFault}
 use Rattle.commit_desk.specs.declared.answers.AddFault.TheVariants as add
 use Rattle.commit_desk.specs.declared.answers.CommitFault.{CommitFault}
 use Rattle.commit_desk.specs.declared.answers.CommitFault.TheVariants as commit
 use Rattle.commit_desk.specs.declared.answers.Taken.{Taken}
 use Rattle.commit_desk.specs.declared.answers.Taken.TheVariants as taken
-use Rattle.engine.specs.Moves.{AreBitsAt, SomeMoves}
+use Rattle.engine.specs.Moves.{AreBitsAt, MovesAll}
 use Rattle.row_layout.specs.declared.row.TheConstants.{MOST_ROWS}
 use Rattle.row_layout.specs.DocumentBits.{BitsState}
 use Rattle.row_layout.specs.Layouts.{LayoutId}
@@ -31,6 +32,46 @@ pub record IsToBeAdded (doc : Parts) (bits : BitsState) : Type 0 where
 abbrev pub TurnOfTake : Limits → ℕ → ℕ → List ℕ → List Event → List Event → Taken → Type 0
 TurnOfTake limits pass id text before after answer =
     IsTurn pass before after (λ history. AnswersTake limits.events limits history pass id answer) (events_of_take pass id text answer)
+
+-- the slice isn't being cleared any more, where one is named
+abbrev pub IsOpenAgain : List Event → Option ℕ → Type 0
+IsOpenAgain history awaited = IfSome awaited (λ slice. is_clearing slice history ≡ false)
+
+-- the desk's answer to a look of an add for a column, which came once this slice was open
+pub record IsLookForRoom (limits : Limits) (pass id : ℕ) (awaited : Option ℕ) (last : Bool) (answer : Taken) (history : List Event) : Type 0 where
+  pub is_open : IsOpenAgain history awaited
+  pub look : AnswersLastTake limits.events limits history pass id last answer
+
+-- an add waited once: the engine was full and a slice was being cleared, and it looked again when that slice was open
+pub record WaitsOnce (limits : Limits) (pass : ℕ) (before opened : List Event) : Type 0 where
+  pub full : List Event
+  pub slice : ℕ
+  pub seen : IsFrontOf pass before full
+  pub is_full : IsFull limits full
+  pub clearing : IsBeingCleared limits full slice
+  pub later : IsFrontOf pass full opened
+  pub is_open : is_clearing slice opened ≡ false
+
+-- it waited so often, one time after another, before it looked at this history
+abbrev pub HasWaited : Limits → ℕ → List Event → List Event → ℕ → Type 0
+HasWaited limits pass before history zero = IsFrontOf pass before history
+HasWaited limits pass before history (suc waits) = (opened : List Event) × WaitsOnce limits pass before opened × HasWaited limits pass opened history waits
+
+-- an add is refused as full only where no slice is being cleared, or where it has waited as often as there are passes
+abbrev pub MayRefuse : Limits → ℕ → List Event → List Event → AddFault → Type 0
+MayRefuse limits pass before history (add.Full blocks) = NoneIsCleared limits history ⊎ HasWaited limits pass before history limits.passes
+MayRefuse limits pass before history fault = Unit {0}
+
+-- the add was refused so, after it had waited as often as it had to
+pub record RefusedTurn (limits : Limits) (pass id : ℕ) (text : List ℕ) (before after : List Event) (fault : AddFault) : Type 0 where
+  pub turn : TurnOfTake limits pass id text before after (taken.Refused fault)
+  pub may : MayRefuse limits pass before turn.earlier fault
+
+-- what an add came to that looked for a column
+abbrev pub TakeTurns : Limits → ℕ → ℕ → List ℕ → List Event → List Event → Taken → Type 0
+TakeTurns limits pass id text before after (taken.Wait slice) = ⊥
+TakeTurns limits pass id text before after (taken.Refused fault) = RefusedTurn limits pass id text before after fault
+TakeTurns limits pass id text before after answer = TurnOfTake limits pass id text before after answer
 
 -- the pass took this column in the first turn of its add
 pub record TakesFirst (limits : Limits) (pass id : ℕ) (text : List ℕ) (before after : List Event) (claim : Claim) : Type 0 where
@@ -67,22 +108,21 @@ abbrev pub fault_of_drop : CommitFault → AddFault
 fault_of_drop (commit.Present added) = add.Present added
 
 -- The turns of an add for its own document. One that is answered by its place was added in its last turn. It is refused as present in its
--- first turn or in its last, and for want of room, as spent or for want of memory for the layout of its slice in its first.
+-- first turn or in its last, as spent or for want of memory for the layout of its slice in its first, and as full in its first, after it
+-- had waited for slices that were being cleared.
 abbrev pub OwnTurns : Config → Limits → ℕ → ℕ → List ℕ → List Event → List Event → Result ℕ AddFault → Type 0
 OwnTurns config limits pass id text before after (Ok added) = CommitTurns config limits pass id text before after (Ok added)
 OwnTurns config limits pass id text before after (Err (add.Present added)) =
     TurnOfTake limits pass id text before after (taken.Refused (add.Present added))
     ⊎ CommitTurns config limits pass id text before after (Err (commit.Present added))
-OwnTurns config limits pass id text before after (Err (add.Full blocks)) = TurnOfTake limits pass id text before after (taken.Refused (add.Full blocks))
+OwnTurns config limits pass id text before after (Err (add.Full blocks)) = RefusedTurn limits pass id text before after (add.Full blocks)
 OwnTurns config limits pass id text before after (Err (add.Spent events)) = TurnOfTake limits pass id text before after (taken.Refused (add.Spent events))
 OwnTurns config limits pass id text before after (Err add.Memory) = TurnOfTake limits pass id text before after (taken.Refused add.Memory)
 
--- the add moved a few documents, and then came its own turns
+-- the add moved documents, and then came its own turns
 pub record MovesFirst (config : Config) (limits : Limits) (pass id : ℕ) (text : List ℕ) (before after : List Event) (answer : Result ℕ AddFault) : Type 0 where
-  pub moves : ℕ
-  pub few : moves ≤ MOST_MOVES
   pub middle : List Event
-  pub moved : SomeMoves config limits pass id before middle moves
+  pub moves : MovesAll config limits pass id before middle
   pub own : OwnTurns config limits pass id text middle after answer
 
 -- The turns of an add. Where no memory was found for it nothing was done, and nothing was moved; or none was found for the layout of its

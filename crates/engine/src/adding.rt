@@ -2,9 +2,8 @@
 ghost use Rattle.std.specs.Prelude.{◌≡◌, ◌*◌, ◌≤◌, [], IfOk, MatchResult, length, vec_capacity};
 ghost use Rattle.funnel_model.specs.declared.call.Call.TheVariants as call;
 ghost use Rattle.funnel_model.specs.Legal.{IsLegal};
-ghost use Rattle.commit_desk.specs.declared.answers.Taken.TheVariants as taken;
 ghost use Rattle.commit_desk.specs.Passes.{HasWritten, IsResting, IsToWrite};
-ghost use Rattle.engine.specs.Adds.{AddTurns, ClaimTurns, IsToBeAdded, OwnTurns, TurnOfTake, fault_of_drop};
+ghost use Rattle.engine.specs.Adds.{AddTurns, ClaimTurns, IsToBeAdded, OwnTurns, RefusedTurn, fault_of_drop};
 ghost use Rattle.engine.specs.Passes.{MakesCall};
 ghost use Rattle.engine.specs.Replies.{reply_of_add};
 ghost use Rattle.row_layout.specs.declared.row.TheConstants.{MOST_ROWS};
@@ -35,6 +34,9 @@ impl<N: PoolName> Engine<N> {
     /// For its own document it waits for the lock twice, or three times where it clears a slice; where it is refused in the first
     /// of these turns, once. The documents of a slice that it clears are dropped while the lock is free. Its bits are set by the
     /// treatment of its slice.
+    ///
+    /// Where the engine is full but another pass is clearing a slice, it waits, without the lock, until that slice is open, and looks
+    /// again: as often as there are passes, before it is refused as full.
     pub fn add<R: Wait>(
         &self,
         rt: &R,
@@ -132,7 +134,7 @@ impl<N: PoolName> Engine<N> {
         requires empty { room.items ≡ [] }
         requires enough { N.pool.limits.slices ≤ vec_capacity room }
         ensures turns { MatchResult result (λ claimed. ClaimTurns N.pool.limits pass.old.number doc.now.id doc.now.text pass.old.front pass.new.front claimed.0)
-            (λ fault. TurnOfTake N.pool.limits pass.old.number doc.now.id doc.now.text pass.old.front pass.new.front (taken.Refused fault)) }
+            (λ fault. RefusedTurn N.pool.limits pass.old.number doc.now.id doc.now.text pass.old.front pass.new.front fault) }
         ensures next { MatchResult result (λ claimed. IsToWrite N.pool claimed.0 claimed.1 pass.new) (λ _. IsResting N.pool pass.new) }
         ensures legal { IsLegal N.pool.limits pass.new.front }
         ensures number { pass.new.number ≡ pass.old.number }
@@ -150,6 +152,7 @@ impl<N: PoolName> Engine<N> {
                 Ok((self.opened_take(rt, pass, job, slots.empty()), layout))
             }
             Taken::Refused(fault) => Err(fault),
+            Taken::Wait(_) => unreachable!(),
         }
     }
 

@@ -23,7 +23,7 @@ use slice_recycler::{Recycled, recycle_by};
 use slice_rule::{Pool, PoolName};
 use std::alloc::Global;
 use std::marker::{Model, PhantomData};
-use std::sync::{Mutex, Wait};
+use std::sync::{Condvar, Mutex, Wait};
 
 /// An index that threads share: the one over the pool that `N` names. Contracts see this pool, by its sizes and its configuration.
 #[derive(Drop)]
@@ -36,6 +36,8 @@ pub struct Engine<N: PoolName> {
     /// The configuration that it was opened with, without its listed words.
     pub(crate) base: Config,
     pub(crate) desk: Mutex<Named<N>>,
+    /// Told of each slice that was cleared and is open again. An add waits for it with the desk's lock given up.
+    pub(crate) opened: Condvar,
 }
 
 impl<N: PoolName> Model for Engine<N> {
@@ -66,7 +68,7 @@ impl<N: PoolName> Engine<N> {
         let range = layout.slice_range(0);
         let base = without_words(alloc, config);
         let Blank { pool, home, passes } = blank;
-        let looks = Looks::new(alloc, config.slices, layout.columns())?;
+        let looks = Looks::new(alloc, config.passes)?;
         let desk = Desk::new(alloc, config, home, 1 << 62, layout)?;
         let passes = name_passes(alloc, passes, config.slices)?;
         let of = PhantomData;
@@ -77,6 +79,7 @@ impl<N: PoolName> Engine<N> {
             reserve: config.reserve,
             base,
             desk: Mutex::new(Named { desk, looks, of }),
+            opened: Condvar::new(),
         };
         Ok((engine, passes))
     }
@@ -141,7 +144,9 @@ impl<N: PoolName> Engine<N> {
         ensures call { MakesCall N.pool.limits call.Recycle (reply_of_recycle result) pass.old pass.new }
         ensures turns { RecycleTurns N.pool.limits pass.old.number pass.old.front pass.new.front result }
     {
-        recycle_by(rt, &self.pool, &self.desk, self.room, &mut pass.seat, work)
+        let recycled = recycle_by(rt, &self.pool, &self.desk, self.room, &mut pass.seat, work);
+        self.opened.notify_all();
+        recycled
     }
 
     /// What the pass has seen, for another pass to meet. It waits for nobody, and takes no memory.
@@ -184,6 +189,7 @@ impl<N: PoolName> Engine<N> {
             reserve: _,
             base: _,
             desk,
+            opened: _,
         } = self;
         let Named {
             desk,

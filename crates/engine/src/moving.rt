@@ -1,15 +1,14 @@
 //! Moves: an add first moves documents out of the slice that is to be emptied. Each call of the desk is a turn of its own.
-ghost use Rattle.std.specs.Prelude.{◌≡◌, ℕ, ◌≤◌, ◌↔◌, [], ◌∷◌, cond, IfOk, IfSome, IsTrue};
-ghost use Rattle.commit_desk.specs.Moving.{AnswersLook, AnswersTakeMove, HoldsLook, IsThereStill, LooksState, event_of_move, events_of_take_move};
+ghost use Rattle.std.specs.Prelude.{◌≡◌, ◌↔◌, [], ◌∷◌, IfOk, IfSome, IsTrue};
+ghost use Rattle.commit_desk.specs.Moving.{AnswersTakeMove, HoldsLook, IsThereStill, event_of_move, events_of_take_move};
 ghost use Rattle.commit_desk.specs.Passes.{HasWritten, IsResting};
-ghost use Rattle.engine.specs.Moves.{MoveTurns, SomeMoves, WritesOrRests};
-ghost use Rattle.funnel_model.specs.declared.call.TheConstants.{MOST_MOVES};
-ghost use Rattle.funnel_model.specs.History.{IsFrontOf};
+ghost use Rattle.engine.specs.Moves.{EndsMove, IsLookForMove, MovesAll, WritesOrRests};
 ghost use Rattle.slice_recycler.specs.Turns.{IsTurn};
 
 use crate::engine::Engine;
 use crate::work::Work;
 use commit_desk::{Look, TakenMove};
+use document_store::Doc;
 use funnel_model::{Claim, MOST_MOVES, Memory};
 use row_layout::Bits;
 use slice_rule::{PassSeat, PoolName};
@@ -27,7 +26,7 @@ impl<N: PoolName> Engine<N> {
         work: &mut W,
     )
         requires rests { IsResting N.pool pass.old }
-        ensures moves { (moves : ℕ) × (moves ≤ MOST_MOVES) × SomeMoves N.pool.config N.pool.limits pass.old.number id pass.old.front pass.new.front moves }
+        ensures moves { MovesAll N.pool.config N.pool.limits pass.old.number id pass.old.front pass.new.front }
         ensures rests { IsResting N.pool pass.new }
         ensures number { pass.new.number ≡ pass.old.number }
     {
@@ -35,13 +34,15 @@ impl<N: PoolName> Engine<N> {
             return;
         }
         for _ in 0..MOST_MOVES {
-            if !self.move_one(rt, alloc, pass, id, work) {
-                return;
+            match self.move_one(rt, alloc, pass, id, work) {
+                Ok(true) => {}
+                Ok(false) => return,
+                Err(Memory) => return,
             }
         }
     }
 
-    // Moves the next document, where there is one that is to be moved, and memory for it.
+    // Moves the next document, and tells whether there was one that is to be moved, and a column for it.
     fn move_one<R: Wait, W: Work>(
         &self,
         rt: &R,
@@ -49,22 +50,25 @@ impl<N: PoolName> Engine<N> {
         pass: &mut PassSeat,
         id: u64,
         work: &mut W,
-    ) -> bool
+    ) -> Result<bool, Memory>
         requires rests { IsResting N.pool pass.old }
-        ensures moved { cond result (MoveTurns N.pool.config N.pool.limits pass.old.number id pass.old.front pass.new.front)
-            (IsFrontOf pass.old.number pass.old.front pass.new.front) }
+        ensures moved { EndsMove N.pool.config N.pool.limits pass.old.number id pass.old.front pass.new.front result }
         ensures rests { IsResting N.pool pass.new }
         ensures number { pass.new.number ≡ pass.old.number }
     {
-        let Ok(Some(look)) = self.look(rt, alloc, pass, id) else {
-            return false;
+        let look = match self.look(rt, alloc, pass, id) {
+            Ok(Some(look)) => look,
+            Ok(None) => return Ok(false),
+            Err(Memory) => return Err(Memory),
         };
         let Ok(mut bits) = Bits::for_words(alloc, look.doc.words()) else {
-            self.drop_look(rt, look);
-            return false;
+            drop(self.drop_look(rt, look));
+            return Err(Memory);
         };
-        let Ok(Some(taken)) = self.take_move(rt, pass, look) else {
-            return false;
+        let taken = match self.take_move(rt, pass, look) {
+            Ok(Some(taken)) => taken,
+            Ok(None) => return Ok(false),
+            Err(Memory) => return Err(Memory),
         };
         let TakenMove {
             claim,
@@ -73,7 +77,7 @@ impl<N: PoolName> Engine<N> {
         } = taken;
         self.write(pass, &claim, &layout, look.doc.words(), &mut bits, work);
         self.end_move(rt, pass, claim, look, &bits);
-        true
+        Ok(true)
     }
 
     // The first turn of a move.
@@ -86,7 +90,7 @@ impl<N: PoolName> Engine<N> {
     ) -> Result<Option<Look>, Memory>
         requires rests { IsResting N.pool pass.old }
         ensures turn { IsTurn pass.old.number pass.old.front pass.new.front
-            (λ history. (looks : LooksState) × AnswersLook N.pool.config.reserve N.pool.limits.events N.pool.limits looks history id result) [] }
+            (IsLookForMove N.pool.config.reserve N.pool.limits pass.old.number id result) [] }
         ensures look { IfOk result (λ found. IfSome found (HoldsLook pass.new)) }
         ensures rests { IsResting N.pool pass.new }
         ensures number { pass.new.number ≡ pass.old.number }
@@ -97,9 +101,12 @@ impl<N: PoolName> Engine<N> {
         named.desk.look(alloc, &self.pool, pass, &mut named.looks, self.reserve, id)
     }
 
-    // The turn of a move that found no memory for its bits.
-    fn drop_look<R: Wait>(&self, rt: &R, look: Look) {
-        self.desk.lock(rt).looks.drop_look(look)
+    // The turn of a move that found no memory for its bits. It gives the document back, to be dropped when the lock is free again: none is
+    // to be had of a look but by `Looks::end`, which ends the look.
+    fn drop_look<R: Wait>(&self, rt: &R, look: Look) -> Doc
+        ensures ended { result ≡ look.doc }
+    {
+        self.desk.lock(rt).looks.end(look)
     }
 
     // The second turn of a move.

@@ -1,5 +1,5 @@
 //! The turns of adds, finds and tunings at the desk. Each holds the lock for one call of the desk, and the last of a find for its end too.
-ghost use Rattle.std.specs.Prelude.{◌≡◌, ◌≤◌, true, [], ◌∷◌, IfOk, IfSome, MatchResult, None, vec_capacity};
+ghost use Rattle.std.specs.Prelude.{◌≡◌, ◌<◌, ◌≤◌, true, [], ◌∷◌, false, IfOk, IfSome, MatchOption, MatchResult, None, vec_capacity};
 ghost use Rattle.funnel_model.specs.declared.event.Event.TheVariants as event;
 ghost use Rattle.funnel_model.specs.Legal.{IsLegal};
 ghost use Rattle.funnel_model.specs.Tokens.{HasToken};
@@ -8,22 +8,28 @@ ghost use Rattle.commit_desk.specs.FindLayouts.{AreFindLayouts};
 ghost use Rattle.commit_desk.specs.Layouts.{IsLayoutOf, TunesWith};
 ghost use Rattle.commit_desk.specs.Passes.{HasCleared, HasWritten, IsFinding, IsResting, IsToDo, IsToWrite};
 ghost use Rattle.commit_desk.specs.Resolving.{FindsUpTo};
-ghost use Rattle.engine.specs.Adds.{TurnOfTake};
+ghost use Rattle.std.specs.Sync.Mutex.{mutex_guard_value};
+ghost use Rattle.commit_desk.specs.Answers.{LeavesRoom, events_of_take};
+ghost use Rattle.engine.specs.Adds.{IsLookForRoom, IsOpenAgain, TakeTurns};
 ghost use Rattle.engine.specs.Finds.{CanGoOn, ComesTo, end_of_turn, events_of_turn};
 ghost use Rattle.row_layout.specs.Layouts.{LayoutId};
 ghost use Rattle.slice_recycler.specs.Turns.{IsTurn};
 
 use crate::engine::Engine;
 use crate::lookup::Resolver;
-use commit_desk::{CommitFault, FindFault, FindLayout, FindLayouts, SharedLayout, Spent, Taken};
+use commit_desk::{
+    CommitFault, FindFault, FindLayout, FindLayouts, Named, SharedLayout, Spent, Taken,
+};
 use document_store::{Doc, Found, FreeSlots};
 use funnel_model::{Block, Candidates, Claim, ClearJob, Config, Token};
 use row_layout::Bits;
 use slice_rule::{PassSeat, PoolName};
-use std::sync::Wait;
+use std::sync::{MutexGuard, Wait};
 
 impl<N: PoolName> Engine<N> {
-    // The first turn of an add. Room that it doesn't need is dropped when the lock is free again.
+    // The looks of an add for a column, up to the one that claims it, or a slice for it, or is refused. Where the engine is full but a slice
+    // is being cleared, it looks again once that slice is open, as often as there are passes. Room that it doesn't need is dropped when
+    // the lock is free again.
     pub(crate) fn take<R: Wait>(
         &self,
         rt: &R,
@@ -34,22 +40,67 @@ impl<N: PoolName> Engine<N> {
         requires rests { IsResting N.pool pass.old }
         requires empty { room.items ≡ [] }
         requires enough { N.pool.limits.slices ≤ vec_capacity room }
-        ensures turn { TurnOfTake N.pool.limits pass.old.number doc.now.id doc.now.text pass.old.front pass.new.front result }
+        ensures turns { TakeTurns N.pool.limits pass.old.number doc.now.id doc.now.text pass.old.front pass.new.front result }
+        ensures next { IsToDo N.pool result pass.new }
+        ensures number { pass.new.number ≡ pass.old.number }
+        ensures legal { IsLegal N.pool.limits pass.new.front }
+    {
+        let mut room = Some(room);
+        let mut awaited = None;
+        for _ in 0..self.base.passes {
+            match self.look_for_room(rt, pass, doc, &mut room, awaited, false) {
+                Taken::Wait(slice) => awaited = Some(slice),
+                taken => return taken,
+            }
+        }
+        self.look_for_room(rt, pass, doc, &mut room, awaited, true)
+    }
+
+    // A look of an add for a column, which may be its last. It waits first while the slice is being cleared that the look before it named.
+    fn look_for_room<R: Wait>(
+        &self,
+        rt: &R,
+        pass: &mut PassSeat,
+        doc: &Doc,
+        room: &mut Option<Vec<Block>>,
+        awaited: Option<u32>,
+        last: bool,
+    ) -> Taken
+        requires rests { IsResting N.pool pass.old }
+        requires room { MatchOption room.old ⊥ (λ empty. (empty.items ≡ []) × (N.pool.limits.slices ≤ vec_capacity empty)) }
+        requires awaited { IfSome awaited (λ slice. slice < N.pool.limits.slices) }
+        ensures turn { IsTurn pass.old.number pass.old.front pass.new.front (IsLookForRoom N.pool.limits pass.old.number doc.now.id awaited last result)
+            (events_of_take pass.old.number doc.now.id doc.now.text result) }
+        ensures room { LeavesRoom result room.old room.new }
         ensures next { IsToDo N.pool result pass.new }
         ensures number { pass.new.number ≡ pass.old.number }
         ensures legal { IsLegal N.pool.limits pass.new.front }
     {
         let _ = &self.pool;
-        let mut room = Some(room);
-        let taken = self
-            .desk
-            .lock(rt)
-            .desk
-            .take(&self.pool, pass, doc, &mut room);
-        taken
+        let mut named = self.lock_once_open(rt, awaited);
+        named.desk.take(&self.pool, pass, doc, room, last)
     }
 
-    // The turn of an add that cleared a slice. The slice keeps the layout that it had when the pass began to clear it.
+    // Takes the lock, and waits without it while the slice is being cleared, where one is named.
+    fn lock_once_open<R: Wait>(&self, rt: &R, awaited: Option<u32>) -> MutexGuard<'_, Named<N>>
+        requires { IfSome awaited (λ slice. slice < N.pool.limits.slices) }
+        ensures { IsOpenAgain (mutex_guard_value result).desk.history awaited }
+    {
+        let mut named = self.desk.lock(rt);
+        let Some(slice) = awaited else {
+            return named;
+        };
+        for _ in rt.forever() {
+            if !named.desk.is_clearing(slice) {
+                return named;
+            }
+            named = self.opened.wait(rt, named);
+        }
+        unreachable!()
+    }
+
+    // The turn of an add that cleared a slice, after which adds that wait for the slice go on. The slice keeps the layout that it had when
+    // the pass began to clear it.
     pub(crate) fn opened_take<R: Wait>(
         &self,
         rt: &R,
@@ -66,10 +117,13 @@ impl<N: PoolName> Engine<N> {
         ensures legal { IsLegal N.pool.limits pass.new.front }
     {
         let _ = &self.pool;
-        self.desk
+        let claim = self
+            .desk
             .lock(rt)
             .desk
-            .opened_take(&self.pool, pass, job, slots)
+            .opened_take(&self.pool, pass, job, slots);
+        self.opened.notify_all();
+        claim
     }
 
     // The last turn of an add.

@@ -13,7 +13,8 @@ use slice_recycler::{Clearer, clear_slice};
 use slice_rule::{PassSeat, Pool};
 
 /// What a call does between its turns, while the lock is free. An implementation may do more than it has to,
-/// which is how a test sees that others are answered meanwhile; each of its calls returns.
+/// which is how a test sees that others are answered meanwhile; each of its calls returns. It must not call the engine by itself: an
+/// add may wait until the slice is open that the very caller is clearing.
 pub trait Work: Clearer {
     /// Sets the bits of a document in its column.
     fn write(&mut self, pool: &Pool, seat: &mut PassSeat, claim: &Claim, bits: &Bits)

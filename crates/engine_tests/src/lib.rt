@@ -43,3 +43,5 @@ mod steps;
 mod threads;
 #[cfg(test)]
 mod together;
+#[cfg(test)]
+mod waiting;

@@ -1,5 +1,5 @@
 -- The table that finds a listed word by its hash.
-use Rattle.std.specs.Prelude.{◌≡◌, ℕ, ◌+◌, ◌/◌, ◌^◌, ◌<◌, ◌≤◌, List, length, slice_index_or, bit_and}
+use Rattle.std.specs.Prelude.{◌≡◌, ℕ, ◌+◌, ◌*◌, ◌/◌, ◌^◌, ◌<◌, ◌≤◌, List, length, slice_index_or, bit_and}
 use Rattle.term_hash.specs.Hash.{fnv_1a, mixed}
 use Rattle.row_layout.specs.declared.word_table.Slot.{Slot}
 use Rattle.row_layout.specs.declared.word_table.WordTable.{WordTable}
@@ -55,6 +55,10 @@ pub record HoldsFirst (words : List (List ℕ × ℕ)) (count mask : ℕ) (slots
 -- the table holds all words
 abbrev pub IsWordTable : List (List ℕ × ℕ) → WordTable → Type 0
 IsWordTable words table = HoldsFirst words (length words) table.mask table.slots.items
+
+-- there are at least twice as many homes as words, so that a walk from a home is short
+abbrev pub HasHomesFor : List (List ℕ × ℕ) → WordTable → Type 0
+HasHomesFor words table = 2 * length words ≤ table.mask + 1
 
 -- the word stands at this place of the list
 pub record IsListedAt (words : List (List ℕ × ℕ)) (word : List ℕ) (i : ℕ) : Type 0 where

@@ -4,7 +4,7 @@ ghost use Rattle.std.specs.Prelude.{◌≡◌, ◌≤◌, ◌<◌, ℕ, List, le
 ghost use Rattle.funnel_model.specs.declared.config.TheConstants.{MOST_WORDS};
 ghost use Rattle.funnel_model.specs.Listed.{listed_count};
 ghost use Rattle.term_hash.specs.Hash.{fnv_1a};
-ghost use Rattle.row_layout.specs.WordTables.{HasFreeSlot, IsFirstFree, IsListedAt, IsWordTable, home_of, tag_of};
+ghost use Rattle.row_layout.specs.WordTables.{HasFreeSlot, HasHomesFor, IsFirstFree, IsListedAt, IsWordTable, home_of, tag_of};
 
 use funnel_model::{Listed, Memory};
 use std::alloc::Global;
@@ -36,7 +36,8 @@ impl WordTable {
     /// A table of these words.
     pub(crate) fn new(alloc: Global, words: &Listed) -> Result<WordTable, Memory>
         requires { length words.now ≤ MOST_WORDS }
-        ensures { IfOk result (IsWordTable words.now) }
+        ensures table { IfOk result (IsWordTable words.now) }
+        ensures half { IfOk result (HasHomesFor words.now) }
     {
         let mask = (2 * words.len()).next_power_of_two() - 1;
         let mut slots = vec![in alloc; FREE; mask + words.len()]?;

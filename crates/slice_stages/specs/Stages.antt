@@ -40,6 +40,11 @@ ready_in columns mark (stage.Clearing pass) = 0
 abbrev pub ready_of : StageTable → ℕ
 ready_of table = sum_by (ready_in table.columns table.mark) table.stages
 
+-- how many columns of the slice are claimed and not over
+abbrev pub held_in : Stage → ℕ
+held_in (stage.InUse claimed over) = claimed - over
+held_in _ = 0
+
 -- it may be filled and read
 abbrev pub IsUsed : Stage → Type 0
 IsUsed (stage.InUse claimed over) = Unit {0}

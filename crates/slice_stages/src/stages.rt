@@ -1,6 +1,6 @@
 ghost use Rattle.std.specs.Prelude.{◌≡◌, ℕ, ◌+◌, ◌<◌, ◌≤◌, ◌↔◌, All, Contains, IfOk, IsTrue, MatchOption, false, length, replicate};
 ghost use Rattle.funnel_model.specs.declared.config.TheConstants.{MOST_SLICES};
-ghost use Rattle.slice_stages.specs.Stages.{ClaimsNext, EndsColumn, HasLeft, HoldsOfNone, IsLowest, IsRetiredBy, IsUsed, RetiredBefore, RetiredIn, after_end, empty_stage, ready_in, ready_of, spare_of, stage_of, with_stage};
+ghost use Rattle.slice_stages.specs.Stages.{ClaimsNext, EndsColumn, HasLeft, HoldsOfNone, IsLowest, IsRetiredBy, IsUsed, RetiredBefore, RetiredIn, after_end, empty_stage, held_in, ready_in, ready_of, spare_of, stage_of, with_stage};
 ghost use Rattle.slice_stages.specs.declared.stage.Stage.TheVariants as stage;
 
 use crate::stage::Stage;
@@ -91,6 +91,16 @@ impl Stages {
             ready += self.ready_in(*stage) as u64;
         }
         ready
+    }
+
+    /// How many columns of the slice are claimed and not over: none where it is retired or being cleared, or where there is no such slice.
+    pub fn held(&self, slice: u32) -> u32
+        ensures { result ≡ held_in (stage_of self.now slice) }
+    {
+        match self.stages.get(slice as usize) {
+            Some(Stage::InUse { claimed, over }) => claimed.saturating_sub(*over),
+            _ => 0,
+        }
     }
 
     /// The slices that a find may read.

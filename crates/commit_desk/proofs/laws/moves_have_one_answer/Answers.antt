@@ -6,10 +6,10 @@ use Rattle.funnel_model.specs.History.{Document}
 use Rattle.funnel_model.specs.Legal.{Limits, MayTake}
 use Rattle.funnel_model.specs.Slices.{IsInState, Live, claimed}
 use Rattle.funnel_model.proofs.Columns.{one_state}
-use Rattle.funnel_model.proofs.ReserveLemmas.{one_source}
+use Rattle.funnel_model.proofs.ReserveLemmas.{one_held_count, one_ready, one_source}
 use Rattle.commit_desk.specs.Answers.{TakesCalls}
 use Rattle.commit_desk.specs.Laws.{NextLookIsOne, TakeOfMoveIsOne, TakeOfMoveWantsMemory}
-use Rattle.commit_desk.specs.Moving.{AnswersTakeMove, IsLowestFree, IsLowestLive, IsNamedAgain, IsNextToMove, LooksState}
+use Rattle.commit_desk.specs.Moving.{AnswersTakeMove, HasRoomToEmpty, IsLowestFree, IsLowestLive, IsNamedAgain, IsNextToMove, LacksRoomToEmpty, LooksState}
 use Rattle.commit_desk.specs.declared.answers.TakenMove.{TakenMove}
 use Rattle.commit_desk.specs.declared.look.Look.{Look}
 use Rattle.commit_desk.proofs.laws.moves_have_one_answer.Goals as goal
@@ -77,21 +77,33 @@ one_column limits history pass slice column other at is is_too =
     let slices = one_slice limits history pass slice column other at is is_too in
     is.next ∙ ap (λ s. length (claimed s history)) slices ∙ sym is_too.next
 
+-- where there is room for all that is held of a slice, it isn't wanting
+room_not_wanting : (limits : Limits) (history : List Event) (slice : ℕ) → HasRoomToEmpty limits history slice → LacksRoomToEmpty limits history slice → ⊥
+room_not_wanting limits history slice has lacks =
+    let held = one_held_count limits.columns history slice has.held lacks.held has.holds lacks.holds in
+    let ready = one_ready limits history has.ready lacks.ready has.are_ready lacks.are_ready in
+    let enough = has.enough in
+    let fewer = lacks.fewer in
+    omega (arith, held, ready, enough, fewer)
+
 -- where a column is taken, it is not refused
 none_refused : (most : ℕ) (limits : Limits) (history : List Event) (pass : ℕ) (look : Look) (slice column : ℕ) → TakesCalls most history →
-    MayTake limits history pass slice column → (slice ≡ look.slice → ⊥) → AnswersTakeMove most limits history pass look (Ok None) → ⊥
-none_refused most limits history pass look slice column takes may apart refused = ⊎_elim
+    MayTake limits history pass slice column → (slice ≡ look.slice → ⊥) → HasRoomToEmpty limits history look.slice → AnswersTakeMove most limits history pass look (Ok None) → ⊥
+none_refused most limits history pass look slice column takes may apart room refused = ⊎_elim
     (λ many. absurd (omega (arith, takes, many)))
     (λ others. ⊎_elim
     (λ no_room. no_room slice may.in_range may.room)
+    (λ rest. ⊎_elim
     (λ its_own. apart (one_slice limits history pass slice column look.slice its_own.0 may its_own.1))
+    (λ lacks. room_not_wanting limits history look.slice room lacks)
+    rest)
     others)
     refused
 
 taken_not_refused : (most : ℕ) (limits : Limits) (history : List Event) (pass : ℕ) (look : Look) (taken : TakenMove) →
     AnswersTakeMove most limits history pass look (Ok (Some taken)) → AnswersTakeMove most limits history pass look (Ok None) → ⊥
 taken_not_refused most limits history pass look taken is refused =
-    none_refused most limits history pass look taken.claim.slice taken.claim.column is.0 is.1 is.2 refused
+    none_refused most limits history pass look taken.claim.slice taken.claim.column is.0 is.1 is.2 is.4 refused
 
 take_is_one : TakeOfMoveIsOne
 take_is_one most limits history pass look (Some taken) (Some other) is is_too =
@@ -105,7 +117,7 @@ take_is_one most limits history pass look None None is is_too = refl
 
 -- where memory is wanting, a column may be taken
 wants_memory : TakeOfMoveWantsMemory
-wants_memory most limits history pass look memory is refused = none_refused most limits history pass look is.1 is.2 is.0 is.3 is.4 refused
+wants_memory most limits history pass look memory is refused = none_refused most limits history pass look is.2 is.3 is.0 is.4 is.5 is.1 refused
 
 pub returns : goal.returns
 returns c = (next_is_one, take_is_one, wants_memory)

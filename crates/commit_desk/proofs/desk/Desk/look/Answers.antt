@@ -55,8 +55,9 @@ live_now c look {column} of_slice of_column live =
 pub returns-clause-answer : goal.returns-clause-answer
 returns-clause-answer c =
     let now = c.args.self.now in
+    let up = c.catch_up.ensures in
     let look = c.in_ok-look.look in
-    let start = c.before.before.before.before.before in
+    let start = c.before.before.before.before.before.before.before in
     let e = empties_now start in
     let found = c.next_to_move-column.ensures in
     let next : IsNextToMove now.pool.limits c.args.looks.now now.history c.in-Some.slice c.next_to_move-column.result found.0 found.1 =
@@ -65,12 +66,14 @@ returns-clause-answer c =
     let of_slice : IsNextToMove now.pool.limits c.args.looks.now now.history look.slice c.next_to_move-column.result found.0 found.1 =
     subst (λ k. IsNextToMove now.pool.limits c.args.looks.now now.history k c.next_to_move-column.result found.0 found.1) (sym c.in_ok-look.ensures.slice) next in
     let of_column : IsNextToMove now.pool.limits c.args.looks.now now.history look.slice look.column found.0 found.1 =
-    subst (λ k. IsNextToMove now.pool.limits c.args.looks.now now.history look.slice k found.0 found.1) (sym c.in_ok-look.ensures.column) of_slice in
-    record {
-      held = e.0;
-      empties = subst (λ k. IsToBeEmptied c.args.reserve now.events_limit now.pool.limits now.history c.args.id k e.0) (sym c.in_ok-look.ensures.slice) e.1;
-      next = next_is now.pool.limits c.args.looks.now now.history look.slice look.column found.0 (document_of look) found.1 look.since of_column lives;
-    }
+    subst (λ k. IsNextToMove now.pool.limits c.args.looks.now now.history look.slice k found.0 found.1) (sym c.in_ok-look.ensures.column) of_slice in (
+      record {
+        held = e.0;
+        empties = subst (λ k. IsToBeEmptied c.args.reserve now.events_limit now.pool.limits now.history c.args.id k e.0) (sym c.in_ok-look.ensures.slice) e.1;
+        next = next_is now.pool.limits c.args.looks.now now.history look.slice look.column found.0 (document_of look) found.1 look.since of_column lives;
+      },
+      c.in_ok-look.ensures.opened ∙ c.number.ensures.number ∙ up.seat.number,
+    )
 
 pub returns-clause-look : goal.returns-clause-look
 returns-clause-look c =
@@ -78,7 +81,7 @@ returns-clause-look c =
     let up = c.catch_up.ensures in
     let look = c.in_ok-look.look in
     let front = c.catch_up.new.seat.front in
-    let start = c.before.before.before.before.before in
+    let start = c.before.before.before.before.before.before.before in
     let front_now : c.args.self.now.history ≡ front = sym (ap (λ (d : DeskState). d.history) (view_now start.before.before)) ∙ sym up.front in
     let e = empties_now start in
     let source : IsSource i.home.pool.limits i.home.history c.in-Some.slice e.0 = subst (λ (d : DeskState). IsSource d.pool.limits d.history c.in-Some.slice e.0) (sym c.self.view_is) e.1.source in

@@ -34,10 +34,13 @@ returns-in-Some-clause-answer c =
     let i = c.self.inside in
     let home = c.catch_up.new.home in
     let same = desk_is c.args.self.now i.home home i.events_limit c.self.view_is c.catch_up.ensures.home in
-    subst (λ (d : DeskState). TakesCalls d.events_limit d.history × IsPresent d.history c.args.doc.now.id c.in-Some.place) same (
-      takes_calls i.events_limit home.history c.if-is_spent.ensures.spent.1,
-      subst (λ n. IsPresent home.history n c.in-Some.place) c.id.ensures (record { live = sym c.in-Some.ensures }),
-    )
+    record {
+      answers = subst (λ (d : DeskState). TakesCalls d.events_limit d.history × IsPresent d.history c.args.doc.now.id c.in-Some.place) same (
+        takes_calls i.events_limit home.history c.if-is_spent.ensures.spent.1,
+        subst (λ n. IsPresent home.history n c.in-Some.place) c.id.ensures (record { live = sym c.in-Some.ensures }),
+      );
+      waits = tt;
+    }
 
 pub returns-clause-handed : goal.returns-clause-handed
 returns-clause-handed c =

@@ -25,7 +25,7 @@ returns-in-Ok-clause-turns g c =
     let after = c.add_prepared.new.pass.front in
     let moved = c.move_some.ensures.moves in
     rw (← c.pass.view_is)
-    (moved_turns pool.limits seat.number c.args.id c.args.text.now pool.config seat.front c.move_some.new.pass.front after moved.0 moved.1 moved.2 c.add_prepared.result (own_turns g c))
+    (moved_turns pool.limits seat.number c.args.id c.args.text.now pool.config seat.front c.move_some.new.pass.front after moved c.add_prepared.result (own_turns g c))
 
 pub returns-in-Ok-clause-call : goal.returns-in-Ok-clause-call
 returns-in-Ok-clause-call g c =
@@ -36,7 +36,7 @@ returns-in-Ok-clause-call g c =
     let moved = c.move_some.ensures.moves in
     rw (← c.pass.view_is)
     (record {
-      step = moved_step pool.limits seat.number c.args.id c.args.text.now pool.config seat.front start.front next.front moved.0 moved.1 moved.2 c.add_prepared.result (own_turns g c)
+      step = moved_step pool.limits seat.number c.args.id c.args.text.now pool.config seat.front start.front next.front moved c.add_prepared.result (own_turns g c)
           c.pass.invariant.idle (subst (λ (n : ℕ). IsIdle n start.front) c.move_some.ensures.number c.move_some.ensures.rests.idle) c.add_prepared.ensures.legal;
       number = c.add_prepared.ensures.number ∙ c.move_some.ensures.number;
     })

@@ -31,7 +31,7 @@ opened_take-requires g c =
     }
 
 pub returns-in-Claim-clause-turns : goal.returns-in-Claim-clause-turns
-returns-in-Claim-clause-turns g c = inl (record { layout = c.in-Claim.layout; took = c.in-Claim.ensures.turn })
+returns-in-Claim-clause-turns g c = inl (record { layout = c.in-Claim.layout; took = c.in-Claim.ensures.turns })
 
 pub returns-in-Clear-clause-turns : goal.returns-in-Clear-clause-turns
 returns-in-Clear-clause-turns g c =
@@ -39,7 +39,7 @@ returns-in-Clear-clause-turns g c =
     let doc = c.args.doc.now in
     let opened = c.opened_take.ensures in
     inr (cleared_first g.N.PoolName.pool.limits pass.number doc.id doc.text pass.front c.opened_take.new.pass.front c.in-Clear.to_clear c.in-Clear.layout c.opened_take.result c.take.new.pass c.clear.new.seat
-    c.in-Clear.ensures.turn c.in-Clear.ensures.next.1 c.take.ensures.number c.clear.ensures.same opened.turn (ap (λ (k : Claim). k.slice) opened.claim) (ap (λ (k : Claim). k.column) opened.claim))
+    c.in-Clear.ensures.turns c.in-Clear.ensures.next.1 c.take.ensures.number c.clear.ensures.same opened.turn (ap (λ (k : Claim). k.slice) opened.claim) (ap (λ (k : Claim). k.column) opened.claim))
 
 -- the slice has the layout that it had as the pass began to clear it
 pub returns-in-Clear-clause-next : goal.returns-in-Clear-clause-next

@@ -1,16 +1,18 @@
-use Rattle.std.proofs.Common.{◌≡◌, ◌∙◌, ◌*◌, ◌≤◌, [], ◌∷◌, ℕ, List, Ok, Option, Some, IfSome, length, sym, ap, subst}
+use Rattle.std.proofs.Common.{◌≡◌, ◌∙◌, ◌*◌, ◌≤◌, [], ◌∷◌, ℕ, List, Ok, Option, None, Some, IfSome, inl, inr, length, sym, ap, subst}
 use Rattle.commit_desk.proofs.DocumentEvents.{bits_of_text}
 use Rattle.commit_desk.specs.declared.answers.TakenMove.{TakenMove}
 use Rattle.commit_desk.specs.declared.look.Look.{Look}
-use Rattle.commit_desk.specs.Moving.{AnswersLook, AnswersTakeMove, HoldsLook, LooksState, events_of_take_move}
+use Rattle.commit_desk.specs.Moving.{AnswersTakeMove, HoldsLook, events_of_take_move}
 use Rattle.commit_desk.specs.Passes.{HasWritten}
-use Rattle.engine.specs.Moves.{AreBitsAt, WritesOrRests}
+use Rattle.engine.specs.Moves.{AreBitsAt, IsLookForMove, WritesOrRests}
 use Rattle.funnel_model.specs.declared.event.Event.{Event}
 use Rattle.funnel_model.specs.declared.event.Event.TheVariants as event
+use Rattle.funnel_model.specs.History.{IsFrontOf}
 use Rattle.funnel_model.specs.Tunings.{treat}
 use Rattle.slice_recycler.specs.Turns.{IsTurn}
 use Rattle.slice_recycler.proofs.Steps.{turn_grows}
-use Rattle.engine.proofs.MovePasses.{holds_by_own, holds_on, move_turns}
+use Rattle.engine.proofs.MovePasses.{holds_by_own, holds_on, lacks_later, lacks_memory, looks_in_vain, move_turns}
+use Rattle.engine.proofs.Moves.{front_refl, silent_turn}
 use Rattle.engine.proofs.engine.Engine.move_one.Goals as goal
 
 pub write-requires-clause-claimed : goal.write-requires-clause-claimed
@@ -61,7 +63,7 @@ returns-clause-moved g c =
     let look = c.in-Ok-Some.look in
     let taken = c.in-Ok-Some-take_move.taken in
     let bits = c.write.new.bits.bits in
-    let looked = subst (λ (o : Option Look). IsTurn pass.number pass.front seen.front (λ history. (looks : LooksState) × AnswersLook config.reserve pool.limits.events pool.limits looks history c.args.id (Ok o)) [])
+    let looked = subst (λ (o : Option Look). IsTurn pass.number pass.front seen.front (IsLookForMove config.reserve pool.limits pass.number c.args.id (Ok o)) [])
     c.in-Ok-Some.field-0-is c.in-Ok-Some.ensures.turn in
     let turn : IsTurn seen.number seen.front took.front (λ history. AnswersTakeMove pool.limits.events pool.limits history seen.number look (Ok (Some taken))) (event.Take seen.number taken.claim.slice taken.claim.column ∷ []) =
     subst (λ (o : Option TakenMove). IsTurn seen.number seen.front took.front (λ history. AnswersTakeMove pool.limits.events pool.limits history seen.number look (Ok o)) (events_of_take_move seen.number (Ok o)))
@@ -74,3 +76,59 @@ returns-clause-moved g c =
     bits_of_text pool.limits.slice_words (treat config taken.claim.slice wrote.front) look.doc.words look.doc.text taken.claim.slice taken.claim.column bits held.of_text of_words.document in
     move_turns config pool.limits pass.number c.args.id pass.front c.end_move.new.pass.front look taken bits c.end_move.result seen took wrote looked c.look.ensures.number turn same c.take_move.ensures.number
     c.write.ensures.seat of_text c.end_move.ensures.turn
+
+-- no document is to be moved
+pub returns-in-Ok-None-clause-moved : goal.returns-in-Ok-None-clause-moved
+returns-in-Ok-None-clause-moved g c =
+    let pool = g.N.PoolName.pool in
+    let pass = c.args.pass.now in
+    let turn : IsTurn pass.number pass.front c.look.new.pass.front (IsLookForMove pool.config.reserve pool.limits pass.number c.args.id (Ok None)) [] =
+    subst (λ (o : Option Look). IsTurn pass.number pass.front c.look.new.pass.front (IsLookForMove pool.config.reserve pool.limits pass.number c.args.id (Ok o)) []) c.in-Ok-None.field-0-is c.in-Ok-None.ensures.turn in
+    inl (record { earlier = turn.earlier; seen = turn.seen; answer = turn.answer.answers; made = turn.made })
+
+-- there was no memory for the look
+pub returns-in-Err-clause-moved : goal.returns-in-Err-clause-moved
+returns-in-Err-clause-moved g c = lacks_memory g.N.PoolName.pool.config g.N.PoolName.pool.limits c.args.pass.now.number c.args.id c.args.pass.now.front c.look.new.pass.front c.in-Err.field-0 c.in-Err.ensures.turn
+
+-- nor for the bits
+pub returns-in_default-clause-moved : goal.returns-in_default-clause-moved
+returns-in_default-clause-moved g c =
+    let pool = g.N.PoolName.pool in
+    let config = pool.config in
+    let pass = c.args.pass.now in
+    let seen = c.look.new.pass in
+    let look = c.in-Ok-Some.look in
+    let looked = subst (λ (o : Option Look). IsTurn pass.number pass.front seen.front (IsLookForMove config.reserve pool.limits pass.number c.args.id (Ok o)) [])
+    c.in-Ok-Some.field-0-is c.in-Ok-Some.ensures.turn in
+    lacks_later config pool.limits pass.number c.args.id pass.front seen.front look looked seen.front (front_refl pass.number seen.front)
+
+-- no column was claimed
+pub returns-in-Ok-None-take_move-clause-moved : goal.returns-in-Ok-None-take_move-clause-moved
+returns-in-Ok-None-take_move-clause-moved g c =
+    let pool = g.N.PoolName.pool in
+    let config = pool.config in
+    let pass = c.args.pass.now in
+    let seen = c.look.new.pass in
+    let look = c.in-Ok-Some.look in
+    let looked = subst (λ (o : Option Look). IsTurn pass.number pass.front seen.front (IsLookForMove config.reserve pool.limits pass.number c.args.id (Ok o)) [])
+    c.in-Ok-Some.field-0-is c.in-Ok-Some.ensures.turn in
+    let after = c.take_move.new.pass.front in
+    let turn : IsTurn seen.number seen.front after (λ history. AnswersTakeMove pool.limits.events pool.limits history seen.number look (Ok None)) [] =
+    subst (λ (o : Option TakenMove). IsTurn seen.number seen.front after (λ history. AnswersTakeMove pool.limits.events pool.limits history seen.number look (Ok o)) (events_of_take_move seen.number (Ok o)))
+    c.in-Ok-None-take_move.field-0-is c.in-Ok-None-take_move.ensures.turn in
+    inr (looks_in_vain config pool.limits pass.number c.args.id pass.front seen.front look looked after
+    (subst (λ n. IsTurn n seen.front after (λ history. AnswersTakeMove pool.limits.events pool.limits history n look (Ok None)) []) c.look.ensures.number turn))
+
+-- nor was one where its layout can't be shared
+pub returns-in-Err-take_move-clause-moved : goal.returns-in-Err-take_move-clause-moved
+returns-in-Err-take_move-clause-moved g c =
+    let pool = g.N.PoolName.pool in
+    let config = pool.config in
+    let pass = c.args.pass.now in
+    let seen = c.look.new.pass in
+    let look = c.in-Ok-Some.look in
+    let looked = subst (λ (o : Option Look). IsTurn pass.number pass.front seen.front (IsLookForMove config.reserve pool.limits pass.number c.args.id (Ok o)) [])
+    c.in-Ok-Some.field-0-is c.in-Ok-Some.ensures.turn in
+    let after = c.take_move.new.pass.front in
+    lacks_later config pool.limits pass.number c.args.id pass.front seen.front look looked after
+    (subst (λ n. IsFrontOf n seen.front after) c.look.ensures.number (silent_turn seen.number seen.front after c.in-Err-take_move.ensures.turn))

@@ -1,11 +1,10 @@
-use Rattle.std.proofs.Common.{◌≡◌, ◌*◌, false, [], length, map, sym, ap, ap₂, ◌∙◌, arith}
+use Rattle.std.proofs.Common.{◌≡◌, [], None, length, map, sym, ap, ◌∙◌, arith}
 use Rattle.std.proofs.lemmas.List.{length-replicate}
 use Rattle.std.specs.List.{range_with_len}
 use Rattle.row_layout.specs.Layouts.{LayoutId, own_layout}
 use Rattle.slice_rule.specs.Pools.{PoolId, limits_of}
 use Rattle.slice_rule.specs.Seats.{HomeState}
 use Rattle.commit_desk.specs.Desks.{DeskState}
-use Rattle.commit_desk.specs.Moving.{LooksState}
 use Rattle.funnel_model.specs.Legal.{Limits}
 use Rattle.funnel_model.specs.Sizes.{columns_of_slice, words_of_slice}
 use Rattle.funnel_model.specs.declared.config.Config.{Config}
@@ -21,17 +20,12 @@ invariant_of-new g c =
     let limits : c.in_ok-desk.desk.pool.limits ≡ limits_of c.blank.inside.pool.config (words_of_slice c.blank.inside.pool.config) =
     ap (λ (p : PoolId). p.limits) of ∙ blank.of_config.limits in
     let config : c.args.config.now ≡ c.blank.inside.pool.config = sym (ap (λ (p : PoolId). p.config) c.blank.view_is ∙ c.requires.made_with) in
-    let columns : c.columns.result ≡ c.in_ok-desk.desk.pool.limits.columns =
-    c.columns.ensures.value ∙ ap (λ (l : LayoutId). columns_of_slice l.config) (c.in_ok-layout.ensures ∙ ap own_layout config) ∙ sym (ap (λ (l : Limits). l.columns) limits) in
-    let slices : c.args.config.now.slices ≡ c.in_ok-desk.desk.pool.limits.slices = ap (λ (k : Config). k.slices) config ∙ sym (ap (λ (l : Limits). l.slices) limits) in
+    let passes : c.args.config.now.passes ≡ c.in_ok-desk.desk.pool.limits.passes = ap (λ (k : Config). k.passes) config ∙ sym (ap (λ (l : Limits). l.passes) limits) in
     record {
       of_pool = of ∙ c.blank.view_is ∙ c.requires.named;
       limit = ap (λ (d : DeskState). d.events_limit) made;
       pool_limit = ap (λ (p : PoolId). p.limits.events) of ∙ ap (λ (l : Limits). l.events) blank.of_config.limits;
-      columns = ap (λ (looks : LooksState). looks.columns) c.in_ok-looks.ensures ∙ columns;
-      marks =
-          ap (λ (looks : LooksState). length looks.marks) c.in_ok-looks.ensures ∙ length-replicate (c.args.config.now.slices * c.columns.result) false
-          ∙ ap₂ (λ s k. s * k) slices columns;
+      each_pass = ap length c.in_ok-looks.ensures ∙ length-replicate c.args.config.now.passes None ∙ passes;
     }
 
 pub name_passes-requires : goal.name_passes-requires

@@ -25,5 +25,5 @@ invariant_of-result c =
       bases_are = c.bases_of-bases.ensures;
       classes_are = c.new-classes.ensures;
       listed_are = c.in_ok-listed.ensures;
-      table_is = c.in_ok-table.ensures;
+      table_is = c.in_ok-table.ensures.table;
     })

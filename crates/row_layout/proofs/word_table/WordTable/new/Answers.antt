@@ -37,8 +37,8 @@ loop-index-preserved c =
     (sym (c.tag_of.ensures.value ∙ ap tag_of spread))
     (holds_more c.args.words.now c.loop-index.index mask c.loop-index.slots.items entry c.first_free-at.result c.loop-index.invariant less at first)
 
-pub returns : goal.returns
-returns c =
+pub returns-clause-table : goal.returns-clause-table
+returns-clause-table c =
     let all : c.loop-index.index ≡ length c.args.words.now =
     omega (arith, c.loop-index-test.false, c.loop-index.auto.index-end, ap length c.as_slice-entry-items.ensures.entries, length-map c.as_slice-entry-items.result.now listed_pair) in
     subst (λ (n : ℕ). HoldsFirst c.args.words.now n (c.next_power_of_two-mask.result - 1) c.loop-index.slots.items) all c.loop-index.invariant
