@@ -62,6 +62,8 @@ def hold_a_connection(port):
         ("DELETE", "/documents/9", None),
         ("GET", "/documents", None),
         ("POST", "/documents", '{"id":8}'),
+        # As long as a body may be.
+        ("POST", "/documents", "{" + " " * 65_535),
         ("GET", "/find?q=%zz", None),
     ]:
         yield ask(client, method, target, body)

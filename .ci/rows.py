@@ -192,9 +192,15 @@ def odd_values():
         least, most = (int(number.replace(",", "")) for number in range_)
         outside = [most + 1, *([least - 1] if least else [])]
         other = ["-1", "1.0", "1e0", "18446744073709551616", "true", "null", '"1"', "[1]", "{}"]
-        for value, told in [*((number, number) for number in outside), *((value, "another value") for value in other)]:
-            says = f"funnel: `{key}` in funnel.json is {told}, and has to be a whole number from {least} to {most}"
+        for value, told in [*((number, f"is {number}, and ") for number in outside), *((value, "") for value in other)]:
+            says = f"funnel: `{key}` in funnel.json {told}has to be a whole number from {least} to {most}"
             yield Row(f"{key} is {value}", (), [f'{{"{key}":{value}}}'], ends="2 config 5", says=[says])
+
+
+def odd_words():
+    """A row of a word with an empty line, which is told whole."""
+    says = "funnel: invalid value 'a  b' for '--docs <docs>': invalid digit found in string: it has to be a whole number from 1 to 4194304; see `funnel --help`"
+    yield Row("a word with an empty line", (), (), [["load", "--docs", "a\n\nb"]], ends="1 usage", says=[says])
 
 
 def text_rows():
@@ -207,7 +213,7 @@ def text_rows():
 
 def main(program):
     with open(os.path.join(os.path.dirname(__file__), "rows.txt"), encoding="utf-8") as file:
-        rows = [*rows_of(file.read()), *odd_values(), *text_rows(), *slice_rows(), *tune_rows(), *reserve_rows(), *fit_rows(), *long_rows()]
+        rows = [*rows_of(file.read()), *odd_values(), *odd_words(), *text_rows(), *slice_rows(), *tune_rows(), *reserve_rows(), *fit_rows(), *long_rows()]
     failed = sum(row.fails(program) for row in rows)
     print(f"{failed} of {len(rows)} rows failed" if failed else "each row has its replies")
     return 1 if failed else 0

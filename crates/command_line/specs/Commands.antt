@@ -225,6 +225,12 @@ abbrev pub is_fit : Option Command → Bool
 is_fit (Some (command.Fit fit)) = true
 is_fit _ = false
 
+-- the words are a command that reads a configuration
+abbrev pub reads_config : Option Command → Bool
+reads_config None = false
+reads_config (Some (command.Fit fit)) = false
+reads_config _ = true
+
 -- the port of each worker of a serve: the stated one for all, or from that one up, also where there is no such port
 abbrev pub ports_of_serve : ServeCommand → List ℕ
 ports_of_serve serve = if serve.one_port then replicate serve.workers serve.port else range_with_len serve.port serve.workers

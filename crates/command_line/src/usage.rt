@@ -106,15 +106,26 @@ impl fmt::Display for UsageFault {
     }
 }
 
-// The first paragraph, which tells the cause, in one line.
+// The first part of the text, which tells the cause, in one line. A word in it may have an empty line, as there is one before each other
+// part.
 fn write_cause<W: fmt::Write>(text: &str, f: &mut fmt::Formatter<W>) -> fmt::Result {
     let text = text.strip_prefix("error: ").unwrap_or(text);
-    let lines = text.lines().take_while(|line| !line.is_empty());
-    for (at, line) in lines.enumerate() {
+    let cause = up_to(text, "\n\n  tip:");
+    let cause = up_to(cause, "\n\nUsage:");
+    let cause = up_to(cause, "\n\nFor more information");
+    for (at, line) in cause.lines().enumerate() {
         if at > 0 {
             f.write_str(" ")?;
         }
         f.write_str(line.trim())?;
     }
     Ok(())
+}
+
+// The text before the first such mark, or all of it where there is none.
+fn up_to<'t>(text: &'t str, mark: &str) -> &'t str {
+    match text.split_once(mark) {
+        Some((before, _)) => before,
+        None => text,
+    }
 }

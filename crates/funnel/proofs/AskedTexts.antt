@@ -1,11 +1,14 @@
 -- Words that ask for a text are none that `clap` takes.
-use Rattle.std.proofs.Common.{◌≡◌, ◌≢◌, ◌||◌, ℕ, Bool, codes, true, false, refl, sym, subst, length, List, [], ◌∷◌, Some, None, IsSome, if◌then◌else◌}
+use Rattle.std.proofs.Common.{◌≡◌, ◌≢◌, ◌||◌, ℕ, Bool, codes, true, false, refl, sym, ap, subst, ◌∙◌, length, List, [], ◌∷◌, Option, Some, None, IsSome, if◌then◌else◌}
 use Rattle.std.proofs.lemmas.Slice.Eq.{bytes_eq-Decides}
+use Rattle.std.specs.Option.{is_some}
 use Rattle.std.specs.Str.{bytes_eq}
 use Rattle.clap.proofs.OnLiterals.{clap_on_literals}
 use Rattle.clap.specs.Takes.{takes}
 use Rattle.command_line.specs.Commands.{call_words, command_of, funnel_app}
 use Rattle.funnel.specs.Texts.{text_asked, text_by}
+use Rattle.command_line.specs.declared.command.Command.{Command}
+use Rattle.funnel.specs.declared.text.Text.{Text}
 use Rattle.funnel.specs.declared.text.Text.TheVariants as text
 use Rattle.command_line.proofs.TakenWords.{no_command}
 
@@ -59,3 +62,17 @@ pub asked_is_no_command : (words : List (List ℕ)) → IsSome (text_asked words
 asked_is_no_command [] asked = absurd (cc)
 asked_is_no_command (word ∷ []) asked = no_command (word ∷ []) (asked_refused word asked)
 asked_is_no_command (word ∷ next ∷ words) asked = absurd (cc)
+
+-- words that are a command ask for no text
+pub asks_no_text : (words : List (List ℕ)) (asked : Command) (text : Text) → command_of words ≡ Some asked → text_asked words ≡ Some text → ⊥
+asks_no_text words asked text is told =
+    let none : command_of words ≡ None = asked_is_no_command words (ap is_some told) in
+    let never : Some asked ≡ None = sym is ∙ none in
+    cc
+
+-- so none is asked for, where they are one
+pub command_without_text : (words : List (List ℕ)) (asked : Command) → command_of words ≡ Some asked → text_asked words ≡ None
+command_without_text words asked is = by_case (text_asked words) refl where
+  by_case : (found : Option Text) → text_asked words ≡ found → text_asked words ≡ None
+  by_case None told = told
+  by_case (Some text) told = absurd (asks_no_text words asked text is told)

@@ -1,6 +1,7 @@
 -- How programs end.
 use Rattle.std.proofs.Common.{◌≡◌, ℕ, true, false, List, length, map, Option, None, Some, inl, inr, refl, sym, ap, ◌∙◌, subst}
 use Rattle.std.proofs.lemmas.Bool.{false≢true}
+use Rattle.std.proofs.lemmas.List.{length-map}
 use Rattle.std.specs.List.{AllZip}
 use Rattle.std.specs.Option.{is_some}
 use Rattle.std.specs.Prelude.{IfNone, IfSome}
@@ -24,7 +25,7 @@ use Rattle.funnel.specs.declared.ends.Why.TheVariants as why_of
 use Rattle.funnel.specs.Misfits.{misfit_of}
 use Rattle.funnel.specs.Programs.{Ends, IsConfigured, Streams}
 use Rattle.funnel.specs.Runs.{KeepsLast, RanOrNot, limits_by}
-use Rattle.funnel.specs.ServeRuns.{EndsServe, OneDidNotOpen}
+use Rattle.funnel.specs.ServeRuns.{EndsServe, IsStartRefused, OneDidNotOpen}
 use Rattle.funnel.specs.Turns.{AreOpened, AreOpenedUntilOneFails, EndsInTurns, OpenGatesGoInTurns, ServeGoesInTurns}
 use Rattle.funnel.specs.Workers.{EndsOpenServeInTurns, EndsServeInTurns}
 
@@ -56,13 +57,8 @@ module _ {G C : Type 0} (gate : Gate.Ghosts G C) (source : Source.Ghosts C) (sin
   -- what is told of the calls of a serve aside, an end is an end
   pub plain_end : (words : List (List ℕ)) (before after : Streams) (why : Why) (closed : Option ClosedState) (gates laters : List G) →
       EndsInTurns gate source sink words before after why closed gates laters → Ends words before after why closed
-  plain_end words before after why closed gates laters (inl ends) = inl ends
-  plain_end words before after why closed gates laters (inr (inl ends)) = inr (inl ends)
-  plain_end words before after why closed gates laters (inr (inr (inl ends))) = inr (inr (inl ends))
-  plain_end words before after why closed gates laters (inr (inr (inr (inl ends)))) = inr (inr (inr (inl ends)))
-  plain_end words before after why closed gates laters (inr (inr (inr (inr (inl serve))))) = inr (inr (inr (inr (inl serve.ends))))
-  plain_end words before after why closed gates laters (inr (inr (inr (inr (inr (inl ends)))))) = inr (inr (inr (inr (inr (inl ends)))))
-  plain_end words before after why closed gates laters (inr (inr (inr (inr (inr (inr ends)))))) = inr (inr (inr (inr (inr (inr ends)))))
+  plain_end words before after why closed gates laters (inl unserved) = inl unserved.0
+  plain_end words before after why closed gates laters (inr serve) = inr serve.ends
 
   abbrev state : G → GateState
   state = gate_state gate source sink
@@ -82,10 +78,10 @@ module _ {G C : Type 0} (gate : Gate.Ghosts G C) (source : Source.Ghosts C) (sin
       subst (λ (gs : List GateState). ServedInTurns config serve gs after.gates gates laters why closed) (sym from)
       (subst (λ (gs : List GateState). ServedInTurns config serve (map state gates) gs gates laters why closed) (sym to)
       (record { ends = served.ends; in_turns = served.in_turns })) in
-      inr (inr (inr (inr (inl (record {
+      inr (record {
         ends = record { serve = serve; config = config; configured = configured; fits = fits; input = input; output = output; served = told.ends; kept = kept };
         in_turns = told.in_turns;
-      })))))
+      })
 
   -- ---- the gates of a serve are opened and ended
 
@@ -104,12 +100,19 @@ module _ {G C : Type 0} (gate : Gate.Ghosts G C) (source : Source.Ghosts C) (sin
       in_turns = record { tried = opened; opened = inr (refl, fails); ended = ended };
     }
 
-    -- they were opened, and there was no memory for an engine
-    pub without_engine : (laters : List G) → map state opened ≡ map state gates → AreOpened gate gates opened →
-        map state laters ≡ map state opened → AllZip gate.end_gives opened laters → EndsServing laters why_of.Memory None
-    without_engine laters told opens same ended = record {
-      ends = inl (refl, same ∙ told);
-      in_turns = record { tried = opened; opened = inl (refl, opens); ended = ended };
+    -- they were opened, and no worker began
+    pub without_engine : (laters : List G) (why : Why) → IsStartRefused (length gates) why → map state opened ≡ map state gates → AreOpened gate gates opened →
+        map state laters ≡ map state opened → AllZip gate.end_gives opened laters → EndsServing laters why None
+    without_engine laters why refused told opens same ended = record {
+      ends = inl (subst (λ n. IsStartRefused n why) (sym (length-map gates state)) refused, same ∙ told);
+      in_turns = record { tried = opened; opened = inl (refused, opens); ended = ended };
+    }
+
+    -- no worker of those that were opened began
+    pub not_begun : (laters : List G) (why : Why) → IsStartRefused (length opened) why → laters ≡ opened → EndsServingOpen laters why None
+    not_begun laters why refused same = record {
+      ends = inl (subst (λ n. IsStartRefused n why) (sym (length-map opened state)) refused, ap (map state) same);
+      in_turns = tt;
     }
 
     -- they were opened and served, as gates that tell what they told before

@@ -1,5 +1,5 @@
 -- A gate fault is told only where a gate answered so.
-use Rattle.std.proofs.Common.{◌≡◌, ◌⊎◌, ◌||◌, ℕ, Bool, true, false, cond, List, [], ◌∷◌, Option, Some, None, refl, sym, ◌∙◌, subst, inl, inr, arith, suc}
+use Rattle.std.proofs.Common.{◌≡◌, ◌⊎◌, ◌||◌, ℕ, Bool, true, false, cond, List, [], ◌∷◌, length, Option, Some, None, refl, sym, ◌∙◌, subst, inl, inr, arith, suc}
 use Rattle.std.specs.List.{AllZip, list_any}
 use Rattle.engine.specs.Engines.{ClosedState}
 use Rattle.fit.specs.declared.ends.FitEnd.{FitEnd}
@@ -25,9 +25,9 @@ use Rattle.command_line.specs.Commands.{command_of}
 use Rattle.funnel.specs.Ends.{why_of_config, why_of_end, why_of_fit}
 use Rattle.funnel.specs.Laws.{OneFailed}
 use Rattle.funnel.specs.LoadRuns.{EndsLoad}
-use Rattle.funnel.specs.Programs.{Ends, Streams}
+use Rattle.funnel.specs.Programs.{Ends, EndsUnserved, Streams}
 use Rattle.funnel.specs.Runs.{RanOrNot, limits_by}
-use Rattle.funnel.specs.ServeRuns.{AllWork, EndsServe, OneDidNotOpen, new_workers}
+use Rattle.funnel.specs.ServeRuns.{AllWork, EndsServe, IsStartRefused, OneDidNotOpen, new_workers}
 use Rattle.funnel.specs.Turns.{AreOpened, AreOpenedUntilOneFails, EndsInTurns, GatesGoInTurns, ServeGoesInTurns}
 
 -- other ends are told otherwise
@@ -60,6 +60,20 @@ not_load : (config : Config) (load : LoadCommand) (before after : Outgoing) (clo
     EndsLoad config load before after why_of.GateFault closed → ⊥
 not_load config load before after None ends = ends
 not_load config load before after (Some left) ends = ends.1
+
+-- a program that serves no gate doesn't end so
+not_unserved : (words : List (List ℕ)) (before after : Streams) (closed : Option ClosedState) → EndsUnserved words before after why_of.GateFault closed → ⊥
+not_unserved words before after closed (inl text) = text.written
+not_unserved words before after closed (inr (inl ends)) = by_cause ends.cause where
+  by_cause : ((why_of.GateFault ≡ why_of.Usage) × (command_of words ≡ None)) ⊎ (why_of.GateFault ≡ why_of.Memory) → ⊥
+  by_cause (inl usage) = let other : why_of.GateFault ≡ why_of.Usage = usage.0 in cc
+  by_cause (inr memory) = cc
+not_unserved words before after closed (inr (inr (inl ends))) = not_config ends.fault (sym ends.cause)
+not_unserved words before after closed (inr (inr (inr (inl ends)))) = let other : why_of.GateFault ≡ why_of.Misfit ends.misfit = ends.cause in cc
+not_unserved words before after closed (inr (inr (inr (inr (inl ends))))) =
+    not_run ends.config before.input after.input before.output after.output why_of.GateFault closed ends.ran refl
+not_unserved words before after closed (inr (inr (inr (inr (inr (inl ends)))))) = not_load ends.config ends.load before.output after.output closed ends.ends
+not_unserved words before after closed (inr (inr (inr (inr (inr (inr ends)))))) = not_fit ends.ends.end (sym ends.ends.cause)
 
 some_fault : (fault memory : Bool) → cond fault why_of.GateFault (cond memory why_of.Memory why_of.Done) ≡ why_of.GateFault → fault ≡ true
 some_fault true memory is = refl
@@ -126,8 +140,8 @@ module _ {G C : Type 0} (gate : Gate.Ghosts G C) (source : Source.Ghosts C) (sin
       ServeGoesInTurns gate source sink config serve before after why closed served gates laters →
       why ≡ why_of.GateFault → Failed laters
   of_serve config serve before after why None served gates laters turns is = by_cause turns.opened where
-    by_cause : ((why ≡ why_of.Memory) × AreOpened gate gates turns.tried) ⊎ ((why ≡ why_of.GateFault) × AreOpenedUntilOneFails gate gates turns.tried) → Failed laters
-    by_cause (inl memory) = let other : why_of.Memory ≡ why_of.GateFault = sym memory.0 ∙ is in cc
+    by_cause : (IsStartRefused (length gates) why × AreOpened gate gates turns.tried) ⊎ ((why ≡ why_of.GateFault) × AreOpenedUntilOneFails gate gates turns.tried) → Failed laters
+    by_cause (inl refused) = absurd (subst (IsStartRefused (length gates)) is refused.0)
     by_cause (inr fails) = one_not_opened gates turns.tried laters fails.1 turns.ended
   of_serve config serve before after why (Some closed) served gates laters turns is =
       one_failed (new_workers config (limits_by config) serve 0 before) served.workers served.work turns.0 laters turns.2
@@ -136,36 +150,16 @@ module _ {G C : Type 0} (gate : Gate.Ghosts G C) (source : Source.Ghosts C) (sin
   module _ (words : List (List ℕ)) (before after : Streams) (why : Why) (closed : Option ClosedState) (gates laters : List G) where
     pub told_by_gate : EndsInTurns gate source sink words before after why closed gates laters →
         why ≡ why_of.GateFault → Failed laters
-    told_by_gate (inl ends) is = by_cause ends.cause where
-      by_cause : ((why ≡ why_of.Usage) × (command_of words ≡ None)) ⊎ (why ≡ why_of.Memory) → Failed laters
-      by_cause (inl usage) = let other : why_of.Usage ≡ why_of.GateFault = sym usage.0 ∙ is in cc
-      by_cause (inr memory) = let other : why_of.Memory ≡ why_of.GateFault = sym memory ∙ is in cc
-    told_by_gate (inr (inl ends)) is = absurd (not_config ends.fault (sym ends.cause ∙ is))
-    told_by_gate (inr (inr (inl ends))) is = let other : why_of.Misfit ends.misfit ≡ why_of.GateFault = sym ends.cause ∙ is in cc
-    told_by_gate (inr (inr (inr (inl ends)))) is =
-        absurd (not_run ends.config before.input after.input before.output after.output why closed ends.ran is)
-    told_by_gate (inr (inr (inr (inr (inl serve))))) is =
+    told_by_gate (inl unserved) is = absurd (not_unserved words before after closed (subst (λ (w : Why). EndsUnserved words before after w closed) is unserved.0))
+    told_by_gate (inr serve) is =
         of_serve serve.ends.config serve.ends.serve before.gates after.gates why closed serve.ends.served gates laters serve.in_turns is
-    told_by_gate (inr (inr (inr (inr (inr (inl ends)))))) is =
-        absurd (not_load ends.config ends.load before.output after.output closed
-        (subst (λ (w : Why). EndsLoad ends.config ends.load before.output after.output w closed) is ends.ends))
-    told_by_gate (inr (inr (inr (inr (inr (inr ends)))))) is = absurd (not_fit ends.ends.end (sym ends.ends.cause ∙ is))
 
 -- with no engine it was told as a gate was opened
 of_unopened : (config : Config) (serve : ServeCommand) (before after : List GateState) → EndsServe config serve before after why_of.GateFault None →
     OneDidNotOpen before after
-of_unopened config serve before after (inl memory) = let other : why_of.GateFault ≡ why_of.Memory = memory.0 in cc
+of_unopened config serve before after (inl refused) = absurd refused.0
 of_unopened config serve before after (inr fails) = fails.1
 
 pub told_at_opening : (words : List (List ℕ)) (before after : Streams) → Ends words before after why_of.GateFault None → OneDidNotOpen before.gates after.gates
-told_at_opening words before after (inl ends) = by_cause ends.cause where
-  by_cause : ((why_of.GateFault ≡ why_of.Usage) × (command_of words ≡ None)) ⊎ (why_of.GateFault ≡ why_of.Memory) → OneDidNotOpen before.gates after.gates
-  by_cause (inl usage) = let other : why_of.GateFault ≡ why_of.Usage = usage.0 in cc
-  by_cause (inr memory) = cc
-told_at_opening words before after (inr (inl ends)) = absurd (not_config ends.fault (sym ends.cause))
-told_at_opening words before after (inr (inr (inl ends))) = let other : why_of.GateFault ≡ why_of.Misfit ends.misfit = ends.cause in cc
-told_at_opening words before after (inr (inr (inr (inl ends)))) =
-    absurd (not_run ends.config before.input after.input before.output after.output why_of.GateFault None ends.ran refl)
-told_at_opening words before after (inr (inr (inr (inr (inl serve))))) = of_unopened serve.config serve.serve before.gates after.gates serve.served
-told_at_opening words before after (inr (inr (inr (inr (inr (inl ends)))))) = absurd (not_load ends.config ends.load before.output after.output None ends.ends)
-told_at_opening words before after (inr (inr (inr (inr (inr (inr ends)))))) = absurd (not_fit ends.ends.end (sym ends.ends.cause))
+told_at_opening words before after (inl unserved) = absurd (not_unserved words before after None unserved)
+told_at_opening words before after (inr serve) = of_unopened serve.config serve.serve before.gates after.gates serve.served

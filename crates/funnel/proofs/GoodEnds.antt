@@ -41,7 +41,8 @@ use Rattle.funnel.specs.LoadRuns.{EndsLoad}
 use Rattle.funnel.specs.Misfits.{misfit_of}
 use Rattle.funnel.specs.Programs.{Ends, EndsAtConfig, EndsAtMisfit, EndsAtWords, EndsAfterFit, EndsAfterLoad, EndsAfterRun, EndsAfterServe, Streams}
 use Rattle.funnel.specs.Runs.{Ran, RanOrNot, first_caller, limits_by}
-use Rattle.funnel.specs.ServeRuns.{AllWork, EndsServe, OneDidNotOpen, new_workers}
+use Rattle.funnel.specs.ServeRuns.{AllWork, EndsServe, IsStartRefused, OneDidNotOpen, new_workers}
+use Rattle.funnel.proofs.AskedTexts.{asks_no_text}
 use Rattle.funnel.proofs.ServedGates.{gates_without_a_fault, not_failed, raised_rose}
 
 -- bytes that were taken up to the end of a source are all that it told
@@ -181,13 +182,14 @@ module _ (words : List (List ℕ)) (before after : Streams) (why : Why) (closed 
 
   -- a command that is accepted and no fit is carried out, or memory ran out
   carried_out : Ends words before after why closed → IsCarriedOut before after asked value why closed
-  carried_out (inl ends) = inl (record { memory = at_words ends; none = ends.none; gates = ap (λ (s : Streams). s.gates) ends.untouched })
-  carried_out (inr (inl ends)) = inl (record { memory = at_config ends; none = ends.none; gates = ap (λ (s : Streams). s.gates) ends.others })
-  carried_out (inr (inr (inl ends))) = absurd (at_misfit ends)
-  carried_out (inr (inr (inr (inl ends)))) = inr (inl (after_run ends))
-  carried_out (inr (inr (inr (inr (inl ends))))) = inr (inr (inl (after_serve ends)))
-  carried_out (inr (inr (inr (inr (inr (inl ends)))))) = inr (inr (inr (after_load ends)))
-  carried_out (inr (inr (inr (inr (inr (inr ends)))))) = absurd (after_fit ends)
+  carried_out (inl (inl text)) = absurd (asks_no_text words asked text.text accepted.words_are text.asked)
+  carried_out (inl (inr (inl ends))) = inl (record { memory = at_words ends; none = ends.none; gates = ap (λ (s : Streams). s.gates) ends.untouched })
+  carried_out (inl (inr (inr (inl ends)))) = inl (record { memory = at_config ends; none = ends.none; gates = ap (λ (s : Streams). s.gates) ends.others })
+  carried_out (inl (inr (inr (inr (inl ends))))) = absurd (at_misfit ends)
+  carried_out (inl (inr (inr (inr (inr (inl ends)))))) = inr (inl (after_run ends))
+  carried_out (inl (inr (inr (inr (inr (inr (inl ends))))))) = inr (inr (inr (after_load ends)))
+  carried_out (inl (inr (inr (inr (inr (inr (inr ends))))))) = absurd (after_fit ends)
+  carried_out (inr ends) = inr (inr (inl (after_serve ends)))
 
 not_a_load : (load : LoadCommand) → command.Run ≡ command.Load load → ⊥
 not_a_load load is = cc
@@ -290,6 +292,7 @@ of_load value load before after why_of.Usage (Some closed) ends none = absurd en
 of_load value load before after (why_of.Config fault) (Some closed) ends none = absurd ends.1
 of_load value load before after why_of.ReadFault (Some closed) ends none = absurd ends.1
 of_load value load before after why_of.GateFault (Some closed) ends none = absurd ends.1
+of_load value load before after (why_of.NoThread worker) (Some closed) ends none = absurd ends.1
 of_load value load before after (why_of.ByteLimit count) (Some closed) ends none = absurd ends.1
 of_load value load before after (why_of.Misfit misfit) (Some closed) ends none = absurd ends.1
 of_load value load before after why_of.Done None ends none = absurd ends
@@ -298,6 +301,7 @@ of_load value load before after why_of.Usage None ends none = absurd ends
 of_load value load before after (why_of.Config fault) None ends none = absurd ends
 of_load value load before after why_of.ReadFault None ends none = absurd ends
 of_load value load before after why_of.GateFault None ends none = absurd ends
+of_load value load before after (why_of.NoThread worker) None ends none = absurd ends
 of_load value load before after (why_of.ByteLimit count) None ends none = absurd ends
 of_load value load before after (why_of.Misfit misfit) None ends none = absurd ends
 
@@ -345,7 +349,7 @@ none_did_not_open (gate ∷ gates) (later ∷ laters) (inr opens) none = none_di
 -- how a serve ends, where no call of a gate failed
 of_serve : (value : Config) (serve : ServeCommand) (before after : List GateState) (why : Why) (closed : Option ClosedState) →
     EndsServe value serve before after why closed → NoneFailed before after → CompletesServe value serve before after why closed
-of_serve value serve before after why None (inl ends) none = subst (λ (w : Why). CompletesServe value serve before after w None) (sym ends.0) ends.1
+of_serve value serve before after why None (inl ends) none = ends
 of_serve value serve before after why None (inr ends) none = absurd (none_did_not_open before after ends.1 none)
 of_serve value serve before after why (Some state) served none =
     let faults = no_worker_failed value (limits_by value) serve 0 before served.workers served.work (subst (NoneFailed before) served.gates none) in
@@ -355,12 +359,8 @@ of_serve value serve before after why (Some state) served none =
       all = (served, none_failed serve why before after (gates_without_a_fault value serve before after why state served) none)
 
       by_memory : (memory : Bool) → why ≡ cond memory why_of.Memory why_of.Done → CompletesServe value serve before after why (Some state)
-      by_memory true is =
-          subst (λ (w : Why). CompletesServe value serve before after w (Some state)) (sym is)
-          (subst (λ (w : Why). ServesAllGates value serve before after w state) is all)
-      by_memory false is =
-          subst (λ (w : Why). CompletesServe value serve before after w (Some state)) (sym is)
-          (subst (λ (w : Why). ServesAllGates value serve before after w state) is all)
+      by_memory true is = (inr is, all)
+      by_memory false is = (inl is, all)
 
 -- a serve that is accepted answers the connections of its gates, or memory ran out before it could
 pub serve_completes : (words : List (List ℕ)) (before after : Streams) (why : Why) (closed : Option ClosedState) (value : Config) (serve : ServeCommand) →
@@ -371,7 +371,7 @@ serve_completes words before after why closed value serve ends none accepted =
       by_case : IsCarriedOut before after (command.Serve serve) value why closed → CompletesServe value serve before.gates after.gates why closed
       by_case (inl lacks) =
           subst (λ (c : Option ClosedState). CompletesServe value serve before.gates after.gates why c) (sym lacks.none)
-          (subst (λ (w : Why). CompletesServe value serve before.gates after.gates w None) (sym lacks.memory) lacks.gates)
+          (subst (IsStartRefused (length before.gates)) (sym lacks.memory) tt, lacks.gates)
       by_case (inr (inl run)) = absurd (not_a_serve serve (sym run.is))
       by_case (inr (inr (inl served))) =
           of_serve value serve before.gates after.gates why closed
@@ -435,10 +435,11 @@ module _ (words : List (List ℕ)) (before after : Streams) (why : Why) (closed 
       (of_fit fit.documents before.input after.input before.output after.output bytes input none.input none.output made.end made.fits)
 
   pub fit_completes : Ends words before after why closed → Completes why
-  fit_completes (inl ends) = fit_at_words ends
-  fit_completes (inr (inl ends)) = absurd (no_other ends.no_fit)
-  fit_completes (inr (inr (inl ends))) = absurd (no_other ends.configured.no_fit)
-  fit_completes (inr (inr (inr (inl ends)))) = absurd (no_other ends.configured.no_fit)
-  fit_completes (inr (inr (inr (inr (inl ends))))) = absurd (no_other ends.configured.no_fit)
-  fit_completes (inr (inr (inr (inr (inr (inl ends)))))) = absurd (no_other ends.configured.no_fit)
-  fit_completes (inr (inr (inr (inr (inr (inr ends)))))) = fit_made ends
+  fit_completes (inl (inl text)) = absurd (asks_no_text words (command.Fit fit) text.text words_are text.asked)
+  fit_completes (inl (inr (inl ends))) = fit_at_words ends
+  fit_completes (inl (inr (inr (inl ends)))) = absurd (no_other ends.no_fit)
+  fit_completes (inl (inr (inr (inr (inl ends))))) = absurd (no_other ends.configured.no_fit)
+  fit_completes (inl (inr (inr (inr (inr (inl ends)))))) = absurd (no_other ends.configured.no_fit)
+  fit_completes (inl (inr (inr (inr (inr (inr (inl ends))))))) = absurd (no_other ends.configured.no_fit)
+  fit_completes (inl (inr (inr (inr (inr (inr (inr ends))))))) = fit_made ends
+  fit_completes (inr ends) = absurd (no_other ends.configured.no_fit)

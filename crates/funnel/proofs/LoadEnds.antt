@@ -154,6 +154,7 @@ ends_load config load before after why closed results told tells =
       by_why why_of.Usage tells = absurd tells
       by_why (why_of.Config fault) tells = absurd tells
       by_why why_of.GateFault tells = absurd tells
+      by_why (why_of.NoThread worker) tells = absurd tells
       by_why why_of.ReadFault tells = absurd tells
       by_why (why_of.ByteLimit count) tells = absurd tells
       by_why (why_of.Misfit misfit) tells = absurd tells

@@ -3,7 +3,7 @@ use Rattle.std.proofs.Common.{◌≡◌, ℕ, suc, ◌+◌, ◌-◌, ◌<◌, �
 use Rattle.std.proofs.lemmas.List.{length-map, map-append}
 use Rattle.std.proofs.lemmas.List.Elements.{All-cons, All-contains, All-head, All-nil, All-tail, Contains-append_left, Contains-append_right}
 use Rattle.std.proofs.lemmas.List.FromFn.{get_or-map-range_with_len, length-map-range_with_len}
-use Rattle.std.specs.List.{All, Contains, list_any, remove}
+use Rattle.std.specs.List.{All, AllZip, Contains, list_any, remove}
 use Rattle.std.specs.Prelude.{◌==◌, ◌||◌, Bool}
 use Rattle.engine.specs.Clients.{caller_of}
 use Rattle.engine.specs.Engines.{ClosedState, EndsIn}
@@ -160,35 +160,30 @@ module _ {G C : Type 0} (gate : Gate.Ghosts G C) (source : Source.Ghosts C) (sin
     pub work : AllWork befores afters
     pub turns : GatesGoInTurns gate source sink befores afters work gates laters
 
-  work_in_turns : (befores afters : List (WorkerWithGate G)) → length afters ≡ length befores →
-      ((k : ℕ) (d : WorkerWithGate G) → k < length befores →
-      WorksInTurns gate source sink (slice_index_or befores k d) (slice_index_or afters k d)) →
+  work_in_turns : (befores afters : List (WorkerWithGate G)) → AllZip (WorksInTurns gate source sink) befores afters →
       WorkInTurns (states_of befores) (states_of afters) (gates_of befores) (gates_of afters)
-  work_in_turns [] [] same work = record { work = tt; turns = tt }
-  work_in_turns (before ∷ befores) [] same work = absurd (omega (arith, same))
-  work_in_turns [] (after ∷ afters) same work = absurd (omega (arith, same))
-  work_in_turns (before ∷ befores) (after ∷ afters) same work =
-      let first = work 0 before (omega arith) in
-      let others = work_in_turns befores afters (omega (arith, same)) (λ k d small. work (suc k) d (omega (arith, small))) in
-      record { work = (first.works, others.work); turns = (first.in_turns, others.turns) }
+  work_in_turns [] [] work = record { work = tt; turns = tt }
+  work_in_turns (before ∷ befores) [] work = absurd work
+  work_in_turns [] (after ∷ afters) work = absurd work
+  work_in_turns (before ∷ befores) (after ∷ afters) work =
+      let others = work_in_turns befores afters work.1 in
+      record { work = (work.0.works, others.work); turns = (work.0.in_turns, others.turns) }
 
   -- the gates had workers, and all came back
   pub have_worked : (pool : PoolId) (serve : ServeCommand) (gates none back : List G) (why : Why) (left passes : List PassView)
       (befores afters : List (WorkerWithGate G)) →
       states_of befores ≡ new_workers pool.config pool.limits serve 0 (map state gates) → gates_of befores ≡ gates → none ≡ [] →
-      left ≡ new_passes (length gates) (pool.config.passes - length gates) → length afters ≡ length befores →
-      ((k : ℕ) (d : WorkerWithGate G) → k < length befores →
-      WorksInTurns gate source sink (slice_index_or befores k d) (slice_index_or afters k d)) →
+      left ≡ new_passes (length gates) (pool.config.passes - length gates) → AllZip (WorksInTurns gate source sink) befores afters →
       map state back ≡ map state none ++ map (λ (worker : WorkerState). worker.gate) (states_of afters) → back ≡ none ++ gates_of afters →
       why ≡ why_of_workers (states_of afters) → passes ≡ left ++ map pass_of_worker (states_of afters) →
       HaveWorkedInTurns gate source sink pool serve gates back why passes
-  have_worked pool serve gates none back why left passes befores afters made theirs empty left_are same work told back_are cause come =
+  have_worked pool serve gates none back why left passes befores afters made theirs empty left_are work told back_are cause come =
       let came : back ≡ gates_of afters = back_are ∙ ap (λ (gs : List G). gs ++ gates_of afters) empty in
       let all : WorkInTurns (new_workers pool.config pool.limits serve 0 (map state gates)) (states_of afters) gates back =
       subst (λ (ws : List WorkerState). WorkInTurns ws (states_of afters) gates back) made
       (subst (λ (gs : List G). WorkInTurns (states_of befores) (states_of afters) gs back) theirs
       (subst (λ (gs : List G). WorkInTurns (states_of befores) (states_of afters) (gates_of befores) gs) (sym came)
-      (work_in_turns befores afters same work))) in
+      (work_in_turns befores afters work))) in
       record {
         worked = record {
           workers = states_of afters;

@@ -19,6 +19,7 @@ exit_status_of why_of.ReadFault = 3
 exit_status_of why_of.WriteFault = 4
 exit_status_of why_of.Memory = 5
 exit_status_of why_of.GateFault = 6
+exit_status_of (why_of.NoThread worker) = 6
 exit_status_of (why_of.ByteLimit count) = 7
 exit_status_of (why_of.Misfit misfit) = 8
 

@@ -35,7 +35,7 @@ use Rattle.funnel.specs.LoadRuns.{IsWholeLoad}
 use Rattle.funnel.specs.Misfits.{misfit_of}
 use Rattle.funnel.specs.Programs.{Streams}
 use Rattle.funnel.specs.Runs.{IsOfFirst, first_caller, limits_by}
-use Rattle.funnel.specs.ServeRuns.{AllWork, HaveAllServed}
+use Rattle.funnel.specs.ServeRuns.{AllWork, HaveAllServed, IsStartRefused}
 use Rattle.command_line.specs.declared.command.Command.{Command}
 use Rattle.command_line.specs.declared.command.LoadCommand.{LoadCommand}
 use Rattle.command_line.specs.declared.command.ServeCommand.{ServeCommand}
@@ -186,13 +186,13 @@ abbrev pub ServesAllGates : Config → ServeCommand → List GateState → List 
 ServesAllGates config serve before after why closed =
     HaveAllServed config serve before after why closed × AllZip (GateIsServed serve why) before after
 
--- a serve is done when each gate's connections had their sessions, up to the number that was stated, each to its own end, and ends
--- otherwise for want of memory alone: that of a session, and all had theirs, or that of the engine or its workers, and no connection was taken
+-- a serve is done when each gate's connections had their sessions, up to the number that was stated, each to its own end. It ends
+-- otherwise where a session found no memory, and all had theirs, or where there was none for the engine or its workers or no thread for
+-- one of these, and no connection was taken
 abbrev pub CompletesServe : Config → ServeCommand → List GateState → List GateState → Why → Option ClosedState → Type 0
-CompletesServe config serve before after why_of.Done (Some closed) = ServesAllGates config serve before after why_of.Done closed
-CompletesServe config serve before after why_of.Memory (Some closed) = ServesAllGates config serve before after why_of.Memory closed
-CompletesServe config serve before after why_of.Memory None = after ≡ before
-CompletesServe config serve before after _ closed = ⊥
+CompletesServe config serve before after why (Some closed) =
+    ((why ≡ why_of.Done) ⊎ (why ≡ why_of.Memory)) × ServesAllGates config serve before after why closed
+CompletesServe config serve before after why None = IsStartRefused (length before) why × (after ≡ before)
 
 -- a gate answered that it failed, as it was opened or asked for a connection, was ended, and is one of these since
 pub record OneFailed {G C : Type 0} (gate : Gate.Ghosts G C) (laters : List G) : Type 0 where

@@ -14,12 +14,14 @@ use Rattle.funnel.specs.LoadRuns.{EndsLoad}
 use Rattle.funnel.specs.Misfits.{misfit_of}
 use Rattle.funnel.specs.Runs.{KeepsLast, RanOrNot}
 use Rattle.funnel.specs.ServeRuns.{EndsServe}
+use Rattle.funnel.specs.Texts.{IsTextWritten, text_asked, text_of}
 use Rattle.command_line.specs.declared.command.Command.{Command}
 use Rattle.command_line.specs.declared.command.Command.TheVariants as command
 use Rattle.command_line.specs.declared.command.FitCommand.{FitCommand}
 use Rattle.command_line.specs.declared.command.LoadCommand.{LoadCommand}
 use Rattle.command_line.specs.declared.command.ServeCommand.{ServeCommand}
 use Rattle.funnel.specs.declared.ends.Misfit.{Misfit}
+use Rattle.funnel.specs.declared.text.Text.{Text}
 use Rattle.funnel.specs.declared.ends.Why.{Why}
 use Rattle.funnel.specs.declared.ends.Why.TheVariants as why_of
 
@@ -30,8 +32,17 @@ pub record Streams : Type 0 where
   pub output : Outgoing
   pub gates : List GateState
 
--- the words are no command, or there was no memory to read them
+-- the words ask for a text alone, and it is told: nothing is read, and no engine is opened
+pub record EndsAfterText (words : List (List ℕ)) (before after : Streams) (why : Why) (closed : Option ClosedState) : Type 0 where
+  pub text : Text
+  pub asked : text_asked words ≡ Some text
+  pub written : IsTextWritten (text_of text) before.output after.output why
+  pub others : after ≡ record before { output = after.output }
+  pub none : closed ≡ None
+
+-- the words ask for no text and are no command, or there was no memory to read them
 pub record EndsAtWords (words : List (List ℕ)) (before after : Streams) (why : Why) (closed : Option ClosedState) : Type 0 where
+  pub no_text : text_asked words ≡ None
   pub untouched : after ≡ before
   pub cause : ((why ≡ why_of.Usage) × (command_of words ≡ None)) ⊎ (why ≡ why_of.Memory)
   pub none : closed ≡ None
@@ -103,13 +114,14 @@ pub record EndsAfterFit (words : List (List ℕ)) (before after : Streams) (why 
   pub others : after ≡ record before { input = after.input; output = after.output }
   pub none : closed ≡ None
 
--- a program ends at its words, or at its configuration, or at numbers that don't fit, or after its run, its serve, its load or its fit;
--- what is said of a serve is given
-abbrev pub EndsBy : Type 0 → List (List ℕ) → Streams → Streams → Why → Option ClosedState → Type 0
-EndsBy Serve words before after why closed =
-    EndsAtWords words before after why closed ⊎ EndsAtConfig words before after why closed ⊎ EndsAtMisfit words before after why closed
-    ⊎ EndsAfterRun words before after why closed ⊎ Serve ⊎ EndsAfterLoad words before after why closed ⊎ EndsAfterFit words before after why closed
+-- a program that serves no gate ends with its text, or at its words, or at its configuration, or at numbers that don't fit, or after
+-- its run, its load or its fit
+abbrev pub EndsUnserved : List (List ℕ) → Streams → Streams → Why → Option ClosedState → Type 0
+EndsUnserved words before after why closed =
+    EndsAfterText words before after why closed ⊎ EndsAtWords words before after why closed ⊎ EndsAtConfig words before after why closed
+    ⊎ EndsAtMisfit words before after why closed ⊎ EndsAfterRun words before after why closed ⊎ EndsAfterLoad words before after why closed
+    ⊎ EndsAfterFit words before after why closed
 
--- a program ends so
+-- a program ends so, or after its serve
 abbrev pub Ends : List (List ℕ) → Streams → Streams → Why → Option ClosedState → Type 0
-Ends words before after why closed = EndsBy (EndsAfterServe words before after why closed) words before after why closed
+Ends words before after why closed = EndsUnserved words before after why closed ⊎ EndsAfterServe words before after why closed

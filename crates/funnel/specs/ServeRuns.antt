@@ -64,8 +64,14 @@ OneDidNotOpen (gate ∷ gates) (later ∷ laters) =
     ((later ≡ record gate { faults = raised gate.faults }) × (laters ≡ gates)) ⊎ ((later ≡ gate) × OneDidNotOpen gates laters)
 OneDidNotOpen before after = ⊥
 
--- the gates were served, or there was no memory for the engine or for its workers, or a gate failed as it was opened
+-- memory ran out before there was an engine with its workers, or the system gave one of so many workers no thread
+abbrev pub IsStartRefused : ℕ → Why → Type 0
+IsStartRefused workers why_of.Memory = ⊤
+IsStartRefused workers (why_of.NoThread worker) = worker < workers
+IsStartRefused workers _ = ⊥
+
+-- the gates were served, or no worker began for want of memory or of a thread, or a gate failed as it was opened
 abbrev pub EndsServe : Config → ServeCommand → List GateState → List GateState → Why → Option ClosedState → Type 0
 EndsServe config serve before after why (Some closed) = HaveAllServed config serve before after why closed
 EndsServe config serve before after why None =
-    ((why ≡ why_of.Memory) × (after ≡ before)) ⊎ ((why ≡ why_of.GateFault) × OneDidNotOpen before after)
+    (IsStartRefused (length before) why × (after ≡ before)) ⊎ ((why ≡ why_of.GateFault) × OneDidNotOpen before after)

@@ -1,5 +1,5 @@
 -- The calls of a run on its input and its output, and those of a serve on its gates and their connections.
-use Rattle.std.specs.Prelude.{◌≡◌, ◌⊎◌, ⊤, ℕ, List, [], ◌∷◌, Option, Some, None}
+use Rattle.std.specs.Prelude.{◌≡◌, ◌⊎◌, ⊤, ℕ, List, [], ◌∷◌, length, Option, Some, None}
 use Rattle.std.specs.List.{AllZip}
 use Rattle.engine.specs.Engines.{ClosedState}
 use Rattle.funnel_io.specs.Calls.{Read, Write}
@@ -16,9 +16,9 @@ use Rattle.session.specs.declared.serving.TheConstants.{MOST_BYTES}
 use Rattle.command_line.specs.declared.command.ServeCommand.{ServeCommand}
 use Rattle.funnel.specs.declared.ends.Why.{Why}
 use Rattle.funnel.specs.declared.ends.Why.TheVariants as why_of
-use Rattle.funnel.specs.Programs.{EndsAfterServe, EndsBy, Streams}
+use Rattle.funnel.specs.Programs.{EndsAfterServe, EndsUnserved, Streams}
 use Rattle.funnel.specs.Runs.{limits_by}
-use Rattle.funnel.specs.ServeRuns.{AllWork, EndsServe, new_workers}
+use Rattle.funnel.specs.ServeRuns.{AllWork, EndsServe, IsStartRefused, new_workers}
 
 -- The input and the output of a run are two streams, and the states of both together are that of a connection: a read of the input leaves the
 -- output as it was
@@ -45,10 +45,10 @@ module _ {G C : Type 0} (gate : Gate.Ghosts G C) where
       (gate.open_gives one opening.Fault later × (laters ≡ gates)) ⊎ (gate.open_gives one opening.Open later × AreOpenedUntilOneFails gates laters)
   AreOpenedUntilOneFails gates laters = ⊥
 
-  -- the gates of a serve that had no engine: all were opened, and memory ran out, or one failed; then all were ended
+  -- the gates of a serve that no worker began: all were opened, and memory or a thread was wanting, or one failed; then all were ended
   pub record AreOpenedInVain (why : Why) (gates laters : List G) : Type 0 where
     pub tried : List G
-    pub opened : ((why ≡ why_of.Memory) × AreOpened gates tried) ⊎ ((why ≡ why_of.GateFault) × AreOpenedUntilOneFails gates tried)
+    pub opened : (IsStartRefused (length gates) why × AreOpened gates tried) ⊎ ((why ≡ why_of.GateFault) × AreOpenedUntilOneFails gates tried)
     pub ended : AllZip gate.end_gives tried laters
 
 module _ {G C : Type 0} (gate : Gate.Ghosts G C) (source : Source.Ghosts C) (sink : Sink.Ghosts C) where
@@ -79,7 +79,7 @@ module _ {G C : Type 0} (gate : Gate.Ghosts G C) (source : Source.Ghosts C) (sin
     pub ends : EndsAfterServe words before after why closed
     pub in_turns : ServeGoesInTurns ends.config ends.serve before.gates after.gates why closed ends.served gates laters
 
-  -- so a program ends, of whose calls on gates this is told too
+  -- a program ends so, of whose calls on gates this is told too: but for a serve there is none
   abbrev pub EndsInTurns : List (List ℕ) → Streams → Streams → Why → Option ClosedState → List G → List G → Type 0
   EndsInTurns words before after why closed gates laters =
-      EndsBy (EndsAfterServeInTurns words before after why closed gates laters) words before after why closed
+      (EndsUnserved words before after why closed × (laters ≡ gates)) ⊎ EndsAfterServeInTurns words before after why closed gates laters

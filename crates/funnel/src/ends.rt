@@ -11,9 +11,10 @@ use std::fmt;
 #[derive(Debug, Drop)]
 pub enum Why {
     /// `run`: the input was read to its end and every reply was written. `serve`: each worker's gate has no more connections,
-    /// or the worker served as many as it may. `load`: the whole summary was written. `fit`: the configuration was written.
+    /// or the worker served as many as it may. `load`: the whole summary was written. `fit`: the configuration was written. A text
+    /// that was asked for was written.
     Done,
-    /// The words are no command.
+    /// The words are no command, and ask for no text.
     Usage,
     /// The configuration is refused, for another cause than a failed read or want of memory.
     Config(ConfigFault),
@@ -27,6 +28,8 @@ pub enum Why {
     Memory,
     /// A gate of a serve failed.
     GateFault,
+    /// The system gave this one of the workers of a serve no thread. No worker took a connection then.
+    NoThread(usize),
     /// So many bytes of the input were read, and no more may be.
     ByteLimit(u64),
     /// A number of the command doesn't fit, or no configuration can be fitted.
@@ -61,7 +64,7 @@ impl Why {
             Why::ReadFault => 3,
             Why::WriteFault => 4,
             Why::Memory => 5,
-            Why::GateFault => 6,
+            Why::GateFault | Why::NoThread(_) => 6,
             Why::ByteLimit(_) => 7,
             Why::Misfit(_) => 8,
         }
@@ -78,7 +81,7 @@ impl fmt::Display for Why {
             Why::ReadFault => f.write_str("read fault"),
             Why::WriteFault => f.write_str("write fault"),
             Why::Memory => f.write_str("out of memory"),
-            Why::GateFault => f.write_str("gate fault"),
+            Why::GateFault | Why::NoThread(_) => f.write_str("gate fault"),
             Why::ByteLimit(_) => f.write_str("byte limit"),
             Why::Misfit(_) => f.write_str("does not fit"),
         }

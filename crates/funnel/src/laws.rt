@@ -8,6 +8,7 @@ ghost use Rattle.funnel_server.specs.Gates.{GateState, Sides};
 ghost use Rattle.funnel_server.specs.Laws.{HasFewBytes};
 ghost use Rattle.line_proto.specs.Forms.{items};
 ghost use Rattle.session.specs.declared.serving.TheConstants.{MOST_BYTES};
+ghost use Rattle.command_line.specs.declared.command.TheConstants.{MOST_CONNECTIONS, MOST_FITTED, MOST_IDLE, MOST_PORT};
 ghost use Rattle.command_line.specs.declared.command.Command.TheVariants as command;
 ghost use Rattle.command_line.specs.declared.command.FitCommand.{FitCommand};
 ghost use Rattle.command_line.specs.declared.command.LoadCommand.{LoadCommand};
@@ -26,7 +27,8 @@ use funnel_io::{End, Gate};
 /// Let the words be a command, the configuration valid, the command fit it, and no read, no write and no call of a gate fail.
 /// Then a run whose input has fewer bytes than it may take answers all its lines, a serve gives each connection of its gates a session,
 /// and a load is made and told, where none of them runs out of memory. A longer run ends at its limit of bytes. A serve that runs out
-/// of memory gave each connection its session too, some of which found none, or took no connection. A fit, which has no need of the
+/// of memory gave each connection its session too, some of which found none, or took no connection, as does one of which a worker has no
+/// thread. A fit, which has no need of the
 /// configuration, writes one where its input has as few bytes and one can be fitted to it.
 pub fn programs_without_a_fault_end_well()
     ensures run { (words : List (List ℕ)) (before after : Streams) (why : Why) (closed : Option ClosedState) (config : Config) (bytes : List ℕ) →
@@ -103,4 +105,13 @@ pub fn gates_that_stay_open_are_served_to_their_number()
     ensures { (config : Config) (serve : ServeCommand) (before after : List GateState) (closed : ClosedState)
         (served : HaveAllServed config serve before after Why.Done closed) →
         All (λ gate. gate.is_closed ≡ false) after → All (λ worker. worker.left ≡ 0) served.workers }
+{}
+
+/// The last port that there is, the most connections of a worker, seconds of a wait and documents of a fit, and the most bytes of a run.
+pub fn numbers_of_the_program()
+    ensures port { MOST_PORT ≡ 65535 }
+    ensures connections { MOST_CONNECTIONS ≡ 4294967296 }
+    ensures idle { MOST_IDLE ≡ 86400 }
+    ensures fitted { MOST_FITTED ≡ 4194304 }
+    ensures bytes { MOST_BYTES ≡ 1099511627776 }
 {}

@@ -7,8 +7,8 @@
 //! long its connections may wait, and [`gates_on`] makes the gates, before the call, which opens them. [`ProgramEnd`] is what a
 //! program gives back: why it ended, which tells its exit status, its gates, and what is left of its engine.
 //!
-//! Words may ask for the help or the version instead, which [`tell_asked`] tells. What is wrong with words that are
-//! neither is a [`UsageFault`].
+//! Words may ask for the help or the version alone ([`text_asked`]), which the program then writes on its output. What is wrong with
+//! words that are neither is a [`UsageFault`].
 #![tactic(auto)]
 
 mod ends;
@@ -34,10 +34,10 @@ pub use laws::{
     connections_without_a_fault_are_done, ends_are_told_with_their_turns,
     gate_faults_are_answers_of_gates, gates_that_do_not_open_leave_their_connections,
     gates_that_stay_open_are_served_to_their_number, gates_without_a_fault_are_served,
-    programs_without_a_fault_end_well, runs_take_every_call,
+    numbers_of_the_program, programs_without_a_fault_end_well, runs_take_every_call,
     the_calls_of_a_serve_are_those_of_its_sessions,
 };
 pub use listening::{gates_on, idle, ports, shares_port};
 pub use port_list::Ports;
 pub use program::funnel_main;
-pub use text::{HELP, Text, VERSION, tell_asked, text_asked, words_for_a_text_are_no_command};
+pub use text::{HELP, Text, VERSION, text_asked, words_for_a_text_are_no_command};

@@ -1,51 +1,47 @@
 //! Which ports a serve listens on, and its gates, which are made before the program is run.
-ghost use Rattle.std.specs.Prelude.{◌≡◌, ◌+◌, ◌<◌, map, IfOk};
+ghost use Rattle.std.specs.Prelude.{◌≡◌, ◌+◌, ◌<◌, map, IfOk, IfSome};
 ghost use Rattle.std.specs.List.{range_with_len};
 ghost use Rattle.std.specs.Option.{is_some};
 ghost use Rattle.funnel_io.specs.Std.{new_gate};
-ghost use Rattle.command_line.specs.Commands.{IsServeInRange, idle_of, ports_of, ports_of_serve, shares_port};
-ghost use Rattle.funnel.specs.Words.{command_in};
+ghost use Rattle.command_line.specs.Commands.{HasNumbersInRange, IsServeInRange, idle_of, ports_of, ports_of_serve, shares_port};
 
 use crate::port_list::Ports;
-use command_line::{Command, CommandFault, ServeCommand, read_command};
+use command_line::{Command, ServeCommand};
 use funnel_io::{SharedPort, TcpGate};
-use funnel_model::Memory;
 use std::alloc::{AllocError, Global};
 use std::net::{Net, TcpStream};
 use std::time::Clock;
 
-/// The ports that the words ask for, one for each worker of a serve: the stated one for all where they share it, or from that
-/// one up, also where there is no such port. All other words ask for none.
-pub fn ports(alloc: Global, words: &[&str]) -> Result<Ports, Memory>
-    ensures { IfOk result (λ ports. ports ≡ ports_of (command_in words.now)) }
+/// The ports that a command asks for, one for each worker of a serve: the stated one for all where they share it, or from that
+/// one up, also where there is no such port. All other commands, and none, ask for no port.
+pub fn ports(alloc: Global, command: Option<Command>) -> Result<Ports, AllocError>
+    requires { IfSome command HasNumbersInRange }
+    ensures { IfOk result (λ ports. ports ≡ ports_of command) }
 {
-    let ports = match read_command(alloc, words) {
-        Ok(Command::Serve(serve)) => ports_of_serve(alloc, serve)?,
-        Ok(_) | Err(CommandFault::Usage) => Vec::new(alloc),
-        Err(CommandFault::Memory) => return Err(Memory),
+    let ports = match command {
+        Some(Command::Serve(serve)) => ports_of_serve(alloc, serve)?,
+        _ => Vec::new(alloc),
     };
     Ok(Ports::new(ports))
 }
 
-/// For how many seconds the words let the reads and writes of a connection wait: 0 where they ask for no limit, or for no serve.
-pub fn idle(alloc: Global, words: &[&str]) -> Result<u32, Memory>
-    ensures { IfOk result (λ idle. idle ≡ idle_of (command_in words.now)) }
+/// For how many seconds a command lets the reads and writes of a connection wait: 0 where it asks for no limit, or is no serve.
+pub fn idle(command: Option<Command>) -> u32
+    ensures { result ≡ idle_of command }
 {
-    match read_command(alloc, words) {
-        Ok(Command::Serve(serve)) => Ok(serve.idle),
-        Ok(_) | Err(CommandFault::Usage) => Ok(0),
-        Err(CommandFault::Memory) => Err(Memory),
+    match command {
+        Some(Command::Serve(serve)) => serve.idle,
+        _ => 0,
     }
 }
 
-/// Whether the words let all workers take connections at one port.
-pub fn shares_port(alloc: Global, words: &[&str]) -> Result<bool, Memory>
-    ensures { IfOk result (λ shares. shares ≡ shares_port (command_in words.now)) }
+/// Whether a command lets all workers take connections at one port.
+pub fn shares_port(command: Option<Command>) -> bool
+    ensures { result ≡ shares_port command }
 {
-    match read_command(alloc, words) {
-        Ok(Command::Serve(serve)) => Ok(serve.one_port),
-        Ok(_) | Err(CommandFault::Usage) => Ok(false),
-        Err(CommandFault::Memory) => Err(Memory),
+    match command {
+        Some(Command::Serve(serve)) => serve.one_port,
+        _ => false,
     }
 }
 

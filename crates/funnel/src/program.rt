@@ -1,9 +1,9 @@
-ghost use Rattle.std.specs.Prelude.{◌≡◌, ◌⊎◌, Some, true, false, length, map, IfNone, IfSome};
+ghost use Rattle.std.specs.Prelude.{◌≡◌, None, Some, true, false, length, map, IfNone, IfSome};
 ghost use Rattle.engine.specs.Engines.{IsClosed};
 ghost use Rattle.funnel_server.specs.Gates.{gate_state};
-ghost use Rattle.command_line.specs.Commands.{is_fit, is_serve};
-ghost use Rattle.funnel.specs.Turns.{AreOpenedInVain, EndsInTurns, RunsInTurns};
-ghost use Rattle.funnel.specs.Words.{command_in, words_in};
+ghost use Rattle.command_line.specs.Commands.{is_fit, is_serve, reads_config};
+ghost use Rattle.funnel.specs.Turns.{EndsInTurns, RunsInTurns};
+ghost use Rattle.funnel.specs.Words.{command_in, text_in, words_in};
 ghost use Rattle.command_line.specs.declared.command.Command.TheVariants as command;
 ghost use Rattle.command_line.specs.declared.command.LoadCommand.{LoadCommand};
 
@@ -12,6 +12,7 @@ use crate::fitting::misfit;
 use crate::running::run_command;
 use crate::sampling::fit_command;
 use crate::serving::serve_command;
+use crate::text::{tell, text_asked};
 use crate::workload::load_command;
 use command_line::{Command, CommandFault, read_command};
 use funnel_io::{Gate, Sink, Source};
@@ -24,12 +25,12 @@ use std::thread::Threads;
 /// `serve` opens the gates, and answers the lines of the connections of each, or with `--http` their requests, by a pass and a
 /// thread of its own. `load` makes its documents, has its workers add, delete and find them, each by a pass and a thread of its
 /// own, and writes its summary on `output`. These two read nothing from `input`. `fit` reads lines of `input`, and writes the
-/// configuration that is fitted to the add lines among them on `output`; it needs no configuration and no engine. `gates` come back
-/// in their order.
+/// configuration that is fitted to the add lines among them on `output`; it needs no configuration and no engine. Words that ask
+/// for the help or the version alone have that text written on `output`, and nothing is read. `gates` come back in their order.
 ///
 /// The words are judged first, then, unless they are a fit, the configuration, then whether the command's numbers fit it and the
-/// gates, and then a serve opens its gates, all or none. Nothing is left of an engine where one of these is refused or fails, or
-/// where memory ran out before the engine was open.
+/// gates, and then a serve opens its gates, all or none, and begins with all its workers or with none. Nothing is left of an engine
+/// where one of these is refused or fails, or where memory ran out before the engine was open.
 pub fn funnel_main<R: Threads + Wait + Sync, C: Source, S: Source, K: Sink, G: Gate + Send + Drop>(
     rt: &R,
     alloc: Global,
@@ -66,21 +67,20 @@ where
     // read, tells `ends`.
     ensures without_memory { is_serve (command_in words.now) ≡ false → is_fit (command_in words.now) ≡ false → result.why ≡ Why.Memory →
         (input.new ≡ input.old) × (output.new ≡ output.old) }
-    ensures config_untouched { result.why ≡ Why.Usage → config.new ≡ config.old }
-    ensures fit_reads_no_config { is_fit (command_in words.now) ≡ true → config.new ≡ config.old }
+    ensures config_untouched { reads_config (command_in words.now) ≡ false → config.new ≡ config.old }
 
-    // But for a fit, nothing is read and written without an engine.
+    // But for a fit and a text, nothing is read and written without an engine.
     ensures input_untouched { is_fit (command_in words.now) ≡ false → IfNone result.closed (input.new ≡ input.old) }
-    ensures output_untouched { is_fit (command_in words.now) ≡ false → IfNone result.closed (output.new ≡ output.old) }
-
-    // With no engine the gates are as they came, or those of a serve that opened them in vain.
-    ensures gates_untouched { IfNone result.closed ((result.gates ≡ gates) ⊎ AreOpenedInVain G.Gate result.why gates.items result.gates.items) }
+    ensures output_untouched { text_in words.now ≡ None → is_fit (command_in words.now) ≡ false → IfNone result.closed (output.new ≡ output.old) }
     ensures gates_unused { is_serve (command_in words.now) ≡ false → result.gates ≡ gates }
     ensures gates_count { length result.gates.items ≡ length gates.items }
     ensures config_borrowed { C.borrowed config.new ≡ C.borrowed config.old }
     ensures input_borrowed { S.borrowed input.new ≡ S.borrowed input.old }
     ensures output_borrowed { K.borrowed output.new ≡ K.borrowed output.old }
 {
+    if let Some(text) = text_asked(words) {
+        return ProgramEnd::unopened(tell(text, output), gates);
+    }
     let command = match read_command(alloc, words) {
         Ok(command) => command,
         Err(CommandFault::Usage) => return ProgramEnd::unopened(Why::Usage, gates),

@@ -1,11 +1,11 @@
 //! A serve: the connections of each gate are answered by a pass of its own of one new engine.
-ghost use Rattle.std.specs.Prelude.{◌≡◌, ◌≤◌, ◌+◌, ◌-◌, ◌++◌, [], length, map, IfNone, IfSome, if◌then◌else◌, vec_capacity};
+ghost use Rattle.std.specs.Prelude.{◌≡◌, ◌<◌, ◌≤◌, ◌+◌, ◌-◌, ◌++◌, [], length, map, IfErr, IfNone, IfOk, IfSome, if◌then◌else◌, vec_capacity};
 ghost use Rattle.std.specs.List.{AllZip, list_any};
 ghost use Rattle.engine.specs.Engines.{IsClosed};
 ghost use Rattle.funnel_model.specs.Configuration.{IsValid};
 ghost use Rattle.funnel_io.specs.Answers.{MatchOpening};
 ghost use Rattle.funnel.specs.Runs.{IsBlankFor, KeepsLast};
-ghost use Rattle.funnel.specs.ServeRuns.{new_workers};
+ghost use Rattle.funnel.specs.ServeRuns.{IsStartRefused, new_workers};
 ghost use Rattle.funnel.specs.Serving.{new_passes};
 ghost use Rattle.funnel.specs.Turns.{AreOpened, AreOpenedInVain, AreOpenedUntilOneFails};
 ghost use Rattle.funnel.specs.Workers.{gates_of, pass_of_worker, states_of, told_by};
@@ -16,15 +16,15 @@ use command_line::ServeCommand;
 use engine::{Blank, Client, Engine, Pass, PoolName};
 use funnel_io::{Gate, Opening};
 use funnel_model::Config;
-use funnel_server::{Worker, run_workers};
+use funnel_server::{NoThread, Worker, run_workers};
 use std::alloc::Global;
 use std::marker::Brand;
 use std::sync::Wait;
 use std::thread::Threads;
 
 /// Opens the gates in order, opens an engine, answers the connections of each gate by a pass of its own, up to so many, and closes
-/// the engine; each worker ends its gate. Where a gate doesn't open, or there is no memory for the engine or for the workers, nothing
-/// is left of it, no connection was taken, and each gate is ended.
+/// the engine; each worker ends its gate. Where a gate doesn't open, or there is no memory for the engine or for the workers, or no
+/// thread for one of these, nothing is left of the engine, no connection was taken, and each gate is ended.
 pub(crate) fn serve_command<R: Threads + Wait + Sync, G: Gate + Send + Drop>(
     rt: &R,
     alloc: Global,
@@ -35,6 +35,7 @@ pub(crate) fn serve_command<R: Threads + Wait + Sync, G: Gate + Send + Drop>(
 where
     G::Conn: Send,
     requires valid { IsValid config.now }
+    requires some { 0 < length gates.items }
     requires enough { length gates.items ≤ config.now.passes }
     ensures ends { EndsServeInTurns G.Gate G.Conn.Source.own G.Conn.Sink.own config.now serve gates.items result.gates.items result.why result.closed }
     ensures closed { IfSome result.closed IsClosed }
@@ -82,8 +83,8 @@ fn end_all<G: Gate>(gates: &mut [G])
     }
 }
 
-/// Serves gates that are open by a new engine. Nothing of it is left where there was no memory for it or for the workers; then no gate
-/// was called.
+/// Serves gates that are open by a new engine. Nothing of it is left where there was no memory for it or for the workers, or no thread
+/// for one of these; then no gate was called.
 fn serve_open<R: Threads + Wait + Sync, G: Gate + Send + Drop>(
     rt: &R,
     alloc: Global,
@@ -94,11 +95,13 @@ fn serve_open<R: Threads + Wait + Sync, G: Gate + Send + Drop>(
 where
     G::Conn: Send,
     requires valid { IsValid config.now }
+    requires some { 0 < length gates.items }
     requires enough { length gates.items ≤ config.now.passes }
     ensures ends { EndsOpenServeInTurns G.Gate G.Conn.Source.own G.Conn.Sink.own config.now serve gates.items result.gates.items result.why result.closed }
     ensures closed { IfSome result.closed IsClosed }
     ensures kept { IfSome result.closed (KeepsLast config.now) }
-    ensures untouched { IfNone result.closed ((result.why ≡ Why.Memory) × (result.gates ≡ gates)) }
+    ensures refused { IfNone result.closed (IsStartRefused (length gates.items) result.why) }
+    ensures untouched { IfNone result.closed (result.gates.items ≡ gates.items) }
     ensures count { length result.gates.items ≡ length gates.items }
 {
     let Ok(blank) = Blank::new(alloc, config) else {
@@ -108,7 +111,7 @@ where
 }
 
 /// Opens an engine over the blank, answers the connections of each gate by a pass of its own, up to so many, and closes it.
-/// Nothing of it is left where there was no memory to open it or for the workers; then no gate was called.
+/// Nothing of it is left where there was no memory to open it or for the workers, or no thread for one of these; then no gate was called.
 fn serve_gates<N: PoolName + Send + Sync, R: Threads + Wait + Sync, G: Gate + Send + Drop>(
     rt: &R,
     alloc: Global,
@@ -120,11 +123,13 @@ fn serve_gates<N: PoolName + Send + Sync, R: Threads + Wait + Sync, G: Gate + Se
 where
     G::Conn: Send,
     requires blank { IsBlankFor config.now N.pool blank }
+    requires some { 0 < length gates.items }
     requires enough { length gates.items ≤ config.now.passes }
     ensures ends { EndsOpenServeInTurns G.Gate G.Conn.Source.own G.Conn.Sink.own config.now serve gates.items result.gates.items result.why result.closed }
     ensures closed { IfSome result.closed IsClosed }
     ensures kept { IfSome result.closed (KeepsLast config.now) }
-    ensures untouched { IfNone result.closed ((result.why ≡ Why.Memory) × (result.gates ≡ gates)) }
+    ensures refused { IfNone result.closed (IsStartRefused (length gates.items) result.why) }
+    ensures untouched { IfNone result.closed (result.gates.items ≡ gates.items) }
     ensures count { length result.gates.items ≡ length gates.items }
 {
     let Ok(room) = Vec::with_capacity(alloc, gates.len()) else {
@@ -133,13 +138,18 @@ where
     let Ok((engine, passes)) = Engine::<N>::open(alloc, config, blank) else {
         return ProgramEnd::unopened(Why::Memory, gates);
     };
-    let (why, gates, passes) = answer_all(rt, alloc, &engine, passes, serve, gates, room);
-    let closed = Some(engine.close(passes));
-    ProgramEnd { why, gates, closed }
+    let (ran, gates, passes) = answer_all(rt, alloc, &engine, passes, serve, gates, room);
+    match ran {
+        Ok(why) => {
+            let closed = Some(engine.close(passes));
+            ProgramEnd { why, gates, closed }
+        }
+        Err(NoThread { worker }) => ProgramEnd::unopened(Why::NoThread(worker), gates),
+    }
 }
 
-/// Answers the connections of each gate by one of the engine's passes, which are new. Gives why that ended, and all gates and
-/// passes back.
+/// Answers the connections of each gate by one of the engine's passes, which are new. Gives why that ended, or which worker had no
+/// thread, so that no gate was called, and all gates and passes back.
 fn answer_all<'a, N: PoolName + Send + Sync, R: Threads + Wait + Sync, G: Gate + Send + Drop>(
     rt: &'a R,
     alloc: Global,
@@ -148,14 +158,17 @@ fn answer_all<'a, N: PoolName + Send + Sync, R: Threads + Wait + Sync, G: Gate +
     serve: ServeCommand,
     gates: Vec<G>,
     room: Vec<Worker<'a, G, N, R>>,
-) -> (Why, Vec<G>, Vec<Pass<N>>)
+) -> (Result<Why, NoThread>, Vec<G>, Vec<Pass<N>>)
 where
     G::Conn: Send,
     requires new { passes.items ≡ new_passes 0 N.pool.config.passes }
+    requires some { 0 < length gates.items }
     requires enough { length gates.items ≤ N.pool.config.passes }
     requires empty { room.items ≡ [] }
     requires room { length gates.items ≤ vec_capacity room }
-    ensures { HaveWorkedInTurns G.Gate G.Conn.Source.own G.Conn.Sink.own N.pool serve gates.items result.1.items result.0 result.2.items }
+    ensures worked { IfOk result.0 (λ why. HaveWorkedInTurns G.Gate G.Conn.Source.own G.Conn.Sink.own N.pool serve gates.items result.1.items why result.2.items) }
+    ensures untouched { IfErr result.0 (λ _. result.1.items ≡ gates.items) }
+    ensures named { IfErr result.0 (λ lacking. lacking.worker < length gates.items) }
 {
     let mut gates = gates;
     let mut passes = passes;
@@ -169,10 +182,13 @@ where
         &mut passes,
         &mut workers,
     );
-    let workers = run_workers(rt, workers);
+    let (workers, ran) = run_workers(rt, workers);
     let why = why_of_workers(&workers);
     take_back(workers, &mut gates, &mut passes);
-    (why, gates, passes)
+    match ran {
+        Ok(()) => (Ok(why), gates, passes),
+        Err(lacking) => (Err(lacking), gates, passes),
+    }
 }
 
 /// Makes a worker of each gate and the next pass, all of which are new.

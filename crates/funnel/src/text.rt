@@ -1,6 +1,5 @@
 //! What the program tells of itself.
-ghost use Rattle.std.specs.Prelude.{◌≡◌, ℕ, List, IsSome, MatchOption, None};
-ghost use Rattle.std.specs.Option.{IsSomeAnd};
+ghost use Rattle.std.specs.Prelude.{◌≡◌, ℕ, List, IsSome, None};
 ghost use Rattle.command_line.specs.Commands.{command_of};
 ghost use Rattle.funnel.specs.Texts.{IsTextWritten, text_asked, text_by, text_of};
 ghost use Rattle.funnel.specs.Words.{words_in};
@@ -96,18 +95,14 @@ fn text_by(word: &str) -> Option<Text>
     }
 }
 
-/// Writes the text that the words ask for on `output`, and gives how that ended: `Done`, or `WriteFault`. Other words get nothing
-/// written and None. It takes no memory.
-pub fn tell_asked<K: Sink>(words: &[&str], output: &mut K) -> Option<Why>
-    ensures told { MatchOption result
-        ((text_asked (words_in words.now) ≡ None) × (output.new ≡ output.old))
-        (λ why. IsSomeAnd (text_asked (words_in words.now)) (λ text. IsTextWritten (text_of text) (K.outgoing output.old) (K.outgoing output.new) why)) }
+/// Writes the text on `output`, and gives how that ended: `Done`, or `WriteFault`. It takes no memory.
+pub(crate) fn tell<K: Sink>(text: Text, output: &mut K) -> Why
+    ensures told { IsTextWritten (text_of text) (K.outgoing output.old) (K.outgoing output.new) result }
     ensures borrowed { K.borrowed output.new ≡ K.borrowed output.old }
 {
-    let text = text_asked(words)?;
     match write_all(output, text.as_str().as_bytes()) {
-        Ok(()) => Some(Why::Done),
-        Err(_) => Some(Why::WriteFault),
+        Ok(()) => Why::Done,
+        Err(_) => Why::WriteFault,
     }
 }
 

@@ -75,7 +75,7 @@ in_place_searched buffer line_start line_end start searched end place clean = re
   clean = clean;
 }
 
-room_for : (may free : ℕ) → 64 ≤ free → IsRoomFor (min may free) may
+pub room_for : (may free : ℕ) → 64 ≤ free → IsRoomFor (min may free) may
 room_for may free enough = elim (leb_tells may free) [ inl within ↦ inr (omega (arith, within.1)) | inr more ↦ inl (omega (arith, more.1, enough)) ]
 
 -- where a buffer was read into behind its bytes, the places of a line buffer stay in order

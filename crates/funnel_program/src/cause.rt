@@ -3,9 +3,9 @@ use crate::CONFIG_PATH;
 use crate::spoken_gate::SpokenGate;
 use funnel::{MOST_PORT, Misfit, ProgramEnd, Why, usage_fault};
 use funnel_model::{MOST_COLUMNS, MOST_ROW_WORDS};
-use funnel_stats::{ConfigFault, Key};
+use funnel_stats::{ConfigFault, Kept, Key};
 use serde_json::Value;
-use std::{fs, io};
+use std::{fmt, fs, io};
 
 /// What the system said of the last call on each stream that failed.
 #[derive(Drop)]
@@ -31,13 +31,14 @@ pub(crate) fn say_cause(
         }
         Why::WriteFault => say_error(rt, "writing standard output", errors.output),
         Why::GateFault => say_gates(ended.gates.as_slice()),
+        Why::NoThread(worker) => say_no_thread(rt, ended.gates.as_slice(), *worker),
         Why::Misfit(misfit) => say_misfit(rt, *misfit),
         Why::Done | Why::Memory | Why::ByteLimit(_) => Ok(()),
     }
 }
 
 /// Says what failed, and what the system said, where it did.
-pub(crate) fn say_error(rt: &HostRuntime, doing: &str, error: Option<io::Error>) -> io::Result<()> {
+fn say_error(rt: &HostRuntime, doing: &str, error: Option<io::Error>) -> io::Result<()> {
     match error {
         Some(error) => eprintln!(rt; "funnel: {doing}: {error}"),
         None => Ok(()),
@@ -60,6 +61,17 @@ fn say_gates(gates: &[SpokenGate<'_>]) -> io::Result<()> {
     Ok(())
 }
 
+/// Says which worker had no thread, and on which port it was to take connections.
+fn say_no_thread(rt: &HostRuntime, gates: &[SpokenGate<'_>], worker: usize) -> io::Result<()> {
+    match gates.get(worker) {
+        Some(gate) => eprintln!(rt;
+            "funnel: worker {worker}, on port {}: the system gives it no thread: lower `--workers`",
+            gate.port()
+        ),
+        None => Ok(()),
+    }
+}
+
 fn say_fault(rt: &HostRuntime, fault: &ConfigFault) -> io::Result<()> {
     match fault {
         ConfigFault::BadValue(Key::Words, _) => eprintln!(rt;
@@ -69,12 +81,18 @@ fn say_fault(rt: &HostRuntime, fault: &ConfigFault) -> io::Result<()> {
         ConfigFault::BadValue(key, kept) => {
             let limits = key.limits();
             eprintln!(rt;
-                "funnel: `{}` in funnel.json is {kept}, and has to be a whole number from {} to {}",
+                "funnel: `{}` in funnel.json {}has to be a whole number from {} to {}",
                 key.name(),
+                Found(*kept),
                 limits.least,
                 limits.greatest
             )
         }
+        ConfigFault::WordCount(word, kept) => eprintln!(rt;
+            "funnel: the count of {:?} in `words` of funnel.json {}has to be a whole number from 1 to `documents`",
+            word.as_str(),
+            Found(*kept)
+        ),
         ConfigFault::TooManyColumns(columns) => eprintln!(rt;
             "funnel: `slices`, `max_rank` and `blocks` in funnel.json make {columns} columns, and there may be {MOST_COLUMNS}"
         ),
@@ -83,6 +101,20 @@ fn say_fault(rt: &HostRuntime, fault: &ConfigFault) -> io::Result<()> {
         ),
         ConfigFault::NotJson => say_not_json(rt),
         fault => eprintln!(rt; "funnel: funnel.json: {fault}"),
+    }
+}
+
+/// What was found where a whole number in a range has to be, as the first part of a sentence: a whole number out of the range, or nothing
+/// where it is none.
+#[derive(Clone, Copy)]
+struct Found(Kept);
+
+impl fmt::Display for Found {
+    fn fmt<W: fmt::Write>(&self, f: &mut fmt::Formatter<W>) -> fmt::Result {
+        match self.0 {
+            Kept::Number(number) => write!(f, "is {number}, and "),
+            Kept::Other => Ok(()),
+        }
     }
 }
 

@@ -3,7 +3,7 @@ use std::fs::{File, OpenOptions};
 use std::os::fd::AsRawFd;
 
 /// What can be opened wherever the program is started.
-const NOTHING: &str = "/dev/null";
+pub(crate) const NOTHING: &str = "/dev/null";
 
 /// Takes the number of each standard stream that is closed at the start, so that nothing else that is opened gets it, as long as
 /// the result is kept. So a read of a closed standard input fails, and a write to a closed output.

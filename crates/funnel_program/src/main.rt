@@ -6,10 +6,10 @@ mod cause;
 mod closed;
 mod spoken_gate;
 
-use cause::{Errors, say_cause, say_error};
+use cause::{Errors, say_cause};
 use closed::hold_closed;
 use funnel::{
-    Command, Why, funnel_main, gates_on, idle, ports, read_command, shares_port, tell_asked,
+    Command, CommandFault, Why, funnel_main, gates_on, idle, ports, read_command, shares_port,
 };
 use funnel_io::{FileSource, SharedPort, StdinSource, StdoutSink};
 use funnel_model::Memory;
@@ -34,17 +34,13 @@ fn main(rt: HostRuntime) -> ExitCode {
         return report(&rt, &Why::Memory);
     };
     let words = words.as_slice();
-    let mut output = StdoutSink::new(rt.stdout());
-    if let Some(why) = tell_asked(words, &mut output) {
-        return report_text(&rt, &why, &output);
-    }
     let shared = SharedPort::new();
     let Ok(gates) = gates(&rt, alloc, words, &shared) else {
         return report(&rt, &Why::Memory);
     };
-    say_what_begins(&rt, alloc, words);
     let mut config = FileSource::open(&rt, CONFIG_PATH);
     let mut input = StdinSource::new(rt.stdin());
+    let mut output = StdoutSink::new(rt.stdout());
     let ended = funnel_main(
         &rt,
         alloc,
@@ -74,50 +70,48 @@ fn args(rt: &HostRuntime) -> Result<Vec<String>, Why> {
     }
 }
 
-/// A gate for each port that the words ask for, or, where these are one, a gate for each worker on the shared port.
+/// A gate for each port that the words ask for, or, where these are one, a gate for each worker on the shared port. Says first what
+/// begins.
 fn gates<'a>(
     rt: &'a HostRuntime,
     alloc: Global,
     words: &[&str],
     shared: &'a SharedPort<TcpListener>,
 ) -> Result<Vec<SpokenGate<'a>>, Memory> {
-    let ports = ports(alloc, words)?;
-    let idle = idle(alloc, words)?;
-    let shared = if shares_port(alloc, words)? {
+    let command = match read_command(alloc, words) {
+        Ok(command) => Some(command),
+        Err(CommandFault::Usage) => None,
+        Err(CommandFault::Memory) => return Err(Memory),
+    };
+    say_what_begins(rt, command);
+    let ports = ports(alloc, command)?;
+    let shared = if shares_port(command) {
         Some(shared)
     } else {
         None
     };
-    let gates = gates_on(rt, alloc, ports.as_slice(), idle, shared)?;
+    let gates = gates_on(rt, alloc, ports.as_slice(), idle(command), shared)?;
     Ok(spoken(rt, alloc, gates)?)
 }
 
 /// Says on standard error, where that is a terminal, that a load or a fit begins, which say nothing until they end.
-fn say_what_begins(rt: &HostRuntime, alloc: Global, words: &[&str]) {
+fn say_what_begins(rt: &HostRuntime, command: Option<Command>) {
     if !rt.stderr().is_terminal() {
         return;
     }
-    // Where the line can't be written, or there is no memory to read the words, the person isn't told.
-    let _ = match read_command(alloc, words) {
-        Ok(Command::Load(load)) => eprintln!(rt;
+    // Where the line can't be written, the person isn't told.
+    let _ = match command {
+        Some(Command::Load(load)) => eprintln!(rt;
             "funnel: a load of {} documents begins; its summary comes when it is done",
             load.docs
         ),
-        Ok(Command::Fit(fit)) => eprintln!(rt;
+        Some(Command::Fit(fit)) => eprintln!(rt;
             "funnel: lines are read up to the end of standard input; \
              the configuration for {} documents that is fitted to them comes then",
             fit.documents
         ),
         _ => Ok(()),
     };
-}
-
-/// Says how the text that the words ask for was told.
-fn report_text(rt: &HostRuntime, why: &Why, output: &StdoutSink) -> ExitCode {
-    let status = report(rt, why);
-    // As in `main`.
-    let _ = say_error(rt, "writing standard output", output.error());
-    status
 }
 
 /// Tells that the words after the program's name could not be read.

@@ -1,17 +1,28 @@
 //! Gates that say on standard error what becomes of them.
+ghost use Rattle.std.specs.Prelude.{◌≡◌, true};
+ghost use Rattle.funnel_io.specs.Counts.{counted};
+
+use crate::closed::NOTHING;
 use funnel_io::{End, Gate, Next, Opening, TcpConn, TcpGate};
 use std::alloc::{AllocError, Global};
+use std::fs::File;
 use std::io;
 use std::io::IsTerminal;
 
 /// The gate of a worker. Where it failed after it was opened, it says at its end that its worker ended, and why. The last gate of a
-/// serve says where all workers listen, once it is opened.
+/// serve says where all workers listen, once it is opened. From its opening on it keeps a descriptor for its first connection, so that a
+/// serve with too few for its workers doesn't begin.
 #[derive(Drop)]
 pub(crate) struct SpokenGate<'a> {
     rt: &'a HostRuntime,
     gate: TcpGate<'a, HostRuntime>,
     worker: usize,
     was_opened: bool,
+    /// What keeps the descriptor of the first connection.
+    reserved: Option<File>,
+    faults: u64,
+    /// What the system said where it had no descriptor to keep.
+    unreserved: Option<io::Error>,
     /// The port of the first gate, where this is the last one.
     first_port: Option<u32>,
 }
@@ -23,7 +34,32 @@ impl SpokenGate<'_> {
 
     /// What the system said of the last call that failed.
     pub(crate) fn error(&self) -> Option<io::Error> {
-        self.gate.error()
+        self.unreserved.or(self.gate.error())
+    }
+
+    /// Listens, and keeps a descriptor.
+    fn open_with_room(&mut self) -> Opening
+        ensures { self.new.faults ≡ self.old.faults }
+    {
+        let Opening::Open = self.gate.open() else {
+            return Opening::Fault;
+        };
+        match File::open(self.rt, NOTHING) {
+            Ok(file) => {
+                self.reserved = Some(file);
+                Opening::Open
+            }
+            Err(error) => {
+                self.unreserved = Some(error);
+                Opening::Fault
+            }
+        }
+    }
+
+    fn count_fault(&mut self)
+        ensures { self.new.faults ≡ counted true self.old.faults }
+    {
+        self.faults = self.faults.saturating_add(1);
     }
 
     /// Says what failed, and what the system said, where something did.
@@ -57,7 +93,7 @@ impl Gate for SpokenGate<'_> {
 
     ghost use Rattle.std.specs.Prelude.{None, false};
 
-    ghost gate_faults = { λ g. g.gate.faults };
+    ghost gate_faults = { λ g. g.faults };
 
     ghost waiting = { λ _. None };
 
@@ -68,17 +104,28 @@ impl Gate for SpokenGate<'_> {
     ghost served = { λ _. None };
 
     fn open(&mut self) -> Opening {
-        let opening = self.gate.open();
-        self.was_opened = opening == Opening::Open;
-        if let (Opening::Open, Some(first)) = (opening, self.first_port) {
+        let Opening::Open = self.open_with_room() else {
+            self.count_fault();
+            return Opening::Fault;
+        };
+        self.was_opened = true;
+        if let Some(first) = self.first_port {
             // Where the line can't be written, the person isn't told.
             let _ = self.say_where(first);
         }
-        opening
+        Opening::Open
     }
 
     fn next(&mut self) -> Next<TcpConn> {
-        self.gate.next()
+        self.reserved = None;
+        match self.gate.next() {
+            Next::Conn(conn) => Next::Conn(conn),
+            Next::Closed => Next::Closed,
+            Next::Fault => {
+                self.count_fault();
+                Next::Fault
+            }
+        }
     }
 
     fn done(&mut self, conn: TcpConn, end: End) {
@@ -90,6 +137,7 @@ impl Gate for SpokenGate<'_> {
             // As in `open`.
             let _ = self.say_error();
         }
+        self.reserved = None;
         self.gate.end();
     }
 }
@@ -110,6 +158,9 @@ pub(crate) fn spoken<'a>(
             gate,
             worker,
             was_opened: false,
+            reserved: None,
+            faults: 0,
+            unreserved: None,
             first_port: if is_last { first_port } else { None },
         })?;
     }

@@ -16,3 +16,4 @@ pub mod LoadWorkers
 pub mod Meetings
 pub mod Puts
 pub mod LoadPasses
+pub mod Zipped

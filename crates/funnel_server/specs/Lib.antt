@@ -2,6 +2,7 @@ pub mod Gates
 pub mod Sessions
 pub mod Workers
 pub mod GateTurns
+pub mod Started
 pub mod Turns
 pub mod Laws
 pub mod Loads

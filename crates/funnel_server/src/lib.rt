@@ -9,8 +9,8 @@
 //! whose session found no memory, and notes it. A fault of a gate ends its worker and no other.
 //!
 //! [`run_workers`] runs each worker in a thread of its own, and waits for all of them. A worker waits for its gate, for the
-//! bytes of its connection, and for the engine's lock. Where no thread can be made, workers run one after another; so no
-//! worker may wait for another one.
+//! bytes of its connection, and for the engine's lock. None asks for a connection before each has its thread; where the system
+//! gives one of them none, none does anything.
 //!
 //! [`run_load`] puts a load to an engine by several workers of another kind: each has a share of the load's documents and
 //! queries in place of a gate, and a thread and a pass of its own too. They work in three parts, and meet after each.
@@ -22,6 +22,7 @@ mod loads;
 mod meeting;
 mod parts;
 mod share;
+mod threads;
 mod worker;
 mod workers;
 
@@ -33,4 +34,4 @@ pub use laws::{
 };
 pub use loads::run_load;
 pub use worker::Worker;
-pub use workers::run_workers;
+pub use workers::{NoThread, run_workers};

@@ -1,38 +1,47 @@
-ghost use Rattle.std.specs.Prelude.{◌≡◌, ◌<◌, ℕ, All, length, slice_index_or};
+ghost use Rattle.std.specs.Prelude.{◌≡◌, ◌<◌, All, IfErr, IfOk, length};
+ghost use Rattle.std.specs.List.{AllZip};
 ghost use Rattle.funnel_server.specs.GateTurns.{WorksInTurns};
 ghost use Rattle.funnel_server.specs.Workers.{HasMetNoFault};
 
+use crate::threads::begin_all;
 use crate::worker::Worker;
 use engine::PoolName;
 use funnel_io::Gate;
-use std::sync::Wait;
-use std::thread;
+use std::sync::{OnceLock, Wait};
 use std::thread::Threads;
+
+/// The system gave this one of the workers no thread.
+#[derive(Clone, Copy, Debug, PartialEq, Eq)]
+pub struct NoThread {
+    pub worker: usize,
+}
 
 /// Runs each worker in a thread of its own until all have stopped, and hands them back in order. All of them use the engine
 /// that `N` names.
-pub fn run_workers<'a, N: PoolName + Send + Sync, R: Threads + Wait + Sync, G: Gate + Send>(
+///
+/// No worker asks its gate for a connection before each has its thread. Where the system gives one of them none, no worker does
+/// anything; the error names that one.
+pub fn run_workers<'a, N: PoolName + Send + Sync, R: Threads + Wait + Sync, G: Gate + Send + Drop>(
     rt: &R,
-    mut workers: Vec<Worker<'a, G, N, R>>,
-) -> Vec<Worker<'a, G, N, R>>
+    workers: Vec<Worker<'a, G, N, R>>,
+) -> (Vec<Worker<'a, G, N, R>>, Result<(), NoThread>)
 where
     G::Conn: Send,
+    requires some { 0 < length workers.items }
     requires ready { All (λ worker. HasMetNoFault worker.state) workers.items }
-    ensures all { length result.items ≡ length workers.entry.items }
-    ensures work { (k : ℕ) (d : _) → k < length workers.entry.items →
-        WorksInTurns G.Gate G.Conn.Source.own G.Conn.Sink.own (slice_index_or workers.entry.items k d) (slice_index_or result.items k d) }
+    ensures all { length result.0.items ≡ length workers.entry.items }
+    ensures work { IfOk result.1 (λ _. AllZip (WorksInTurns G.Gate G.Conn.Source.own G.Conn.Sink.own) workers.entry.items result.0.items) }
+    ensures untouched { IfErr result.1 (λ _. result.0.items ≡ workers.entry.items) }
+    ensures named { IfErr result.1 (λ lacking. lacking.worker < length workers.entry.items) }
 {
-    let threads = workers.len();
-    if threads > 0 {
-        thread::for_each_mut(
-            rt,
-            &mut workers,
-            threads,
-            &|_, worker: &mut Worker<G, N, R>|
-                requires { HasMetNoFault worker.old.state }
-                ensures { WorksInTurns G.Gate G.Conn.Source.own G.Conn.Sink.own worker.old worker.new }
-            { worker.work() },
-        );
-    }
-    workers
+    let decision = OnceLock::new();
+    let (workers, begun) = begin_all(rt, &decision, workers);
+    let result = if *decision.value(&begun.decided) {
+        Ok(())
+    } else {
+        Err(NoThread {
+            worker: begun.reached,
+        })
+    };
+    (workers, result)
 }

@@ -1,10 +1,12 @@
 -- What a buffer holds after a read, and after bytes were let go.
-use Rattle.std.proofs.Common.{◌≡◌, ℕ, ◌+◌, ◌-◌, ◌≤◌, List, take, drop, sym, ap, ◌∙◌, arith}
+use Rattle.std.proofs.Common.{◌≡◌, ℕ, ◌+◌, ◌-◌, ◌≤◌, List, length, min, take, drop, sym, ap, ◌∙◌, subst, inl, inr, arith}
 use Rattle.std.specs.Prelude.{slice_range}
 use Rattle.std.proofs.lemmas.List.{drop-drop, drop-take}
 use Rattle.funnel_io.proofs.BufferReads.{range_grown}
+use Rattle.funnel_io.proofs.Holding.{room_for}
 use Rattle.funnel_io.specs.BufferReads.{ReadsBehind}
 use Rattle.funnel_io.specs.Calls.{Read}
+use Rattle.funnel_io.specs.LineReading.{IsRoomFor}
 use Rattle.funnel_io.specs.Streams.{Incoming}
 use Rattle.funnel_io.specs.declared.source.Got.{Got}
 use Rattle.http_front.specs.Steps.{HasRead, IsInPlace}
@@ -40,11 +42,12 @@ module _ {S : Type 0} (incoming : S → Incoming) (gives : S → Read → S → 
   }
 
   -- and this is the call
-  pub reads_once : ReadsOnce gives answer before after (slice_range old start end) (slice_range new start end') may may'
-  reads_once = record {
+  pub reads_once : 64 ≤ length old - end → ReadsOnce gives answer before after (slice_range old start end) (slice_range new start end') may may'
+  reads_once enough = record {
     read = reads.read;
     answered = reads.answered;
     step = reads.step;
+    room = subst (λ (room : ℕ). IsRoomFor room may) (sym reads.room) (room_for may (length old - end) enough);
     grown = range_grown old new reads.read.bytes start end end' reads.behind place.in_order place.within;
     count = reads.count;
   }

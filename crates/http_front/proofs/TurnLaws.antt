@@ -67,7 +67,7 @@ module _ {S : Type 0} (read_gives : S → Read → S → Type 0) where
   reads_next Undecided Last first between now held held' held'' may may' may'' answer p undecided some once last = record {
     reads = once.read ∷ p.reads;
     lead = (between, p.lead, once.step);
-    needed = (p.needed, record { going_on = p.last; undecided = subst Undecided p.grown undecided; below = omega (arith, some, p.count) });
+    needed = (p.needed, record { going_on = p.last; undecided = subst Undecided p.grown undecided; still = may'; still_is = p.count; some = some; enough = once.room });
     last = last once.read p.reads once.answered;
     grown = once.grown ∙ (ap (λ bs. bs ++ once.read.bytes) p.grown ∙ append_assoc held (bytes_read p.reads) once.read.bytes);
     count = omega (arith, p.count, once.count, length-append (bytes_read p.reads) once.read.bytes);
@@ -89,13 +89,16 @@ module _ {S : Type 0} (read_gives : S → Read → S → Type 0) where
       record {
         going_on = gave_bytes-append earlier p.reads needed.1.going_on p.last;
         undecided = subst HasNoEntry (sym (behind earlier)) (undecided.none (bytes_read earlier) needed.1.undecided);
-        below = omega (
+        still = needed.1.still;
+        still_is = omega (
           arith,
-          needed.1.below,
+          needed.1.still_is,
           p.count,
           ap length (bytes_read-append earlier p.reads),
           length-append (bytes_read p.reads) (bytes_read earlier),
         );
+        some = needed.1.some;
+        enough = needed.1.enough;
       },
     )
 
@@ -151,7 +154,8 @@ module _ {S : Type 0} (read_gives : S → Read → S → Type 0) (write_gives : 
       below_on earlier needed.0,
       omega (
         arith,
-        needed.1.below,
+        needed.1.some,
+        needed.1.still_is,
         p.so_far.count,
         ap length (bytes_read-append earlier (reads_of p.so_far.turns)),
         length-append (bytes_read (reads_of p.so_far.turns)) (bytes_read earlier),

@@ -21,7 +21,7 @@ use Rattle.http_front.specs.Heads.{HasRequest, closes, closes_by, codings, conne
 use Rattle.http_front.specs.Responses.{is_long, text_of}
 use Rattle.http_front.specs.Routes.{Find, Route}
 use Rattle.http_front.specs.Sessions.{Answers, Exchange, Exchanges, entries_of, responses}
-use Rattle.http_front.specs.declared.buffer.TheConstants.{CAPACITY}
+use Rattle.http_front.specs.declared.buffer.TheConstants.{CAPACITY, LONGEST}
 use Rattle.http_front.specs.declared.cause.Cause.{Cause}
 use Rattle.http_front.specs.declared.cause.Cause.TheVariants as cause
 use Rattle.http_front.specs.declared.fields.Values.{Values}
@@ -111,7 +111,7 @@ IsRefusedByFields fields why = (length fields ≤ MAX_FIELDS) × HasBadBody fiel
 -- nothing that is answered begins the bytes, or they with others that are so few
 pub record IsUndecided (bytes : List ℕ) (least : ℕ) : Type 0 where
   pub more : length bytes < least
-  pub fits : least ≤ CAPACITY
+  pub fits : least ≤ LONGEST
   pub none : (others : List ℕ) → length (bytes ++ others) < least → HasNoEntry (bytes ++ others)
 
 -- what the bytes decide

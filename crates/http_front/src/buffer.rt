@@ -10,7 +10,13 @@ use std::alloc::{AllocError, Global};
 use std::marker::Model;
 
 /// As many bytes as a request may have.
-pub(crate) const CAPACITY: usize = MAX_HEAD + MAX_BODY;
+pub(crate) const LONGEST: usize = MAX_HEAD + MAX_BODY;
+
+/// A read has room for so many bytes at least.
+const LEAST_ROOM: usize = 64;
+
+/// As many bytes as a buffer holds: those of a request, and behind them the room of a read.
+pub(crate) const CAPACITY: usize = LONGEST + LEAST_ROOM;
 
 /// The bytes that were read and not yet answered, in a buffer of fixed size. They lie from `start` to `end`.
 #[derive(Drop)]
@@ -73,7 +79,7 @@ impl Buffer {
 
     /// Reads further bytes, at most `left` of them, and counts them down.
     pub(crate) fn read<C: Source>(&mut self, conn: &mut C, left: &mut u64) -> Got
-        requires few { length self.old.bytes < CAPACITY }
+        requires few { length self.old.bytes < LONGEST }
         requires some { 0 < left.old }
         ensures stays { StaysBeside C.borrowed C.beside_read conn.old conn.new }
         ensures read { HasRead (C.incoming conn.old) (C.incoming conn.new) self.old.bytes self.new.bytes left.old left.new }
@@ -84,20 +90,20 @@ impl Buffer {
         self.read_on(conn, left)
     }
 
-    /// Moves the bytes to the front where none fits behind them.
+    /// Moves the bytes to the front where the room of a read doesn't fit behind them.
     fn make_room(&mut self)
-        requires { length self.old.bytes < CAPACITY }
+        requires { length self.old.bytes < LONGEST }
         ensures bytes { self.new.bytes ≡ self.old.bytes }
-        ensures some { 0 < self.new.room }
+        ensures enough { LEAST_ROOM ≤ self.new.room }
     {
-        if self.end == CAPACITY {
+        if self.end > LONGEST {
             self.move_to_front();
         }
     }
 
     /// Reads into the room behind the bytes.
     fn read_on<C: Source>(&mut self, conn: &mut C, left: &mut u64) -> Got
-        requires room { 0 < self.old.room }
+        requires room { LEAST_ROOM ≤ self.old.room }
         requires some { 0 < left.old }
         ensures stays { StaysBeside C.borrowed C.beside_read conn.old conn.new }
         ensures read { HasRead (C.incoming conn.old) (C.incoming conn.new) self.old.bytes self.new.bytes left.old left.new }

@@ -11,7 +11,7 @@ ghost use Rattle.http_front.specs.Turns.{request_by_request};
 ghost use Rattle.http_front.specs.TurnSteps.{EndsUndecided, HasHadTurns, ReadsOn};
 
 use crate::answering::{Decoding, answer};
-use crate::buffer::{Buffer, CAPACITY};
+use crate::buffer::{Buffer, LONGEST};
 use crate::front::{Front, MAX_HEAD, MOST_FIELDS, Seen, look};
 use crate::outcome::Outcome;
 use crate::response::{TEXT_ROOM, render};
@@ -188,7 +188,7 @@ impl Server {
     ) -> Result<(), End>
         requires ready { IsReady self.old }
         requires more { length self.old.buffer.bytes < least }
-        requires fits { least ≤ CAPACITY }
+        requires fits { least ≤ LONGEST }
         ensures ready { IsReady self.new }
         ensures stays { StaysBeside C.borrowed C.beside_read conn.old conn.new }
         ensures reads { OnOk result (ReadsOn (λ bytes. length bytes < least) C.incoming C.read_gives conn.old conn.new

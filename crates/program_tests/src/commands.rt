@@ -6,8 +6,7 @@ use crate::setting::{SOUND, UNREAD, expect};
 use funnel::{
     Command, FitCommand, LoadCommand, Misfit, ServeCommand, ports, read_command, shares_port,
 };
-use funnel_model::Memory;
-use std::alloc::Global;
+use std::alloc::{AllocError, Global};
 use std::test::Fail;
 
 // What the rows of the gate don't show: the numbers that are meant where none are given, and those of a serve.
@@ -141,8 +140,8 @@ static PORTS: [(&[&str], &[u32]); 8] = [
 ];
 
 /// Whether a serve by these words listens on these ports.
-fn are_ports(alloc: Global, words: &[&str], numbers: &[u32]) -> Result<bool, Memory> {
-    let ports = ports(alloc, words)?;
+fn are_ports(alloc: Global, words: &[&str], numbers: &[u32]) -> Result<bool, AllocError> {
+    let ports = ports(alloc, read_command(alloc, words).ok())?;
     let are_lent = ports.len() == numbers.len() && ports.as_slice() == numbers;
     let inner = ports.into_inner();
     Ok(are_lent && inner.as_slice() == numbers)
@@ -159,7 +158,11 @@ static SHARES: [(&[&str], bool); 4] = [
 #[test]
 fn one_port_is_asked_for(rt: HostRuntime) {
     for (words, shares) in &SHARES {
-        expect(&rt, shares_port(rt.alloc(), words), Ok(*shares));
+        expect(
+            &rt,
+            shares_port(read_command(rt.alloc(), words).ok()),
+            *shares,
+        );
     }
 }
 

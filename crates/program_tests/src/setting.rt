@@ -64,7 +64,7 @@ pub(crate) fn sink_of(alloc: Global, room: usize, fails: &[u64]) -> Result<MemSi
 }
 
 pub(crate) fn streams_of(alloc: Global, inputs: Inputs, fails: Fails) -> Result<Streams, Memory> {
-    let output = sink_of(alloc, 1_000, fails[2])?;
+    let output = sink_of(alloc, 4_000, fails[2])?;
     let config = source_of(alloc, (inputs.0, 1_000), fails[0])?;
     let input = source_of(alloc, inputs.1, fails[1])?;
     Ok(Streams {

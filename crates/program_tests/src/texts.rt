@@ -1,16 +1,20 @@
 //! What the program tells of itself.
-use crate::setting::expect;
+use crate::endings::Wanted;
+use crate::rows::{Row, expect_all};
+use crate::setting::{Inputs, NONE, SOUND, UNREAD};
 use funnel::{
     Command, HELP, LoadCommand, MOST_CONNECTIONS, MOST_FITTED, MOST_IDLE, MOST_PORT, ServeCommand,
-    VERSION, read_command, tell_asked, text_asked,
+    VERSION, read_command,
 };
-use funnel_io::{MemSink, Memory};
 use funnel_model::MOST_PASSES;
 use funnel_stats::{KEYS, Key};
 use load_gen::{MOST_DOCS, MOST_WORDS};
 use std::alloc::{AllocError, Global};
 use std::process::Abort;
 use std::test::Fail;
+
+/// A configuration that is none, and an input that isn't read.
+const UNREADABLE: Inputs = (b"{", UNREAD);
 
 /// Expects the help to have one line that begins so.
 fn expect_told<R: Abort>(rt: &R, start: &str) {
@@ -104,49 +108,46 @@ fn help_tells_the_numbers_of_each_option(rt: HostRuntime) -> Result<(), Fail> {
     Ok(())
 }
 
-/// Words alone, and the text that they ask for.
-static ASKED: [(&str, &str); 5] = [
-    ("--help", HELP),
-    ("-h", HELP),
-    ("help", HELP),
-    ("--version", VERSION),
-    ("-V", VERSION),
+/// Words alone that ask for a text: it is told, whatever the configuration, and where a write fails that is the end.
+static ASKED: [Row; 6] = [
+    Row(&["--help"], UNREADABLE, SOUND, &[], 0, Wanted::Text(HELP)),
+    Row(&["-h"], UNREADABLE, SOUND, &[], 0, Wanted::Text(HELP)),
+    Row(&["help"], UNREADABLE, SOUND, &[], 0, Wanted::Text(HELP)),
+    Row(
+        &["--version"],
+        UNREADABLE,
+        SOUND,
+        &[],
+        0,
+        Wanted::Text(VERSION),
+    ),
+    Row(&["-V"], UNREADABLE, SOUND, &[], 0, Wanted::Text(VERSION)),
+    Row(
+        &["-V"],
+        UNREADABLE,
+        [NONE, NONE, &[1]],
+        &[],
+        4,
+        Wanted::Text(""),
+    ),
 ];
 
-/// The status of a program that is asked for a text by the word, if it is.
-fn status_told(word: &str, output: &mut MemSink) -> Option<u8> {
-    match tell_asked(&[word], output) {
-        Some(why) => Some(why.status()),
-        None => None,
-    }
-}
-
-/// This status, and whether the program writes this text within so much room.
-fn told(alloc: Global, word: &str, room: usize, text: &str) -> Result<(Option<u8>, bool), Memory> {
-    let mut output = MemSink::new(alloc, room, Vec::new(alloc))?;
-    let status = status_told(word, &mut output);
-    Ok((status, output.bytes() == text.as_bytes()))
-}
-
-fn expect_text<R: Abort>(rt: &R, alloc: Global, word: &str, text: &str) -> Result<(), Memory> {
-    let whole = told(alloc, word, 4_000, text)?;
-    expect(rt, (word, whole), (word, (Some(0), true)));
-    let cut = told(alloc, word, 4, text)?;
-    expect(rt, (word, cut), (word, (Some(4), false)));
-    Ok(())
-}
+/// Other words ask for none.
+static UNASKED: [Row; 2] = [
+    Row(
+        &["help", "help"],
+        UNREADABLE,
+        SOUND,
+        &[],
+        1,
+        Wanted::Text(""),
+    ),
+    Row(&["-v"], UNREADABLE, SOUND, &[], 1, Wanted::Text("")),
+];
 
 #[test]
 fn a_text_that_is_asked_for_is_told(rt: HostRuntime) -> Result<(), Fail> {
-    for (word, text) in &ASKED {
-        expect_text(&rt, rt.alloc(), word, text)?;
-    }
+    expect_all(&rt, rt.alloc(), &ASKED)?;
+    expect_all(&rt, rt.alloc(), &UNASKED)?;
     Ok(())
-}
-
-#[test]
-fn other_words_ask_for_no_text(rt: HostRuntime) {
-    for words in [["run"].as_slice(), &[], &["help", "help"], &["-v"]] {
-        assert!(rt; text_asked(words).is_none(), "{words:?}");
-    }
 }

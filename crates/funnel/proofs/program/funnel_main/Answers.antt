@@ -1,7 +1,11 @@
 use Rattle.std.proofs.Common.{rules, ◌≡◌, false, length, map, Some, None, inl, inr, refl, sym, ap, ◌∙◌, subst}
 use Rattle.std.proofs.lemmas.List.{length-map}
 use Rattle.funnel_server.specs.Gates.{gate_state}
-use Rattle.command_line.specs.Commands.{command_of, is_fit}
+use Rattle.std.proofs.lemmas.Bool.{false≢true}
+use Rattle.std.specs.Option.{is_some}
+use Rattle.command_line.specs.Commands.{command_of, is_fit, is_serve}
+use Rattle.funnel.specs.Texts.{text_asked}
+use Rattle.funnel.proofs.AskedTexts.{asked_is_no_command, asks_no_text}
 use Rattle.funnel.specs.Ends.{why_of_config}
 use Rattle.funnel.specs.Misfits.{misfit_of}
 use Rattle.funnel.specs.Programs.{Streams}
@@ -11,6 +15,16 @@ use Rattle.funnel.specs.declared.ends.Why.TheVariants as why_of
 use Rattle.funnel.proofs.Endings.{are_no_fit, serve_in_turns, without_memory}
 use Rattle.funnel.proofs.Turns.{refused_not_done, runs_nowhere}
 use Rattle.funnel.proofs.program.funnel_main.Goals as goal
+
+pub returns-in-Some-clause-in_turns : goal.returns-in-Some-clause-in_turns
+returns-in-Some-clause-in_turns g c is_run =
+    let told : text_asked (words_in c.args.words.now) ≡ Some c.in-Some.text = search rules in
+    absurd (asks_no_text (words_in c.args.words.now) command.Run c.in-Some.text is_run told)
+
+pub returns-in-Some-clause-serve_uses_gates : goal.returns-in-Some-clause-serve_uses_gates
+returns-in-Some-clause-serve_uses_gates g c serves =
+    let told : text_asked (words_in c.args.words.now) ≡ Some c.in-Some.text = search rules in
+    absurd (false≢true (sym (ap is_serve (asked_is_no_command (words_in c.args.words.now) (ap is_some told))) ∙ serves))
 
 pub returns-in-Err-Memory-clause-in_turns : goal.returns-in-Err-Memory-clause-in_turns
 returns-in-Err-Memory-clause-in_turns g c is_run =
@@ -45,27 +59,30 @@ pub returns-in-Err-clause-ends : goal.returns-in-Err-clause-ends
 returns-in-Err-clause-ends g c =
     let words = words_in c.args.words.now in
     let words_are : command_of words ≡ Some c.in-Ok.command = search rules in
-    let no_fit : is_fit (command_of words) ≡ false = are_no_fit words c.in-Ok.command words_are c.in_default.not-Fit in
+    let no_fit : is_fit (command_of words) ≡ false = are_no_fit words c.in-Ok.command words_are c.in_default-command.not-Fit in
     search (rules, no_fit)
 
-pub returns-in-Some-clause-ends : goal.returns-in-Some-clause-ends
-returns-in-Some-clause-ends g c =
+pub returns-in-Some-misfit-clause-ends : goal.returns-in-Some-misfit-clause-ends
+returns-in-Some-misfit-clause-ends g c =
     let state = gate_state g.G.Gate g.G.Conn.Source g.G.Conn.Sink in
     let asked = c.in-Ok.command in
     let config = c.in-Ok-read_config.config in
     let words = words_in c.args.words.now in
     let words_are : command_of words ≡ Some asked = search rules in
-    let misfits : misfit_of asked (length c.args.gates.items) config ≡ Some c.in-Some.misfit = search rules in
-    inr (inr (inl (record {
-      command = asked;
-      config = config;
-      configured = record { words_are = words_are; no_fit = are_no_fit words asked words_are c.in_default.not-Fit; read = search rules; faults = search rules };
-      misfit = c.in-Some.misfit;
-      misfits = subst (λ n. misfit_of asked n config ≡ Some c.in-Some.misfit) (sym (length-map c.args.gates.items state)) misfits;
-      others = search rules;
-      cause = search rules;
-      none = search rules;
-    })))
+    let misfits : misfit_of asked (length c.args.gates.items) config ≡ Some c.in-Some-misfit.misfit = search rules in
+    inl (
+      inr (inr (inr (inl (record {
+        command = asked;
+        config = config;
+        configured = record { words_are = words_are; no_fit = are_no_fit words asked words_are c.in_default-command.not-Fit; read = search rules; faults = search rules };
+        misfit = c.in-Some-misfit.misfit;
+        misfits = subst (λ n. misfit_of asked n config ≡ Some c.in-Some-misfit.misfit) (sym (length-map c.args.gates.items state)) misfits;
+        others = search rules;
+        cause = search rules;
+        none = search rules;
+      })))),
+      search rules,
+    )
 
 pub returns-in-Load-clause-ends : goal.returns-in-Load-clause-ends
 returns-in-Load-clause-ends g c =
@@ -79,5 +96,5 @@ returns-in-Run-clause-input_untouched g c no_fit =
     without_memory _ _ _ _ _ _ _ c.run_command-why.ensures.ran (λ memory. (c.run_command-why.ensures.without_memory memory).0)
 
 pub returns-in-Run-clause-output_untouched : goal.returns-in-Run-clause-output_untouched
-returns-in-Run-clause-output_untouched g c no_fit =
+returns-in-Run-clause-output_untouched g c no_text no_fit =
     without_memory _ _ _ _ _ _ _ c.run_command-why.ensures.ran (λ memory. (c.run_command-why.ensures.without_memory memory).1)

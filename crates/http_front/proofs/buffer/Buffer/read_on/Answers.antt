@@ -1,3 +1,5 @@
+use Rattle.std.proofs.Common.{ap, arith}
+use Rattle.http_front.specs.Steps.{Held}
 use Rattle.http_front.proofs.Buffers.{has_read, in_place_read, reads_once}
 use Rattle.http_front.proofs.buffer.Buffer.read_on.Goals as goal
 
@@ -19,4 +21,4 @@ returns-clause-once g c =
     rw (← c.self.view_is)
     (reads_once g.C.Source.incoming g.C.Source.read_gives c.read_behind.result c.args.conn.now c.read_behind.new.conn
     c.self.inside.room.items c.self.inside.start c.self.inside.end c.read_behind.new.buffer.items c.read_behind.new.end c.args.left.now c.read_behind.new.left
-    c.read_behind.ensures.reads c.self.invariant)
+    c.read_behind.ensures.reads c.self.invariant (omega (arith, c.requires.room, ap (λ (h : Held). h.room) c.self.view_is)))
