@@ -78,8 +78,7 @@ abbrev pub NoneIsCleared : Limits → List Event → Type 0
 NoneIsCleared limits history = (slice : ℕ) → IsBeingCleared limits history slice → ⊥
 
 -- an add takes the next column of the lowest slice with room; where none has room, it is to clear the lowest slice that can be cleared,
--- with as many old slots as a slice has columns; it waits only where nothing but a slice that is being cleared can have room for it; else
--- it is refused
+-- with as many old slots as a slice has columns; it waits only where the engine is full and this slice is being cleared; else it is refused
 abbrev pub AnswersTake : ℕ → Limits → List Event → ℕ → ℕ → Taken → Type 0
 AnswersTake most limits history pass id (taken.Claim claim layout) = MayEnter most history id × MayTake limits history pass claim.slice claim.column
 AnswersTake most limits history pass id (taken.Clear work layout) =

@@ -33,8 +33,8 @@ impl Model for OpenLook {
     ghost view = { λ look. look.pass };
 }
 
-/// The column that each pass's open look names, so that passes move documents of different columns while there are some. A pass has
-/// one look open at most. Only `new` takes memory.
+/// The column that each pass's last look names, while that is open, so that passes move documents of different columns while there are
+/// some. Only `new` takes memory.
 #[derive(Debug, Drop)]
 pub struct Looks {
     columns: Vec<Option<(u32, u32)>>,

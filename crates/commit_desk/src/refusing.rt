@@ -62,7 +62,7 @@ impl Desk {
         unreachable!()
     }
 
-    // The lowest slice that is being cleared.
+    // A slice that is being cleared, where there is one.
     pub(crate) fn being_cleared(&self) -> Option<u32>
         ensures { MatchOption result (NoneIsCleared self.now.pool.limits self.now.history) (IsBeingCleared self.now.pool.limits self.now.history) }
     {

@@ -28,7 +28,7 @@ pub record IsToBeAdded (doc : Parts) (bits : BitsState) : Type 0 where
   pub no_bits : bits.bits ≡ []
   pub room : MOST_ROWS * length doc.words ≤ bits.room
 
--- the desk's answer to a document with this number, in the first turn of its add
+-- the desk's answer to a document with this number, in the turn of its add that looks for a column for the last time
 abbrev pub TurnOfTake : Limits → ℕ → ℕ → List ℕ → List Event → List Event → Taken → Type 0
 TurnOfTake limits pass id text before after answer =
     IsTurn pass before after (λ history. AnswersTake limits.events limits history pass id answer) (events_of_take pass id text answer)
@@ -73,7 +73,7 @@ TakeTurns limits pass id text before after (taken.Wait slice) = ⊥
 TakeTurns limits pass id text before after (taken.Refused fault) = RefusedTurn limits pass id text before after fault
 TakeTurns limits pass id text before after answer = TurnOfTake limits pass id text before after answer
 
--- the pass took this column in the first turn of its add
+-- the pass took this column in that turn
 pub record TakesFirst (limits : Limits) (pass id : ℕ) (text : List ℕ) (before after : List Event) (claim : Claim) : Type 0 where
   pub layout : LayoutId
   pub took : TurnOfTake limits pass id text before after (taken.Claim claim layout)
@@ -107,9 +107,9 @@ pub record CommitTurns (config : Config) (limits : Limits) (pass id : ℕ) (text
 abbrev pub fault_of_drop : CommitFault → AddFault
 fault_of_drop (commit.Present added) = add.Present added
 
--- The turns of an add for its own document. One that is answered by its place was added in its last turn. It is refused as present in its
--- first turn or in its last, as spent or for want of memory for the layout of its slice in its first, and as full in its first, after it
--- had waited for slices that were being cleared.
+-- The turns of an add for its own document. One that is answered by its place was added in its last turn. It is refused as present in the
+-- turn that looks for a column or in its last, and in the first of these as spent, for want of memory for the layout of its slice, and as
+-- full, after it had waited for slices that were being cleared.
 abbrev pub OwnTurns : Config → Limits → ℕ → ℕ → List ℕ → List Event → List Event → Result ℕ AddFault → Type 0
 OwnTurns config limits pass id text before after (Ok added) = CommitTurns config limits pass id text before after (Ok added)
 OwnTurns config limits pass id text before after (Err (add.Present added)) =

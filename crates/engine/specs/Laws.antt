@@ -2,16 +2,21 @@
 use Rattle.std.specs.Prelude.{◌≡◌, ℕ, ◌≤◌, List, Contains, length, Ok, Err}
 use mathlib.Core.List.{IsPrefix}
 use Rattle.funnel_model.specs.declared.bit_list.Bit.{Bit}
+use Rattle.funnel_model.specs.declared.call.Call.TheVariants as call
 use Rattle.funnel_model.specs.declared.call.TheConstants.{MOST_MOVES}
 use Rattle.funnel_model.specs.declared.claim.Claim.{Claim}
 use Rattle.funnel_model.specs.declared.config.Config.{Config}
 use Rattle.funnel_model.specs.declared.event.Event.{Event}
 use Rattle.funnel_model.specs.declared.event.Event.TheVariants as event
-use Rattle.funnel_model.specs.Legal.{Limits}
+use Rattle.funnel_model.specs.declared.reply.Reply.TheVariants as reply
+use Rattle.funnel_model.specs.History.{answer}
+use Rattle.funnel_model.specs.Legal.{IsIdle, Limits}
 use Rattle.commit_desk.specs.declared.answers.AddFault.TheVariants as add
 use Rattle.engine.specs.Adds.{AddTurns, ClearsFirst}
 use Rattle.engine.specs.Engines.{ClosedState, IsClosed}
+use Rattle.engine.specs.Finds.{FindBegins, FindEnds, IsBegunAt}
 use Rattle.engine.specs.Moves.{AreBitsAt, SomeMoves}
+use Rattle.engine.specs.Passes.{BeginsCall, MakesCall, MakesNoCall, PassView}
 
 -- an add that found no memory did nothing but move a few documents
 abbrev pub AddsWithoutMemoryAddNothing : Type 0
@@ -41,3 +46,18 @@ ClearedSlicesAreFilledFromTheFirst = (limits : Limits) (pass id : ℕ) (text : L
 -- what is left of an engine tells how many events its history has
 abbrev pub ClosedEnginesCountTheirEvents : Type 0
 ClosedEnginesCountTheirEvents = (closed : ClosedState) → IsClosed closed → closed.events ≡ length closed.history
+
+-- what is told of a find that a pass at rest began, of its pass while it was open, and of its end, after which the pass rests again
+pub record BeginsAndEnds (limits : Limits) (query ids : List ℕ) (before opened after : PassView) : Type 0 where
+  pub idle : IsIdle before.number before.front
+  pub call : BeginsCall limits (call.Find query) before opened
+  pub begun : FindBegins limits before.number query before.front opened.front
+  pub found : (earlier : List Event) (asked : List ℕ) → IsBegunAt opened earlier asked → ids ≡ answer earlier asked
+  pub ended : FindEnds opened.number opened.front after.front
+  pub calls : MakesNoCall limits opened after
+  pub rests : IsIdle after.number after.front
+
+-- such a find is one call of its pass, which is answered by what was live as it began
+abbrev pub OpenFindsAreFinds : Type 0
+OpenFindsAreFinds = (limits : Limits) (query ids : List ℕ) (before opened after : PassView) → BeginsAndEnds limits query ids before opened after →
+    MakesCall limits (call.Find query) (reply.Found ids) before after

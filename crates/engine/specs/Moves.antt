@@ -22,8 +22,7 @@ use Rattle.slice_recycler.specs.Turns.{IsTurn}
 use Rattle.slice_rule.specs.Pools.{PoolId}
 use Rattle.slice_rule.specs.Seats.{PassState}
 
--- the look is at the document that is moved next before one with this number is added, by the looks that the passes have open: each pass
--- has one at most
+-- the look is at the document that is moved next before one with this number is added, by some looks, at most one for each pass
 pub record IsToBeMoved (reserve : ℕ) (limits : Limits) (history : List Event) (id : ℕ) (look : Look) : Type 0 where
   pub looks : LooksState
   pub each_pass : length looks ≡ limits.passes
@@ -97,7 +96,7 @@ abbrev pub MovesNone : Config → Limits → ℕ → ℕ → List Event → List
 MovesNone config limits pass id before after =
     IsTurn pass before after (λ history. NoneToMove config.reserve limits.events limits history id) [] ⊎ LooksInVain config limits pass id before after
 
--- whether a document was moved, unless there was no memory for it
+-- whether a move was made, which may have left its column void, unless there was no memory for it
 abbrev pub EndsMove : Config → Limits → ℕ → ℕ → List Event → List Event → Result Bool Memory → Type 0
 EndsMove config limits pass id before after (Ok true) = MoveTurns config limits pass id before after
 EndsMove config limits pass id before after (Ok false) = MovesNone config limits pass id before after

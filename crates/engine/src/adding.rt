@@ -32,7 +32,7 @@ impl<N: PoolName> Engine<N> {
     /// goes on.
     ///
     /// For its own document it waits for the lock twice, or three times where it clears a slice; where it is refused in the first
-    /// of these turns, once. The documents of a slice that it clears are dropped while the lock is free. Its bits are set by the
+    /// of these turns, once; and once more each time that it waits for a slice. The documents of a slice that it clears are dropped while the lock is free. Its bits are set by the
     /// treatment of its slice.
     ///
     /// Where the engine is full but another pass is clearing a slice, it waits, without the lock, until that slice is open, and looks

@@ -2,71 +2,70 @@
 //!
 //! An engine has a fixed number of passes. A pass is a client's place in the history: it makes one call after another, and each
 //! call is answered by all that the pass has seen, and by what others did before the call's event. Threads that have a pass each
-//! call the same engine beside each other. Each call gives one step of one legal history, which the contracts say by `Step` (the
-//! two calls of an open find give one together, and a tuning that is too wide gives none); after `close` the calls of all passes
-//! stand in that history, each once.
+//! call the same engine beside each other. Each call gives one step of one legal history, which the contracts say by `Step`: the
+//! two calls of an open find give one together (`open_finds_are_finds`), and a tuning that is too wide gives none. After `close`
+//! the calls of all passes stand in that history, each once.
 //!
-//! A program reads a valid configuration (`parse_config`), makes a `Blank` of it, and hands it to a function over a name of its
-//! pool, in which it opens the engine, uses it and closes it. The type of an engine, and of what it hands out, has that name: a
-//! pass is one of the engine with the same name, and rests whenever a caller has it. So `Blank::new` asks for a valid
-//! configuration, `open` for the one that its blank was made with and for the name of that blank's pool, and `find_any` for
-//! branches of which each text that its judge keeps has all words of one, and `retune` for a configuration as `read_tuning` gives
-//! it. No other call of an engine asks for anything but the arguments that its types say.
+//! A program reads a valid configuration (`parse_config`), and has `use_engine` open an engine with it, which hands it to the
+//! program's own `UseEngine::run`; or `share_engine`, which has a thread for each pass call `ShareEngine::work`. The type of an
+//! engine, and of what it hands out, has the name of its pool: so a pass is one of the engine with the same name, and rests whenever
+//! a caller has it. So no call of an engine asks for anything but the arguments that its types say, save `find_any`, whose judge
+//! keeps only texts with all words of some branch, and `retune`, to which `read_tuning` gives a configuration. A program that proves
+//! more of what it does makes a `Blank` and names its pool itself, in a function over `N: PoolName`: so `Blank::new` asks for a valid
+//! configuration, and `open` for the one that its blank was made with and for the name of that blank's pool.
 //!
 //! ```text
-//! ghost use Rattle.std.specs.Prelude.{◌≡◌};
-//!
-//! use engine::{Blank, Closed, Config, ConfigFault, Engine, Memory, Pass, PoolName, parse_config};
+//! use engine::{
+//!     ConfigFault, Engine, Pass, PoolName, ShareEngine, UseEngine, parse_config, share_engine,
+//!     use_engine,
+//! };
 //! use std::alloc::Global;
-//! use std::marker::Brand;
 //! use std::sync::Wait;
-//! use std::thread::{Threads, join};
+//! use std::thread::Threads;
 //!
-//! /// Uses an engine with two passes, whose other sizes are the defaults.
-//! fn run<R: Threads + Wait + Sync>(rt: &R, alloc: Global) -> Result<(Closed, bool), ConfigFault> {
+//! /// Uses an engine that is its own, and then one that two threads share. Their other sizes are the defaults.
+//! fn run<R: Threads + Wait + Sync>(rt: &R, alloc: Global) -> Result<bool, ConfigFault> {
 //!     let config = parse_config(alloc, b"{\"passes\": 2}")?;
-//!     let blank = Blank::new(alloc, &config)?;
-//!     let used = use_engine::<Brand, R>(rt, alloc, &config, blank)?;
-//!     Ok(used)
+//!     let alone = use_engine(rt, alloc, &config, AddAndFind)?;
+//!     let (closed, found) = share_engine(rt, alloc, &config, &AddAndFind)?;
+//!     Ok(alone && found.as_slice() == [true, true].as_slice() && closed.commits.len() == 2)
 //! }
 //!
-//! /// Opens an engine, has two threads use it, and closes it.
-//! fn use_engine<N: PoolName + Send + Sync, R: Threads + Wait + Sync>(
-//!     rt: &R,
-//!     alloc: Global,
-//!     config: &Config,
-//!     blank: Blank,
-//! ) -> Result<(Closed, bool), Memory>
-//!     requires made_with { blank.config ≡ config.now }
-//!     requires named { blank ≡ N.pool }
-//! {
-//!     let (engine, mut passes) = Engine::<N>::open(alloc, config, blank)?;
-//!     let found = find_beside(rt, alloc, &engine, &mut passes);
-//!     Ok((engine.close(passes), found))
+//! /// Adds a document, and finds it.
+//! #[derive(Drop)]
+//! struct AddAndFind;
+//!
+//! impl<R: Wait> UseEngine<R> for AddAndFind {
+//!     /// Whether it was found.
+//!     type Output = bool;
+//!
+//!     fn run<N: PoolName>(
+//!         self,
+//!         rt: &R,
+//!         alloc: Global,
+//!         engine: Engine<N>,
+//!         mut passes: Vec<Pass<N>>,
+//!     ) -> bool {
+//!         add_and_find(rt, alloc, &engine, &mut passes[0], 7)
+//!     }
 //! }
 //!
-//! /// Has each of the first two passes add a document and find it, each on a thread of its own.
-//! fn find_beside<N: PoolName + Send + Sync, R: Threads + Wait + Sync>(
-//!     rt: &R,
-//!     alloc: Global,
-//!     engine: &Engine<N>,
-//!     passes: &mut [Pass<N>],
-//! ) -> bool {
-//!     let Some((first, others)) = passes.split_first_mut() else {
-//!         return false;
-//!     };
-//!     let Some(second) = others.first_mut() else {
-//!         return false;
-//!     };
-//!     let (one, two) = join(
-//!         rt,
-//!         move || add_and_find(rt, alloc, engine, first, 7),
-//!         move || add_and_find(rt, alloc, engine, second, 9),
-//!     );
-//!     one && two
+//! impl<R: Wait> ShareEngine<R> for AddAndFind {
+//!     type Output = bool;
+//!
+//!     fn work<N: PoolName>(
+//!         &self,
+//!         rt: &R,
+//!         alloc: Global,
+//!         engine: &Engine<N>,
+//!         pass: &mut Pass<N>,
+//!     ) -> bool {
+//!         let id = u64::from(pass.number());
+//!         add_and_find(rt, alloc, engine, pass, id)
+//!     }
 //! }
 //!
-//! /// Adds a document, and finds it. Other passes may add and delete beside it.
+//! /// Other passes may add and delete beside it.
 //! fn add_and_find<N: PoolName, R: Wait>(
 //!     rt: &R,
 //!     alloc: Global,
@@ -82,9 +81,8 @@
 //! }
 //! ```
 //!
-//! A line in the `Invariants.antt` of `run` says which pool its `Brand` stands for:
-//! `ghosts-use_engine g a = record { pool = a.blank }`. This program is a proved test (`example.rt` of the crate `engine_tests`);
-//! docs/library.md tells how to build one.
+//! This program is a proved test (`example.rt` of the crate `engine_tests`); docs/library.md has it whole, with its `main`, and a
+//! table of the calls.
 //!
 //! What a user should know:
 //!
@@ -96,12 +94,13 @@
 //!   done there takes the longer the more there is of it: a journal copies its commits, an add that is refused as full looks through
 //!   the slices, and one that moves a document copies it. `Blank::new`, `open`, `read_tuning`, `note`, `meet` and
 //!   `close` wait for nobody.
-//! - `Blank::new`, `open`, `add` and `find` (and their `.._by`), `find_any`, `begin_find`, `finish_find`, `journal`, `read_tuning` and
+//! - `use_engine`, `share_engine`, `Blank::new`, `open`, `add` and `find` (and their `.._by`), `find_any`, `begin_find`, `finish_find`, `journal`, `read_tuning` and
 //!   `retune` take memory, and answer so where there is none; the others take none.
 //! - A deleted document keeps its column until all columns of its slice are done with, and the slice is cleared. So one live
 //!   document keeps its whole slice, unless the configuration has a `reserve`, for which adds move documents.
-//! - `AddFault::Full` tells what keeps documents out of each slice. It may pass without a delete: where another pass clears a slice,
-//!   writes a column or has a find open, an add that is made again later may find room.
+//! - `AddFault::Full` tells what keeps documents out of each slice. It may pass without a delete: where another pass writes a column or
+//!   has a find open, an add that is made again later may find room. Where one clears a slice, an add waits for it before it is refused,
+//!   as often as there are passes.
 //! - The journal keeps the last `commits` of the configuration. A reader that comes later is told how many are no longer kept.
 #![tactic(auto)]
 
@@ -123,6 +122,7 @@ mod query_judge;
 mod reading;
 mod retuning;
 mod turns;
+mod using;
 mod word_expr;
 mod work;
 
@@ -146,4 +146,5 @@ pub use row_layout::{Bits, Layout, Plan};
 pub use row_read::Shared;
 pub use slice_recycler::{Clearer, Recycled, clear_slice};
 pub use slice_rule::{PassSeat, Pool, PoolName};
+pub use using::{ShareEngine, UseEngine, share_engine, use_engine};
 pub use work::{Direct, Work};

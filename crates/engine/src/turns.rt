@@ -1,4 +1,5 @@
-//! The turns of adds, finds and tunings at the desk. Each holds the lock for one call of the desk, and the last of a find for its end too.
+//! The turns of adds, finds and tunings at the desk. Each holds the lock for one call of the desk that makes events, and the last of a
+//! find for its end too. An add may wait before such a call, with the lock given up.
 ghost use Rattle.std.specs.Prelude.{◌≡◌, ◌<◌, ◌≤◌, true, [], ◌∷◌, false, IfOk, IfSome, MatchOption, MatchResult, None, vec_capacity};
 ghost use Rattle.funnel_model.specs.declared.event.Event.TheVariants as event;
 ghost use Rattle.funnel_model.specs.Legal.{IsLegal};

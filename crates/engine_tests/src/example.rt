@@ -1,58 +1,57 @@
-//! The program at the head of the crate `engine`. All that it needs comes from that crate.
-ghost use Rattle.std.specs.Prelude.{◌≡◌};
+//! The program at the head of the crate `engine`, which docs/library.md shows whole. All that it needs comes from that crate.
 
-use engine::{Blank, Closed, Config, ConfigFault, Engine, Memory, Pass, PoolName, parse_config};
+use engine::{
+    ConfigFault, Engine, Pass, PoolName, ShareEngine, UseEngine, parse_config, share_engine,
+    use_engine,
+};
 use std::alloc::Global;
-use std::marker::Brand;
 use std::sync::Wait;
 use std::test::*;
-use std::thread::{Threads, join};
+use std::thread::Threads;
 
-/// Uses an engine with two passes, whose other sizes are the defaults.
-fn run<R: Threads + Wait + Sync>(rt: &R, alloc: Global) -> Result<(Closed, bool), ConfigFault> {
+/// Uses an engine that is its own, and then one that two threads share. Their other sizes are the defaults.
+fn run<R: Threads + Wait + Sync>(rt: &R, alloc: Global) -> Result<bool, ConfigFault> {
     let config = parse_config(alloc, b"{\"passes\": 2}")?;
-    let blank = Blank::new(alloc, &config)?;
-    let used = use_engine::<Brand, R>(rt, alloc, &config, blank)?;
-    Ok(used)
+    let alone = use_engine(rt, alloc, &config, AddAndFind)?;
+    let (closed, found) = share_engine(rt, alloc, &config, &AddAndFind)?;
+    Ok(alone && found.as_slice() == [true, true].as_slice() && closed.commits.len() == 2)
 }
 
-/// Opens an engine, has two threads use it, and closes it.
-fn use_engine<N: PoolName + Send + Sync, R: Threads + Wait + Sync>(
-    rt: &R,
-    alloc: Global,
-    config: &Config,
-    blank: Blank,
-) -> Result<(Closed, bool), Memory>
-    requires made_with { blank.config ≡ config.now }
-    requires named { blank ≡ N.pool }
-{
-    let (engine, mut passes) = Engine::<N>::open(alloc, config, blank)?;
-    let found = find_beside(rt, alloc, &engine, &mut passes);
-    Ok((engine.close(passes), found))
+/// Adds a document, and finds it.
+#[derive(Drop)]
+struct AddAndFind;
+
+impl<R: Wait> UseEngine<R> for AddAndFind {
+    /// Whether it was found.
+    type Output = bool;
+
+    fn run<N: PoolName>(
+        self,
+        rt: &R,
+        alloc: Global,
+        engine: Engine<N>,
+        mut passes: Vec<Pass<N>>,
+    ) -> bool {
+        add_and_find(rt, alloc, &engine, &mut passes[0], 7)
+    }
 }
 
-/// Has each of the first two passes add a document and find it, each on a thread of its own.
-fn find_beside<N: PoolName + Send + Sync, R: Threads + Wait + Sync>(
-    rt: &R,
-    alloc: Global,
-    engine: &Engine<N>,
-    passes: &mut [Pass<N>],
-) -> bool {
-    let Some((first, others)) = passes.split_first_mut() else {
-        return false;
-    };
-    let Some(second) = others.first_mut() else {
-        return false;
-    };
-    let (one, two) = join(
-        rt,
-        move || add_and_find(rt, alloc, engine, first, 7),
-        move || add_and_find(rt, alloc, engine, second, 9),
-    );
-    one && two
+impl<R: Wait> ShareEngine<R> for AddAndFind {
+    type Output = bool;
+
+    fn work<N: PoolName>(
+        &self,
+        rt: &R,
+        alloc: Global,
+        engine: &Engine<N>,
+        pass: &mut Pass<N>,
+    ) -> bool {
+        let id = u64::from(pass.number());
+        add_and_find(rt, alloc, engine, pass, id)
+    }
 }
 
-/// Adds a document, and finds it. Other passes may add and delete beside it.
+/// Other passes may add and delete beside it.
 fn add_and_find<N: PoolName, R: Wait>(
     rt: &R,
     alloc: Global,
@@ -68,9 +67,7 @@ fn add_and_find<N: PoolName, R: Wait>(
 }
 
 #[test]
-fn two_threads_use_an_engine(rt: HostRuntime) -> Result<(), Fail> {
-    let (closed, found) = run(&rt, rt.alloc())?;
-    assert!(rt; found);
-    assert_eq!(rt; (closed.base, closed.commits.len()), (0, 2));
+fn documents_are_found_by_one_thread_and_by_two(rt: HostRuntime) -> Result<(), Fail> {
+    assert!(rt; run(&rt, rt.alloc())?);
     Ok(())
 }

@@ -60,7 +60,7 @@ module _ {G C : Type 0} (gate : Gate.Ghosts G C) (source : Source.Ghosts C) (sin
       CallsInTurns gate source sink one work.0.visits (record { gate = later; state = after }) × GatesGoInTurns befores afters work.1 gates laters
   GatesGoInTurns befores afters work gates laters = ⊥
 
-  -- so it is with a serve that had an engine; the gates are given as they were opened
+  -- so it is with a serve of which an engine is left; the gates are given as they were opened
   abbrev pub OpenGatesGoInTurns : (config : Config) (serve : ServeCommand) (before after : List GateState) (why : Why) (closed : Option ClosedState)
       → EndsServe config serve before after why closed → List G → List G → Type 0
   OpenGatesGoInTurns config serve before after why (Some closed) served gates laters =

@@ -35,7 +35,6 @@ pub(crate) fn serve_command<R: Threads + Wait + Sync, G: Gate + Send + Drop>(
 where
     G::Conn: Send,
     requires valid { IsValid config.now }
-    requires some { 0 < length gates.items }
     requires enough { length gates.items ≤ config.now.passes }
     ensures ends { EndsServeInTurns G.Gate G.Conn.Source.own G.Conn.Sink.own config.now serve gates.items result.gates.items result.why result.closed }
     ensures closed { IfSome result.closed IsClosed }
@@ -95,7 +94,6 @@ fn serve_open<R: Threads + Wait + Sync, G: Gate + Send + Drop>(
 where
     G::Conn: Send,
     requires valid { IsValid config.now }
-    requires some { 0 < length gates.items }
     requires enough { length gates.items ≤ config.now.passes }
     ensures ends { EndsOpenServeInTurns G.Gate G.Conn.Source.own G.Conn.Sink.own config.now serve gates.items result.gates.items result.why result.closed }
     ensures closed { IfSome result.closed IsClosed }
@@ -123,7 +121,6 @@ fn serve_gates<N: PoolName + Send + Sync, R: Threads + Wait + Sync, G: Gate + Se
 where
     G::Conn: Send,
     requires blank { IsBlankFor config.now N.pool blank }
-    requires some { 0 < length gates.items }
     requires enough { length gates.items ≤ config.now.passes }
     ensures ends { EndsOpenServeInTurns G.Gate G.Conn.Source.own G.Conn.Sink.own config.now serve gates.items result.gates.items result.why result.closed }
     ensures closed { IfSome result.closed IsClosed }
@@ -162,11 +159,11 @@ fn answer_all<'a, N: PoolName + Send + Sync, R: Threads + Wait + Sync, G: Gate +
 where
     G::Conn: Send,
     requires new { passes.items ≡ new_passes 0 N.pool.config.passes }
-    requires some { 0 < length gates.items }
     requires enough { length gates.items ≤ N.pool.config.passes }
     requires empty { room.items ≡ [] }
     requires room { length gates.items ≤ vec_capacity room }
-    ensures worked { IfOk result.0 (λ why. HaveWorkedInTurns G.Gate G.Conn.Source.own G.Conn.Sink.own N.pool serve gates.items result.1.items why result.2.items) }
+    ensures worked { IfOk result.0 (λ why.
+        HaveWorkedInTurns G.Gate G.Conn.Source.own G.Conn.Sink.own N.pool serve gates.items result.1.items why result.2.items) }
     ensures untouched { IfErr result.0 (λ _. result.1.items ≡ gates.items) }
     ensures named { IfErr result.0 (λ lacking. lacking.worker < length gates.items) }
 {

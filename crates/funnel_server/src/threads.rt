@@ -12,7 +12,7 @@ use std::sync::{OnceLock, OnceToken, Wait};
 use std::thread;
 use std::thread::{Promise, Scope, Threads};
 
-/// What was decided of workers, whether all work, and which of them was the last that was to get a thread.
+/// What was decided of workers, whether all work, and one of them, where not all do: that which got no thread.
 #[derive(Drop)]
 pub(crate) struct Begun<'b> {
     pub(crate) decided: OnceToken<'b, bool>,

@@ -27,13 +27,15 @@ pub fn run_workers<'a, N: PoolName + Send + Sync, R: Threads + Wait + Sync, G: G
 ) -> (Vec<Worker<'a, G, N, R>>, Result<(), NoThread>)
 where
     G::Conn: Send,
-    requires some { 0 < length workers.items }
     requires ready { All (λ worker. HasMetNoFault worker.state) workers.items }
     ensures all { length result.0.items ≡ length workers.entry.items }
     ensures work { IfOk result.1 (λ _. AllZip (WorksInTurns G.Gate G.Conn.Source.own G.Conn.Sink.own) workers.entry.items result.0.items) }
     ensures untouched { IfErr result.1 (λ _. result.0.items ≡ workers.entry.items) }
     ensures named { IfErr result.1 (λ lacking. lacking.worker < length workers.entry.items) }
 {
+    if workers.is_empty() {
+        return (workers, Ok(()));
+    }
     let decision = OnceLock::new();
     let (workers, begun) = begin_all(rt, &decision, workers);
     let result = if *decision.value(&begun.decided) {

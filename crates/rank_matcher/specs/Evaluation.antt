@@ -11,7 +11,7 @@ use Rattle.row_layout.specs.declared.row.Row.{Row}
 use Rattle.row_read.specs.Bits.{has_bit, is_set}
 use Rattle.rank_matcher.specs.Walk.{IsReadable}
 
--- a read of the bit was zero: the bit isn't one that each read has, and it is zero in the words that are told
+-- a read of the bit may have been zero: the bit isn't one that each read has, and it is zero in the words that are told
 pub record WasReadZero (told : Option (List ℕ)) (least : Bit → Type 0) (bit : Bit) : Type 0 where
   pub not_least : least bit → ⊥
   pub told_is : (words : List ℕ) → told ≡ Some words → is_set words bit ≡ false

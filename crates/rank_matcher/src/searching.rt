@@ -13,7 +13,8 @@ use row_layout::{Layout, SearchPlan};
 use row_read::Rows;
 
 /// Which of the 64 columns of a word of a slice, of those that the mask has, may be such as a search keeps, and which surely are. Each
-/// atom's place goes by its own reads. It reads from left to right, and in an `And` no more once none of the columns is left that may.
+/// atom's place goes by its own reads. It reads from left to right, and in an `And` no more once none of the columns is left
+/// that may; how much it reads is told only to be no more than each row once for each place.
 pub fn search_word<R: Rows>(
     rows: &mut R,
     layout: &Layout,

@@ -74,7 +74,8 @@ IsOfItsOwner limits opening history slice column bit =
     Owns limits opening history slice column bit → (event : Event) → StandsOn history slice column event → Contains (bits_on slice column event) bit
 
 -- An atom with these words was read so at the column by a find that began after this history: a bit that it read as zero is of no
--- document that was added or moved to the slice since it was cleared, and one that it read as set is of the column's document.
+-- document that was added or moved to the slice since it was cleared, and one that it read as set is, where the column owns it, of each
+-- document that stands there.
 pub record WasReadAfter (limits : Limits) (opening : Config) (history : List Event) (slice column : ℕ) (words : List (List ℕ)) (read : AtomRead) : Type 0 where
   pub plan : AtomPlan
   pub planned : IsPlanOf (treat opening slice history) words plan

@@ -3,7 +3,7 @@ use crate::row::Row;
 /// What a node of a search is.
 #[derive(Clone, Copy, Debug, PartialEq, Eq)]
 pub enum NodeKind {
-    /// An atom, each of whose words is exact or not.
+    /// An atom, and whether each of its words is exact.
     Atom { exact: bool },
     And,
     Or,

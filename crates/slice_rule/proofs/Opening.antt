@@ -14,13 +14,17 @@ use Rattle.funnel_model.specs.declared.config.Config.{Config}
 use Rattle.funnel_model.specs.Legal.{Limits}
 use Rattle.slice_rule.specs.Rule.{CountsPasses, Fits, IsKept, IsTrueFact}
 use Rattle.slice_rule.specs.Views.{home_at_start}
-use Rattle.slice_rule.specs.Worlds.{new_world}
+use Rattle.slice_rule.specs.Worlds.{World}
 use Rattle.funnel_model.proofs.RowWords.{covers-start, fresh-start}
 use Rattle.funnel_model.specs.RowWords.{IsSetIn}
 use Rattle.funnel_model.specs.declared.bit_list.Bit.{Bit}
 use Rattle.std.specs.Int.{IsBitSet}
 use Rattle.slice_rule.proofs.Bits.{zero_has_none}
 use Rattle.slice_rule.proofs.Seating.{each-snoc}
+
+-- the world of a new pool
+abbrev new_world : World
+new_world = record { history = []; asked = λ _. []; seat = λ _. 0; home = 0; seated = 0 }
 
 -- each word of zeros is zero
 pub zeros : (n i : ℕ) → ◌≡◌ {A = ℕ} (get_or (replicate n 0) i 0) 0

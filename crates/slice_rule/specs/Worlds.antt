@@ -1,5 +1,5 @@
 -- The world of a pool: what the rule speaks of beside the words and the views.
-use Rattle.std.specs.Prelude.{ℕ, ◌+◌, ◌≤◌, ◌==◌, List, [], length, filter}
+use Rattle.std.specs.Prelude.{ℕ, ◌+◌, ◌≤◌, ◌==◌, List, length, filter}
 use mathlib.Core.List.{IsPrefix}
 use Rattle.funnel_model.specs.declared.event.Event.{Event}
 use Rattle.funnel_model.specs.Events.{pass_of}
@@ -21,7 +21,3 @@ made_by pass history = filter (λ e. pass_of e == pass) history
 pub record LacksAtMostOne (made asked : List Event) : Type 0 where
   pub begins : IsPrefix made asked
   pub few : length asked ≤ length made + 1
-
--- the world of a new pool
-abbrev pub new_world : World
-new_world = record { history = []; asked = λ _. []; seat = λ _. 0; home = 0; seated = 0 }

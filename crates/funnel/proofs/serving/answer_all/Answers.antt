@@ -16,12 +16,6 @@ pub run_workers-workers-requires-clause-ready : goal.run_workers-workers-require
 run_workers-workers-requires-clause-ready g c κs within =
     all_with_gate c.equip.new.workers.items (subst (All HasMetNoFault) (sym c.equip.ensures.workers) (all_ready g.N.PoolName.pool.config g.N.PoolName.pool.limits c.args.serve 0 _))
 
-pub run_workers-workers-requires-clause-some : goal.run_workers-workers-requires-clause-some
-run_workers-workers-requires-clause-some g c =
-    let count = workers_count (gate_state g.G.Gate g.G.Conn.Source g.G.Conn.Sink) g.N.PoolName.pool.config g.N.PoolName.pool.limits c.args.serve c.args.gates.items
-    (states_of c.equip.new.workers.items) (states_of c.equip.new.workers.items) c.equip.ensures.workers refl in
-    omega (arith, c.requires.some, count, length-map c.equip.new.workers.items (λ (worker : WorkerWithGate _). worker.state))
-
 pub take_back-requires-clause-room_of_gates : goal.take_back-requires-clause-room_of_gates
 take_back-requires-clause-room_of_gates g c =
     let fits : length c.args.gates.items ≤ vec_capacity c.args.gates = search rules in
