@@ -8,6 +8,7 @@ import shutil
 import subprocess
 import sys
 import tempfile
+import time
 from concurrent.futures import FIRST_COMPLETED, ThreadPoolExecutor, wait
 
 ROOT = os.path.dirname(os.path.dirname(os.path.realpath(__file__)))
@@ -105,7 +106,7 @@ def ways(crates, below):
 
 def build_all(below, left, most):
     """Builds these crates, each once those that it stands on are there. Returns whether all were built."""
-    count, running, built, way = len(left), {}, set(), ways(left, below)
+    count, begun, running, built, way = len(left), time.monotonic(), {}, set(), ways(left, below)
     with ThreadPoolExecutor(most) as pool:
         while left or running:
             # those with the longest way before them come first, and what is on the longest of all gets all processors
@@ -113,7 +114,8 @@ def build_all(below, left, most):
             for crate in ready[: most - len(running)]:
                 first = all(way[crate] >= way[it] for it in [*left, *running.values()])
                 left.remove(crate)
-                say(f"proving {crate} ({count - len(left)} of {count})")
+                minutes = round((time.monotonic() - begun) / 60)
+                say(f"proving {crate} ({count - len(left)} of {count} crates, {minutes} minutes gone)")
                 running[pool.submit(build, crate, below, most if first else 1)] = crate
             for ended in wait(running, return_when=FIRST_COMPLETED).done:
                 crate = running.pop(ended)
@@ -130,7 +132,8 @@ def main():
         say("there is no command rt on the path: it comes with the Rattle kit")
         return 1
     below = libraries()
-    say("proving and building the program; the first time takes 20 to 30 minutes on four processors")
+    say("proving and building the program, which takes 20 to 30 minutes on four processors the first time")
+    say("it can be left alone, or broken off and begun again: what is proved stays so")
     return 0 if build_all(below, needed(PROGRAM, below), lanes()) else 1
 
 

@@ -186,7 +186,7 @@ def long_rows():
 
 def odd_values():
     """A row for each key that has a number and each value that it can't have, by the table of the documents."""
-    with open(os.path.join(os.path.dirname(__file__), "../docs/formats.md"), encoding="utf-8") as file:
+    with open(os.path.join(os.path.dirname(__file__), "../docs/configuration.md"), encoding="utf-8") as file:
         keys = re.findall(r"^\| `(\w+)` \| ([\d,]+) \| ([\d,]+) \| [\d,]+ \|", file.read(), re.M)
     for key, *range_ in keys:
         least, most = (int(number.replace(",", "")) for number in range_)

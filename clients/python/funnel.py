@@ -1,0 +1,358 @@
+"""A client of funnel's lines over TCP, of this one file, for Python 3.10 or newer.
+
+    from funnel import Client
+
+    with Client(port=7000) as client:
+        client.add(7, "The cat sat")
+        print(client.find("CAT"))  # [7]
+
+Each call sends a line and waits for its reply. What the server refuses is an exception that is named as the reply is. Many
+calls at a time go by `Client.pipeline`, which has refusals among its answers. A client is used by one thread at a time.
+"""
+
+from __future__ import annotations
+
+import json
+import selectors
+import socket
+from concurrent.futures import ThreadPoolExecutor, wait
+from contextlib import closing
+from typing import Any, Callable, Generator, NamedTuple, Sequence
+
+
+class Refused(Exception):
+    """What the server answered in place of doing the call: the reply, and the numbers in it."""
+
+    def __init__(self, reply: str):
+        super().__init__(reply)
+        self.numbers = [int(word) for word in reply.split() if word.isdigit()]
+
+
+class Present(Refused):
+    """A document with this number is live; `numbers` has the place of its add."""
+
+
+class Absent(Refused):
+    """No document with this number is live."""
+
+
+class Full(Refused):
+    """No column is left for the document."""
+
+
+class Trimmed(Refused):
+    """The journal no longer keeps the first so many commits, one of which was asked for."""
+
+
+class BadQuery(Refused):
+    """The text is no boolean query; `numbers` has the byte at which it goes wrong."""
+
+
+class Deep(Refused):
+    """The query nests too deep; `numbers` has the byte at which it does."""
+
+
+class BadTuning(Refused):
+    """The text gives no statistics; `numbers` has its fault."""
+
+
+class NoRoom(Refused):
+    """The rows of the statistics have no room: how many words they need in a slice, and how many there are."""
+
+
+class NothingRetired(Refused):
+    """There is no slice to be emptied."""
+
+
+class Guarded(Refused):
+    """Each slice that could be emptied is guarded: the lowest one, and the pass whose find guards it."""
+
+
+class Spent(Refused):
+    """The server takes no more calls."""
+
+
+class NoMemory(Refused):
+    """The server found no memory for the call."""
+
+
+class BadLine(Refused):
+    """The server reads no line so."""
+
+
+class TooLong(Refused):
+    """The line has more than 65,536 bytes."""
+
+
+REFUSALS: dict[str, type[Refused]] = {
+    "refused present": Present,
+    "refused absent": Absent,
+    "refused full": Full,
+    "refused trimmed": Trimmed,
+    "refused query": BadQuery,
+    "refused deep": Deep,
+    "refused tuning": BadTuning,
+    "refused room": NoRoom,
+    "refused spent": Spent,
+    "refused memory": NoMemory,
+    "refused line": BadLine,
+    "refused long": TooLong,
+    "nothing retired": NothingRetired,
+}
+
+
+class Commit(NamedTuple):
+    """A commit as the journal tells it."""
+
+    is_add: bool
+    id: int
+
+
+Reader = Callable[[Sequence[str]], object]
+
+
+class Call(NamedTuple):
+    """A line, the word with which the reply begins where the call was done, and what the words after it are read as."""
+
+    line: bytes
+    word: str
+    read: Reader
+
+    def answer(self, reply: str) -> object:
+        """What the reply gives, or the refusal that it is."""
+        word, *rest = reply.split(" ")
+        if word == self.word:
+            return self.read(rest)
+        if word == "guarded":
+            return Guarded(reply)
+        refusal = REFUSALS.get(" ".join([word, *rest[:1]]))
+        if refusal is None:
+            raise ConnectionError(f"{self.line[:60]!r} was answered {reply[:60]!r}")
+        return refusal(reply)
+
+
+def number(words: Sequence[str]) -> int:
+    return int(words[0])
+
+
+def numbers(words: Sequence[str]) -> list[int]:
+    return [int(word) for word in words[1:]]
+
+
+def commits(words: Sequence[str]) -> list[Commit]:
+    return [Commit(word[0] == "+", int(word[1:])) for word in words[1:]]
+
+
+def call(line: str, word: str, read: Reader) -> Call:
+    if "\n" in line:
+        raise ValueError("a newline would end the line")
+    return Call(line.encode() + b"\n", word, read)
+
+
+class Calls:
+    """The calls, however they are sent."""
+
+    def send(self, asked: Call) -> Any:
+        raise NotImplementedError
+
+    def add(self, id: int, text: str) -> int:
+        """Adds a document, and gives the place of the add."""
+        return self.send(call(f"add {id:d} {text}", "added", number))
+
+    def delete(self, id: int) -> int:
+        """Deletes the document, and gives the place of the delete."""
+        return self.send(call(f"del {id:d}", "deleted", number))
+
+    def find(self, words: str = "") -> list[int]:
+        """The numbers of the documents that have all these words, in the order of their adds."""
+        return self.send(call(f"find {words}", "found", numbers))
+
+    def query(self, expression: str) -> list[int]:
+        """The numbers of the documents that the boolean query keeps, in the order of their adds."""
+        return self.send(call(f"query {expression}", "found", numbers))
+
+    def place(self) -> int:
+        """How many commits there were."""
+        return self.send(call("place", "place", number))
+
+    def journal(self, after: int = 0) -> list[Commit]:
+        """The commits after the first so many."""
+        return self.send(call(f"journal {after:d}", "commits", commits))
+
+    def recycle(self) -> int:
+        """Empties a slice that has no live document, and gives its number."""
+        return self.send(call("recycle", "recycled", number))
+
+    def tune(self, statistics: dict) -> int:
+        """Gives new statistics, and tells how many tunings there were."""
+        return self.send(call(f"tune {json.dumps(statistics, ensure_ascii=False)}", "tuned", number))
+
+
+class Client(Calls):
+    """A connection to a server. It is made at the first call, and anew where the server has closed it since the last one: that is a
+    new session, and a server that was started anew has an empty index, so a client that has to know asks for the place. A
+    connection that is closed while calls have no reply is a `ConnectionError`.
+
+    `timeout` is the number of seconds after which a call fails in which nothing was sent or read; by default it waits, also for a
+    worker that is free.
+    """
+
+    def __init__(self, host: str = "127.0.0.1", port: int = 7000, timeout: float | None = None):
+        self.address = host, port
+        self.timeout = timeout
+        self.socket: socket.socket | None = None
+        self.unread: list[bytes] = []  # the reply that has come in part
+
+    def send(self, asked: Call) -> Any:
+        [answer] = self.exchange([asked], [])
+        if isinstance(answer, Refused):
+            raise answer
+        return answer
+
+    def pipeline(self) -> Pipeline:
+        """Calls that are sent together: with client.pipeline() as calls: .. . Their answers are in `calls.answers` afterwards."""
+        return Pipeline(self)
+
+    def close(self) -> None:
+        """Ends the connection. The next call makes a new one."""
+        if self.socket is not None:
+            self.socket.close()
+        self.socket, self.unread = None, []
+
+    def __enter__(self) -> Client:
+        return self
+
+    def __exit__(self, *_: object) -> None:
+        self.close()
+
+    def exchange(self, calls: Sequence[Call], answers: list) -> list:
+        """Sends the calls while their replies come, and appends what each was answered, a refusal among them. Where this fails the
+        connection is closed, and of the calls that have no answer it isn't known whether they were done."""
+        try:
+            with closing(self.replies(self.connected(), calls)) as replies:
+                for asked, reply in zip(calls, replies, strict=True):
+                    answers.append(asked.answer(reply))
+        except BaseException:
+            self.close()
+            raise
+        return answers
+
+    def connected(self) -> socket.socket:
+        """The connection, which is a new one where there is none or the server closed it."""
+        if self.socket is not None and is_closed(self.socket):
+            self.close()
+        if self.socket is None:
+            self.socket = socket.create_connection(self.address, self.timeout)
+            self.socket.setsockopt(socket.IPPROTO_TCP, socket.TCP_NODELAY, 1)
+        return self.socket
+
+    def replies(self, open_socket: socket.socket, calls: Sequence[Call]) -> Generator[str, None, None]:
+        """Sends the lines as the server takes them, and yields the replies as they come."""
+        unsent = memoryview(b"".join(asked.line for asked in calls))
+        left = len(calls)
+        with selectors.DefaultSelector() as selector:
+            selector.register(open_socket, selectors.EVENT_READ | selectors.EVENT_WRITE)
+            open_socket.setblocking(False)
+            while left:
+                ready = selector.select(self.timeout)
+                if not ready:
+                    raise TimeoutError(f"nothing was sent or read for {self.timeout} seconds")
+                for _, events in ready:
+                    if events & selectors.EVENT_WRITE and unsent:
+                        unsent = unsent[open_socket.send(unsent) :]
+                        if not unsent:
+                            selector.modify(open_socket, selectors.EVENT_READ)
+                    if events & selectors.EVENT_READ:
+                        lines = self.read_lines(open_socket)
+                        left -= len(lines)
+                        yield from (line.decode() for line in lines)
+
+    def read_lines(self, open_socket: socket.socket) -> list[bytes]:
+        """The lines that one read completes."""
+        data = open_socket.recv(1 << 18)
+        if not data:
+            raise ConnectionError("the server closed the connection before all replies")
+        self.unread.append(data)
+        if b"\n" not in data:
+            return []
+        *lines, last = b"".join(self.unread).split(b"\n")
+        self.unread = [last]
+        return lines
+
+
+def is_closed(open_socket: socket.socket) -> bool:
+    """Whether the server has closed a connection on which no reply is awaited."""
+    open_socket.setblocking(False)
+    try:
+        return not open_socket.recv(1, socket.MSG_PEEK)
+    except BlockingIOError:
+        return False
+    except OSError:
+        return True
+
+
+class Pipeline(Calls):
+    """Calls that are sent together, at the end of the `with`. Each gives its index in `answers`, an int, whatever its method says of
+    a client; `answers` has what a client gives, or the refusal. Where sending them fails, it has those of the first calls."""
+
+    def __init__(self, client: Client):
+        self.client = client
+        self.calls: list[Call] = []
+        self.answers: list = []
+
+    def send(self, asked: Call) -> Any:
+        self.calls.append(asked)
+        return len(self.calls) - 1
+
+    def __enter__(self) -> Pipeline:
+        self.calls, self.answers = [], []
+        return self
+
+    def __exit__(self, kind: object, *_: object) -> None:
+        if kind is None:
+            self.client.exchange(self.calls, self.answers)
+
+
+class Shards:
+    """Servers of which each has the documents whose numbers leave its place when they are divided by how many there are."""
+
+    def __init__(self, clients: Sequence[Client]):
+        self.clients = list(clients)
+        self.threads = ThreadPoolExecutor(len(self.clients))
+
+    def of(self, id: int) -> Client:
+        """The server of the document."""
+        return self.clients[id % len(self.clients)]
+
+    def add(self, id: int, text: str) -> int:
+        """Adds the document to its server, and gives the place of the add there."""
+        return self.of(id).add(id, text)
+
+    def delete(self, id: int) -> int:
+        """Deletes the document from its server, and gives the place of the delete there."""
+        return self.of(id).delete(id)
+
+    def find(self, words: str = "") -> list[int]:
+        """What the servers find, one after the other; each is asked beside the others."""
+        return self.ask_all(lambda client: client.find(words))
+
+    def query(self, expression: str) -> list[int]:
+        """What the servers find by the boolean query, one after the other; each is asked beside the others."""
+        return self.ask_all(lambda client: client.query(expression))
+
+    def ask_all(self, ask: Callable[[Client], list[int]]) -> list[int]:
+        asked = [self.threads.submit(ask, client) for client in self.clients]
+        wait(asked)  # also where one is refused: no client may still be in use by a thread
+        return [id for it in asked for id in it.result()]
+
+    def close(self) -> None:
+        """Ends all connections."""
+        self.threads.shutdown()
+        for client in self.clients:
+            client.close()
+
+    def __enter__(self) -> Shards:
+        return self
+
+    def __exit__(self, *_: object) -> None:
+        self.close()
