@@ -3,6 +3,7 @@
 Its words are those of ASCII letters alone, its journal keeps every commit, and memory is never wanting."""
 
 import re
+from functools import cache, lru_cache
 
 LONGEST_LINE = 65_536
 FORMS = [
@@ -57,6 +58,7 @@ def commit_told(request, reply):
     return (int(match[1]), f"{sign}{request[1]}") if match else None
 
 
+@lru_cache(maxsize=8)
 class Reading:
     """A boolean query, read from left to right: what it keeps of a set of words, or the refusal of its text."""
 
@@ -67,7 +69,7 @@ class Reading:
         self.tokens = [(m.start(), m[0].decode()) for m in re.finditer(rb"[|()-]|[^ |()-][^ |()]*", text)]
         self.end, self.at, self.refusal = len(text), 0, None
         try:
-            self.keeps = self.expression(0)
+            self.keeps = cache(self.expression(0))
             if self.at < len(self.tokens):
                 self.refuse()
         except SyntaxError as refusal:
@@ -112,7 +114,8 @@ class Reading:
             self.at += 1
             return inner
         self.at += 1
-        return lambda words: words_of(token) <= words
+        wanted = words_of(token)
+        return lambda words: wanted <= words
 
 
 def words_of(text):

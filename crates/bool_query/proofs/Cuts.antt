@@ -10,32 +10,17 @@ use Rattle.std.specs.declared.alloc.Global.{Global}
 use Rattle.std.specs.List.{list_all, list_any}
 use Rattle.funnel_model.specs.declared.word_expr.WordExpr.{WordExpr}
 use Rattle.funnel_model.specs.declared.word_expr.WordExpr.TheVariants as variants
-use Rattle.funnel_model.specs.declared.word_expr.WordExpr.TheVariants.{rolls-Words, rolls-And, rolls-Or, rolls-Not}
-use Rattle.funnel_model.specs.declared.word_expr.WordExpr.TheOpen as layer
-use Rattle.funnel_model.specs.declared.word_expr.WordExpr.TheFolds.{fold-roll-WordExpr}
+use Rattle.funnel_model.proofs.WordExprLemmas.{each-kept, search-and, search-not, search-or, search-words}
 use Rattle.funnel_model.proofs.RequiredLemmas.{required-keep}
 use Rattle.funnel_model.proofs.WordLemmas.{Contains-has, each-from_list_all, has-same, list_all-from_each, list_all-same, one_test}
 use Rattle.funnel_model.specs.Expressions.{Tree, Trees, atom, every, some, contrary, no_trees, tree, tree_of, trees_of, keeps, all_keep, one_keeps}
 use Rattle.funnel_model.specs.Required.{AreRequired, is_required, joined, residue, residues, search_of, searches_of, some_requires}
 use Rattle.funnel_model.specs.Searches.{Search, Searches, AreAlike, AreEachAlike, all_of, atom_of, each_passes, entry, has_all, is_kept, no_entries, not_of, some_of}
-use Rattle.funnel_model.specs.WordExprs.{AreCut, IsCut, each_keeps, each_searched, search_step, searched}
+use Rattle.funnel_model.specs.WordExprs.{AreCut, IsCut, each_keeps, each_searched}
 use Rattle.funnel_model.specs.Words.{AreWordsOf, has_word, words}
 
 abbrev Cut : List ℕ → List (List ℕ) → Type 0
 Cut query set = AreWordsOf set query
-
--- the searches of expressions
-search-words : (set : List (List ℕ)) → searched (variants.Words set) ≡ atom_of set
-search-words set = ap searched (sym (rolls-Words set)) ∙ fold-roll-WordExpr (Search (List (List ℕ))) search_step (layer.Words set)
-
-search-and : (factors : Vec WordExpr Global) → searched (variants.And factors) ≡ all_of (each_searched factors.items)
-search-and factors = ap searched (sym (rolls-And factors)) ∙ fold-roll-WordExpr (Search (List (List ℕ))) search_step (layer.And factors)
-
-search-or : (terms : Vec WordExpr Global) → searched (variants.Or terms) ≡ some_of (each_searched terms.items)
-search-or terms = ap searched (sym (rolls-Or terms)) ∙ fold-roll-WordExpr (Search (List (List ℕ))) search_step (layer.Or terms)
-
-search-not : (factor : Box WordExpr Global) → searched (variants.Not factor) ≡ not_of (searched factor.value)
-search-not factor = ap searched (sym (rolls-Not factor)) ∙ fold-roll-WordExpr (Search (List (List ℕ))) search_step (layer.Not factor)
 
 -- each kind of expression is cut where its parts are
 pub cut-atom : (set : List (List ℕ)) (query : List ℕ) → AreWordsOf set query → IsCut (atom query) (variants.Words set)
@@ -100,15 +85,11 @@ mutual
   one-cut_keeps no_trees (entry e es) text are = absurd are
   one-cut_keeps (tree t ts) no_entries text are = absurd are
 
-each-passes : (exprs : List WordExpr) (text : List ℕ) → list_all (λ b. b) (each_passes (has_all text) (each_searched exprs)) ≡ each_keeps exprs text
-each-passes [] text = refl
-each-passes (e ∷ exprs) text = ap (λ b. is_kept (searched e) text && b) (each-passes exprs text)
-
 -- a text is kept where it has the required words and the residue keeps it
 pub wanted-keep : (t : Tree) (set : List (List ℕ)) (exprs : List WordExpr) → AreRequired set t → AreCut (residue t) exprs → (text : List ℕ) →
     keeps t text ≡ (has_all text set && each_keeps exprs text)
 wanted-keep t set exprs required are text =
-    let left : all_keep (residue t) text ≡ each_keeps exprs text = all-cut_keep (residue t) (each_searched exprs) text are ∙ each-passes exprs text in
+    let left : all_keep (residue t) text ≡ each_keeps exprs text = all-cut_keep (residue t) (each_searched exprs) text are ∙ each-kept exprs text in
     one_test (keeps t text) (has_all text set && each_keeps exprs text)
     (λ kept.
     let both = (required-keep t text).0 kept in

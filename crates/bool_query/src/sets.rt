@@ -1,16 +1,9 @@
-ghost use Rattle.std.specs.Prelude.{◌≡◌, ◌↔◌, ◌++◌, ℕ, List, [], map, filter, Contains, IfOk, OnOk};
+ghost use Rattle.std.specs.Prelude.{◌≡◌, ◌↔◌, ◌++◌, ℕ, List, map, Contains, IfOk, OnOk};
 ghost use Rattle.funnel_model.specs.Words.{IsRising};
-ghost use Rattle.bool_query.specs.WordLists.{has, in_all, in_some, together};
+ghost use Rattle.bool_query.specs.WordLists.{has, in_some, together};
 
 use funnel_model::{Memory, WordSet};
 use std::alloc::Global;
-
-/// The set without words.
-pub fn empty_set(alloc: Global) -> WordSet
-    ensures { result ≡ [] }
-{
-    WordSet::new(Vec::new(alloc), Vec::new(alloc))
-}
 
 /// The words that are in one of the sets. They are sorted once, all together.
 pub fn words_of_all(alloc: Global, sets: &[WordSet]) -> Result<WordSet, Memory>
@@ -18,21 +11,6 @@ pub fn words_of_all(alloc: Global, sets: &[WordSet]) -> Result<WordSet, Memory>
 {
     let mut words = listed(alloc, sets)?;
     sort_distinct(&mut words);
-    WordSet::from_sorted(alloc, words.as_slice())
-}
-
-/// The words that are in each of the sets, and none where there is no set.
-pub fn common_words(alloc: Global, sets: &[WordSet]) -> Result<WordSet, Memory>
-    ensures { IfOk result (λ found. (word : List ℕ) → has found word ≡ in_all sets.now word) }
-{
-    let Some((first, others)) = sets.split_first() else {
-        return Ok(empty_set(alloc));
-    };
-    let mut words = Vec::with_capacity(alloc, first.len())?;
-    add_words(&mut words, first)?;
-    for set in others {
-        keep_common(&mut words, set);
-    }
     WordSet::from_sorted(alloc, words.as_slice())
 }
 
@@ -64,11 +42,4 @@ fn sort_distinct(words: &mut Vec<&[u8]>)
 {
     words.sort_unstable();
     words.dedup();
-}
-
-/// Drops the words that are not in the set.
-fn keep_common(words: &mut Vec<&[u8]>, set: &WordSet)
-    ensures { map (λ w. w.now) words.new.items ≡ filter (has set.now) (map (λ w. w.now) words.old.items) }
-{
-    words.retain(|word| set.contains(word));
 }

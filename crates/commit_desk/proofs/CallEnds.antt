@@ -1,5 +1,5 @@
 -- What the calls at the desk leave of a pass.
-use Rattle.std.proofs.Common.{◌≡◌, ℕ, ◌<◌, false, List, [], ◌∷◌, ◌++◌, Result, Ok, Err, Some, IfOk, MatchResult, sym, refl, ap, ◌∙◌, subst, append-nil, append_assoc}
+use Rattle.std.proofs.Common.{◌≡◌, ℕ, ◌<◌, Bool, true, false, List, [], ◌∷◌, ◌++◌, Result, Ok, Err, Some, IfOk, MatchResult, sym, refl, ap, ◌∙◌, subst, append-nil, append_assoc}
 use Rattle.std.proofs.lemmas.List.Elements.{All-weaker}
 use Rattle.std.specs.List.{All}
 use Rattle.std.specs.Prelude.{IfSome}
@@ -36,12 +36,16 @@ use Rattle.commit_desk.specs.declared.answers.FindFault.{FindFault}
 use Rattle.commit_desk.specs.declared.answers.JournalFault.{JournalFault}
 use Rattle.commit_desk.specs.declared.answers.JournalFault.TheVariants as journal
 use Rattle.commit_desk.specs.declared.answers.Spent.{Spent}
+use Rattle.commit_desk.specs.declared.answers.NotTaken.{NotTaken}
 use Rattle.commit_desk.specs.declared.answers.Taken.{Taken}
 use Rattle.commit_desk.specs.declared.answers.Taken.TheVariants as taken
+use Rattle.commit_desk.specs.declared.answers.TakenMove.{TakenMove}
 use Rattle.commit_desk.specs.declared.answers.ToClear.{ToClear}
+use Rattle.commit_desk.specs.declared.look.Look.{Look}
 use Rattle.commit_desk.specs.Desks.{DeskState, IsFresh, IsPrepared, IsReused, Makes}
 use Rattle.commit_desk.specs.Layouts.{IsLayoutOf}
-use Rattle.commit_desk.specs.Passes.{IsFinding, IsResting, IsToClear, IsToDo, IsToWrite}
+use Rattle.commit_desk.specs.Moving.{AnswersTakeMove, event_of_move, events_of_take_move}
+use Rattle.commit_desk.specs.Passes.{IsFinding, IsResting, IsToClear, IsToDo, IsToWrite, WritesOrRests}
 
 -- the last event of the pass is the one that it made
 last_made : (before after : DeskState) (seat next : PassState) (e : Event) → pass_of e ≡ seat.number → Makes (e ∷ []) before after seat next → last_by next.number next.front ≡ Some e
@@ -59,7 +63,7 @@ module _ (pool : PoolId) (before after : DeskState) (seat next : PassState) (her
   seated_by events made = record { same = made.same ∙ here; none_outstanding = none }
 
   -- a call that makes no event
-  rests_none : IsIdle seat.number seat.front → Makes [] before after seat next → IsResting pool next
+  pub rests_none : IsIdle seat.number seat.front → Makes [] before after seat next → IsResting pool next
   rests_none idle made = record {
     seated = seated_by [] made;
     idle = subst (λ o. IfSome o (λ e. leaves_open e ≡ false)) (sym (last_kept before after seat next made)) idle;
@@ -75,6 +79,10 @@ module _ (pool : PoolId) (before after : DeskState) (seat next : PassState) (her
   pub rests_commit : (id : ℕ) (text : List ℕ) (claim : Claim) (bits : List Bit) (answer : Result ℕ CommitFault) → Makes (events_of_commit seat.number id text claim bits answer) before after seat next → IsResting pool next
   rests_commit id text claim bits (Ok place) made = rests_one (event.Add seat.number id text claim.slice claim.column bits) refl refl made
   rests_commit id text claim bits (Err fault) made = rests_one (event.Drop seat.number id text claim.slice claim.column) refl refl made
+
+  pub rests_moved : (look : Look) (claim : Claim) (bits : List Bit) (moved : Bool) → Makes (event_of_move seat.number look claim bits moved ∷ []) before after seat next → IsResting pool next
+  rests_moved look claim bits true made = rests_one (event.Move seat.number look.doc.id claim.slice claim.column bits) refl refl made
+  rests_moved look claim bits false made = rests_one (event.Void seat.number claim.slice claim.column) refl refl made
 
   module _ (idle : IsIdle seat.number seat.front) where
     pub rests_place : (answer : Result ℕ Spent) → Makes (events_of_place seat.number answer) before after seat next → IsResting pool next
@@ -144,12 +152,17 @@ module _ (pool : PoolId) (before after : DeskState) (seat next : PassState) (her
           take_within before.pool.limits before.history seat.number slice column (legal_before before.pool.limits before.history (e ∷ []) legal)
           (allowed_within before.pool.limits (before.history ++ e ∷ []) before.history e [] legal refl)
 
+      -- so it is with the column that the pass claims by one event
+      claims : (claim : Claim) (layout : LayoutId) → claim.slice < before.pool.limits.slices → IsFresh claim layout next → Makes (event.Take seat.number claim.slice claim.column ∷ []) before after seat next →
+          IsToWrite pool claim layout next
+      claims claim layout in' fresh made =
+          let e = event.Take seat.number claim.slice claim.column in
+          to_write (e ∷ []) claim.slice claim.column layout in' (taken_within claim.slice claim.column made)
+          (last_made before after seat next e refl made ∙ ap (λ n. Some (event.Take n claim.slice claim.column)) (sym made.number)) fresh made
+
       pub is_to_do : (id : ℕ) (text : List ℕ) (answer : Taken) → AnswersTake most before.pool.limits before.history seat.number id answer → IsPrepared answer next →
           Makes (events_of_take seat.number id text answer) before after seat next → IsToDo pool answer next
-      is_to_do id text (taken.Claim claim layout) may fresh made =
-          let e = event.Take seat.number claim.slice claim.column in
-          to_write (e ∷ []) claim.slice claim.column layout may.1.in_range (taken_within claim.slice claim.column made)
-          (last_made before after seat next e refl made ∙ ap (λ n. Some (event.Take n claim.slice claim.column)) (sym made.number)) fresh made
+      is_to_do id text (taken.Claim claim layout) may fresh made = claims claim layout may.1.in_range fresh made
       is_to_do id text (taken.Clear work layout) may laid made = (
         to_clear work.job.slice may.2.in_range made,
         old_slots work may.3,
@@ -160,6 +173,11 @@ module _ (pool : PoolId) (before after : DeskState) (seat next : PassState) (her
       is_to_do id text (taken.Refused (add.Present added)) may nothing made = rests_one (event.No seat.number (call.Add id text)) refl refl made
       is_to_do id text (taken.Refused (add.Full blocks)) may nothing made = rests_one (event.No seat.number (call.Add id text)) refl refl made
       is_to_do id text (taken.Refused add.Memory) may nothing made = rests_none idle made
+
+      pub writes_or_rests : (look : Look) (answer : Result TakenMove NotTaken) → AnswersTakeMove most before.pool.limits before.history seat.number look answer →
+          IfOk answer (λ taken. IsFresh taken.claim taken.layout next) → Makes (events_of_take_move seat.number answer) before after seat next → WritesOrRests pool answer next
+      writes_or_rests look (Ok taken) may fresh made = claims taken.claim taken.layout may.0.may.in_range fresh made
+      writes_or_rests look (Err fault) may fresh made = rests_none idle made
 
 -- the column that the pass claimed in the slice that it had cleared
 pub taken_after : (pool : PoolId) (before after : DeskState) (seat next : PassState) (job : ClearJob) (claim : Claim) (layout : LayoutId) → IsSeated pool seat → HasNoneOutstanding next →

@@ -24,8 +24,17 @@ use Rattle.funnel_model.proofs.Columns.{one_state}
 use Rattle.funnel_model.proofs.LiveColumns.{live_column_is_live, live_on_one_column}
 use Rattle.funnel_model.proofs.LiveLemmas.{live_in_order}
 use Rattle.row_layout.proofs.OneList.{first_or_rest, same_members}
-use Rattle.commit_desk.specs.Judging.{AreGivenWhere, GiveAllWhere, GivesWhere, answer_where, found_where}
+use Rattle.commit_desk.specs.Judging.{AreGivenWhere, GivesWhere, answer_where}
 use Rattle.commit_desk.proofs.Sorting.{pair_below, pairs_in_order, pairs_rise, rising-map, rising_from_pairs}
+
+-- the live documents whose text passes a test, each with the place of its add, in the order of their adds
+abbrev pub found_where : List Event → (List ℕ → Bool) → List (ℕ × ℕ)
+found_where history test = map (λ d. (d.place, d.id)) (filter (λ d. test d.text) (live history))
+
+-- each of them is given by one of the candidates
+abbrev pub GiveAllWhere : List Event → (List ℕ → Bool) → List (ℕ × ℕ) → Type 0
+GiveAllWhere earlier test candidates =
+    (found : ℕ × ℕ) → Contains (found_where earlier test) found → (candidate : ℕ × ℕ) × Contains candidates candidate × GivesWhere earlier test candidate (Some found)
 
 -- the numbers of what a find finds are its answer
 pub numbers_are_answer : (history : List Event) (test : List ℕ → Bool) → map (λ (f : ℕ × ℕ). f.1) (found_where history test) ≡ answer_where history test

@@ -1,8 +1,9 @@
 -- What a pass that caught up still holds of its claim and of its look.
-use Rattle.std.proofs.Common.{◌≡◌, ◌↔◌, ℕ, ◌<◌, ◌||◌, All, List, ◌++◌, Some, sym, ap, ◌∙◌, subst, append_assoc, arith, Contains}
+use Rattle.std.proofs.Common.{◌≡◌, ◌↔◌, ℕ, ◌<◌, ◌||◌, All, List, [], ◌++◌, Some, sym, ap, ◌∙◌, subst, append_assoc, append-nil, arith, Contains}
 use Rattle.std.proofs.lemmas.List.Elements.{All-contains_itself, All-weaker}
 use Rattle.std.proofs.lemmas.List.Folds.{list_any-append}
 use Rattle.std.specs.List.{list_any}
+use mathlib.Core.List.{IsPrefix}
 use Rattle.funnel_model.specs.declared.bit_list.Bit.{Bit}
 use Rattle.funnel_model.specs.declared.claim.Claim.{Claim}
 use Rattle.funnel_model.specs.declared.config.Config.{Config}
@@ -15,6 +16,7 @@ use Rattle.funnel_model.specs.Tunings.{treat}
 use Rattle.funnel_model.proofs.Clears.{last_by-front}
 use Rattle.funnel_model.proofs.Columns.{last_is_pending}
 use Rattle.funnel_model.proofs.Histories.{legal_before}
+use Rattle.funnel_model.proofs.StepLemmas.{prefix_trans}
 use Rattle.funnel_model.proofs.TuningLemmas.{treat_pending}
 use Rattle.row_layout.specs.DocumentBits.{AreDocumentBitsIn}
 use Rattle.slice_rule.specs.declared.view.Fact.{Fact}
@@ -90,3 +92,17 @@ module _ (seat caught : PassState) (same : IsSamePass seat caught) (goes : IsFro
     inside = written.inside;
     bits_set = bits_held bits written.bits_set;
   }
+
+-- a pass that looked at a document holds its look while its front grows
+pub holds_on : (seat next : PassState) (look : Look) → IsPrefix seat.front next.front → HoldsLook seat look → HoldsLook next look
+holds_on seat next look grows held = record {
+  earlier = held.earlier;
+  seen = prefix_trans held.earlier seat.front next.front held.seen grows;
+  live = held.live;
+  of_text = held.of_text;
+  cause = ap (list_any deletes_or_drops) (sym grows.1) ∙ list_any-append deletes_or_drops seat.front grows.0 ∙ ap (λ b. b || list_any deletes_or_drops grows.0) held.cause;
+}
+
+-- and while it does something itself
+pub holds_by_own : (seat next : PassState) (look : Look) → next ≡ record seat { own = next.own } → HoldsLook seat look → HoldsLook next look
+holds_by_own seat next look is held = holds_on seat next look ([], append-nil seat.front ∙ sym (ap (λ (p : PassState). p.front) is)) held

@@ -19,7 +19,6 @@ pub mod HeldColumns
 pub mod Inside
 pub mod JobTurns
 pub mod Journals
-pub mod Judged
 pub mod KeptNew
 pub mod LaterStates
 pub mod LayoutEvents
@@ -31,6 +30,7 @@ pub mod Marks
 pub mod MoveEvents
 pub mod MoveTurns
 pub mod MovedRecords
+pub mod OpenReads
 pub mod Options
 pub mod PlainEvents
 pub mod RecordFacts
@@ -39,11 +39,13 @@ pub mod Refusals
 pub mod Refused
 pub mod SliceEvents
 pub mod Slots
+pub mod ScanTexts
 pub mod Sorting
 pub mod StageFacts
 pub mod StageReadings
 pub mod StagesKept
 pub mod StillThere
+pub mod TakenColumns
 pub mod TakenRoom
 pub mod TokenEvents
 pub mod TreatmentNumbers

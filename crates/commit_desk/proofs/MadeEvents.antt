@@ -16,13 +16,18 @@ use Rattle.commit_desk.proofs.Turns.{makes_one}
 abbrev pub desk_at : HomeState → ℕ → DeskState
 desk_at home limit = record { pool = home.pool; events_limit = limit; history = home.history }
 
--- the desk and the pass after one event
+-- the desk and the pass after one event, which is legal there
+pub made_with : (before : DeskState) (home new : HomeState) (limit : ℕ) (seat next : PassState) (e : Event) → desk_at home limit ≡ before → IsCaughtUp before seat →
+    IsSameHome (after_append home e) new → IsLegal new.pool.limits new.history → HasMade e seat next → Makes (e ∷ []) before (desk_at new limit) seat next
+made_with before home new limit seat next e view caught same legal made =
+    subst (λ (d : DeskState). Makes (e ∷ []) d (desk_at new limit) seat next) view
+    (makes_one (desk_at home limit) (desk_at new limit) seat next e (subst (λ (d : DeskState). IsCaughtUp d seat) (sym view) caught) same.pool refl same.history legal made)
+
 pub made_one : (before : DeskState) (home new : HomeState) (limit : ℕ) (seat next : PassState) (e : Event) → desk_at home limit ≡ before → IsCaughtUp before seat →
     IsSameHome (after_append home e) new → IsLegal home.pool.limits (home.history ++ e ∷ []) → HasMade e seat next → Makes (e ∷ []) before (desk_at new limit) seat next
-made_one before home new limit seat next e view caught same legal made =
-    subst (λ (d : DeskState). Makes (e ∷ []) d (desk_at new limit) seat next) view
-    (makes_one (desk_at home limit) (desk_at new limit) seat next e (subst (λ (d : DeskState). IsCaughtUp d seat) (sym view) caught) same.pool refl same.history
-    (subst (λ (h : List Event). IsLegal new.pool.limits h) (sym same.history) (subst (λ p. IsLegal p.limits (home.history ++ e ∷ [])) (sym same.pool) legal)) made)
+made_one before home new limit seat next e view caught same legal =
+    made_with before home new limit seat next e view caught same
+    (subst (λ (h : List Event). IsLegal new.pool.limits h) (sym same.history) (subst (λ p. IsLegal p.limits (home.history ++ e ∷ [])) (sym same.pool) legal))
 
 -- the number of the event
 pub number_is : (home new : HomeState) (e : Event) (events : ℕ) → IsSameHome (after_append home e) new → events ≡ length new.history → events ≡ length home.history + 1

@@ -26,10 +26,11 @@ use Rattle.commit_desk.specs.Kept.{Books, IsDesk}
 use Rattle.commit_desk.specs.Moving.{HoldsLook, IsThereStill, document_of}
 use Rattle.commit_desk.specs.Records.{AreRecorded, IsLiveIn, document_added_at}
 use Rattle.commit_desk.specs.declared.look.Look.{Look}
-use Rattle.commit_desk.proofs.DocumentEvents.{live_stage, taken_column}
+use Rattle.commit_desk.proofs.DocumentEvents.{live_stage}
 use Rattle.commit_desk.proofs.MadeEvents.{desk_at}
-use Rattle.commit_desk.proofs.RecordFacts.{is_column, live_not_clearing, none_live_in_pending, state_is, taken_is_pending}
+use Rattle.commit_desk.proofs.RecordFacts.{is_column, live_not_clearing, none_live_in_pending, state_is}
 use Rattle.commit_desk.proofs.Slots.{live_by_state, with_slot-cases}
+use Rattle.commit_desk.proofs.TakenColumns.{HasTaken, has_taken}
 
 -- of two ways to take a list apart the first parts and the items after them are the same where the first parts are as long
 one_split : {X : Type 0} → (xs ys : List X) (x y : X) (later more : List X) → xs ++ x ∷ later ≡ ys ++ y ∷ more → length xs ≡ length ys → (xs ≡ ys) × (x ≡ y)
@@ -86,13 +87,11 @@ module _ (before : DeskState) (home : HomeState) (most : ℕ) (books : Books) (d
   front_now : seat.front ≡ home.history
   front_now = caught.front ∙ history_now
 
-  pub taken_now : last_by pass home.history ≡ Some (event.Take pass claim.slice claim.column)
-  taken_now =
-      subst (λ n. last_by n home.history ≡ Some (event.Take n claim.slice claim.column)) (sym number)
-      (subst (λ (h : List Event). last_by seat.number h ≡ Some (event.Take seat.number claim.slice claim.column)) front_now holds)
+  held_now : HasTaken home.history books pass claim
+  held_now = has_taken before home most books desk view seat caught pass number claim holds
 
   pub to_now : IsColumn books.table claim.slice claim.column
-  to_now = taken_column home.pool most home.history books desk pass claim.slice claim.column taken_now
+  to_now = held_now.column
 
   pub there_now : IsThereStill home.history look
   there_now = subst (λ h. IsThereStill h look) history_now there
@@ -118,12 +117,9 @@ module _ (before : DeskState) (home : HomeState) (most : ℕ) (books : Books) (d
   pub cause_now : list_any deletes_or_drops home.history ≡ true
   cause_now = ap (list_any deletes_or_drops) (sym front_now) ∙ held.cause
 
-  -- the claimed column is pending, and another one
-  pub pending_now : (slot_at books.table claim.slice claim.column).column ≡ became.Pending pass
-  pending_now = taken_is_pending home.pool.limits home.history books.table desk.kept.legal desk.kept.recorded pass claim.slice claim.column taken_now to_now
-
+  -- the claimed column is another one
   pub none_there : (doc : Parts) → IsLiveIn (slot_at books.table claim.slice claim.column) doc → ⊥
-  none_there = none_live_in_pending home.pool.limits home.history books.table desk.kept.legal desk.kept.recorded pass claim.slice claim.column taken_now to_now
+  none_there = none_live_in_pending home.pool.limits home.history books.table desk.kept.legal desk.kept.recorded pass claim.slice claim.column held_now.taken to_now
 
   apart_now : claim.slice ≡ look.slice → claim.column ≡ look.column → ⊥
   apart_now one two =
@@ -135,7 +131,7 @@ module _ (before : DeskState) (home : HomeState) (most : ℕ) (books : Books) (d
       ap (λ (t : Table). (slot_at t claim.slice claim.column).column) is
       ∙ ap (λ (x : Slot). x.column)
       (⊎_elim (λ one. absurd (apart_now one.1 one.2)) (λ other. other.1) (with_slot-cases books.table look.slice look.column y claim.slice claim.column from_now.from to_now desk.kept.recorded.size))
-      ∙ pending_now
+      ∙ held_now.pending
 
   pub column_then : (table : Table) (y : Slot) → table ≡ with_slot books.table look.slice look.column y → IsColumn table claim.slice claim.column
   column_then table y is =
@@ -147,7 +143,7 @@ module _ (before : DeskState) (home : HomeState) (most : ℕ) (books : Books) (d
       allowed_by home.pool.limits home.history (event.Move pass look.doc.id claim.slice claim.column bits)
       (subst (λ n. n < home.pool.limits.passes) (sym number) (subst (λ (d : DeskState). seat.number < d.pool.limits.passes) (sym view) caught.in_range)) desk.none_awaited
       (record {
-        taken = taken_now;
+        taken = held_now.taken;
         present = (live_number home.history look.doc.id).1 (there_now.0, live_column_is_live home.history look.slice look.column there_now.0 look.since there_now.2, there_now.1);
         inside = subst (λ (d : DeskState). All (λ (b : Bit). IsInSlice d.pool.limits.slice_words claim.slice b.word) bits) (sym view) inside;
         in_word = of_words;

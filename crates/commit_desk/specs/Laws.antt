@@ -1,24 +1,24 @@
 -- What holds of what a desk keeps, whatever the history.
-use Rattle.std.specs.Prelude.{◌≡◌, ℕ, ◌*◌, ◌<◌, ◌≤◌, ◌↔◌, true, false, List, [], ◌∷◌, ◌++◌, length, replicate, sum_by, Contains, Ok, Err, Option, None}
-use Rattle.std.specs.Option.{option_map}
+use Rattle.std.specs.Prelude.{◌≡◌, ℕ, ◌*◌, ◌<◌, ◌≤◌, ◌↔◌, true, false, List, [], ◌∷◌, ◌++◌, length, replicate, sum_by, Contains, Ok, Err, None}
 use Rattle.std.specs.List.{slice_range}
 use mathlib.Core.List.{IsPrefix}
+use Rattle.document_store.specs.Documents.{Parts}
 use Rattle.document_store.specs.Entries.{column_of}
-use Rattle.document_store.specs.Finding.{judged_cost}
+use Rattle.document_store.specs.declared.judging.TheConstants.{LEAST_COST}
 use Rattle.document_store.specs.Slots.{free_slot}
 use Rattle.funnel_model.specs.declared.config.Config.{Config}
 use Rattle.funnel_model.specs.declared.event.Event.{Event}
 use Rattle.funnel_model.specs.declared.bit_list.Bit.{Bit}
 use Rattle.funnel_model.specs.declared.claim.Claim.{Claim}
-use Rattle.funnel_model.specs.declared.memory.Memory.{Memory}
+use Rattle.funnel_model.specs.declared.claim.Token.{Token}
 use Rattle.funnel_model.specs.Expressions.{Tree, answer_by, keeps}
 use Rattle.funnel_model.specs.History.{Document, answer, base, commits_after, live, place}
 use Rattle.funnel_model.specs.Legal.{IsLegal, Limits}
 use Rattle.funnel_model.specs.Configuration.{IsInRange}
-use Rattle.funnel_model.specs.declared.event.Event.TheVariants as event
+use Rattle.funnel_model.specs.Searches.{Searches, has_all}
 use Rattle.funnel_model.specs.Sizes.{columns_of_slice, words_of_slice}
-use Rattle.funnel_model.specs.Slices.{IsLiveOn}
-use Rattle.funnel_model.specs.Tokens.{MayRead}
+use Rattle.funnel_model.specs.Slices.{IsInUse, IsLiveOn}
+use Rattle.funnel_model.specs.Tokens.{HasToken}
 use Rattle.funnel_model.specs.Tunings.{treat}
 use Rattle.funnel_model.specs.Words.{meets, words}
 use Rattle.row_layout.specs.declared.row.Row.{Row}
@@ -36,14 +36,17 @@ use Rattle.commit_desk.specs.declared.answers.AddFault.{AddFault}
 use Rattle.commit_desk.specs.declared.answers.ClearRefusal.{ClearRefusal}
 use Rattle.commit_desk.specs.declared.answers.CommitFault.{CommitFault}
 use Rattle.commit_desk.specs.declared.answers.DeleteFault.{DeleteFault}
+use Rattle.commit_desk.specs.declared.answers.NotTaken.TheVariants as untaken
 use Rattle.commit_desk.specs.declared.answers.TakenMove.{TakenMove}
 use Rattle.commit_desk.specs.declared.answers.Taken.TheVariants as taken
 use Rattle.commit_desk.specs.declared.look.Look.{Look}
-use Rattle.commit_desk.specs.Judging.{answer_where}
+use Rattle.commit_desk.specs.FindLayouts.{AreOfTreatment}
+use Rattle.commit_desk.specs.Judging.{GiveAllIn, answer_where}
 use Rattle.commit_desk.specs.Kept.{Books, AreBooksOf}
-use Rattle.commit_desk.specs.Layouts.{AreFirst}
-use Rattle.commit_desk.specs.Moving.{AnswersTakeMove, HoldsLook, IsNextLook, IsThereStill, LooksState, document_of}
-use Rattle.commit_desk.specs.Resolving.{AreLookedFor, LooksUpTo}
+use Rattle.commit_desk.specs.Layouts.{AreFirst, SuitsOpening}
+use Rattle.commit_desk.specs.Moving.{AnswersTakeMove, HoldsLook, IsNextLook, IsThereStill, LooksState, MayTakeSome, document_of}
+use Rattle.commit_desk.specs.Resolving.{AreLookedFor, LooksUpTo, IsRestOf}
+use Rattle.commit_desk.specs.Scans.{AreScannedFor, keeps_text}
 
 -- nothing is kept yet: every column is free, no number is live, no find runs, no column of a slice is claimed, and each slice has the
 -- layout of the opening configuration
@@ -97,24 +100,19 @@ NextLookIsOne =
     IsLegal limits history → IsNextLook reserve most limits looks history id slice column document since →
     IsNextLook reserve most limits looks history id other at another from → (slice ≡ other) × (column ≡ at) × (document ≡ another) × (since ≡ from)
 
--- the column that was taken for a move, and what is moved there
-abbrev pub move_of : TakenMove → Claim × Look
-move_of taken = (taken.claim, taken.look)
-
--- and one column is taken for it, or none
+-- and one column is taken for it
 abbrev pub TakeOfMoveIsOne : Type 0
-TakeOfMoveIsOne = (most : ℕ) (limits : Limits) (history : List Event) (pass : ℕ) (look : Look) (answer other : Option TakenMove) →
-    AnswersTakeMove most limits history pass look (Ok answer) → AnswersTakeMove most limits history pass look (Ok other) →
-    option_map move_of answer ≡ option_map move_of other
+TakeOfMoveIsOne = (most : ℕ) (limits : Limits) (history : List Event) (pass : ℕ) (look : Look) (taken other : TakenMove) →
+    AnswersTakeMove most limits history pass look (Ok taken) → AnswersTakeMove most limits history pass look (Ok other) → (taken.claim ≡ other.claim) × (taken.look ≡ other.look)
 
--- memory is wanting only where one may be taken
-abbrev pub TakeOfMoveWantsMemory : Type 0
-TakeOfMoveWantsMemory = (most : ℕ) (limits : Limits) (history : List Event) (pass : ℕ) (look : Look) (memory : Memory) →
-    AnswersTakeMove most limits history pass look (Err memory) → AnswersTakeMove most limits history pass look (Ok None) → ⊥
+-- or none, where none may be
+abbrev pub TakeOfMoveHasCause : Type 0
+TakeOfMoveHasCause = (most : ℕ) (limits : Limits) (history : List Event) (pass : ℕ) (look : Look) (doc : Parts) →
+    AnswersTakeMove most limits history pass look (Err (untaken.NoColumn doc)) → MayTakeSome most limits history pass look → ⊥
 
 -- so it is with both turns
 abbrev pub MovesAreOne : Type 0
-MovesAreOne = NextLookIsOne × TakeOfMoveIsOne × TakeOfMoveWantsMemory
+MovesAreOne = NextLookIsOne × TakeOfMoveIsOne × TakeOfMoveHasCause
 
 -- what a pass looked at is live with the text that it saw, in each history in which it is still there
 abbrev pub MovesKeepTexts : Type 0
@@ -131,20 +129,24 @@ pub record AnswersAreByTests : Type 0 where
   pub query : (history : List Event) (query : List ℕ) → answer history query ≡ answer_where history (λ text. meets text query)
   pub expression : (history : List Event) (expr : Tree) → answer_by history expr ≡ answer_where history (keeps expr)
 
--- a turn of a judge decides 32 documents at most, each of which counts as one here
+-- a turn in which each document counts as 8 words at least decides 32 documents at most, each of which counts as one here
 abbrev pub TurnsJudgeFewDocuments : Type 0
 TurnsJudgeFewDocuments =
-    (earlier : List Event) (cost : ℕ) (candidates : List (ℕ × ℕ)) (from to : ℕ) (documents : ℕ × ℕ → ℕ) → LooksUpTo earlier (judged_cost cost) candidates from to →
+    (earlier : List Event) (cost : ℕ) (candidates : List (ℕ × ℕ)) (from to : ℕ) (documents : ℕ × ℕ → ℕ) → LEAST_COST ≤ cost → LooksUpTo earlier cost candidates from to →
     AreLookedFor earlier 1 candidates documents → sum_by documents (slice_range candidates from to) ≤ 32
 
--- A pass began a find after these events, and read as set, under a find's number, the bit of a word's row at a column of a slice that it may
--- read; the word is exact under the slice's treatment.
+-- A pass has a find open with this number, which began after these events.
+pub record HasBegunAfter (earlier : List Event) (pass : PassState) (opened_at : ℕ) : Type 0 where
+  pub begun : HasToken pass.front pass.number opened_at
+  pub after : begun.earlier ≡ earlier
+
+-- A pass has a find open that began after these events, and read as set, under its number, the bit of a word's row at a column of a slice
+-- that was in use then; the word is exact under the slice's treatment.
 pub record HasReadWord (limits : Limits) (opening : Config) (earlier : List Event) (pass : PassState) (opened_at slice column : ℕ) (word : List ℕ) : Type 0 where
   pub limits_are : pass.pool.limits ≡ limits
   pub opening_is : pass.pool.config ≡ opening
-  pub query : List ℕ
-  pub begun : pass.front ≡ earlier ++ event.Find pass.number query ∷ []
-  pub readable : MayRead limits.columns pass.front pass.number slice
+  pub find : HasBegunAfter earlier pass opened_at
+  pub in_use : IsInUse limits.columns slice earlier
   pub in_engine : column < limits.columns
   pub in_slice : column < columns_of_slice (treat opening slice earlier)
   pub in_range : IsInRange (treat opening slice earlier)
@@ -159,5 +161,36 @@ pub record HasReadWord (limits : Limits) (opening : Config) (earlier : List Even
 abbrev pub ReadBitsTellWords : Type 0
 ReadBitsTellWords =
     (limits : Limits) (opening : Config) (earlier : List Event) (pass : PassState) (opened_at slice column : ℕ) (word : List ℕ) (document : Document) (since : ℕ) →
-    IsLegal limits earlier → IsSound opening earlier → HasReadWord limits opening earlier pass opened_at slice column word →
+    IsLegal limits pass.front → IsSound opening earlier → HasReadWord limits opening earlier pass opened_at slice column word →
     IsLiveOn earlier slice column document since → Contains (words document.text) word
+
+-- A pass has a find open that began after these events, and slices of its token were in use then, with this configuration, which the engine
+-- may have, as their treatment.
+pub record IsScanAfter (limits : Limits) (opening config : Config) (earlier : List Event) (pass : PassState) (token : Token) : Type 0 where
+  pub limits_are : pass.pool.limits ≡ limits
+  pub opening_is : pass.pool.config ≡ opening
+  pub find : HasBegunAfter earlier pass token.opened_at
+  pub in_use : (slice : ℕ) → Contains token.slices slice → IsInUse limits.columns slice earlier
+  pub treated : AreOfTreatment opening earlier config token.slices
+  pub suits : SuitsOpening opening config
+  pub columns_are : limits.columns ≡ columns_of_slice config
+  pub room : limits.slice_words ≡ words_of_slice opening
+
+-- Where such slices were scanned for a search, each document that was live there as the find began and whose text the search keeps stands
+-- in the column of a candidate.
+abbrev pub ScansMissNone : Type 0
+ScansMissNone =
+    (limits : Limits) (opening config : Config) (earlier : List Event) (pass : PassState) (token : Token) (words : List (List ℕ)) (residue : Searches (List (List ℕ)))
+    (sure unsure : List (ℕ × ℕ)) → IsLegal limits pass.front → IsSound opening earlier → IsScanAfter limits opening config earlier pass token →
+    AreScannedFor config pass token words residue sure unsure → GiveAllIn earlier (keeps_text words residue) token.slices (sure ++ unsure)
+
+-- And where a document was live in the column of a candidate, bits tell what isn't looked for: by the rest of the required words alone
+-- where the search is sure, and by that and what else is asked where it is unsure, the document is kept exactly where the search keeps it.
+abbrev pub ScansTellTexts : Type 0
+ScansTellTexts =
+    (limits : Limits) (opening config : Config) (earlier : List Event) (pass : PassState) (token : Token) (words rest : List (List ℕ)) (residue : Searches (List (List ℕ)))
+    (sure unsure : List (ℕ × ℕ)) (slice column : ℕ) (document : Document) (since : ℕ) → IsLegal limits pass.front → IsSound opening earlier →
+    IsScanAfter limits opening config earlier pass token → AreScannedFor config pass token words residue sure unsure → IsRestOf config words rest →
+    IsLiveOn earlier slice column document since →
+    (Contains sure (slice, column) → has_all document.text rest ≡ keeps_text words residue document.text)
+    × (Contains unsure (slice, column) → keeps_text rest residue document.text ≡ keeps_text words residue document.text)

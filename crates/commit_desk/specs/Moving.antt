@@ -11,10 +11,12 @@ use Rattle.funnel_model.specs.Events.{deletes_or_drops}
 use Rattle.funnel_model.specs.History.{Document}
 use Rattle.funnel_model.specs.Legal.{HasRoom, Limits, MayTake}
 use Rattle.funnel_model.specs.Reserve.{HasReadyColumns, HasSpareColumns, HoldsColumns, IsSource}
-use Rattle.funnel_model.specs.Slices.{IsFilled, IsInState, Live, claimed}
+use Rattle.funnel_model.specs.Slices.{IsFilled, IsInState, Live}
 use Rattle.funnel_model.specs.Words.{AreWordsOf}
 use Rattle.slice_rule.specs.Seats.{PassState}
 use Rattle.commit_desk.specs.Answers.{MayEnter, TakesCalls}
+use Rattle.commit_desk.specs.declared.answers.NotTaken.{NotTaken}
+use Rattle.commit_desk.specs.declared.answers.NotTaken.TheVariants as untaken
 use Rattle.commit_desk.specs.declared.answers.TakenMove.{TakenMove}
 use Rattle.commit_desk.specs.declared.look.Look.{Look}
 use Rattle.commit_desk.specs.Records.{document_added_at}
@@ -40,13 +42,17 @@ is_named looks slice column = list_any (names slice column) looks
 abbrev pub with_look : LooksState → ℕ → Option (ℕ × ℕ) → LooksState
 with_look looks pass named = slice_set looks pass named
 
--- The ready columns suffice for what is held of the slice, and for one more for each sixteen of them.
+-- how many columns have to be ready so that a slice can be emptied of which so many are held: these, and one more for each sixteen of them
+abbrev pub room_to_empty : ℕ → ℕ
+room_to_empty held = held + (held + 15) / 16
+
+-- The ready columns suffice for emptying the slice.
 pub record HasRoomToEmpty (limits : Limits) (history : List Event) (slice : ℕ) : Type 0 where
   pub held : ℕ
   pub holds : HoldsColumns limits.columns history slice held
   pub ready : ℕ
   pub are_ready : HasReadyColumns limits history ready
-  pub enough : held + (held + 15) / 16 ≤ ready
+  pub enough : room_to_empty held ≤ ready
 
 -- they don't
 pub record LacksRoomToEmpty (limits : Limits) (history : List Event) (slice : ℕ) : Type 0 where
@@ -54,16 +60,16 @@ pub record LacksRoomToEmpty (limits : Limits) (history : List Event) (slice : �
   pub holds : HoldsColumns limits.columns history slice held
   pub ready : ℕ
   pub are_ready : HasReadyColumns limits history ready
-  pub fewer : ready < held + (held + 15) / 16
+  pub fewer : ready < room_to_empty held
 
 -- Documents are to be moved out of the slice, of which so many columns are held, before a document with this number is added: nothing but
--- want of room keeps that one out; fewer columns are spare than are to be kept free; the slice is the next to be emptied; and the others
--- have room for its documents, and for one more for each sixteen of them.
+-- want of room keeps that one out; fewer columns are spare than are to be kept free; the slice is the next to be emptied; and there is room
+-- to do so.
 pub record IsToBeEmptied (reserve most : ℕ) (limits : Limits) (history : List Event) (id slice held : ℕ) : Type 0 where
   pub may : MayEnter most history id
   pub short : (spare : ℕ) × HasSpareColumns limits history spare × (spare < reserve)
   pub source : IsSource limits history slice held
-  pub room : (ready : ℕ) × HasReadyColumns limits history ready × (held + (held + 15) / 16 ≤ ready)
+  pub room : HasRoomToEmpty limits history slice
 
 -- the column has this live document, since the event with this number, and no open look names it
 pub record IsFreeToMove (limits : Limits) (looks : LooksState) (history : List Event) (slice column : ℕ) (document : Document) (since : ℕ) : Type 0 where
@@ -112,7 +118,11 @@ pub record IsNextLook (reserve most : ℕ) (limits : Limits) (looks : LooksState
   pub empties : IsToBeEmptied reserve most limits history id slice held
   pub next : IsNextToMove limits looks history slice column document since
 
--- no document is to be moved out of any slice
+-- documents are to be moved out of some slice
+abbrev pub SomeToBeMoved : ℕ → ℕ → Limits → List Event → ℕ → Type 0
+SomeToBeMoved reserve most limits history id = (slice : ℕ) × (held : ℕ) × IsToBeEmptied reserve most limits history id slice held
+
+-- and out of none
 abbrev pub NoneToMove : ℕ → ℕ → Limits → List Event → ℕ → Type 0
 NoneToMove reserve most limits history id = (slice held : ℕ) → IsToBeEmptied reserve most limits history id slice held → ⊥
 
@@ -121,17 +131,12 @@ abbrev pub IsLookAtNext : ℕ → ℕ → Limits → LooksState → List Event �
 IsLookAtNext reserve most limits looks history id look =
     IsNextLook reserve most limits looks history id look.slice look.column (document_of look) look.since
 
--- some document is to be moved
-abbrev pub HasNextLook : ℕ → ℕ → Limits → LooksState → List Event → ℕ → Type 0
-HasNextLook reserve most limits looks history id =
-    (slice : ℕ) × (column : ℕ) × (document : Document) × (since : ℕ) × IsNextLook reserve most limits looks history id slice column document since
-
 -- a pass looks at the next document to be moved before it adds one with this number; want of memory is answered only where there is such
 -- a document
 abbrev pub AnswersLook : ℕ → ℕ → Limits → LooksState → List Event → ℕ → ℕ → Result (Option Look) Memory → Type 0
 AnswersLook reserve most limits looks history pass id (Ok (Some look)) = IsLookAtNext reserve most limits looks history id look × (look.opened ≡ pass)
 AnswersLook reserve most limits looks history pass id (Ok None) = NoneToMove reserve most limits history id
-AnswersLook reserve most limits looks history pass id (Err memory) = HasNextLook reserve most limits looks history id
+AnswersLook reserve most limits looks history pass id (Err memory) = SomeToBeMoved reserve most limits history id
 
 -- the looks after it: that of the pass names the column that is looked at
 abbrev pub looks_after : LooksState → Result (Option Look) Memory → LooksState
@@ -147,43 +152,46 @@ pub record HoldsLook (seat : PassState) (look : Look) : Type 0 where
   pub of_text : AreWordsOf look.doc.words look.doc.text
   pub cause : list_any deletes_or_drops seat.front ≡ true
 
--- a pass may claim the next column of the slice for a document that is moved out of the other one
-pub record MayClaimFor (most : ℕ) (limits : Limits) (history : List Event) (pass from slice : ℕ) : Type 0 where
-  pub takes_calls : TakesCalls most history
-  pub may : MayTake limits history pass slice (length (claimed slice history))
-  pub other : slice ≢ from
-  pub room : HasRoomToEmpty limits history from
-
--- why none is claimed: calls are taken no more, no slice has room, the lowest that has is the one that is emptied, or there isn't room any
--- more for all that is held of it
-abbrev pub ClaimsNoneFor : ℕ → Limits → List Event → ℕ → ℕ → Type 0
-ClaimsNoneFor most limits history pass from =
-    (most ≤ length history) ⊎ ((slice : ℕ) → slice < limits.slices → HasRoom limits.columns history slice → ⊥)
-    ⊎ ((column : ℕ) × MayTake limits history pass from column) ⊎ LacksRoomToEmpty limits history from
-
--- For a move a column is claimed as for an add, in another slice than the one that is emptied, where there is room still for all that is held
--- of this one; else nothing is done. Want of memory is answered only where a column may be claimed.
-abbrev pub AnswersTakeMove : ℕ → Limits → List Event → ℕ → Look → Result (Option TakenMove) Memory → Type 0
-AnswersTakeMove most limits history pass look (Ok (Some taken)) =
-    TakesCalls most history × MayTake limits history pass taken.claim.slice taken.claim.column × (taken.claim.slice ≢ look.slice) × (taken.look ≡ look)
-    × HasRoomToEmpty limits history look.slice
-AnswersTakeMove most limits history pass look (Ok None) = ClaimsNoneFor most limits history pass look.slice
-AnswersTakeMove most limits history pass look (Err memory) =
-    TakesCalls most history × HasRoomToEmpty limits history look.slice
-    × (slice : ℕ) × (column : ℕ) × MayTake limits history pass slice column × (slice ≢ look.slice)
-
-abbrev pub events_of_take_move : ℕ → Result (Option TakenMove) Memory → List Event
-events_of_take_move pass (Ok (Some taken)) = event.Take pass taken.claim.slice taken.claim.column ∷ []
-events_of_take_move pass _ = []
-
--- the look ends where no column was claimed
-abbrev pub looks_after_take : LooksState → Look → Result (Option TakenMove) Memory → LooksState
-looks_after_take looks look (Ok (Some taken)) = looks
-looks_after_take looks look _ = with_look looks look.opened None
-
--- the document is moved where it is live still in the column that was looked at, by the very event that put it there then
+-- the document is live still in the column that was looked at, by the very event that put it there then
 abbrev pub IsThereStill : List Event → Look → Type 0
 IsThereStill history look = (document : Document) × (document.id ≡ look.doc.id) × IsInState history look.slice look.column (Live document look.since)
+
+-- A pass may claim the column for the document that it looked at: as for an add, while the document is there still, in another slice than its
+-- own, and while there is room to empty that one.
+pub record MayTakeFor (most : ℕ) (limits : Limits) (history : List Event) (pass : ℕ) (look : Look) (slice column : ℕ) : Type 0 where
+  pub takes_calls : TakesCalls most history
+  pub may : MayTake limits history pass slice column
+  pub there : IsThereStill history look
+  pub other : slice ≢ look.slice
+  pub room : HasRoomToEmpty limits history look.slice
+
+-- it may claim one
+abbrev pub MayTakeSome : ℕ → Limits → List Event → ℕ → Look → Type 0
+MayTakeSome most limits history pass look = (slice : ℕ) × (column : ℕ) × MayTakeFor most limits history pass look slice column
+
+-- why it may claim none: calls are taken no more, the document isn't there any more, no slice has room, the lowest that has is the document's
+-- own, or there isn't room any more to empty that one
+abbrev pub MayTakeNone : ℕ → Limits → List Event → ℕ → Look → Type 0
+MayTakeNone most limits history pass look =
+    (most ≤ length history) ⊎ (IsThereStill history look → ⊥) ⊎ ((slice : ℕ) → slice < limits.slices → HasRoom limits.columns history slice → ⊥)
+    ⊎ ((column : ℕ) × MayTake limits history pass look.slice column) ⊎ LacksRoomToEmpty limits history look.slice
+
+-- For a move a column is claimed where one may be; else nothing is done, and the document is handed back. Want of memory is answered only
+-- where a column may be claimed.
+abbrev pub AnswersTakeMove : ℕ → Limits → List Event → ℕ → Look → Result TakenMove NotTaken → Type 0
+AnswersTakeMove most limits history pass look (Ok taken) =
+    MayTakeFor most limits history pass look taken.claim.slice taken.claim.column × (taken.look ≡ look)
+AnswersTakeMove most limits history pass look (Err (untaken.NoColumn doc)) = MayTakeNone most limits history pass look × (doc ≡ look.doc)
+AnswersTakeMove most limits history pass look (Err (untaken.Memory doc)) = MayTakeSome most limits history pass look × (doc ≡ look.doc)
+
+abbrev pub events_of_take_move : ℕ → Result TakenMove NotTaken → List Event
+events_of_take_move pass (Ok taken) = event.Take pass taken.claim.slice taken.claim.column ∷ []
+events_of_take_move pass (Err fault) = []
+
+-- the look ends where no column was claimed
+abbrev pub looks_after_take : LooksState → Look → Result TakenMove NotTaken → LooksState
+looks_after_take looks look (Ok taken) = looks
+looks_after_take looks look (Err fault) = with_look looks look.opened None
 
 -- a move that came too late leaves its column void
 abbrev pub event_of_move : ℕ → Look → Claim → List Bit → Bool → Event

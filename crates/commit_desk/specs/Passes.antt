@@ -1,5 +1,5 @@
 -- Where a pass stands between the turns of a call.
-use Rattle.std.specs.Prelude.{◌≡◌, ℕ, ◌<◌, ◌↔◌, List, All, Contains}
+use Rattle.std.specs.Prelude.{◌≡◌, ℕ, ◌<◌, ◌↔◌, List, Result, Ok, Err, All, Contains}
 use Rattle.funnel_model.specs.declared.bit_list.Bit.{Bit}
 use Rattle.funnel_model.specs.declared.claim.Claim.{Claim}
 use Rattle.funnel_model.specs.declared.claim.ClearJob.{ClearJob}
@@ -13,8 +13,10 @@ use Rattle.slice_rule.specs.Numbers.{last_number}
 use Rattle.slice_rule.specs.Pools.{PoolId}
 use Rattle.slice_rule.specs.Seats.{HasZeroed, HoldsClaim, HoldsJob, HoldsToken, IsSeated, PassState}
 use Rattle.commit_desk.specs.Desks.{NothingUnderLast}
+use Rattle.commit_desk.specs.declared.answers.NotTaken.{NotTaken}
 use Rattle.commit_desk.specs.declared.answers.Taken.{Taken}
 use Rattle.commit_desk.specs.declared.answers.Taken.TheVariants as taken
+use Rattle.commit_desk.specs.declared.answers.TakenMove.{TakenMove}
 use Rattle.commit_desk.specs.Layouts.{IsLayoutOf}
 
 -- the pass is not in the middle of a call
@@ -67,3 +69,8 @@ IsToDo pool (taken.Clear work layout) seat =
     IsToClear pool work.job seat × (work.slots ≡ pool.limits.columns) × IsLayoutOf pool.config work.job.slice seat.front layout
 IsToDo pool (taken.Wait slice) seat = IsResting pool seat
 IsToDo pool (taken.Refused fault) seat = IsResting pool seat
+
+-- and after its take for a move
+abbrev pub WritesOrRests : PoolId → Result TakenMove NotTaken → PassState → Type 0
+WritesOrRests pool (Ok taken) seat = IsToWrite pool taken.claim taken.layout seat
+WritesOrRests pool (Err fault) seat = IsResting pool seat

@@ -1,7 +1,7 @@
 //! What the calls of the desk answer.
 use crate::look::Look;
 use crate::shared_layout::SharedLayout;
-use document_store::OldSlots;
+use document_store::{Doc, OldSlots};
 use funnel_model::{Blocked, Claim, ClearJob};
 
 /// The history has so many events that no call is taken any more: this many.
@@ -35,12 +35,22 @@ pub enum Taken {
     Refused(AddFault),
 }
 
-/// A column that was claimed for a document that is to be moved, and the layout of its slice. It must be spent.
+/// A column that was claimed for a document that is to be moved, and the layout of its slice. It must be spent, since its look must be.
 #[derive(Debug)]
 pub struct TakenMove {
     pub claim: Claim,
     pub look: Look,
     pub layout: SharedLayout,
+}
+
+/// Why no column was claimed for a document that a pass had looked at to move it. The look is over, and this is its document, for its
+/// owner to drop where the desk is free.
+#[derive(Debug)]
+pub enum NotTaken {
+    /// The document is moved no more, or there is no column for it.
+    NoColumn(Doc),
+    /// There was no memory, before a column was taken.
+    Memory(Doc),
 }
 
 /// Why no document was added.

@@ -1,4 +1,4 @@
-ghost use Rattle.std.specs.Prelude.{◌≡◌, ◌+◌, ◌*◌, ◌≤◌, ◌^◌, [], IfOk, IsTrue, ◌↔◌, length};
+ghost use Rattle.std.specs.Prelude.{◌≡◌, ◌+◌, ◌*◌, ◌≤◌, ◌^◌, [], IfOk, IsTrue, None, ◌↔◌, length, replicate};
 ghost use Rattle.funnel_model.specs.Configuration.{IsInRange};
 ghost use Rattle.funnel_model.specs.History.{MovesAreCaused, base, commits_after, live_place};
 ghost use Rattle.funnel_model.specs.Legal.{IsLegal};
@@ -8,6 +8,7 @@ ghost use Rattle.row_layout.specs.Sound.{IsSound};
 ghost use Rattle.slice_rule.specs.Pools.{limits_of};
 
 use crate::journal::Journal;
+use crate::look::Looks;
 use crate::slice_layouts::SliceLayouts;
 use document_store::{Column, LiveList, Records};
 use funnel_model::{Commits, Config, Memory};
@@ -63,16 +64,16 @@ impl Model for Desk {
 impl Desk {
     ghost use Rattle.commit_desk.specs.Desks.{DeskState};
 
-    /// An empty desk of the pool whose home it is given, each of whose slices has this layout, that of the configuration. From so many
-    /// events on it takes no call. It takes all memory that it ever needs, but for that of a journal's answer, of a look, and of the
-    /// layouts of a find.
+    /// An empty desk of the pool whose home it is given, each of whose slices has this layout, that of the configuration, and the looks of
+    /// its passes, of which none is open. There are no other looks, so none ends elsewhere. From so many events on the desk takes no call. It
+    /// takes all memory that it ever needs, but for that of a journal's answer, of a look, and of the layouts of a find.
     pub fn new(
         alloc: Global,
         config: &Config,
         home: Home,
         events_limit: u64,
         layout: Layout,
-    ) -> Result<Desk, Memory>
+    ) -> Result<(Desk, Looks), Memory>
         requires config { IsInRange config.now }
         requires made_with { home.pool.config ≡ config.now }
         requires sizes { home.pool.limits ≡ limits_of config.now (words_of_slice config.now) }
@@ -80,10 +81,11 @@ impl Desk {
         requires some { 1 ≤ events_limit }
         requires bounded { events_limit ≤ 2 ^ 62 }
         requires laid { layout ≡ own_layout config.now }
-        ensures { IfOk result (λ desk. desk ≡ record { pool = home.pool; events_limit = events_limit; history = [] }) }
+        ensures desk { IfOk result (λ made. made.0 ≡ record { pool = home.pool; events_limit = events_limit; history = [] }) }
+        ensures looks { IfOk result (λ made. made.1 ≡ replicate config.now.passes None) }
     {
         let columns = 64 * (1 << config.max_rank as u32) * config.blocks;
-        Ok(Desk {
+        let desk = Desk {
             home,
             events_limit,
             slices: config.slices,
@@ -95,7 +97,9 @@ impl Desk {
             tokens: Tokens::new(alloc, config.passes)?,
             stages: Stages::new(alloc, config.slices, columns)?,
             layouts: SliceLayouts::new(alloc, layout, config.slices)?,
-        })
+        };
+        let looks = Looks::new(alloc, config.passes)?;
+        Ok((desk, looks))
     }
 
     /// The home, which has the whole history, how many of the history's commits come before those that the journal keeps, and these.

@@ -4,20 +4,30 @@ ghost use Rattle.funnel_model.specs.declared.claim.Token.{Token};
 ghost use Rattle.funnel_model.specs.Legal.{IsIdle};
 ghost use Rattle.funnel_model.specs.Slices.{IsInUse};
 ghost use Rattle.funnel_model.specs.Tokens.{HasToken};
-ghost use Rattle.funnel_model.specs.Words.{meets};
+ghost use Rattle.row_layout.specs.Sound.{IsSound};
 ghost use Rattle.slice_rule.specs.Seats.{HasNoneOutstanding, HoldsToken, IsSeated};
 ghost use Rattle.commit_desk.specs.Answers.{AnswersFind, TakesCalls, events_of_find};
 ghost use Rattle.commit_desk.specs.Desks.{IsCaughtUp, Makes};
 ghost use Rattle.commit_desk.specs.FindLayouts.{AreFindLayouts};
-ghost use Rattle.commit_desk.specs.Resolving.{FindsUpTo, IsVerifying};
+ghost use Rattle.commit_desk.specs.Passes.{IsFinding};
+ghost use Rattle.commit_desk.specs.Resolving.{CanGoOn, FindsUpTo};
+ghost use Rattle.commit_desk.specs.Scans.{AreOfToken};
 
 use crate::answers::FindFault;
 use crate::desk::Desk;
 use crate::entries::Finds;
-use crate::find_layouts::{FindLayout, FindLayouts};
-use document_store::{Found, resolve_part};
-use funnel_model::{Candidates, Event, Memory, Token, WordSet};
+use crate::find_layouts::FindLayouts;
+use document_store::{Found, Judge, resolve_part};
+use funnel_model::{Candidates, Event, Memory, Token};
 use slice_rule::{PassSeat, Pool};
+
+/// What a turn of a find looks at: candidates from one of them on, and who decides which of their documents it keeps.
+#[derive(Drop)]
+pub struct Part<'a, J> {
+    pub candidates: &'a Candidates,
+    pub from: usize,
+    pub judge: &'a J,
+}
 
 impl Desk {
     /// Begins a find. Its token lets it read the slices that are in use, until the find ends. Before the event is made `layouts` gets
@@ -36,6 +46,7 @@ impl Desk {
         ensures answer { AnswersFind self.old.events_limit self.old.pool.limits self.old.history result }
         ensures token { IfOk result (λ token. HoldsToken seat.new token) }
         ensures layouts { IfOk result (λ token. AreFindLayouts self.old.pool self.old.history token layouts.new.entries.items) }
+        ensures sound { IsSound self.old.pool.config self.old.history }
         ensures events { Makes (events_of_find seat.old.number query.now result) self.old self.new seat.old seat.new }
         ensures none_outstanding { HasNoneOutstanding seat.new }
     {
@@ -49,40 +60,42 @@ impl Desk {
         Ok(self.make_find(pool, seat, query))
     }
 
-    /// A turn of a find that looks at candidates in the slices of one entry of its layouts, from this one on, until there are no more,
-    /// it has looked up 4,096 of them, or looked for 256 words, but never ends within a document; and answers where the next turn goes
-    /// on. `out` gets those whose document was live when the find began and has every word of the query, in the order of the
-    /// candidates; it has room for all that are left. The words of the query but for `rest` are exact: the scan has told that each
-    /// candidate's document has them, and only `rest` is looked for. It makes no event, and takes no memory.
-    pub fn resolve_part(
+    /// A turn of a find that looks at candidates from this one on, until there are no more, it has looked up 4,096 of them, or looked for
+    /// 256 words, but never ends within a document; and answers where the next turn goes on. `out` gets those whose document was live
+    /// when the find began and is kept by the judge, in the order of the candidates; it has room for all that are left. It makes no event,
+    /// and takes no memory.
+    pub fn resolve_part<J: Judge>(
         &mut self,
         pool: &Pool,
         seat: &mut PassSeat,
         token: &Token,
-        entry: &FindLayout,
-        candidates: &Candidates,
-        from: usize,
-        rest: &WordSet,
+        part: Part<'_, J>,
         out: &mut Found,
     ) -> usize
         requires pool { pool.now ≡ self.old.pool }
-        requires verifying { IsVerifying self.old.pool token.now entry.now rest.now candidates.now seat.old }
-        requires from { from ≤ length candidates.now }
-        requires room { length candidates.now ≤ out.old.room + from }
+        requires finding { IsFinding self.old.pool token.now seat.old }
+        requires of_token { AreOfToken self.old.pool.limits.columns token.now part.candidates.now }
+        requires can { CanGoOn part.candidates.now out.old part.from }
         ensures found { (begun : HasToken seat.old.front seat.old.number token.now.opened_at) →
-            FindsUpTo begun.earlier (λ text. meets text begun.query) (length rest.now) entry.now.slices candidates.now from result out.old.found
-            out.new.found }
-        ensures enough { length candidates.now ≤ out.new.room + result }
+            FindsUpTo begun.earlier (J.test part.entry.judge.now) (J.cost part.entry.judge.now) part.entry.candidates.now part.entry.from result
+            out.old.found out.new.found }
+        ensures enough { length part.entry.candidates.now ≤ out.new.room + result }
         ensures events { Makes [] self.old self.new seat.old seat.new }
-        ensures verifying { IsVerifying self.new.pool token.now entry.now rest.now candidates.now seat.new }
+        ensures finding { IsFinding self.new.pool token.now seat.new }
     {
         pool.catch_up(&mut self.home, seat);
+        let Part {
+            candidates,
+            from,
+            judge,
+        } = part;
+        let cost = judge.cost();
         resolve_part(
             &self.records,
             candidates,
             from,
-            rest,
-            rest.len(),
+            judge,
+            cost,
             token.opened_at,
             out,
         )

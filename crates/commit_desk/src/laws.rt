@@ -1,6 +1,6 @@
 //! What holds of what a desk keeps, whatever the history. Each is the contract of a function that does nothing.
 ghost use Rattle.commit_desk.specs.Laws.{AnswersAreByTests, CallsDoNothingElse, DesksHaveTheirCommits, MovesAreOne, MovesKeepTexts, NewDesksAreKept};
-ghost use Rattle.commit_desk.specs.Laws.{ReadBitsTellWords, RefusedCallsKeepDocuments, TurnsJudgeFewDocuments};
+ghost use Rattle.commit_desk.specs.Laws.{ReadBitsTellWords, RefusedCallsKeepDocuments, ScansMissNone, ScansTellTexts, TurnsJudgeFewDocuments};
 
 /// A desk that keeps nothing yet stands for the history without events, so what is kept of a history can be met.
 pub fn new_desks_are_kept()
@@ -47,7 +47,18 @@ pub fn read_bits_tell_words()
     ensures { ReadBitsTellWords }
 {}
 
-/// A turn of a judge decides 32 documents at most, however few words it looks for in each.
+/// A scan for a search misses no document that the search keeps: what it may not keep by what was read, it doesn't keep.
+pub fn scans_miss_none()
+    ensures { ScansMissNone }
+{}
+
+/// What the documents of a scan's candidates are looked at for decides whether the search keeps them: the rest of the required words
+/// where bits tell that what else is asked keeps them, and both where they don't.
+pub fn scans_tell_texts()
+    ensures { ScansTellTexts }
+{}
+
+/// A turn decides 32 documents at most where each counts as 8 words at least, however few words are looked for in it.
 pub fn turns_judge_few_documents()
     ensures { TurnsJudgeFewDocuments }
 {}

@@ -17,7 +17,6 @@ mod entries;
 mod find_layouts;
 mod finding;
 mod journal;
-mod judging;
 pub mod laws;
 mod look;
 mod making;
@@ -30,11 +29,12 @@ mod slice_layouts;
 mod tuning;
 
 pub use answers::{
-    AddFault, ClearRefusal, CommitFault, DeleteFault, FindFault, JournalFault, Spent, Taken,
-    TakenMove, ToClear,
+    AddFault, ClearRefusal, CommitFault, DeleteFault, FindFault, JournalFault, NotTaken, Spent,
+    Taken, TakenMove, ToClear,
 };
 pub use desk::Desk;
 pub use find_layouts::{FindLayout, FindLayouts};
+pub use finding::Part;
 pub use look::{Look, Looks, OpenLook};
 pub use named::Named;
 pub use shared_layout::SharedLayout;

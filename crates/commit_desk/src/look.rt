@@ -34,7 +34,7 @@ impl Model for OpenLook {
 }
 
 /// The column that each pass's last look names, while that is open, so that passes move documents of different columns while there are
-/// some. Only `new` takes memory.
+/// some. Only `Desk::new` makes them, with their desk. They take no memory later.
 #[derive(Debug, Drop)]
 pub struct Looks {
     columns: Vec<Option<(u32, u32)>>,
@@ -49,8 +49,8 @@ impl Model for Looks {
 }
 
 impl Looks {
-    /// No look, of so many passes.
-    pub fn new(alloc: Global, passes: u32) -> Result<Looks, Memory>
+    // No look, of so many passes.
+    pub(crate) fn new(alloc: Global, passes: u32) -> Result<Looks, Memory>
         ensures { IfOk result (λ looks. looks ≡ replicate passes None) }
     {
         Ok(Looks {
@@ -81,6 +81,13 @@ impl Looks {
         ensures { self.new ≡ with_look self.old opened None }
     {
         let OpenLook { pass } = opened;
+        self.forget(pass);
+    }
+
+    // The pass names no column any more.
+    pub(crate) fn forget(&mut self, pass: u32)
+        ensures { self.new ≡ with_look self.old pass None }
+    {
         if let Some(column) = self.columns.get_mut(pass as usize) {
             *column = None;
         }

@@ -1,26 +1,27 @@
 //! Moves: documents go from the slice that holds the fewest to others, so that it retires.
-ghost use Rattle.std.specs.Prelude.{◌≡◌, ◌↔◌, ℕ, ◌+◌, ◌/◌, ◌<◌, [], ◌∷◌, All, IfOk, IfSome, IsTrue, None, cond, true, MatchOption};
+ghost use Rattle.std.specs.Prelude.{◌≡◌, ◌↔◌, ℕ, ◌<◌, [], ◌∷◌, All, IfOk, IfSome, IsTrue, None, cond, length, true, MatchOption};
 ghost use Rattle.funnel_model.specs.History.{Document};
 ghost use Rattle.funnel_model.specs.Legal.{IsIdle};
 ghost use Rattle.funnel_model.specs.declared.event.Event.TheVariants as event;
 ghost use Rattle.funnel_model.specs.Events.{deletes_or_drops};
 ghost use Rattle.funnel_model.specs.Reserve.{HasReadyColumns, HasSpareColumns, HoldsColumns, IsSource};
-ghost use Rattle.funnel_model.specs.Slices.{IsInState, Live};
+ghost use Rattle.funnel_model.specs.Slices.{IsInState, Live, claimed};
 ghost use Rattle.funnel_model.specs.Words.{AreWordsOf};
 ghost use Rattle.std.specs.List.{list_any};
+ghost use Rattle.std.specs.Option.{is_none};
 ghost use Rattle.slice_rule.specs.Seats.{HasNoneOutstanding, HoldsClaim, IsSeated};
 ghost use Rattle.commit_desk.specs.Desks.{IsCaughtUp, IsFresh, Makes};
 ghost use Rattle.commit_desk.specs.Passes.{HasWritten};
-ghost use Rattle.commit_desk.specs.Moving.{AnswersLook, AnswersTakeMove, ClaimsNoneFor, HoldsLook, MayClaimFor, HasLive, HasOneToMove, HasRoomToEmpty, IsLowestFree, LacksRoomToEmpty};
+ghost use Rattle.commit_desk.specs.Moving.{AnswersLook, AnswersTakeMove, HoldsLook, MayTakeFor, MayTakeNone, HasLive, HasOneToMove, HasRoomToEmpty, IsLowestFree, LacksRoomToEmpty};
 ghost use Rattle.commit_desk.specs.Moving.{IsLowestLiveOrNone, IsPartlyHeld, IsFreeToMove, IsNextToMove, IsThereStill, IsToBeEmptied};
-ghost use Rattle.commit_desk.specs.Moving.{document_of, is_fewer, event_of_move, events_of_take_move, looks_after, looks_after_take, with_look};
+ghost use Rattle.commit_desk.specs.Moving.{document_of, is_fewer, event_of_move, events_of_take_move, looks_after, looks_after_take, room_to_empty, with_look};
 
-use crate::answers::TakenMove;
+use crate::answers::{NotTaken, TakenMove};
 use crate::clearing::move_mark;
 use crate::desk::Desk;
 use crate::entries::Moves;
 use crate::look::{Look, Looks, OpenLook};
-use document_store::Column;
+use document_store::{Column, Doc};
 use funnel_model::{Claim, Event, Memory};
 use row_layout::Bits;
 use slice_rule::{PassSeat, Pool};
@@ -29,7 +30,8 @@ use std::alloc::Global;
 
 impl Desk {
     /// Looks at the next document that is to be moved before one with this number is added, where there is one. The look is
-    /// handed on to `take_move` and then to `end_move`, or spent by `Looks::end`. Its document is a copy, for which memory is taken.
+    /// handed on to `take_move` and then to `end_move`, or spent by `Looks::end`. Its document is a copy, for which memory is taken. What the
+    /// pass itself may have named before counts no more.
     pub fn look(
         &mut self,
         alloc: Global,
@@ -42,61 +44,61 @@ impl Desk {
         requires pool { pool.now ≡ self.old.pool }
         requires seat { IsSeated self.old.pool seat.old }
         requires idle { IsIdle seat.old.number seat.old.front }
-        ensures answer { AnswersLook reserve self.old.events_limit self.old.pool.limits looks.old self.old.history seat.old.number id result }
+        ensures answer { AnswersLook reserve self.old.events_limit self.old.pool.limits (with_look looks.old seat.old.number None) self.old.history
+            seat.old.number id result }
         ensures events { Makes [] self.old self.new seat.old seat.new }
-        ensures looks { looks.new ≡ looks_after looks.old result }
+        ensures looks { looks.new ≡ looks_after (with_look looks.old seat.old.number None) result }
         ensures look { IfOk result (λ found. IfSome found (HoldsLook seat.new)) }
         ensures none_outstanding { HasNoneOutstanding seat.new }
     {
         pool.catch_up(&mut self.home, seat);
+        let pass = seat.number();
+        looks.forget(pass);
         let Some(slice) = self.to_be_emptied(reserve, id) else {
             return Ok(None);
         };
         let column = self.next_to_move(looks, slice);
-        let look = self.look_at(alloc, seat.number(), slice, column)?;
+        let look = self.look_at(alloc, pass, slice, column)?;
         looks.name(&look);
         Ok(Some(look))
     }
 
-    /// Claims a column for the document that was looked at, and tells the layout of its slice. It looks again whether there is room for
-    /// all that is held of the document's slice, which other looks may have been given too. Where it claims none the look is over: so it
-    /// is also where the layout can't be shared.
+    /// Claims a column for the document that was looked at, and tells the layout of its slice. It looks again whether the document is there
+    /// still, which another pass may have moved, and whether there is room to empty its slice, which other looks may have been given too.
+    /// Where it claims none the look is over: so it is also where the layout can't be shared.
     pub fn take_move(
         &mut self,
         pool: &Pool,
         seat: &mut PassSeat,
         looks: &mut Looks,
         look: Look,
-    ) -> Result<Option<TakenMove>, Memory>
+    ) -> Result<TakenMove, NotTaken>
         requires pool { pool.now ≡ self.old.pool }
         requires seat { IsSeated self.old.pool seat.old }
         requires idle { IsIdle seat.old.number seat.old.front }
         ensures answer { AnswersTakeMove self.old.events_limit self.old.pool.limits self.old.history seat.old.number look result }
         ensures events { Makes (events_of_take_move seat.old.number result) self.old self.new seat.old seat.new }
         ensures looks { looks.new ≡ looks_after_take looks.old look result }
-        ensures fresh { IfOk result (λ found. IfSome found (λ taken. IsFresh taken.claim taken.layout seat.new)) }
+        ensures fresh { IfOk result (λ taken. IsFresh taken.claim taken.layout seat.new) }
         ensures none_outstanding { HasNoneOutstanding seat.new }
     {
         pool.catch_up(&mut self.home, seat);
-        let Some(slice) = self.slice_for_move(look.slice) else {
-            looks.end(look);
-            return Ok(None);
+        let Some(slice) = self.slice_for_move(&look) else {
+            return Err(NotTaken::NoColumn(looks.end(look)));
         };
         match self.claim_laid(pool, seat, slice) {
-            Ok((claim, layout)) => Ok(Some(TakenMove {
+            Ok((claim, layout)) => Ok(TakenMove {
                 claim,
                 look,
                 layout,
-            })),
-            Err(Memory) => {
-                looks.end(look);
-                Err(Memory)
-            }
+            }),
+            Err(Memory) => Err(NotTaken::Memory(looks.end(look))),
         }
     }
 
     /// Moves the document to the column that was claimed for it, all of whose bits the pass has set; or leaves the column void where
-    /// the document isn't any more where it was looked at. It takes no memory.
+    /// the document isn't any more where it was looked at, and hands the copy back, for its owner to drop where the desk is free. It takes
+    /// no memory.
     pub fn end_move(
         &mut self,
         pool: &Pool,
@@ -105,23 +107,24 @@ impl Desk {
         claim: Claim,
         look: Look,
         bits: &Bits,
-    ) -> bool
+    ) -> Option<Doc>
         requires pool { pool.now ≡ self.old.pool }
         requires look { HoldsLook seat.old look }
         requires written { HasWritten self.old.pool claim look.doc.words bits.now.bits seat.old }
-        ensures answer { IsTrue result ↔ IsThereStill self.old.history look }
-        ensures events { Makes (event_of_move seat.old.number look claim bits.now.bits result ∷ []) self.old self.new seat.old seat.new }
+        ensures answer { IsTrue (is_none result) ↔ IsThereStill self.old.history look }
+        ensures doc { IfSome result (λ doc. doc ≡ look.doc) }
+        ensures events { Makes (event_of_move seat.old.number look claim bits.now.bits (is_none result) ∷ []) self.old self.new seat.old seat.new }
         ensures looks { looks.new ≡ with_look looks.old look.opened None }
         ensures none_outstanding { HasNoneOutstanding seat.new }
     {
         pool.catch_up(&mut self.home, seat);
         if self.is_there_still(&look) {
             looks.close(self.make_move(pool, seat, claim, look, bits));
-            return true;
+            return None;
         }
-        looks.end(look);
+        let doc = looks.end(look);
         self.make_void(pool, seat, claim);
-        false
+        Some(doc)
     }
 
     // The slice out of which documents are to be moved before one with this number is added, where there is one.
@@ -137,38 +140,38 @@ impl Desk {
         let Some((slice, held)) = self.source() else {
             return None;
         };
-        if self.ready() < room_for(held) {
+        if self.ready() < room_to_empty(held) {
             return None;
         }
         Some(slice)
     }
 
-    // The slice of which a column is claimed for a document that is moved out of this one, where one is.
-    fn slice_for_move(&mut self, from: u32) -> Option<u32>
+    // The slice of which a column is claimed for the document that was looked at, where one is.
+    fn slice_for_move(&mut self, look: &Look) -> Option<u32>
         ensures answer { (pass : ℕ) → IsIdle pass self.old.history →
-            MatchOption result (ClaimsNoneFor self.old.events_limit self.old.pool.limits self.old.history pass from)
-            (MayClaimFor self.old.events_limit self.old.pool.limits self.old.history pass from) }
+            MatchOption result (MayTakeNone self.old.events_limit self.old.pool.limits self.old.history pass look.now)
+            (λ slice. MayTakeFor self.old.events_limit self.old.pool.limits self.old.history pass look.now slice (length (claimed slice self.old.history))) }
         ensures same { self.new ≡ self.old }
     {
-        if self.is_spent() {
+        if self.is_spent() || !self.is_there_still(look) {
             return None;
         }
         let Some(slice) = self.stages.with_room() else {
             return None;
         };
-        if slice == from || !self.has_room_to_empty(from) {
+        if slice == look.slice || !self.has_room_to_empty(look.slice) {
             return None;
         }
         Some(slice)
     }
 
-    // Whether the columns that are ready suffice for what is held of the slice, and for one more for each sixteen of them.
+    // Whether the ready columns suffice for emptying the slice.
     fn has_room_to_empty(&mut self, slice: u32) -> bool
         ensures room { cond result (HasRoomToEmpty self.old.pool.limits self.old.history slice) (LacksRoomToEmpty self.old.pool.limits self.old.history slice) }
         ensures same { self.new ≡ self.old }
     {
         let held = self.count_held(slice);
-        room_for(held) <= self.ready()
+        room_to_empty(held) <= self.ready()
     }
 
     // How many columns of the slice are held.
@@ -413,9 +416,9 @@ impl Desk {
     }
 }
 
-// How many columns have to be ready so that a slice of which so many are held may be emptied.
-fn room_for(held: u32) -> u64
-    ensures { result ≡ held + (held + 15) / 16 }
+// How many columns have to be ready so that a slice can be emptied of which so many are held.
+fn room_to_empty(held: u32) -> u64
+    ensures { result ≡ room_to_empty held }
 {
     held as u64 + held.div_ceil(16) as u64
 }

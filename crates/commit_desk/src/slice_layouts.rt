@@ -1,5 +1,5 @@
 //! The layouts of slices.
-ghost use Rattle.std.specs.Prelude.{◌≡◌, ℕ, ◌+◌, ◌^◌, ◌<◌, ◌≤◌, ◌↔◌, [], Some, None, length, slice_index_or, vec_capacity, Contains, IfOk, MatchOption};
+ghost use Rattle.std.specs.Prelude.{◌≡◌, ℕ, ◌+◌, ◌^◌, ◌<◌, ◌≤◌, [], Some, None, length, slice_index_or, vec_capacity, Contains, IfOk, MatchOption};
 ghost use Rattle.funnel_model.specs.declared.config.TheConstants.{MOST_SLICES};
 ghost use Rattle.row_layout.specs.Layouts.{LayoutId};
 ghost use Rattle.commit_desk.specs.declared.find_layouts.FindLayout.{FindLayout};
@@ -10,6 +10,7 @@ use crate::find_layouts::{FindLayout, FindLayouts};
 use crate::shared_layout::SharedLayout;
 use funnel_model::{Memory, SliceSet};
 use row_layout::Layout;
+use slice_stages::all_below;
 use std::alloc::Global;
 use std::marker::Model;
 use std::mem;
@@ -207,16 +208,4 @@ fn share_one(whole: &FindLayout, slices: &SliceSet, layouts: &mut FindLayouts) -
         layout,
         slices,
     })
-}
-
-// The set of so many slices.
-fn all_below(slices: u32) -> SliceSet
-    requires { slices ≤ MOST_SLICES }
-    ensures { (slice : ℕ) → Contains result slice ↔ (slice < slices) }
-{
-    let mut set = SliceSet::new();
-    for slice in 0..slices {
-        set.add(slice);
-    }
-    set
 }

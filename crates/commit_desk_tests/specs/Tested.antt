@@ -1,16 +1,15 @@
 -- What the tests keep of a pool and of its passes.
-use Rattle.std.specs.Prelude.{◌≡◌, ℕ, ◌+◌, ◌*◌, ◌≤◌, List, [], length, map, Contains}
+use Rattle.std.specs.Prelude.{◌≡◌, ℕ, ◌*◌, ◌≤◌, List, [], length, map, Contains}
 use Rattle.std.specs.List.{range_with_len}
 use Rattle.commit_desk.specs.Passes.{IsFinding}
 use Rattle.commit_desk.specs.declared.find_layouts.FindLayout.{FindLayout}
-use Rattle.commit_desk.specs.Resolving.{IsEntryOfFind, IsRestOf}
-use Rattle.commit_desk.specs.Scans.{WereScanned, token_of}
+use Rattle.commit_desk.specs.Resolving.{CanGoOn}
+use Rattle.commit_desk.specs.Scans.{AreOfToken}
 use Rattle.document_store.specs.Finding.{FoundState}
 use Rattle.funnel_model.specs.Configuration.{IsInRange}
 use Rattle.funnel_model.specs.declared.claim.Token.{Token}
 use Rattle.funnel_model.specs.declared.config.Config.{Config}
 use Rattle.funnel_model.specs.Sizes.{columns_of_slice}
-use Rattle.funnel_model.specs.Tokens.{HasToken}
 use Rattle.row_layout.specs.declared.row.TheConstants.{MOST_ROWS}
 use Rattle.row_layout.specs.DocumentBits.{BitsState}
 use Rattle.row_layout.specs.Layouts.{LayoutId, own_layout}
@@ -38,21 +37,21 @@ pub record IsDraft (words : List (List ℕ)) (bits : BitsState) : Type 0 where
   pub no_bits : bits.bits ≡ []
   pub room : MOST_ROWS * length words ≤ bits.room
 
--- the pass has a find open, of whose layouts this entry is one and those behind are others, and its query is empty
+-- each slice of the entry is one that the find may read
+abbrev pub AreSlicesOf : Token → FindLayout → Type 0
+AreSlicesOf token entry = (slice : ℕ) → Contains entry.slices slice → Contains token.slices slice
+
+-- the pass has a find open, of whose layouts this entry is one and those behind are others
 pub record IsFindingAll (pool : PoolId) (token : Token) (entry : FindLayout) (behind : List FindLayout) (seat : PassState) : Type 0 where
   pub finding : IsFinding pool token seat
-  pub of_token : IsEntryOfFind pool token entry seat
-  pub others : (other : FindLayout) → Contains behind other → IsEntryOfFind pool token other seat
-  pub query : (begun : HasToken seat.front seat.number token.opened_at) → begun.query ≡ []
+  pub of_token : AreSlicesOf token entry
+  pub others : (other : FindLayout) → Contains behind other → AreSlicesOf token other
 
--- A find of no words between its turns: all columns of the entry's slice are its candidates, and there is room for those that are left.
-pub record IsLookingAtAll (pool : PoolId) (token : Token) (entry : FindLayout) (behind : List FindLayout) (seat : PassState) (rest : List (List ℕ)) (columns : List (ℕ × ℕ))
-    (found : FoundState) (from : ℕ) : Type 0 where
+-- A find between its turns: columns that it may read are its candidates, and there is room for those that are left.
+pub record IsLookingAtAll (pool : PoolId) (token : Token) (entry : FindLayout) (behind : List FindLayout) (seat : PassState) (columns : List (ℕ × ℕ)) (found : FoundState) (from : ℕ) : Type 0 where
   pub all : IsFindingAll pool token entry behind seat
-  pub rest_of : (begun : HasToken seat.front seat.number token.opened_at) → IsRestOf entry.layout.config begun.query rest
-  pub scanned : WereScanned entry.layout.config seat (token_of entry.slices token) columns
-  pub within : from ≤ length columns
-  pub room : length columns ≤ found.room + from
+  pub of_token : AreOfToken pool.limits.columns token columns
+  pub can : CanGoOn columns found from
 
 -- the first columns of a slice
 unfoldable pub columns_up_to : ℕ → ℕ → List (ℕ × ℕ)

@@ -1,6 +1,6 @@
 //! A pass between its calls, and in the middle of each.
 use crate::draft::Draft;
-use commit_desk::{FindLayout, FindLayouts, SharedLayout, ToClear};
+use commit_desk::{FindLayout, FindLayouts, Look, SharedLayout, TakenMove, ToClear};
 use document_store::{Doc, Found};
 use funnel_model::{Candidates, Claim, Token, WordSet};
 use row_layout::Bits;
@@ -140,5 +140,45 @@ impl<N: PoolName> Model for Looking<N> {
 
     ghost view = { λ _. tt };
 
-    ghost invariant = { λ l. IsLookingAtAll N.pool l.token l.entry l.layouts.entries.items l.seat l.rest l.columns l.found l.from };
+    ghost invariant = { λ l. IsLookingAtAll N.pool l.token l.entry l.layouts.entries.items l.seat l.columns l.found l.from };
+}
+
+/// A pass that has looked at a document to move it, and room for its bits.
+pub(crate) struct Looked<N: PoolName> {
+    pub seat: PassSeat,
+    pub look: Look,
+    pub bits: Bits,
+    pub of: PhantomData<N>,
+}
+
+impl<N: PoolName> Model for Looked<N> {
+    ghost use Rattle.commit_desk.specs.Moving.{HoldsLook};
+    ghost use Rattle.commit_desk.specs.Passes.{IsResting};
+    ghost use Rattle.commit_desk_tests.specs.Tested.{IsDraft};
+
+    ghost Value = { Unit {0} };
+
+    ghost view = { λ _. tt };
+
+    ghost invariant = { λ l. IsResting N.pool l.seat × HoldsLook l.seat l.look × IsDraft l.look.doc.words l.bits };
+}
+
+/// A pass that has claimed a column for what it looked at.
+pub(crate) struct Moving<N: PoolName> {
+    pub seat: PassSeat,
+    pub taken: TakenMove,
+    pub bits: Bits,
+    pub of: PhantomData<N>,
+}
+
+impl<N: PoolName> Model for Moving<N> {
+    ghost use Rattle.commit_desk.specs.Moving.{HoldsLook};
+    ghost use Rattle.commit_desk.specs.Passes.{IsToWrite};
+    ghost use Rattle.commit_desk_tests.specs.Tested.{IsDraft};
+
+    ghost Value = { Unit {0} };
+
+    ghost view = { λ _. tt };
+
+    ghost invariant = { λ m. IsToWrite N.pool m.taken.claim m.taken.layout m.seat × HoldsLook m.seat m.taken.look × IsDraft m.taken.look.doc.words m.bits };
 }

@@ -1,16 +1,20 @@
 //! The calls of the desk, each by a pass that may make it.
+ghost use Rattle.std.specs.Prelude.{◌≡◌};
+ghost use Rattle.commit_desk.specs.Passes.{HasWritten, IsToWrite};
+ghost use Rattle.commit_desk_tests.specs.Tested.{IsDraft};
+
 use crate::caller::{Caller, Claiming, Clearing, Finding, Reusing, Written};
 use crate::draft::Draft;
 use crate::setting::Setting;
 use column_writer::write_column;
 use commit_desk::{
-    AddFault, ClearRefusal, CommitFault, DeleteFault, FindFault, FindLayouts, JournalFault, Spent,
-    Taken, ToClear,
+    AddFault, ClearRefusal, CommitFault, DeleteFault, FindFault, FindLayouts, JournalFault,
+    SharedLayout, Spent, Taken, ToClear,
 };
-use funnel_model::Commits;
-use row_layout::fill_bits;
+use funnel_model::{Claim, Commits, WordSet};
+use row_layout::{Bits, fill_bits};
 use slice_recycler::clear_slice;
-use slice_rule::PoolName;
+use slice_rule::{PassSeat, PoolName};
 
 impl<N: PoolName> Setting<N> {
     pub fn delete(&mut self, caller: &mut Caller<N>, id: u64) -> Result<u64, DeleteFault> {
@@ -114,14 +118,7 @@ impl<N: PoolName> Setting<N> {
             cleared: _,
         } = claiming;
         let Draft { doc, mut bits, of } = draft;
-        fill_bits(
-            layout.layout(),
-            doc.words(),
-            claim.slice,
-            claim.column,
-            &mut bits,
-        );
-        write_column(&self.pool, &mut seat, &claim, &bits);
+        self.set_bits(&mut seat, &claim, &layout, doc.words(), &mut bits);
         Written {
             seat,
             claim,
@@ -129,6 +126,25 @@ impl<N: PoolName> Setting<N> {
             bits,
             of,
         }
+    }
+
+    /// Sets the bits of a document with these words in a column that the pass has claimed.
+    pub fn set_bits(
+        &self,
+        seat: &mut PassSeat,
+        claim: &Claim,
+        layout: &SharedLayout,
+        words: &WordSet,
+        bits: &mut Bits,
+    )
+        requires claimed { IsToWrite N.pool claim.now layout.now seat.old }
+        requires draft { IsDraft words.now bits.old }
+        ensures written { HasWritten N.pool claim.now words.now bits.new.bits seat.new }
+        ensures seat { seat.new ≡ record seat.old { own = seat.new.own } }
+    {
+        let _ = &self.pool;
+        fill_bits(layout.layout(), words, claim.slice, claim.column, bits);
+        write_column(&self.pool, seat, claim, bits);
     }
 
     /// Commits the document, or drops it.

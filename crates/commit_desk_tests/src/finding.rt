@@ -1,12 +1,12 @@
 //! Finds and their ends.
-ghost use Rattle.std.specs.Prelude.{◌≡◌, ◌≤◌, [], IfOk, length};
+ghost use Rattle.std.specs.Prelude.{◌≡◌, ◌≤◌, IfOk, length};
 ghost use Rattle.commit_desk_tests.specs.Tested.{columns_up_to};
 ghost use Rattle.funnel_model.specs.Sizes.{columns_of_slice};
 
 use crate::adding::Added;
 use crate::caller::{Caller, Finding, Looking};
 use crate::setting::{Case, Setting, Two, run, run_wide};
-use commit_desk::{DeleteFault, Spent};
+use commit_desk::{DeleteFault, Part, Spent};
 use document_store::Found;
 use funnel_model::{Candidates, Memory, WordSet};
 use row_layout::Layout;
@@ -57,7 +57,6 @@ fn candidates(
     layout: &Layout,
     slice: u32,
 ) -> Result<(WordSet, Candidates, Found), Fail>
-    ensures rest { IfOk result (λ made. made.0 ≡ []) }
     ensures columns { IfOk result (λ made. made.1 ≡ columns_up_to slice (columns_of_slice layout.now.config)) }
     ensures room { IfOk result (λ made. length made.1 ≤ made.2.room) }
 {
@@ -127,14 +126,6 @@ impl<N: PoolName> Setting<N> {
             let _ = self.drop_find(finding);
             return Err(Fail::new("a slice that it may read"));
         };
-        if 1 < slice {
-            let _ = self.drop_find(finding);
-            return Err(Fail::new("a slice of two"));
-        }
-        if finding.entry.slices.has(slice + 1) {
-            let _ = self.drop_find(finding);
-            return Err(Fail::new("one slice of an entry"));
-        }
         match candidates(self.alloc, &self.layout, slice) {
             Ok((rest, columns, found)) => {
                 let Finding {
@@ -176,9 +167,14 @@ impl<N: PoolName> Setting<N> {
             from,
             of,
         } = looking;
-        let from = self.desk.resolve_part(
-            &self.pool, &mut seat, &token, &entry, &columns, from, &rest, &mut found,
-        );
+        let part = Part {
+            candidates: &columns,
+            from,
+            judge: &rest,
+        };
+        let from = self
+            .desk
+            .resolve_part(&self.pool, &mut seat, &token, part, &mut found);
         let next = Looking {
             seat,
             token,

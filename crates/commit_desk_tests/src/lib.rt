@@ -16,6 +16,8 @@ mod filling;
 #[cfg(test)]
 mod finding;
 #[cfg(test)]
+mod moving;
+#[cfg(test)]
 mod setting;
 #[cfg(test)]
 mod tuning;

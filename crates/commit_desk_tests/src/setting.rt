@@ -5,7 +5,7 @@ ghost use Rattle.commit_desk_tests.specs.Tested.{IsLayoutOfPool};
 ghost use Rattle.funnel_model.specs.Configuration.{IsInRange};
 
 use crate::caller::Caller;
-use commit_desk::Desk;
+use commit_desk::{Desk, Looks};
 use funnel_model::{Commits, Config, Listed};
 use row_layout::Layout;
 use slice_rule::{PassSeat, Pool, PoolName};
@@ -32,6 +32,7 @@ pub(crate) struct Setting<N: PoolName> {
     pub layout: Layout,
     pub pool: Pool,
     pub desk: Desk,
+    pub looks: Looks,
     pub of: PhantomData<N>,
 }
 
@@ -135,8 +136,8 @@ fn run_sized<C: Case, R: Abort>(
     let second = passes.pop().expect(rt, "two passes");
     let first = passes.pop().expect(rt, "two passes");
     let own = Layout::new(alloc, &config)?;
-    let desk = Desk::new(alloc, &config, home, events_limit, own).expect(rt, "a desk");
-    run_named::<C, Brand>(alloc, config, layout, pool, desk, first, second)
+    let made = Desk::new(alloc, &config, home, events_limit, own).expect(rt, "a desk");
+    run_named::<C, Brand>(alloc, config, layout, pool, made, (first, second))
 }
 
 fn run_named<C: Case, N: PoolName>(
@@ -144,25 +145,27 @@ fn run_named<C: Case, N: PoolName>(
     base: Config,
     layout: Layout,
     pool: Pool,
-    desk: Desk,
-    first: PassSeat,
-    second: PassSeat,
+    made: (Desk, Looks),
+    seats: (PassSeat, PassSeat),
 ) -> Result<(C::Seen, Commits), Fail>
     requires named { pool ≡ N.pool }
     requires laid { IsLayoutOfPool layout pool }
-    requires desk { desk.pool ≡ pool }
+    requires desk { made.0.pool ≡ pool }
     requires base { base ≡ pool.config }
     requires in_range { IsInRange base }
-    requires first { IsResting pool first }
-    requires second { IsResting pool second }
+    requires first { IsResting pool seats.0 }
+    requires second { IsResting pool seats.1 }
 {
     let of = PhantomData::<N>;
+    let (desk, looks) = made;
+    let (first, second) = seats;
     let mut setting = Setting {
         alloc,
         base,
         layout,
         pool,
         desk,
+        looks,
         of,
     };
     let first = Caller { seat: first, of };

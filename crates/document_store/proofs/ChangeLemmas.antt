@@ -5,11 +5,12 @@ use Rattle.std.proofs.lemmas.List.Elements.{All-replicate}
 use Rattle.std.specs.List.{All, flat_map}
 use Rattle.std.specs.Option.{is_none}
 use Rattle.std.specs.Prelude.{slice_index}
-use Rattle.document_store.specs.Slots.{AreHeld, HasDocRightly, IsTable, Table, free_slot, is_out, is_over, shown, slot_at, table_of, with_slice, with_slot, without_slice}
+use Rattle.document_store.specs.Slots.{AreHeld, ComesPastOver, HasDocRightly, IsColumn, IsTable, Table, free_slot, is_out, is_over, shown, slot_at, slots_of, table_of, with_slice, with_slot, without_slice}
 use Rattle.document_store.specs.declared.column.Column.TheVariants as became
 use Rattle.document_store.specs.declared.slots.Slot.{Slot}
-use Rattle.document_store.proofs.HeldLemmas.{every_slot, free-all, held-back, held-new, held-none, held-set, held-there, none-out, slot_at-held, slot_at-there, table-back, table-out, table-set, there-by}
-use Rattle.document_store.proofs.TableLemmas.{table-with_slice, table-with_slot, table-without_slice}
+use Rattle.document_store.proofs.HeldLemmas.{every_slot, free-all, held-back, held-long, held-new, held-none, held-set, held-there, none-out, slot_at-held, slot_at-there, slots_of-held, table-back, table-out, table-set, there-by}
+use Rattle.document_store.proofs.PassedLemmas.{passed-none}
+use Rattle.document_store.proofs.TableLemmas.{pending_has_none, slot_fits, table-end, table-with_slice, table-with_slot, table-without_slice}
 
 -- what the code read of a slice
 read : (held : List (Option (List Slot))) (slice : ℕ) (x o : Option (List Slot)) → x ≡ get_or held slice x → x ≡ o → slice < length held → get_or held slice None ≡ o
@@ -88,6 +89,13 @@ module _ (slices columns : ℕ) (held : List (Option (List Slot))) (first_over :
         (there-by slices columns held kept.0 slice column slice_within column_within
         (subst (λ (t : Table). (slot_at t slice column).column ≡ became.Free → is_out t slice ≡ false) (sym view) unless))
 
+    -- a pending column has no document
+    pub no_doc : (pass : ℕ) × ((slot_at now slice column).column ≡ became.Pending pass) → (slot_at now slice column).doc ≡ None
+    no_doc pending =
+        pending_has_none (slot_at now slice column) pending.0
+        (subst (λ (t : Table). HasDocRightly (slot_at t slice column)) view (slot_fits before first_over slice column kept.1 (record { slice_in_range = slice_within; column_in_range = column_within })))
+        pending.1
+
     -- a column has another slot
     module _ (slots : List Slot) (has : get_or held slice None ≡ Some slots) where
       pub slot-read : slot_at now slice column ≡ get_or slots column free_slot
@@ -96,12 +104,37 @@ module _ (slices columns : ℕ) (held : List (Option (List Slot))) (first_over :
       pub view-set : (slot : Slot) → table_of slices columns (set held slice (Some (set slots column slot))) ≡ with_slot now slice column slot
       view-set slot = table-set slices columns held kept.0 slice column slots slot slice_within column_within has ∙ ap (λ (t : Table). with_slot t slice column slot) view
 
-      pub kept-set : (slot : Slot) → is_over (slot_at now slice column) ≡ false → HasDocRightly slot → AreKept slices columns (set held slice (Some (set slots column slot))) first_over free
-      kept-set slot not_over fits = (
+      here : IsColumn before slice column
+      here = record { slice_in_range = slice_within; column_in_range = column_within }
+
+      pub kept-set : (slot : Slot) → is_over (slot_at now slice column) ≡ false → is_over slot ≡ false → HasDocRightly slot →
+          AreKept slices columns (set held slice (Some (set slots column slot))) first_over free
+      kept-set slot not_over still fits = (
         held-set slices columns held kept.0 slice column slots slot slice_within has,
         subst (λ (t : Table). IsTable t first_over) (sym (table-set slices columns held kept.0 slice column slots slot slice_within column_within has))
-            (table-with_slot before first_over slice column slot kept.1 (record { slice_in_range = slice_within; column_in_range = column_within })
-            (subst (λ (t : Table). is_over (slot_at t slice column) ≡ false) (sym view) not_over) fits),
+            (table-with_slot before first_over slice column slot kept.1 here (subst (λ (t : Table). is_over (slot_at t slice column) ≡ false) (sym view) not_over) still fits),
+        kept.2,
+      )
+
+      -- the slots of the slice
+      own_slots : slots_of before slice ≡ slots
+      own_slots = slots_of-held slices columns held kept.0 slice slice_within ∙ ap (shown columns) has
+
+      -- as many as there are columns
+      pub slots_long : length slots ≡ columns
+      slots_long = held-long slices columns held kept.0 slice slots slice_within has
+
+      -- so many of them are over first
+      pub passed-held : ComesPastOver slots 0 (slice_index first_over slice)
+      passed-held = subst (λ xs. ComesPastOver xs 0 (slice_index first_over slice)) own_slots (kept.1.passed slice slice_within)
+
+      pub kept-end : (slot : Slot) (first : ℕ) → is_over (slot_at now slice column) ≡ false → HasDocRightly slot → ComesPastOver (set slots column slot) (slice_index first_over slice) first →
+          AreKept slices columns (set held slice (Some (set slots column slot))) (set first_over slice first) free
+      kept-end slot first not_over fits goes_on = (
+        held-set slices columns held kept.0 slice column slots slot slice_within has,
+        subst (λ (t : Table). IsTable t (set first_over slice first)) (sym (table-set slices columns held kept.0 slice column slots slot slice_within column_within has))
+            (table-end before first_over slice column slot kept.1 here (subst (λ (t : Table). is_over (slot_at t slice column) ≡ false) (sym view) not_over) first fits
+            (subst (λ xs. ComesPastOver (set xs column slot) (slice_index first_over slice) first) (sym own_slots) goes_on)),
         kept.2,
       )
 
@@ -121,9 +154,13 @@ module _ (slices columns : ℕ) (held : List (Option (List Slot))) (is : held �
           every_column = every_slot slices columns held are;
           docs = subst (All HasDocRightly) (sym slots-new) (All-replicate HasDocRightly (slices * columns) free_slot refl);
           every_slice = ap length none ∙ length-replicate slices 0;
-          over = λ slice at here below.
-              let zero : slice_index first_over slice ≡ 0 = ap (λ (xs : List ℕ). slice_index xs slice) none ∙ get_or-replicate slices slice 0 0 here.slice_in_range in
-              absurd (omega (arith, below, zero));
+          passed = λ slice here.
+              let zero : slice_index first_over slice ≡ 0 = ap (λ (xs : List ℕ). slice_index xs slice) none ∙ get_or-replicate slices slice 0 0 here in
+              let own : slots_of (table_of slices columns held) slice ≡ replicate columns free_slot =
+              slots_of-held slices columns held are slice here
+              ∙ ap (λ (hs : List (Option (List Slot))). shown columns (get_or hs slice None)) is
+              ∙ ap (shown columns) (get_or-replicate slices slice (Some (replicate columns free_slot)) None here) in
+              subst (λ n. ComesPastOver (slots_of (table_of slices columns held) slice) 0 n) (sym zero) (subst (λ xs. ComesPastOver xs 0 0) (sym own) (passed-none columns));
         },
         free_is,
       )

@@ -1,11 +1,11 @@
 -- The slots of all slices, by those that are held slice by slice.
 use Rattle.std.proofs.Common.{◌≡◌, ℕ, zero, suc, ◌+◌, ◌*◌, ◌-◌, ◌<◌, Bool, true, false, List, [], ◌∷◌, ◌++◌, length, get_or, set, take, drop, map, replicate, Option, Some, None, refl, sym, ap, ◌∙◌, subst, arith, append_assoc, length-append}
-use Rattle.std.proofs.lemmas.List.{drop-drop, drop_at, get_or-append_right, get_or_append_left, get_or-map, get_or-replicate, length-set, length-replicate, map-set, replicate-append-replicate, set-append_left, set-append_right, set-get_or}
+use Rattle.std.proofs.lemmas.List.{drop-drop, drop_at, get_or-append_right, get_or_append_left, get_or-map, get_or-replicate, length-set, length-replicate, map-set, replicate-append-replicate, set-append_left, set-append_right, set-get_or, take_at}
 use Rattle.std.proofs.lemmas.List.Elements.{All-get_or, All-head, All-replicate, All-set, All-tail}
 use Rattle.std.proofs.lemmas.Bool.{both_ways, false_from_ne_true}
 use Rattle.std.specs.List.{All, flat_map}
 use Rattle.std.specs.Option.{is_none}
-use Rattle.document_store.specs.Slots.{AreHeld, Table, free_slot, is_out, shown, slot_at, table_of, with_slice, with_slot, without_slice}
+use Rattle.document_store.specs.Slots.{AreHeld, Table, free_slot, is_out, shown, slot_at, slots_of, table_of, with_slice, with_slot, without_slice}
 use Rattle.document_store.specs.declared.column.Column.TheVariants as became
 use Rattle.document_store.specs.declared.slots.Slot.{Slot}
 
@@ -93,6 +93,16 @@ module _ (n : ℕ) where
       ∙ ap (λ zs. zs ++ rest) taken
       ∙ ap (λ zs. take (suc s * n) front ++ (shown n h ++ zs)) left
 
+  -- the slots of one slice
+  pub of-all : (held : List (Option (List Slot))) (s : ℕ) → Even held → s < length held → take n (drop (s * n) (all held)) ≡ shown n (get_or held s None)
+  of-all [] s even in' = absurd (omega (arith, in'))
+  of-all (x ∷ held) zero even in' =
+      ap (λ i. take n (drop i (shown n x ++ all held))) (let e : zero * n ≡ 0 = omega arith in e) ∙ take_at (shown n x) (all held) n (All-head IsEven x held even)
+  of-all (x ∷ held) (suc s) even in' =
+      ap (λ i. take n (drop i (shown n x ++ all held))) (let e : suc s * n ≡ n + s * n = omega arith in e)
+      ∙ ap (take n) (drop_past (shown n x) (all held) n (s * n) (All-head IsEven x held even))
+      ∙ of-all held s (All-tail IsEven x held even) (omega (arith, in'))
+
   -- the same slots, held otherwise
   pub same-all : (held : List (Option (List Slot))) (s : ℕ) (h : Option (List Slot)) → s < length held → shown n h ≡ shown n (get_or held s None) → all (set held s h) ≡ all held
   same-all [] s h in' same = absurd (omega (arith, in'))
@@ -147,6 +157,10 @@ module _ (slices columns : ℕ) (held : List (Option (List Slot))) (are : AreHel
   there-by slice column in' low unless =
       false_from_ne_true (is_out table slice)
       (λ out. both_ways (is_out table slice) (unless (ap (λ (slot : Slot). slot.column) (slot_at-out slice column in' low (held-out slice in' out)))) out)
+
+  -- the slots of a slice are those that are held for it
+  pub slots_of-held : (slice : ℕ) → slice < slices → slots_of table slice ≡ shown columns (get_or held slice None)
+  slots_of-held slice in' = of-all columns held slice are.every_column (let h = are.every_slice in omega (arith, in', h))
 
   pub every_slot : length table.slots ≡ slices * columns
   every_slot = length-all columns held are.every_column ∙ ap (λ n. n * columns) are.every_slice

@@ -6,6 +6,7 @@ pub mod WordSets
 pub mod EntryLemmas
 pub mod TreeLemmas
 pub mod ColumnLemmas
+pub mod PassedLemmas
 pub mod RemovalLemmas
 pub mod TableLemmas
 pub mod HeldLemmas

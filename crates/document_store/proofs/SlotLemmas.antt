@@ -1,11 +1,11 @@
 -- What is kept of a column after a change, and the slots of a slice.
-use Rattle.std.proofs.Common.{◌≡◌, ◌≢◌, ℕ, ◌+◌, ◌*◌, ◌-◌, ◌<◌, ◌≤◌, List, ◌++◌, length, get_or, set, take, drop, replicate, sym, ap, ◌∙◌, ⊎_elim, arith}
+use Rattle.std.proofs.Common.{◌≡◌, ◌≢◌, ℕ, ◌+◌, ◌*◌, ◌-◌, ◌<◌, ◌≤◌, true, List, ◌++◌, length, get_or, set, take, drop, replicate, sym, ap, ◌∙◌, ⊎_elim, arith}
 use Rattle.std.proofs.Math.Nat.{mul-le-mul_left}
 use Rattle.std.proofs.Math.Seq.{take-set-lt}
 use Rattle.std.proofs.lemmas.Bool.{cases_lt}
 use Rattle.std.proofs.lemmas.List.{append_assoc, drop-drop, drop-set-add, drop-set-lt, drop-take, drop_at, get_or-drop, get_or-replicate, get_or-set_other, get_or-set_same, get_or-take, length-append, length-drop, length-replicate, length-set, length-take, length-take-le, take-set-le, take-take, take_at}
 use Rattle.std.proofs.lemmas.Nat.{mul-add-lt}
-use Rattle.document_store.specs.Slots.{IsColumn, Table, free_slot, slot_at, slots_of, without_slice, with_slot}
+use Rattle.document_store.specs.Slots.{ComesPastOver, IsColumn, Table, free_slot, is_over, slot_at, slots_of, without_slice, with_slot}
 use Rattle.document_store.specs.declared.slots.Slot.{Slot}
 
 -- where each slice has its slots, a column of the table has one
@@ -51,6 +51,10 @@ slot_at-with_slot_other table slice at other place slot low high differ =
 pub slot_at-slots_of : (table : Table) (slice at : ℕ) → at < table.columns → slot_at table slice at ≡ get_or (slots_of table slice) at free_slot
 slot_at-slots_of table slice at low =
     sym (get_or-take table.columns (drop (slice * table.columns) table.slots) at free_slot low ∙ get_or-drop (slice * table.columns) table.slots at free_slot)
+
+-- where one comes past the first slots of a slice, their columns are over
+pub column_is_over : (table : Table) (slice first at : ℕ) → ComesPastOver (slots_of table slice) 0 first → IsColumn table slice at → at < first → is_over (slot_at table slice at) ≡ true
+column_is_over table slice first at is in' below = ap is_over (slot_at-slots_of table slice at in'.column_in_range) ∙ is.over at (omega arith) below
 
 -- a slice has as many slots as columns
 pub length-slots_of : (table : Table) (slice : ℕ) → slice < table.slices → length table.slots ≡ table.slices * table.columns →

@@ -1,5 +1,5 @@
 -- What a find makes of its candidates.
-use Rattle.std.specs.Prelude.{ℕ, ◌+◌, ◌<◌, ◌≤◌, Bool, ◌&&◌, nat_lt, if◌then◌else◌, List, length, max, sum_by, Option, Some, None}
+use Rattle.std.specs.Prelude.{ℕ, ◌+◌, ◌<◌, ◌≤◌, Bool, ◌&&◌, nat_lt, if◌then◌else◌, List, length, sum_by, Option, Some, None}
 use Rattle.std.specs.List.{list_all, slice_range}
 use Rattle.std.specs.Option.{option_and_then, option_map_or}
 use Rattle.std.specs.Ordering.{nat_cmp, ordering_then}
@@ -10,7 +10,6 @@ use Rattle.document_store.specs.declared.column.Column.{Column}
 use Rattle.document_store.specs.declared.column.Column.TheVariants as column
 use Rattle.document_store.specs.declared.slots.Slot.{Slot}
 use Rattle.funnel_model.specs.Words.{has_word}
-use Rattle.document_store.specs.declared.judging.TheConstants.{LEAST_COST}
 use Rattle.document_store.specs.declared.resolving.TheConstants.{MOST_LOOK_UPS, MOST_LOOKED_FOR}
 
 -- the place of the add, and the document's number; and the room that is left for more
@@ -47,10 +46,6 @@ looked_in slot cost number = option_map_or (λ (place : ℕ). option_map_or (λ 
 -- and in a candidate's
 abbrev pub looked_at : Table → ℕ → ℕ → ℕ × ℕ → ℕ
 looked_at table cost number candidate = looked_in (slot_at table candidate.0 candidate.1) cost number
-
--- a document that a judge decides counts as many words as the judge looks for in it, and 8 at least
-abbrev pub judged_cost : ℕ → ℕ
-judged_cost cost = max cost LEAST_COST
 
 -- A turn of a find, from the candidate with this number up to another, where so many words are looked for in each. It comes one further at
 -- least where there are more, and not past the last. It looks up no more than it may, and before its last candidate it hasn't looked for as

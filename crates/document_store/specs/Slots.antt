@@ -1,5 +1,5 @@
 -- What is kept of each column of each slice.
-use Rattle.std.specs.Prelude.{ℕ, ◌+◌, ◌*◌, ◌<◌, ◌≡◌, ⊤, Bool, true, false, List, ◌++◌, length, take, drop, replicate, map, slice_set, slice_index, slice_index_or, Option, None, Some}
+use Rattle.std.specs.Prelude.{ℕ, ◌+◌, ◌*◌, ◌<◌, ◌≤◌, ◌≡◌, ⊤, Bool, true, false, List, ◌++◌, length, take, drop, replicate, map, slice_set, slice_index, slice_index_or, Option, None, Some}
 use Rattle.std.specs.List.{All, flat_map}
 use Rattle.std.specs.Option.{is_none}
 use Rattle.document_store.specs.Documents.{Parts}
@@ -76,12 +76,19 @@ is_over_in _ = false
 abbrev pub is_over : Slot → Bool
 is_over slot = is_over_in slot.column
 
--- each column has its slot, each slot's document fits, and so many of the first columns of each slice as it is told are over
+-- from one slot on up to another each is over, and that one isn't, unless it stands past the last
+pub record ComesPastOver (slots : List Slot) (from to : ℕ) : Type 0 where
+  pub onward : from ≤ to
+  pub within : to ≤ length slots
+  pub over : (at : ℕ) → from ≤ at → at < to → is_over (slice_index_or slots at free_slot) ≡ true
+  pub next : to < length slots → is_over (slice_index_or slots to free_slot) ≡ false
+
+-- each column has its slot, each slot's document fits, and of each slice it is known how many of its first columns are over
 pub record IsTable (table : Table) (first_over : List ℕ) : Type 0 where
   pub every_column : length table.slots ≡ table.slices * table.columns
   pub docs : All HasDocRightly table.slots
   pub every_slice : length first_over ≡ table.slices
-  pub over : (slice at : ℕ) → IsColumn table slice at → at < slice_index first_over slice → is_over (slot_at table slice at) ≡ true
+  pub passed : (slice : ℕ) → slice < table.slices → ComesPastOver (slots_of table slice) 0 (slice_index first_over slice)
 
 -- the slots of a slice, by those that are held for it: where they were taken out, all are free
 abbrev pub shown : ℕ → Option (List Slot) → List Slot

@@ -3,7 +3,7 @@ ghost use Rattle.std.specs.Prelude.{◌≡◌, ℕ, Bool, List};
 use crate::doc::{Doc, verify};
 use funnel_model::WordSet;
 
-/// A document that a judge decides counts as so many words at least that a find looks for, so that a turn has 32 of them at most.
+/// Where a document is looked at for more than words, it counts as so many words at least, so that a turn has 32 of them at most.
 pub const LEAST_COST: usize = 8;
 
 /// Decides by their texts which documents a find keeps. It is asked under the lock of the engine, for which others wait meanwhile, and

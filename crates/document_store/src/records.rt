@@ -1,7 +1,7 @@
 ghost use Rattle.std.specs.Prelude.{◌≡◌, ◌↔◌, ℕ, ◌*◌, ◌<◌, length, replicate, false, true, IfOk, IsSome};
 ghost use Rattle.std.specs.declared.option.Option.TheVariants.{Some, None};
 ghost use Rattle.std.specs.Option.{option_map};
-ghost use Rattle.document_store.specs.Slots.{FitsColumn, HasDocRightly, IsColumn, KeepsDoc, free_slot, is_out, is_over, slot_at};
+ghost use Rattle.document_store.specs.Slots.{ComesPastOver, FitsColumn, HasDocRightly, IsColumn, KeepsDoc, free_slot, is_out, is_over, slot_at, slots_of};
 ghost use Rattle.document_store.specs.Slots.{with_slice, with_slot, without_slice};
 ghost use Rattle.document_store.specs.declared.column.Column.TheVariants.{Dropped, Free, Live, Over, Pending};
 
@@ -20,7 +20,7 @@ pub struct Records {
     columns: u32,
     // The slots of each slice, or none where they were taken out.
     held: Vec<Option<Slots>>,
-    // So many of the first columns of each slice are known to be over.
+    // How many of the first columns of each slice are over.
     first_over: Vec<u32>,
     // What is kept of each column of a slice whose slots were taken out.
     free: Slot,
@@ -93,35 +93,12 @@ impl Records {
         }
     }
 
-    /// So many of the slice's first columns are over: as many as there are, though no contract says that.
+    /// How many of the slice's first columns are over, before the first that isn't.
     pub fn first_over(&self, slice: u32) -> u32
         requires { slice < self.now.slices }
-        ensures { (column : ℕ) → IsColumn self.now slice column → column < result → is_over (slot_at self.now slice column) ≡ true }
+        ensures { ComesPastOver (slots_of self.now slice) 0 result }
     {
         self.first_over[slice as usize]
-    }
-
-    // Comes past the slice's first columns that are over. Each column is passed once, until the slice is made free.
-    fn pass_over(&mut self, slice: u32)
-        requires { slice < self.old.slices }
-        ensures { self.new ≡ self.old }
-    {
-        let mut column = self.first_over[slice as usize];
-        while column < self.columns && self.is_over(slice, column) {
-            column += 1;
-        }
-        self.first_over[slice as usize] = column;
-    }
-
-    // Whether the column is over.
-    fn is_over(&self, slice: u32, column: u32) -> bool
-        requires { IsColumn self.now slice column }
-        ensures { result ≡ is_over (slot_at self.now slice column) }
-    {
-        matches!(
-            self.state(slice, column),
-            Column::Over { .. } | Column::Dropped
-        )
     }
 
     /// A pass claims a free column of a slice whose slots are there.
@@ -157,12 +134,8 @@ impl Records {
         requires pending { (pass : ℕ) × ((slot_at self.old slice column).column ≡ Pending pass) }
         ensures { self.new ≡ with_slot self.old slice column (record { column = Dropped; doc = None }) }
     {
-        let slot = Slot {
-            column: Column::Dropped,
-            doc: None,
-        };
-        self.set(slice, column, slot);
-        self.pass_over(slice);
+        let _ = &self.held;
+        self.end(slice, column, Column::Dropped);
     }
 
     /// The event with this number takes the document off a live column, which keeps it: finds that began before still see it.
@@ -175,7 +148,7 @@ impl Records {
         let Column::Live { place, since } = self.state(slice, column) else {
             unreachable!()
         };
-        self.set_column(
+        self.end(
             slice,
             column,
             Column::Over {
@@ -184,14 +157,14 @@ impl Records {
                 until,
             },
         );
-        self.pass_over(slice);
     }
 
-    // Makes this what is kept of a column that is not over. Where it is free, its slice's slots are there.
+    // Makes this what is kept of a column that is not over, before and after. Where it is free, its slice's slots are there.
     fn set(&mut self, slice: u32, column: u32, slot: Slot)
         requires in_range { IsColumn self.old slice column }
         requires there { (slot_at self.old slice column).column ≡ Free → is_out self.old slice ≡ false }
         requires not_over { is_over (slot_at self.old slice column) ≡ false }
+        requires still { is_over slot ≡ false }
         requires fits { HasDocRightly slot }
         ensures { self.new ≡ with_slot self.old slice column slot }
     {
@@ -201,8 +174,9 @@ impl Records {
         slots.set(column, slot);
     }
 
-    // Says what became of a column that is not over, whose document stays. Where it is free, its slice's slots are there.
-    fn set_column(&mut self, slice: u32, column: u32, became: Column)
+    // Says what became of a column that is over from now on, whose document stays, and comes past the slice's first columns that are over:
+    // each is passed once, until the slots are taken out. Where the column is free, its slice's slots are there.
+    fn end(&mut self, slice: u32, column: u32, became: Column)
         requires in_range { IsColumn self.old slice column }
         requires there { (slot_at self.old slice column).column ≡ Free → is_out self.old slice ≡ false }
         requires not_over { is_over (slot_at self.old slice column) ≡ false }
@@ -213,6 +187,8 @@ impl Records {
             unreachable!()
         };
         slots.set_column(column, became);
+        let first_over = &mut self.first_over[slice as usize];
+        *first_over = slots.past_over(*first_over, self.columns);
     }
 
     /// Takes the slots of a slice out, with its documents: all its columns are free from then on, and none of them is claimed

@@ -1,6 +1,6 @@
 //! The slots of a slice: in the records, and outside of them while the slice is cleared.
-ghost use Rattle.std.specs.Prelude.{◌≡◌, ◌<◌, length, replicate, slice_index_or, slice_set, IfOk};
-ghost use Rattle.document_store.specs.Slots.{free_slot};
+ghost use Rattle.std.specs.Prelude.{◌≡◌, ◌<◌, ◌≤◌, length, replicate, slice_index_or, slice_set, IfOk};
+ghost use Rattle.document_store.specs.Slots.{ComesPastOver, free_slot, is_over};
 
 use crate::column::Column;
 use crate::doc::Doc;
@@ -24,6 +24,13 @@ impl Slot {
             column: Column::Free,
             doc: None,
         }
+    }
+
+    /// Whether the column is over: its document was deleted or moved away, or it got none.
+    fn is_over(&self) -> bool
+        ensures { result ≡ is_over self.now }
+    {
+        matches!(self.column, Column::Over { .. } | Column::Dropped)
     }
 }
 
@@ -76,6 +83,19 @@ impl Slots {
         ensures { self.new ≡ slice_set self.old column (record { column = became; doc = (slice_index_or self.old column free_slot).doc }) }
     {
         self.slots[column as usize].column = became;
+    }
+
+    /// Comes from this slot on past those that are over. There are so many slots.
+    pub fn past_over(&self, from: u32, columns: u32) -> u32
+        requires columns { columns ≡ length self.now }
+        requires within { from ≤ length self.now }
+        ensures { ComesPastOver self.now from result }
+    {
+        let mut column = from;
+        while column < columns && self.slot(column).is_over() {
+            column += 1;
+        }
+        column
     }
 
     /// Makes each of them free, and drops the documents.

@@ -27,18 +27,27 @@ use Rattle.funnel_model.specs.History.{Document, IsFrontOf, live}
 use Rattle.funnel_model.specs.Legal.{IsLegal, Limits}
 use Rattle.funnel_model.specs.Slices.{IsInUse, IsLiveOn, Live, is_clearing}
 use Rattle.funnel_model.specs.Tokens.{HasToken, MayRead}
+use Rattle.funnel_model.specs.RowWords.{IsCommitted}
+use Rattle.funnel_model.specs.Searches.{Searches}
+use Rattle.funnel_model.proofs.SearchLemmas.{each-weaker}
+use Rattle.row_layout.proofs.ReadSearches.{tells-weaker}
+use Rattle.row_layout.specs.AtomReads.{AtomPlan, AtomRead, BitRead, Tells}
+use Rattle.row_layout.specs.DocumentBits.{bit_of_row}
 use Rattle.row_layout.specs.Owners.{OwnsIn}
+use Rattle.row_layout.specs.Sound.{IsSound}
+use Rattle.row_layout.specs.declared.row.Row.{Row}
+use Rattle.std.proofs.lemmas.List.Elements.{All-weaker}
 use Rattle.slice_rule.specs.Pools.{PoolId}
 use Rattle.slice_rule.specs.Seats.{PassState, WasReadUnder}
 use Rattle.commit_desk.specs.declared.find_layouts.FindLayout.{FindLayout}
 use Rattle.commit_desk.specs.FindLayouts.{AreFindLayouts, IsFindLayout}
-use Rattle.commit_desk.specs.Judging.{AreGivenWhere, AreScannedForAny, GiveAllWhere, answer_where}
+use Rattle.commit_desk.specs.Judging.{AreGivenWhere, answer_where}
 use Rattle.commit_desk.specs.Passes.{IsFinding}
-use Rattle.commit_desk.specs.Resolving.{FindsUpTo, IsEntryOfFind}
-use Rattle.commit_desk.specs.Scans.{AreScanned, token_of}
+use Rattle.commit_desk.specs.Resolving.{FindsUpTo}
+use Rattle.commit_desk.specs.Scans.{AreScannedFor, WasReadBy, token_of}
 use Rattle.commit_desk.proofs.FindEnds.{begun_once}
 use Rattle.commit_desk.proofs.FindTurns.{begun_later}
-use Rattle.commit_desk.proofs.Given.{given_both, given_is_answer, numbers_are_answer, take_part}
+use Rattle.commit_desk.proofs.Given.{GiveAllWhere, given_both, given_is_answer, numbers_are_answer, take_part}
 use Rattle.slice_recycler.specs.Turns.{IsTurn}
 use Rattle.engine.proofs.CandidateParts.{pairs-append}
 use Rattle.engine.proofs.Moves.{turn_from}
@@ -60,37 +69,36 @@ begun_at first pass number same goes begun =
     }
 
 -- What the candidates up to one give was found after what was found before.
-abbrev pub IsFoundTo : (List ℕ → List ℕ → Bool) → PassState → Token → List (ℕ × ℕ) → ℕ → List (ℕ × ℕ) → List (ℕ × ℕ) → Type 0
+abbrev pub IsFoundTo : (List ℕ → Bool) → PassState → Token → List (ℕ × ℕ) → ℕ → List (ℕ × ℕ) → List (ℕ × ℕ) → Type 0
 IsFoundTo test pass token candidates to before found =
-    (begun : HasToken pass.front pass.number token.opened_at) → (more : List (ℕ × ℕ)) × AreGivenWhere begun.earlier (test begun.query) (take to candidates) more
+    (begun : HasToken pass.front pass.number token.opened_at) → (more : List (ℕ × ℕ)) × AreGivenWhere begun.earlier test (take to candidates) more
     × (found ≡ before ++ more)
 
 -- A turn that looks at some more of them.
-module _ (test : List ℕ → List ℕ → Bool) (first pass : PassState) (token : Token) (cost : ℕ) (slices : List ℕ) (candidates : List (ℕ × ℕ)) (from to : ℕ) (start before after : List (ℕ × ℕ))
+module _ (test : List ℕ → Bool) (first pass : PassState) (token : Token) (cost : ℕ) (candidates : List (ℕ × ℕ)) (from to : ℕ) (start before after : List (ℕ × ℕ))
     (number : pass.number ≡ first.number) (goes : IsFrontOf first.number first.front pass.front) (low : from ≤ to) (so_far : IsFoundTo test first token candidates from start before)
-    (turn : (begun : HasToken pass.front pass.number token.opened_at) → FindsUpTo begun.earlier (test begun.query) cost slices candidates from to before after) where
+    (turn : (begun : HasToken pass.front pass.number token.opened_at) → FindsUpTo begun.earlier test cost candidates from to before after) where
   pub found_to : IsFoundTo test first token candidates to start after
   found_to begun =
       let was = so_far begun in
       let adds = turn (begun_at first pass token.opened_at number goes begun) in (
         was.0 ++ adds.more,
-        subst (λ cs. AreGivenWhere begun.earlier (test begun.query) cs (was.0 ++ adds.more)) (sym (take_part candidates from to low))
-            (given_both begun.earlier (test begun.query) (take from candidates) (slice_range candidates from to) was.0 adds.more was.1 adds.given),
+        subst (λ cs. AreGivenWhere begun.earlier test cs (was.0 ++ adds.more)) (sym (take_part candidates from to low))
+            (given_both begun.earlier test (take from candidates) (slice_range candidates from to) was.0 adds.more was.1 adds.given),
         adds.found ∙ ap (λ (fs : List (ℕ × ℕ)). fs ++ adds.more) was.2 ∙ append_assoc start was.0 adds.more,
       )
 
   -- the turn came to their end
-  pub found_in : length candidates ≤ to → FindsIn test first token slices candidates start after
+  pub found_in : length candidates ≤ to → FindsIn test first token candidates start after
   found_in last begun =
       let found = found_to begun in (
         found.0,
-        subst (λ cs. AreGivenWhere begun.earlier (test begun.query) cs found.0) (take_all to candidates last) found.1,
+        subst (λ cs. AreGivenWhere begun.earlier test cs found.0) (take_all to candidates last) found.1,
         found.2,
-        (turn (begun_at first pass token.opened_at number goes begun)).all,
       )
 
 -- before the first turn
-pub found_from : (test : List ℕ → List ℕ → Bool) (pass : PassState) (token : Token) (candidates found : List (ℕ × ℕ)) → IsFoundTo test pass token candidates 0 found found
+pub found_from : (test : List ℕ → Bool) (pass : PassState) (token : Token) (candidates found : List (ℕ × ℕ)) → IsFoundTo test pass token candidates 0 found found
 found_from test pass token candidates found begun = ([], refl, sym (append-nil found))
 
 -- the last turn ends the find from the first one on
@@ -136,7 +144,7 @@ abbrev pub AreApart : FindLayout → FindLayout → Type 0
 AreApart one other = (slice : ℕ) → Contains one.slices slice → Contains other.slices slice → ⊥
 
 -- Before the first of its entries a find has found nothing.
-pub found_none : (test : List ℕ → List ℕ → Bool) (pool : PoolId) (pass : PassState) (token : Token) (layouts : List FindLayout) (found : List (ℕ × ℕ)) →
+pub found_none : (test : List ℕ → Bool) (pool : PoolId) (pass : PassState) (token : Token) (layouts : List FindLayout) (found : List (ℕ × ℕ)) →
     ((begun : HasToken pass.front pass.number token.opened_at) → AreFindLayouts pool begun.earlier token layouts) → found ≡ [] → IsFoundBut test pass token layouts found
 found_none test pool pass token layouts found laid none = record {
   candidates = [];
@@ -147,7 +155,7 @@ found_none test pool pass token layouts found laid none = record {
 }
 
 -- What one more entry adds.
-module _ (test : List ℕ → List ℕ → Bool) (first : PassState) (token : Token) (rest left : List FindLayout) (entry : FindLayout) (is : left ≡ rest ++ entry ∷ []) (apart : AllPairs AreApart left) where
+module _ (test : List ℕ → Bool) (first : PassState) (token : Token) (rest left : List FindLayout) (entry : FindLayout) (is : left ≡ rest ++ entry ∷ []) (apart : AllPairs AreApart left) where
   at_last : Contains left entry
   at_last = subst (λ (es : List FindLayout). Contains es entry) (sym is) (Contains-append_right rest (entry ∷ []) entry (0, omega arith, refl))
 
@@ -171,8 +179,8 @@ module _ (test : List ℕ → List ℕ → Bool) (first : PassState) (token : To
         (Contains-append_cases so_far.candidates adds.candidates candidate has);
     given = λ begun.
         let more = adds.finds begun in
-        subst (AreGivenWhere begun.earlier (test begun.query) (so_far.candidates ++ adds.candidates)) (sym more.2)
-        (given_both begun.earlier (test begun.query) so_far.candidates adds.candidates before more.0 (so_far.given begun) more.1);
+        subst (AreGivenWhere begun.earlier test (so_far.candidates ++ adds.candidates)) (sym more.2)
+        (given_both begun.earlier test so_far.candidates adds.candidates before more.0 (so_far.given begun) more.1);
     all = λ begun slice column document since has lives passes.
         ⊎_elim
         (λ (of : IsLeft left slice).
@@ -180,14 +188,14 @@ module _ (test : List ℕ → List ℕ → Bool) (first : PassState) (token : To
         (λ (this : entry ≡ of.0).
         inr
         (Contains-append_right so_far.candidates adds.candidates (slice, column)
-        ((adds.finds begun).3 slice column document since (subst (λ (e : FindLayout). Contains e.slices slice) (sym this) of.2) lives passes)))
+        (adds.all begun slice column document since (subst (λ (e : FindLayout). Contains e.slices slice) (sym this) of.2) lives passes)))
         (Contains-push_cases rest entry of.0 (subst (λ (es : List FindLayout). Contains es of.0) is of.1)))
         (λ (h : Contains so_far.candidates (slice, column)). inr (Contains-append_left so_far.candidates adds.candidates (slice, column) h))
         (so_far.all begun slice column document since has lives passes);
   }
 
 -- what was found since other passes made events is found since the find began
-pub adds_later : (test : List ℕ → List ℕ → Bool) (first pass : PassState) (token now : Token) (slices : List ℕ) (before after : List (ℕ × ℕ)) → now ≡ token → pass.number ≡ first.number →
+pub adds_later : (test : List ℕ → Bool) (first pass : PassState) (token now : Token) (slices : List ℕ) (before after : List (ℕ × ℕ)) → now ≡ token → pass.number ≡ first.number →
     IsFrontOf first.number first.front pass.front → AddsFound test pass now slices before after → AddsFound test first token slices before after
 adds_later test first pass token now slices before after same number goes found =
     let adds : AddsFound test pass token slices before after = subst (λ (t : Token). AddsFound test pass t slices before after) same found in
@@ -196,6 +204,7 @@ adds_later test first pass token now slices before after same number goes found 
       each_once = adds.each_once;
       in_slices = adds.in_slices;
       finds = λ begun. adds.finds (begun_at first pass token.opened_at number goes begun);
+      all = λ begun. adds.all (begun_at first pass token.opened_at number goes begun);
     }
 
 -- the slice of a live column is in use
@@ -208,7 +217,7 @@ live_in_use limits history slice column d since legal below is = record {
 
 -- What is found of all slices of a find, in the order of the places, has the numbers of the documents that it is to give, since each live document
 -- stands in a slice of its token.
-module _ (test : List ℕ → List ℕ → Bool) (pool : PoolId) (pass : PassState) (token : Token) (finding : IsFinding pool token pass) (after : List Event) (legal : IsLegal pool.limits after)
+module _ (test : List ℕ → Bool) (pool : PoolId) (pass : PassState) (token : Token) (finding : IsFinding pool token pass) (after : List Event) (legal : IsLegal pool.limits after)
     (grows : IsPrefix pass.front after) where
   abbrev begun : HasToken pass.front pass.number token.opened_at
   begun = finding.holds.begun
@@ -220,10 +229,10 @@ module _ (test : List ℕ → List ℕ → Bool) (pool : PoolId) (pass : PassSta
       sym grows.1 ∙ ap (λ h. h ++ grows.0) begun.whole ∙ append_assoc begun.earlier (find ∷ begun.later) grows.0 in
       legal_before pool.limits begun.earlier (find ∷ (begun.later ++ grows.0)) (subst (IsLegal pool.limits) whole legal)
 
-  gives_all : (found : List (ℕ × ℕ)) (is : IsFoundBut test pass token [] found) → GiveAllWhere begun.earlier (test begun.query) is.candidates
+  gives_all : (found : List (ℕ × ℕ)) (is : IsFoundBut test pass token [] found) → GiveAllWhere begun.earlier test is.candidates
   gives_all found is pair has =
       let limits = pool.limits in
-      let kept = kept_by_filter (λ (d : Document). (d.place, d.id)) (λ d. test begun.query d.text) (live begun.earlier) pair has in
+      let kept = kept_by_filter (λ (d : Document). (d.place, d.id)) (λ d. test d.text) (live begun.earlier) pair has in
       let d = kept.0 in
       let home = live_has_column limits begun.earlier d legal_then kept.1 in
       let used = live_in_use limits begun.earlier home.0 home.1 d home.2 legal_then home.4 home.5 in
@@ -236,11 +245,11 @@ module _ (test : List ℕ → List ℕ → Bool) (pool : PoolId) (pass : PassSta
       ((home.0, home.1), at, (d, home.2, home.5, kept.3, sym kept.2))
 
   pub found_is_answer : (found sorted : List (ℕ × ℕ)) → IsFoundBut test pass token [] found → IsPermutation found sorted → IsSorted pair_cmp sorted →
-      map (λ (f : ℕ × ℕ). f.1) sorted ≡ answer_where begun.earlier (test begun.query)
+      map (λ (f : ℕ × ℕ). f.1) sorted ≡ answer_where begun.earlier test
   found_is_answer found sorted is permuted rises =
       ap (map (λ (f : ℕ × ℕ). f.1))
-      (given_is_answer begun.earlier (test begun.query) pool.limits legal_then is.candidates found sorted is.each_once (gives_all found is) (is.given begun) permuted rises)
-      ∙ numbers_are_answer begun.earlier (test begun.query)
+      (given_is_answer begun.earlier test pool.limits legal_then is.candidates found sorted is.each_once (gives_all found is) (is.given begun) permuted rises)
+      ∙ numbers_are_answer begun.earlier test
 
 -- An entry of a find's layouts, among whose slices it looks.
 module _ (pool : PoolId) (first pass : PassState) (token : Token) (layouts : List FindLayout) (just : IsJustFinding pool token first layouts) (number : pass.number ≡ first.number)
@@ -254,17 +263,9 @@ module _ (pool : PoolId) (first pass : PassState) (token : Token) (layouts : Lis
         laid = λ begun.
             subst (λ (h : List Event). IsFindLayout pool h entry) (begun_once pass.front pass.number token.opened_at (begun_at first pass token.opened_at number goes start) begun).0
             ((just.laid start).each entry has);
+        sound = λ begun.
+            subst (IsSound pool.config) (begun_once pass.front pass.number token.opened_at (begun_at first pass token.opened_at number goes start) begun).0 (just.sound start);
       }
-
--- What holds of a find's query holds of it still.
-pub query_later : (P : List ℕ → Type 0) (pool : PoolId) (first pass : PassState) (token now : Token) → IsFinding pool token first →
-    ((begun : HasToken first.front first.number token.opened_at) → P begun.query) → now ≡ token → pass.number ≡ first.number → IsFrontOf first.number first.front pass.front →
-    (begun : HasToken pass.front pass.number now.opened_at) → P begun.query
-query_later P pool first pass token now finding holds same number goes =
-    subst (λ (t : Token). (begun : HasToken pass.front pass.number t.opened_at) → P begun.query) (sym same)
-    (λ begun.
-    let start = finding.holds.begun in
-    subst P (begun_once pass.front pass.number token.opened_at (begun_at first pass token.opened_at number goes start) begun).1 (holds start))
 
 -- A pass that read something looks still.
 pub look_still : (pool : PoolId) (token : Token) (entry : FindLayout) (seat next : PassState) → next ≡ record seat { own = next.own; told = next.told } → CanLookIn pool seat token entry →
@@ -277,87 +278,12 @@ look_still pool token entry seat next is can =
       };
       among = can.among;
       laid = can.laid;
+      sound = can.sound;
     } in
     subst (λ (p : PassState). CanLookIn pool p token entry) (sym is) did
-
--- so the entry is one of its token
-pub entry_of : (pool : PoolId) (token : Token) (entry : FindLayout) (pass : PassState) → CanLookIn pool pass token entry → IsEntryOfFind pool token entry pass
-entry_of pool token entry pass can =
-    record { among = can.among; suits = (can.laid can.finding.holds.begun).suits; treated = λ begun. (can.laid begun).treated }
 
 -- how a find goes on from a pass that read something is how it goes on from that pass before
 pub goes_on_from : (pool : PoolId) (token : Token) (last : Bool) (seat next after : PassState) → next ≡ record seat { own = next.own; told = next.told } → (answer : Option Token) →
     IsOpenOrEnded pool token last next after answer → IsOpenOrEnded pool token last seat after answer
 goes_on_from pool token last seat next after is (Some kept) on = (on.0, on.1, on.2, subst (λ (p : PassState). IsFrontOf p.number p.front after.front) is on.3)
 goes_on_from pool token last seat next after is None on = (on.0, (subst (λ (p : PassState). FindEnds p.number p.front after.front) is on.1.0, on.1.1))
-
--- Candidates that were scanned after other passes made events are those by what the pass had seen when its find began: the slices that it may
--- read are not cleared meanwhile.
-module _ (pool : PoolId) (config : Config) (pass : PassState) (token : Token) (slices : List ℕ) (finding : IsFinding pool token pass) (legal : IsLegal pool.limits pass.front)
-    (among : (slice : ℕ) → Contains slices slice → Contains token.slices slice) (begun : HasToken pass.front pass.number token.opened_at) where
-  abbrev start : PassState
-  start = record pass { front = begun.earlier ++ event.Find pass.number begun.query ∷ [] }
-
-  legal_here : IsLegal pass.pool.limits pass.front
-  legal_here = subst (λ (p : PoolId). IsLegal p.limits pass.front) (sym finding.seated.same) legal
-
-  abbrev goes : IsFrontOf pass.number start.front pass.front
-  goes = record {
-    later = begun.later;
-    whole = begun.whole ∙ sym (append_assoc begun.earlier (event.Find pass.number begun.query ∷ []) begun.later);
-    silent = token_is_silent pass.pool.limits pass.front pass.number token.opened_at legal_here begun;
-  }
-
-  may : (slice : ℕ) → Contains slices slice → MayRead pass.pool.limits.columns start.front pass.number slice
-  may slice has = record {
-    number = token.opened_at;
-    token = record { earlier = begun.earlier; query = begun.query; later = []; whole = refl; count = begun.count; stays = refl };
-    in_use = subst (λ (h : List Event). IsInUse pass.pool.limits.columns slice h) (begun_once pass.front pass.number token.opened_at finding.holds.begun begun).0
-        ((finding.holds.slices slice).0 (among slice has)).1;
-  }
-
-  read_then : (bit : Bit) → WasReadUnder pass token.opened_at bit → WasReadUnder start token.opened_at bit
-  read_then bit was = record {
-    value = was.value;
-    read = was.read;
-    set = was.set;
-    owned = λ slice column e read owns stands.
-        let stays = read_stays pass.pool.limits start.front pass.front pass.number slice legal_here goes read in
-        was.owned slice column e stays.1
-        (record {
-          in_engine = owns.in_engine;
-          treated = subst (λ (k : Config). OwnsIn pass.pool.limits.slice_words k slice column bit)
-              (sym (treat_read pass.pool.limits pass.pool.config start.front pass.front pass.number slice legal_here goes read)) owns.treated;
-        })
-        (record {
-          earlier = stands.earlier;
-          later = stands.later ++ goes.later;
-          whole = goes.whole ∙ ap (λ h. h ++ goes.later) stands.whole ∙ append_assoc stands.earlier (e ∷ stands.later) goes.later;
-          puts = stands.puts;
-          stays = list_any-append (clears slice) stands.later goes.later
-              ∙ or_from (list_any (clears slice) stands.later) (list_any (clears slice) goes.later) stands.stays stays.0;
-        });
-  }
-
-  pub scanned_then : (words : List (List ℕ)) (candidates : List (ℕ × ℕ)) → AreScanned config pass (token_of slices token) words candidates → AreScanned config start (token_of slices token) words candidates
-  scanned_then words candidates are = record {
-    of_token = are.of_token;
-    each_once = are.each_once;
-    every = λ slice column has below all.
-        are.every slice column has below
-        (λ bit of. reader_sees pass.pool.limits start.front pass.front pass.number slice bit legal_here goes (may slice has) (all bit of));
-    read = λ candidate has bit of. read_then bit (are.read candidate has bit of);
-  }
-
-  pub any_scanned_then : (branches : List (List (List ℕ))) (candidates : List (ℕ × ℕ)) → AreScannedForAny config pass (token_of slices token) branches candidates →
-      AreScannedForAny config start (token_of slices token) branches candidates
-  any_scanned_then branches candidates are = record {
-    each_once = are.each_once;
-    of_each = λ branch has. let of = are.of_each branch has in (of.0, scanned_then branch of.0 of.1, of.2);
-    of_some = λ candidate has. let of = are.of_some candidate has in (of.0, of.1, of.2, scanned_then of.0 of.1 of.3, of.4);
-  }
-
--- the candidates of branches in some slices are of these
-pub any_of_slices : (config : Config) (pass : PassState) (token : Token) (slices : List ℕ) (branches : List (List (List ℕ))) (candidates : List (ℕ × ℕ)) →
-    AreScannedForAny config pass (token_of slices token) branches candidates → (candidate : ℕ × ℕ) → Contains candidates candidate → Contains slices candidate.0
-any_of_slices config pass token slices branches candidates are candidate has = let of = are.of_some candidate has in (of.3.of_token candidate of.4).slice

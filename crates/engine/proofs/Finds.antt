@@ -12,7 +12,8 @@ use Rattle.commit_desk.specs.Resolving.{IsRestOf}
 use Rattle.engine.specs.Passes.{view_of}
 use Rattle.engine.proofs.OpenFinds.{begun_last}
 use Rattle.engine.specs.Finds.{EndedTurns, FindBegins, FindEnds, FoundTurns, IsBegunAt, IsJustFinding, IsScanFor, RefusedTurn, RefusedTurns}
-use Rattle.engine.specs.Judged.{KeptTurns}
+use Rattle.engine.specs.Searches.{KeptTurns}
+use Rattle.engine.specs.declared.search.Search.{Search}
 use Rattle.engine.specs.Replies.{reply_of_find_fault}
 use Rattle.funnel_model.proofs.AnswerLemmas.{Contains-filter, Contains-filtered}
 use Rattle.funnel_model.proofs.StepLemmas.{call_by-own}
@@ -28,6 +29,7 @@ use Rattle.funnel_model.specs.Steps.{AddsCall, Step}
 use Rattle.funnel_model.specs.Tokens.{HasToken}
 use Rattle.funnel_model.specs.Words.{AreWordsOf}
 use Rattle.row_layout.specs.Owners.{is_exact}
+use Rattle.row_layout.specs.Sound.{IsSound}
 use Rattle.slice_recycler.specs.Turns.{IsTurn}
 use Rattle.slice_recycler.proofs.Steps.{IsQuiet, adds_call, own-unanswered, quiet_none, quiet_turn, step_find_without_memory, step_found_without_memory, step_made_within, step_spent_turn}
 use Rattle.slice_rule.specs.Pools.{PoolId}
@@ -37,11 +39,11 @@ use Rattle.slice_rule.specs.Seats.{PassState}
 pub end_is_quiet : (pass : ℕ) (before after : List Event) → FindEnds pass before after → IsQuiet pass 0 before after
 end_is_quiet pass before after turn = quiet_turn pass before after (event.End pass ∷ []) turn (own-unanswered pass (event.End pass ∷ []) refl) refl
 
--- the words that aren't exact are the rest of a query
-pub rest_is : (config : Config) (set rest : List (List ℕ)) (query : List ℕ) → AreWordsOf set query → rest ≡ filter (λ word. not (is_exact config word)) set → IsRestOf config query rest
-rest_is config set rest query of_query left = record {
-  part = λ word has. (of_query word).0 (Contains-filtered (λ w. not (is_exact config w)) set word (subst (λ ws. Contains ws word) left has)).0;
-  others_exact = λ word has. by_test word ((of_query word).1 has) (is_exact config word) refl;
+-- the words that aren't exact are the rest of some words
+pub rest_is : (config : Config) (set rest : List (List ℕ)) → rest ≡ filter (λ word. not (is_exact config word)) set → IsRestOf config set rest
+rest_is config set rest left = record {
+  part = λ word has. (Contains-filtered (λ w. not (is_exact config w)) set word (subst (λ ws. Contains ws word) left has)).0;
+  others_exact = λ word has. by_test word has (is_exact config word) refl;
 } where
   by_test : (word : List ℕ) → Contains set word → (exact : Bool) → is_exact config word ≡ exact → Contains rest word ⊎ (is_exact config word ≡ true)
   by_test word has true is = inr is
@@ -58,20 +60,22 @@ module _ (limits : Limits) (pass : ℕ) (query : List ℕ) (before : List Event)
 
   -- the find reads its slices by these layouts
   pub just_begun : (pool : PoolId) (next : PassState) (token : Token) (layouts : List FindLayout) → next.number ≡ pass → FindBegins limits pass query before next.front → IsFinding pool token next →
-      ((begun : HasToken next.front next.number token.opened_at) → AreFindLayouts pool begun.earlier token layouts) → IsJustFinding pool token next layouts
-  just_begun pool next token layouts number turn finding laid = record {
+      ((begun : HasToken next.front next.number token.opened_at) → AreFindLayouts pool begun.earlier token layouts) →
+      ((begun : HasToken next.front next.number token.opened_at) → IsSound pool.config begun.earlier) → IsJustFinding pool token next layouts
+  just_begun pool next token layouts number turn finding laid sound = record {
     finding = finding;
     begun = record { earlier = turn.earlier; query = query; at = begun_by next number turn };
     laid = laid;
+    sound = sound;
   }
 
-  -- and scans for the words of its query
-  pub scan_begun : (pool : PoolId) (next : PassState) (token : Token) (words : List (List ℕ)) (layouts : List FindLayout) → next.number ≡ pass → FindBegins limits pass query before next.front →
-      IsFinding pool token next → AreWordsOf words query → ((begun : HasToken next.front next.number token.opened_at) → AreFindLayouts pool begun.earlier token layouts) →
-      IsScanFor pool next token words layouts
-  scan_begun pool next token words layouts number turn finding of_query laid = record {
-    just = just_begun pool next token layouts number turn finding laid;
-    of_query = λ begun. subst (AreWordsOf words) (begun_last next token.opened_at turn.earlier query (begun_by next number turn) begun).1 of_query;
+  -- and looks for the words of its query
+  pub scan_begun : (pool : PoolId) (next : PassState) (token : Token) (search : Search) (layouts : List FindLayout) → next.number ≡ pass → FindBegins limits pass query before next.front →
+      IsJustFinding pool token next layouts → AreWordsOf search.words query → search.residue.items ≡ [] → IsScanFor pool next token search layouts
+  scan_begun pool next token search layouts number turn just of_query none = record {
+    just = just;
+    of_query = λ begun. subst (AreWordsOf search.words) (begun_last next token.opened_at turn.earlier query (begun_by next number turn) begun).1 of_query;
+    no_residue = none;
   }
 
   -- a find that the desk refused
@@ -127,7 +131,17 @@ layouts_then pool before after seat next query (Ok token) entries of made laid =
     (subst (λ (p : PoolId). AreFindLayouts p before.history token entries) of laid)
 layouts_then pool before after seat next query (Err fault) entries of made laid = tt
 
--- the turns of a find that is answered by a judge
+-- and the adds and moves before it have their bits
+pub sound_then : (pool : PoolId) (before after : DeskState) (seat next : PassState) (query : List ℕ) (answer : Result Token FindFault) → before.pool ≡ pool →
+    Makes (events_of_find seat.number query answer) before after seat next → IsSound before.pool.config before.history →
+    IfOk answer (λ token. (begun : HasToken next.front next.number token.opened_at) → IsSound pool.config begun.earlier)
+sound_then pool before after seat next query (Ok token) of made sound = λ begun.
+    let at : IsBegunAt (view_of next) before.history query =
+    subst (λ n. next.front ≡ before.history ++ event.Find n query ∷ []) (sym made.number) (made.front ∙ made.history) in
+    subst (IsSound pool.config) (begun_last next token.opened_at before.history query at begun).0 (subst (λ (p : PoolId). IsSound p.config before.history) of sound)
+sound_then pool before after seat next query (Err fault) of made sound = tt
+
+-- the turns of a find that is answered by a test
 pub kept_turns : (limits : Limits) (pass : ℕ) (test : List ℕ → Bool) (before : List Event) (middle : PassState) (number : middle.number ≡ pass) (begun : FindBegins limits pass [] before middle.front) (after : List Event)
     (ended : FindEnds middle.number middle.front after) (ids : List ℕ) → ((earlier : List Event) (query : List ℕ) → IsBegunAt (view_of middle) earlier query → ids ≡ answer_where earlier test) →
     KeptTurns limits pass test before after ids

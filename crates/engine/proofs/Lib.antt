@@ -1,10 +1,12 @@
 pub mod AddSteps
+pub mod Answered
 pub mod CandidateParts
 pub mod Claims
 pub mod DeskTurns
 pub mod Ends
 pub mod Finds
 pub mod FindParts
+pub mod Looked
 pub mod MovePasses
 pub mod Moves
 pub mod NewPasses
@@ -12,9 +14,6 @@ pub mod NotTaken
 pub mod OpenFinds
 pub mod Scans
 pub mod Sizes
-pub mod BranchScans
-pub mod MergedColumns
-pub mod WordExprs
 pub mod QueryCalls
 pub mod TuneCalls
 mod Waits

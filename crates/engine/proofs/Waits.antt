@@ -9,10 +9,14 @@ use Rattle.commit_desk.specs.declared.answers.AddFault.TheVariants as add
 use Rattle.commit_desk.specs.declared.answers.Taken.{Taken}
 use Rattle.commit_desk.specs.declared.answers.Taken.TheVariants as taken
 use Rattle.slice_recycler.specs.Turns.{IsTurn}
+use Rattle.slice_rule.specs.Pools.{PoolId}
 use Rattle.engine.specs.Adds.{HasWaited, IsLookForRoom, IsOpenAgain, TakeTurns, TurnOfTake}
 use Rattle.engine.proofs.Moves.{front_goes_on, front_refl}
 
-module _ (limits : Limits) (pass : ℕ) where
+module _ (pool : PoolId) (pass : ℕ) where
+  abbrev limits : Limits
+  limits = pool.limits
+
   -- one wait more
   one_more_wait : (waits : ℕ) (before full opened : List Event) (slice : ℕ) → HasWaited limits pass before full waits → IsFull limits full → IsBeingCleared limits full slice →
       IsFrontOf pass full opened → is_clearing slice opened ≡ false → HasWaited limits pass before opened (suc waits)
@@ -27,7 +31,7 @@ module _ (limits : Limits) (pass : ℕ) where
 
   module _ (id : ℕ) (waits : ℕ) (before seen after : List Event) (awaited : Option ℕ) (waited : WaitedBefore before seen awaited waits) where
     -- it waited once more where it is to wait
-    pub waited_more : (last : Bool) (slice : ℕ) → IsTurn pass seen after (IsLookForRoom limits pass id awaited last (taken.Wait slice)) [] →
+    pub waited_more : (last : Bool) (slice : ℕ) → IsTurn pass seen after (IsLookForRoom pool pass id awaited last (taken.Wait slice)) [] →
         (opened : List Event) → IsFrontOf pass after opened → is_clearing slice opened ≡ false → HasWaited limits pass before opened (waits + 1)
     waited_more last slice turn opened later is_open =
         let next : suc waits ≡ waits + 1 = omega arith in
@@ -38,14 +42,14 @@ module _ (limits : Limits) (pass : ℕ) where
 
     -- and any other answer is that of the add
     pub take_turns : (text : List ℕ) (last : Bool) (answer : Taken) → IsFrontOf pass before seen → (last ≡ true → waits ≡ limits.passes) →
-        ((slice : ℕ) → answer ≡ taken.Wait slice → last ≡ false → ⊥) → IsTurn pass seen after (IsLookForRoom limits pass id awaited last answer) (events_of_take pass id text answer) →
+        ((slice : ℕ) → answer ≡ taken.Wait slice → last ≡ false → ⊥) → IsTurn pass seen after (IsLookForRoom pool pass id awaited last answer) (events_of_take pass id text answer) →
         TakeTurns limits pass id text before after answer
     take_turns text last answer grows enough not_wait turn = of answer not_wait turn where
-      took : (answer : Taken) → IsTurn pass seen after (IsLookForRoom limits pass id awaited last answer) (events_of_take pass id text answer) → TurnOfTake limits pass id text before after answer
+      took : (answer : Taken) → IsTurn pass seen after (IsLookForRoom pool pass id awaited last answer) (events_of_take pass id text answer) → TurnOfTake limits pass id text before after answer
       took answer turn = record { earlier = turn.earlier; seen = front_goes_on pass before seen turn.earlier grows turn.seen; answer = turn.answer.look.answers; made = turn.made }
 
       of : (answer : Taken) → ((slice : ℕ) → answer ≡ taken.Wait slice → last ≡ false → ⊥) →
-          IsTurn pass seen after (IsLookForRoom limits pass id awaited last answer) (events_of_take pass id text answer) → TakeTurns limits pass id text before after answer
+          IsTurn pass seen after (IsLookForRoom pool pass id awaited last answer) (events_of_take pass id text answer) → TakeTurns limits pass id text before after answer
       of (taken.Claim claim layout) not_wait turn = took (taken.Claim claim layout) turn
       of (taken.Clear work layout) not_wait turn = took (taken.Clear work layout) turn
       of (taken.Wait slice) not_wait turn = not_wait slice refl turn.answer.look.waits

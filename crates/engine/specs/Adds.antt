@@ -16,11 +16,13 @@ use Rattle.commit_desk.specs.declared.answers.CommitFault.{CommitFault}
 use Rattle.commit_desk.specs.declared.answers.CommitFault.TheVariants as commit
 use Rattle.commit_desk.specs.declared.answers.Taken.{Taken}
 use Rattle.commit_desk.specs.declared.answers.Taken.TheVariants as taken
+use Rattle.commit_desk.specs.Desks.{HandsBackWith}
 use Rattle.engine.specs.Moves.{AreBitsAt, MovesAll}
 use Rattle.row_layout.specs.declared.row.TheConstants.{MOST_ROWS}
 use Rattle.row_layout.specs.DocumentBits.{BitsState}
 use Rattle.row_layout.specs.Layouts.{LayoutId}
 use Rattle.slice_recycler.specs.Turns.{IsTurn}
+use Rattle.slice_rule.specs.Pools.{PoolId}
 
 -- a document that is to be added: its set of words is that of its text, and there is room for their bits, of which none is there yet
 pub record IsToBeAdded (doc : Parts) (bits : BitsState) : Type 0 where
@@ -37,10 +39,12 @@ TurnOfTake limits pass id text before after answer =
 abbrev pub IsOpenAgain : List Event → Option ℕ → Type 0
 IsOpenAgain history awaited = IfSome awaited (λ slice. is_clearing slice history ≡ false)
 
--- the desk's answer to a look of an add for a column, which came once this slice was open
-pub record IsLookForRoom (limits : Limits) (pass id : ℕ) (awaited : Option ℕ) (last : Bool) (answer : Taken) (history : List Event) : Type 0 where
+-- the desk's answer to a look of an add for a column, which came once this slice was open; with a slice to clear it gets the layout of the
+-- slice's older treatment, where no other slice has that
+pub record IsLookForRoom (pool : PoolId) (pass id : ℕ) (awaited : Option ℕ) (last : Bool) (answer : Taken) (history : List Event) : Type 0 where
   pub is_open : IsOpenAgain history awaited
-  pub look : AnswersLastTake limits.events limits history pass id last answer
+  pub look : AnswersLastTake pool.limits.events pool.limits history pass id last answer
+  pub old : HandsBackWith pool history answer
 
 -- an add waited once: the engine was full and a slice was being cleared, and it looked again when that slice was open
 pub record WaitsOnce (limits : Limits) (pass : ℕ) (before opened : List Event) : Type 0 where

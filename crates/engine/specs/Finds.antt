@@ -2,6 +2,7 @@
 use Rattle.std.specs.Prelude.{◌≡◌, ℕ, ◌+◌, ◌<◌, ◌≤◌, ◌⊎◌, Bool, true, false, List, [], ◌∷◌, ◌++◌, length, Contains, Option, None, Some, Result, Ok, Err}
 use Rattle.std.specs.List.{AllPairs}
 use Rattle.document_store.specs.Finding.{FoundState}
+use Rattle.row_layout.specs.Sound.{IsSound}
 use Rattle.funnel_model.specs.declared.claim.Token.{Token}
 use Rattle.funnel_model.specs.declared.event.Event.{Event}
 use Rattle.funnel_model.specs.declared.event.Event.TheVariants as event
@@ -9,7 +10,7 @@ use Rattle.funnel_model.specs.History.{Document, IsFrontOf, answer}
 use Rattle.funnel_model.specs.Legal.{Limits}
 use Rattle.funnel_model.specs.Slices.{IsLiveOn}
 use Rattle.funnel_model.specs.Tokens.{HasToken}
-use Rattle.funnel_model.specs.Words.{AreWordsOf, meets}
+use Rattle.funnel_model.specs.Words.{AreWordsOf}
 use Rattle.commit_desk.specs.Answers.{IsSpentAt, TakesCalls}
 use Rattle.commit_desk.specs.declared.answers.FindFault.{FindFault}
 use Rattle.commit_desk.specs.declared.answers.FindFault.TheVariants as find
@@ -17,7 +18,9 @@ use Rattle.commit_desk.specs.declared.find_layouts.FindLayout.{FindLayout}
 use Rattle.commit_desk.specs.FindLayouts.{AreFindLayouts, IsFindLayout}
 use Rattle.commit_desk.specs.Judging.{AreGivenWhere, GiveAllIn, answer_where}
 use Rattle.commit_desk.specs.Passes.{IsFinding, IsResting}
+use Rattle.commit_desk.specs.Resolving.{CanGoOn}
 use Rattle.engine.specs.Passes.{PassView, view_of}
+use Rattle.engine.specs.declared.search.Search.{Search}
 use Rattle.slice_recycler.specs.Turns.{IsTurn}
 use Rattle.slice_rule.specs.Pools.{PoolId}
 use Rattle.slice_rule.specs.Seats.{PassState}
@@ -32,44 +35,46 @@ pub record HasJustBegun (pass : PassState) : Type 0 where
   pub query : List ℕ
   pub at : IsBegunAt (view_of pass) earlier query
 
--- the pass has a find open, which the last event that it has seen began, and by these layouts its slices are read
+-- the pass has a find open, which the last event that it has seen began, and by these layouts its slices are read; the adds and moves
+-- before it have their bits
 pub record IsJustFinding (pool : PoolId) (token : Token) (pass : PassState) (layouts : List FindLayout) : Type 0 where
   pub finding : IsFinding pool token pass
   pub begun : HasJustBegun pass
   pub laid : (begun : HasToken pass.front pass.number token.opened_at) → AreFindLayouts pool begun.earlier token layouts
+  pub sound : (begun : HasToken pass.front pass.number token.opened_at) → IsSound pool.config begun.earlier
 
--- and these are the words of its query
-pub record IsScanFor (pool : PoolId) (pass : PassState) (token : Token) (words : List (List ℕ)) (layouts : List FindLayout) : Type 0 where
+-- and it looks for the words of its query, and for nothing else
+pub record IsScanFor (pool : PoolId) (pass : PassState) (token : Token) (search : Search) (layouts : List FindLayout) : Type 0 where
   pub just : IsJustFinding pool token pass layouts
-  pub of_query : (begun : HasToken pass.front pass.number token.opened_at) → AreWordsOf words begun.query
+  pub of_query : (begun : HasToken pass.front pass.number token.opened_at) → AreWordsOf search.words begun.query
+  pub no_residue : search.residue.items ≡ []
 
--- these are the numbers of the documents that pass the test of the query, of those that were live before the find that the pass has just begun
-abbrev pub IsAnswerWhere : (List ℕ → List ℕ → Bool) → PassState → List ℕ → Type 0
-IsAnswerWhere test pass ids = (earlier : List Event) (query : List ℕ) → IsBegunAt (view_of pass) earlier query → ids ≡ answer_where earlier (test query)
+-- these are the numbers of the documents that pass the test, of those that were live before the find that the pass has just begun
+abbrev pub IsAnswerWhere : (List ℕ → Bool) → PassState → List ℕ → Type 0
+IsAnswerWhere test pass ids = (earlier : List Event) (query : List ℕ) → IsBegunAt (view_of pass) earlier query → ids ≡ answer_where earlier test
 
--- a find is to give the documents whose text meets its query
-abbrev pub by_query : List ℕ → List ℕ → Bool
-by_query query text = meets text query
-
--- the pass has a find open, of whose slices the entry has some, with their layout before the find
+-- the pass has a find open, of whose slices the entry has some, with their layout before the find; the adds and moves before it have their
+-- bits
 pub record CanLookIn (pool : PoolId) (pass : PassState) (token : Token) (entry : FindLayout) : Type 0 where
   pub finding : IsFinding pool token pass
   pub among : (slice : ℕ) → Contains entry.slices slice → Contains token.slices slice
   pub laid : (begun : HasToken pass.front pass.number token.opened_at) → IsFindLayout pool begun.earlier entry
+  pub sound : (begun : HasToken pass.front pass.number token.opened_at) → IsSound pool.config begun.earlier
 
--- The candidates were looked at by the history before the find, whatever came since: what they give comes after what was found before, and
--- each document that was live in these slices and is to be given stands in the column of one of them.
-abbrev pub FindsIn : (List ℕ → List ℕ → Bool) → PassState → Token → List ℕ → List (ℕ × ℕ) → List (ℕ × ℕ) → List (ℕ × ℕ) → Type 0
-FindsIn test pass token slices candidates before after =
-    (begun : HasToken pass.front pass.number token.opened_at) → (more : List (ℕ × ℕ)) × AreGivenWhere begun.earlier (test begun.query) candidates more
-    × (after ≡ before ++ more) × GiveAllIn begun.earlier (test begun.query) slices candidates
+-- The candidates were looked at by the history before the find, whatever came since: what they give by the test comes after what was found
+-- before.
+abbrev pub FindsIn : (List ℕ → Bool) → PassState → Token → List (ℕ × ℕ) → List (ℕ × ℕ) → List (ℕ × ℕ) → Type 0
+FindsIn test pass token candidates before after =
+    (begun : HasToken pass.front pass.number token.opened_at) → (more : List (ℕ × ℕ)) × AreGivenWhere begun.earlier test candidates more
+    × (after ≡ before ++ more)
 
--- so were some candidates in these slices, each once
-pub record AddsFound (test : List ℕ → List ℕ → Bool) (pass : PassState) (token : Token) (slices : List ℕ) (before after : List (ℕ × ℕ)) : Type 0 where
+-- so were some candidates in these slices, each once; and each document that was live there and is to be given stands in the column of one
+pub record AddsFound (test : List ℕ → Bool) (pass : PassState) (token : Token) (slices : List ℕ) (before after : List (ℕ × ℕ)) : Type 0 where
   pub candidates : List (ℕ × ℕ)
   pub each_once : AllPairs (λ (candidate other : ℕ × ℕ). candidate ≡ other → ⊥) candidates
   pub in_slices : (candidate : ℕ × ℕ) → Contains candidates candidate → Contains slices candidate.0
-  pub finds : FindsIn test pass token slices candidates before after
+  pub finds : FindsIn test pass token candidates before after
+  pub all : (begun : HasToken pass.front pass.number token.opened_at) → GiveAllIn begun.earlier test slices candidates
 
 -- the slice is one of those that these entries have
 abbrev pub IsLeft : List FindLayout → ℕ → Type 0
@@ -77,18 +82,13 @@ IsLeft left slice = (entry : FindLayout) × Contains left entry × Contains entr
 
 -- What a find has found where these entries are left: what candidates in its other slices give, each once; and each document that was live
 -- there before the find and is to be given stands in the column of one of them.
-pub record IsFoundBut (test : List ℕ → List ℕ → Bool) (pass : PassState) (token : Token) (left : List FindLayout) (found : List (ℕ × ℕ)) : Type 0 where
+pub record IsFoundBut (test : List ℕ → Bool) (pass : PassState) (token : Token) (left : List FindLayout) (found : List (ℕ × ℕ)) : Type 0 where
   pub candidates : List (ℕ × ℕ)
   pub each_once : AllPairs (λ (candidate other : ℕ × ℕ). candidate ≡ other → ⊥) candidates
   pub elsewhere : (candidate : ℕ × ℕ) → Contains candidates candidate → IsLeft left candidate.0 → ⊥
-  pub given : (begun : HasToken pass.front pass.number token.opened_at) → AreGivenWhere begun.earlier (test begun.query) candidates found
+  pub given : (begun : HasToken pass.front pass.number token.opened_at) → AreGivenWhere begun.earlier test candidates found
   pub all : (begun : HasToken pass.front pass.number token.opened_at) (slice column : ℕ) (document : Document) (since : ℕ) → Contains token.slices slice
-      → IsLiveOn begun.earlier slice column document since → test begun.query document.text ≡ true → IsLeft left slice ⊎ Contains candidates (slice, column)
-
--- A find may go on from this candidate, or is at the end of them, and there is room for what is left.
-pub record CanGoOn (candidates : List (ℕ × ℕ)) (found : FoundState) (from : ℕ) : Type 0 where
-  pub within : from ≤ length candidates
-  pub room : length candidates ≤ found.room + from
+      → IsLiveOn begun.earlier slice column document since → test document.text ≡ true → IsLeft left slice ⊎ Contains candidates (slice, column)
 
 -- A turn of a find which doesn't end it keeps its token, and comes to where the find may go on. That is a later candidate where any is left;
 -- and one is left where no other slices are.

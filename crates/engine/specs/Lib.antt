@@ -1,14 +1,14 @@
 pub mod Adds
-pub mod Branches
 pub mod Clients
 pub mod Engines
+pub mod Faults
 pub mod Finds
-pub mod Judged
-pub mod Marks
+pub mod Looks
 pub mod Moves
 pub mod Passes
 pub mod Replies
 pub mod Scans
+pub mod Searches
 pub mod Laws
 pub mod Turns
 pub mod WordExprs

@@ -1,6 +1,6 @@
 -- The moves of an add at the desk: where few columns are left, an add first moves documents out of the filled slice that holds the fewest,
 -- so that the slice can be cleared.
-use Rattle.std.specs.Prelude.{◌≡◌, ◌≢◌, ◌≤◌, ◌⊎◌, ℕ, zero, suc, ◌↔◌, Bool, true, false, List, [], ◌∷◌, length, IsTrue, Option, Some, Result, Ok, Err}
+use Rattle.std.specs.Prelude.{◌≡◌, ◌≤◌, ◌⊎◌, ℕ, zero, suc, ◌↔◌, Bool, true, false, List, [], ◌∷◌, length, slice_index_or, IsTrue, Option, None, Result, Ok, Err}
 use Rattle.funnel_model.specs.declared.bit_list.Bit.{Bit}
 use Rattle.funnel_model.specs.declared.call.TheConstants.{MOST_MOVES}
 use Rattle.funnel_model.specs.declared.claim.Claim.{Claim}
@@ -9,35 +9,30 @@ use Rattle.funnel_model.specs.declared.event.Event.{Event}
 use Rattle.funnel_model.specs.declared.event.Event.TheVariants as event
 use Rattle.funnel_model.specs.declared.memory.Memory.{Memory}
 use Rattle.funnel_model.specs.History.{IsFrontOf}
-use Rattle.funnel_model.specs.Legal.{Limits, MayTake}
+use Rattle.funnel_model.specs.Legal.{Limits}
 use Rattle.funnel_model.specs.Tunings.{treat}
 use Rattle.funnel_model.specs.Words.{words}
-use Rattle.commit_desk.specs.Answers.{TakesCalls}
-use Rattle.commit_desk.specs.declared.answers.TakenMove.{TakenMove}
 use Rattle.commit_desk.specs.declared.look.Look.{Look}
-use Rattle.commit_desk.specs.Moving.{AnswersLook, ClaimsNoneFor, HasNextLook, HasRoomToEmpty, IsLookAtNext, IsThereStill, LooksState, NoneToMove, event_of_move}
-use Rattle.commit_desk.specs.Passes.{IsResting, IsToWrite}
+use Rattle.commit_desk.specs.Moving.{AnswersLook, IsLookAtNext, IsThereStill, LooksState, MayTakeFor, MayTakeNone, NoneToMove, SomeToBeMoved, event_of_move}
 use Rattle.row_layout.specs.DocumentBits.{AreDocumentBitsIn}
 use Rattle.slice_recycler.specs.Turns.{IsTurn}
-use Rattle.slice_rule.specs.Pools.{PoolId}
-use Rattle.slice_rule.specs.Seats.{PassState}
 
--- the look is at the document that is moved next before one with this number is added, by some looks, at most one for each pass
-pub record IsToBeMoved (reserve : ℕ) (limits : Limits) (history : List Event) (id : ℕ) (look : Look) : Type 0 where
-  pub looks : LooksState
+-- The looks of an engine's passes, at a look of this one: an entry for each, and the pass has none open itself. A look is no event, so which
+-- columns the others name no history tells.
+pub record AreLooksOfOthers (limits : Limits) (pass : ℕ) (looks : LooksState) : Type 0 where
   pub each_pass : length looks ≡ limits.passes
+  pub own : slice_index_or looks pass None ≡ None
+
+-- the look is at the document that is moved next before one with this number is added, by the looks that other passes have open
+pub record IsToBeMoved (reserve : ℕ) (limits : Limits) (history : List Event) (pass id : ℕ) (look : Look) : Type 0 where
+  pub looks : LooksState
+  pub of_others : AreLooksOfOthers limits pass looks
   pub at_next : IsLookAtNext reserve limits.events limits looks history id look
 
--- some document is to be moved
-pub record HasOneToMove (reserve : ℕ) (limits : Limits) (history : List Event) (id : ℕ) : Type 0 where
-  pub looks : LooksState
-  pub each_pass : length looks ≡ limits.passes
-  pub has : HasNextLook reserve limits.events limits looks history id
-
--- a look is answered so, by the looks that the passes have open
+-- a look is answered so, by the looks that other passes have open
 pub record IsLookForMove (reserve : ℕ) (limits : Limits) (pass id : ℕ) (answer : Result (Option Look) Memory) (history : List Event) : Type 0 where
   pub looks : LooksState
-  pub each_pass : length looks ≡ limits.passes
+  pub of_others : AreLooksOfOthers limits pass looks
   pub answers : AnswersLook reserve limits.events limits looks history pass id answer
 
 -- exactly the bits of a document with this text at the column, by the treatment of its slice after these events, where each slice has the
@@ -45,18 +40,6 @@ pub record IsLookForMove (reserve : ℕ) (limits : Limits) (pass id : ℕ) (answ
 abbrev pub AreBitsAt : Config → Limits → List Event → List ℕ → Claim → List Bit → Type 0
 AreBitsAt opening limits history text claim bits =
     AreDocumentBitsIn limits.slice_words (treat opening claim.slice history) (words text) claim.slice claim.column bits
-
--- what a pass is to do that asked for a column for a move: to write the one that it claimed, by the layout of its slice; or it rests
-abbrev pub WritesOrRests : PoolId → PassState → Result (Option TakenMove) Memory → Type 0
-WritesOrRests pool pass (Ok (Some taken)) = IsToWrite pool taken.claim taken.layout pass
-WritesOrRests pool pass _ = IsResting pool pass
-
--- a column is claimed for the document, in another slice than the one that is emptied, for all of which there is room
-pub record TakesFor (limits : Limits) (history : List Event) (pass : ℕ) (look : Look) (claim : Claim) : Type 0 where
-  pub takes_calls : TakesCalls limits.events history
-  pub may : MayTake limits history pass claim.slice claim.column
-  pub other : claim.slice ≢ look.slice
-  pub room : HasRoomToEmpty limits history look.slice
 
 -- A move. The pass looked at a document, took a column for it, and set exactly its bits there. Then the document was moved, where it was
 -- still where it was looked at, and else the column was left void.
@@ -67,8 +50,9 @@ pub record MoveTurns (config : Config) (limits : Limits) (pass id : ℕ) (before
   pub moved : Bool
   pub seen : List Event
   pub middle : List Event
-  pub looked : IsTurn pass before seen (λ history. IsToBeMoved config.reserve limits history id look) []
-  pub took : IsTurn pass seen middle (λ history. TakesFor limits history pass look claim) (event.Take pass claim.slice claim.column ∷ [])
+  pub looked : IsTurn pass before seen (λ history. IsToBeMoved config.reserve limits history pass id look) []
+  pub took :
+      IsTurn pass seen middle (λ history. MayTakeFor limits.events limits history pass look claim.slice claim.column) (event.Take pass claim.slice claim.column ∷ [])
   pub of_text : AreBitsAt config limits middle look.doc.text claim bits
   pub ended : IsTurn pass middle after (λ history. IsTrue moved ↔ IsThereStill history look) (event_of_move pass look claim bits moved ∷ [])
 
@@ -82,13 +66,13 @@ SomeMoves config limits pass id before after (suc moves) =
 pub record LooksInVain (config : Config) (limits : Limits) (pass id : ℕ) (before after : List Event) : Type 0 where
   pub look : Look
   pub seen : List Event
-  pub looked : IsTurn pass before seen (λ history. IsToBeMoved config.reserve limits history id look) []
-  pub none : IsTurn pass seen after (λ history. ClaimsNoneFor limits.events limits history pass look.slice) []
+  pub looked : IsTurn pass before seen (λ history. IsToBeMoved config.reserve limits history pass id look) []
+  pub none : IsTurn pass seen after (λ history. MayTakeNone limits.events limits history pass look) []
 
 -- a document was to be moved, and there was no memory for it
 pub record LacksMemory (config : Config) (limits : Limits) (pass id : ℕ) (before after : List Event) : Type 0 where
   pub seen : List Event
-  pub looked : IsTurn pass before seen (λ history. HasOneToMove config.reserve limits history id) []
+  pub looked : IsTurn pass before seen (λ history. SomeToBeMoved config.reserve limits.events limits history id) []
   pub later : IsFrontOf pass seen after
 
 -- what keeps a pass from one move more: no document is to be moved, or no column is claimed for it

@@ -1,4 +1,4 @@
--- The replies that a client is given for the answers of an engine: those to an add, a delete, a find, a text that is no query, a request
+-- The replies that a client is given for the answers of an engine: those to an add, a delete, a find, a query, a request
 -- for the number of commits, a journal, a tuning, and a text that is no tuning.
 use Rattle.std.specs.Prelude.{ℕ, List, Result, Ok, Err}
 use Rattle.funnel_model.specs.declared.commit.Commit.{Commit}
@@ -15,6 +15,8 @@ use Rattle.commit_desk.specs.declared.answers.FindFault.TheVariants as find
 use Rattle.commit_desk.specs.declared.answers.JournalFault.{JournalFault}
 use Rattle.commit_desk.specs.declared.answers.JournalFault.TheVariants as journal
 use Rattle.commit_desk.specs.declared.answers.Spent.{Spent}
+use Rattle.engine.specs.declared.querying.SearchFault.{SearchFault}
+use Rattle.engine.specs.declared.querying.SearchFault.TheVariants as search
 use Rattle.engine.specs.declared.retuning.TuneFault.{TuneFault}
 use Rattle.engine.specs.declared.retuning.TuneFault.TheVariants as tune
 use Rattle.funnel_stats.specs.declared.fault.ConfigFault.{ConfigFault}
@@ -45,6 +47,13 @@ abbrev pub reply_of_query_fault : QueryFault → Reply
 reply_of_query_fault (query.Syntax at) = reply.Query at
 reply_of_query_fault (query.Deep at) = reply.Deep at
 reply_of_query_fault query.Memory = reply.Memory
+
+abbrev pub reply_of_query : Result (List ℕ) SearchFault → Reply
+reply_of_query (Ok ids) = reply.Found ids
+reply_of_query (Err (search.Syntax at)) = reply.Query at
+reply_of_query (Err (search.Deep at)) = reply.Deep at
+reply_of_query (Err (search.Spent events)) = reply.Spent
+reply_of_query (Err search.Memory) = reply.Memory
 
 abbrev pub reply_of_place : Result ℕ Spent → Reply
 reply_of_place (Ok place) = reply.Place place

@@ -1,12 +1,14 @@
 -- The calls that have one turn at the desk.
-use Rattle.std.specs.Prelude.{◌≡◌, ℕ, ◌<◌, ◌≤◌, List, [], ◌∷◌, Result, Ok, Err}
+use Rattle.std.specs.Prelude.{◌≡◌, ℕ, ◌<◌, ◌≤◌, List, [], ◌∷◌, MatchResult, Option, Result, Ok, Err}
 use Rattle.funnel_model.specs.declared.call.Call.TheVariants as call
 use Rattle.funnel_model.specs.declared.commit.Commit.{Commit}
 use Rattle.funnel_model.specs.declared.config.Config.{Config}
+use Rattle.funnel_model.specs.declared.event.Event.{Event}
 use Rattle.funnel_model.specs.declared.event.Event.TheVariants as event
 use Rattle.funnel_model.specs.Legal.{Limits}
 use Rattle.funnel_model.specs.Sizes.{words_of_slice}
 use Rattle.commit_desk.specs.Answers.{AnswersDelete, AnswersJournal, AnswersPlace, AnswersTune, IsSpentAt, events_of_delete, events_of_journal, events_of_place}
+use Rattle.commit_desk.specs.Layouts.{HandsBackUnused}
 use Rattle.commit_desk.specs.declared.answers.DeleteFault.{DeleteFault}
 use Rattle.commit_desk.specs.declared.answers.JournalFault.{JournalFault}
 use Rattle.commit_desk.specs.declared.answers.Spent.{Spent}
@@ -16,7 +18,9 @@ use Rattle.engine.specs.Passes.{MakesCall, PassView}
 use Rattle.engine.specs.Replies.{reply_of_tune}
 use Rattle.row_layout.specs.declared.fault.LayoutFault.{LayoutFault}
 use Rattle.row_layout.specs.declared.fault.LayoutFault.TheVariants as layout
+use Rattle.row_layout.specs.Layouts.{LayoutId}
 use Rattle.slice_recycler.specs.Turns.{IsTurn}
+use Rattle.slice_rule.specs.Pools.{PoolId}
 
 -- the desk's answer to the delete of this number
 abbrev pub DeleteTurn : Limits → ℕ → Result ℕ DeleteFault → PassView → PassView → Type 0
@@ -33,6 +37,12 @@ abbrev pub JournalTurn : Limits → ℕ → Result (List Commit) JournalFault �
 JournalTurn limits from answer before after =
     IsTurn before.number before.front after.front (λ history. AnswersJournal limits.events limits history from answer)
     (events_of_journal before.number from answer)
+
+-- A tuning that gives its layout is answered so, and the layout that was current before comes back in its place, where no slice has its
+-- treatment; where it is refused the given one does.
+pub record AnswersTuning (pool : PoolId) (given left : Option LayoutId) (answer : Result ℕ Spent) (history : List Event) : Type 0 where
+  pub answers : AnswersTune pool.limits.events history answer
+  pub hands_back : MatchResult answer (λ _. HandsBackUnused pool history left) (λ _. left ≡ given)
 
 -- a slice has room for the rows of this configuration
 abbrev pub HasRoomFor : Limits → Config → Type 0

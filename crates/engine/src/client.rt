@@ -2,7 +2,7 @@
 ghost use Rattle.std.specs.Prelude.{◌≡◌};
 ghost use Rattle.funnel_model.specs.declared.call.Call.TheVariants as call;
 ghost use Rattle.engine.specs.Clients.{caller_of};
-ghost use Rattle.engine.specs.Replies.{reply_of_add, reply_of_delete, reply_of_find, reply_of_journal, reply_of_place, reply_of_query_fault};
+ghost use Rattle.engine.specs.Replies.{reply_of_add, reply_of_delete, reply_of_find, reply_of_journal, reply_of_place, reply_of_query};
 ghost use Rattle.engine.specs.Replies.{reply_of_tune, reply_of_tuning_fault};
 ghost use Rattle.funnel_stats.specs.Tunings.{tuned};
 ghost use Rattle.line_proto.specs.Services.{AnswersCall, AnswersQuery, AnswersTuned};
@@ -10,9 +10,8 @@ ghost use Rattle.slice_recycler.specs.Recycles.{reply_of_recycle};
 
 use crate::engine::Engine;
 use crate::pass::Pass;
-use crate::query_judge::read_query;
+use crate::querying::SearchFault;
 use crate::retuning::TuneFault;
-use bool_query::QueryFault;
 use commit_desk::{AddFault, DeleteFault, FindFault, JournalFault, Spent};
 use funnel_model::{Commits, Ids, Reply};
 use funnel_stats::ConfigFault;
@@ -96,13 +95,7 @@ impl<'a, N: PoolName, R: Wait> Client<'a, N, R> {
         ensures caller { caller_of N.pool.config N.pool.limits self.new ≡ caller_of N.pool.config N.pool.limits self.old }
         ensures answers { AnswersQuery (caller_of N.pool.config N.pool.limits self.old) self.old.front self.new.front text.now result }
     {
-        match read_query(self.alloc, text) {
-            Ok((branches, judge)) => reply_to_find(
-                self.engine
-                    .find_any(self.rt, self.alloc, &mut self.pass, &branches, &judge),
-            ),
-            Err(fault) => reply_to_query_fault(fault),
-        }
+        reply_to_query(self.engine.query(self.rt, self.alloc, &mut self.pass, text))
     }
 
     fn place(&mut self) -> Reply
@@ -178,13 +171,15 @@ fn reply_to_find(answer: Result<Ids, FindFault>) -> Reply
     }
 }
 
-fn reply_to_query_fault(fault: QueryFault) -> Reply
-    ensures { result ≡ reply_of_query_fault fault }
+fn reply_to_query(answer: Result<Ids, SearchFault>) -> Reply
+    ensures { result ≡ reply_of_query answer }
 {
-    match fault {
-        QueryFault::Syntax(at) => Reply::Query(at),
-        QueryFault::Deep(at) => Reply::Deep(at),
-        QueryFault::Memory => Reply::Memory,
+    match answer {
+        Ok(ids) => Reply::Found(ids),
+        Err(SearchFault::Syntax(at)) => Reply::Query(at),
+        Err(SearchFault::Deep(at)) => Reply::Deep(at),
+        Err(SearchFault::Spent(_)) => Reply::Spent,
+        Err(SearchFault::Memory) => Reply::Memory,
     }
 }
 

@@ -16,7 +16,7 @@ use crate::closed::Closed;
 use crate::pass::{Note, Pass, end_passes, name_passes};
 use crate::reading::without_words;
 use crate::work::{Direct, Work};
-use commit_desk::{DeleteFault, Desk, JournalFault, Looks, Named, Spent};
+use commit_desk::{DeleteFault, Desk, JournalFault, Named, Spent};
 use funnel_model::{Commits, Config, Memory};
 use row_layout::Layout;
 use slice_recycler::{Recycled, recycle_by};
@@ -68,8 +68,8 @@ impl<N: PoolName> Engine<N> {
         let range = layout.slice_range(0);
         let base = without_words(alloc, config);
         let Blank { pool, home, passes } = blank;
-        let looks = Looks::new(alloc, config.passes)?;
-        let desk = Desk::new(alloc, config, home, 1 << 62, layout)?;
+        let made = Desk::new(alloc, config, home, 1 << 62, layout)?;
+        let (desk, looks) = made;
         let passes = name_passes(alloc, passes, config.slices)?;
         let of = PhantomData;
         let engine = Engine {

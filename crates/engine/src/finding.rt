@@ -1,33 +1,28 @@
 //! Finds.
-ghost use Rattle.std.specs.Prelude.{◌≡◌, ℕ, List, ◌≤◌, [], IfErr, IfOk, MatchResult, filter, length, not};
-ghost use Rattle.funnel_model.specs.declared.bit_list.Bit.{Bit};
+ghost use Rattle.std.specs.Prelude.{◌≡◌, ℕ, List, ◌≤◌, ◌++◌, [], IfErr, IfOk, MatchResult, length};
 ghost use Rattle.funnel_model.specs.declared.call.Call.TheVariants as call;
 ghost use Rattle.funnel_model.specs.declared.event.Event.{Event};
 ghost use Rattle.funnel_model.specs.History.{answer};
 ghost use Rattle.funnel_model.specs.Legal.{IsLegal};
-ghost use Rattle.funnel_model.specs.Tokens.{HasToken};
-ghost use Rattle.commit_desk.specs.Passes.{IsResting};
-ghost use Rattle.commit_desk.specs.Scans.{AreScanned, token_of};
-ghost use Rattle.engine.specs.Finds.{CanLookIn, FindBegins, FindEnds, FindTurns, FindsIn, IsAnswerWhere, IsBegunAt, IsFoundBut, IsJustFinding};
-ghost use Rattle.engine.specs.Finds.{IsOpenOrEnded, IsScanFor, RefusedTurns};
+ghost use Rattle.commit_desk.specs.Passes.{IsFinding, IsResting};
+ghost use Rattle.commit_desk.specs.Scans.{AreOfToken};
+ghost use Rattle.engine.specs.Finds.{AddsFound, CanLookIn, FindBegins, FindEnds, FindTurns, FindsIn, HasEndedFind, IsAnswerWhere, IsBegunAt};
+ghost use Rattle.engine.specs.Finds.{IsFoundBut, IsJustFinding, IsOpenOrEnded, IsScanFor, RefusedTurn, RefusedTurns};
+ghost use Rattle.engine.specs.Looks.{FindsBoth};
 ghost use Rattle.engine.specs.Passes.{BeginsCall, MakesCall, MakesNoCall};
 ghost use Rattle.engine.specs.Replies.{reply_of_find, reply_of_find_fault};
-ghost use Rattle.engine.specs.Scans.{CanScan, IsPlanFor, part_of};
-ghost use Rattle.plan_rows.specs.Rests.{words_of_rest};
-ghost use Rattle.row_layout.specs.Owners.{is_exact};
-ghost use Rattle.row_read.specs.SharedRows.{WasReadSet, kept_of};
+ghost use Rattle.engine.specs.Searches.{is_kept_by};
 
+use crate::doubt::Doubt;
 use crate::engine::Engine;
-use crate::lookup::{Lookup, Resolver};
 use crate::open_find::{Begun, OpenFind};
 use crate::pass::Pass;
+use crate::scanning::Scanned;
+use crate::search::Search;
 use crate::work::{Direct, Work};
-use commit_desk::{FindFault, FindLayout, FindLayouts};
-use document_store::Found;
-use funnel_model::{Candidates, Ids, Memory, Token, WordSet};
-use plan_rows::{Rest, plan};
-use row_layout::Plan;
-use row_read::Shared;
+use commit_desk::{FindFault, FindLayout, FindLayouts, Part};
+use document_store::{Found, Judge};
+use funnel_model::{Ids, Memory, Token};
 use slice_rule::{PassSeat, PoolName};
 use std::alloc::Global;
 use std::sync::Wait;
@@ -63,17 +58,8 @@ impl<N: PoolName> Engine<N> {
         ensures call { MakesCall N.pool.limits (call.Find query.now) (reply_of_find result) pass.old pass.new }
         ensures turns { FindTurns N.pool.limits pass.old.number query.now pass.old.front pass.new.front result }
     {
-        let begun = self.take_token(rt, alloc, &mut pass.seat, query, &mut pass.layouts)?;
-        let Begun { token, words } = begun;
-        let Ok(ids) = self.finish(
-            rt,
-            alloc,
-            &mut pass.seat,
-            token,
-            &words,
-            &mut pass.layouts,
-            work,
-        ) else {
+        let begun = self.begin_words(rt, alloc, &mut pass.seat, query, &mut pass.layouts)?;
+        let Ok(ids) = self.finish(rt, &mut pass.seat, begun, &mut pass.layouts, work) else {
             return Err(FindFault::Memory);
         };
         Ok(ids)
@@ -98,7 +84,7 @@ impl<N: PoolName> Engine<N> {
             mut layouts,
             of,
         } = pass;
-        match self.take_token(rt, alloc, &mut seat, query, &mut layouts) {
+        match self.begin_words(rt, alloc, &mut seat, query, &mut layouts) {
             Ok(begun) => Ok(OpenFind {
                 seat,
                 layouts,
@@ -111,12 +97,7 @@ impl<N: PoolName> Engine<N> {
 
     /// Ends a find, and hands its pass back. Where there is no memory for the rows of its words, its candidates or its answer, the find
     /// is ended all the same. It waits for the lock for each turn that looks at its candidates, and for one at least.
-    pub fn finish_find<R: Wait>(
-        &self,
-        rt: &R,
-        alloc: Global,
-        find: OpenFind<N>,
-    ) -> (Pass<N>, Result<Ids, Memory>)
+    pub fn finish_find<R: Wait>(&self, rt: &R, find: OpenFind<N>) -> (Pass<N>, Result<Ids, Memory>)
         ensures found { IfOk result.1 (λ ids. (earlier : List Event) (query : List ℕ) → IsBegunAt find earlier query → ids ≡ answer earlier query) }
         ensures ended { FindEnds find.number find.front result.0.front }
         ensures pass { MakesNoCall N.pool.limits find result.0 }
@@ -127,21 +108,12 @@ impl<N: PoolName> Engine<N> {
             begun,
             of,
         } = find;
-        let Begun { token, words } = begun;
-        let answer = self.finish(
-            rt,
-            alloc,
-            &mut seat,
-            token,
-            &words,
-            &mut layouts,
-            &mut Direct,
-        );
+        let answer = self.finish(rt, &mut seat, begun, &mut layouts, &mut Direct);
         (Pass { seat, layouts, of }, answer)
     }
 
-    // Begins a find, after it took its words. It gets the layouts by which its slices are read.
-    fn take_token<R: Wait>(
+    // Begins a find of words, after it took them.
+    fn begin_words<R: Wait>(
         &self,
         rt: &R,
         alloc: Global,
@@ -150,7 +122,7 @@ impl<N: PoolName> Engine<N> {
         layouts: &mut FindLayouts,
     ) -> Result<Begun, FindFault>
         requires pass { IsResting N.pool pass.old }
-        ensures begun { IfOk result (λ begun. IsScanFor N.pool pass.new begun.token begun.words layouts.new.entries.items) }
+        ensures begun { IfOk result (λ begun. IsScanFor N.pool pass.new begun.token begun.search layouts.new.entries.items) }
         ensures turns { MatchResult result (λ _. FindBegins N.pool.limits pass.old.number query.now pass.old.front pass.new.front)
             (λ fault. RefusedTurns N.pool.limits pass.old.number pass.old.front pass.new.front fault) }
         ensures rests { IfErr result (λ _. IsResting N.pool pass.new) }
@@ -161,8 +133,29 @@ impl<N: PoolName> Engine<N> {
         let Ok(words) = words(alloc, query) else {
             return Err(FindFault::Memory);
         };
+        let token = self.begin(rt, pass, query, layouts)?;
+        let search = Search::of_words(alloc, words);
+        Ok(Begun { token, search })
+    }
+
+    // The first turn of a find. It gets the layouts by which its slices are read.
+    pub(crate) fn begin<R: Wait>(
+        &self,
+        rt: &R,
+        pass: &mut PassSeat,
+        query: &str,
+        layouts: &mut FindLayouts,
+    ) -> Result<Token, FindFault>
+        requires pass { IsResting N.pool pass.old }
+        ensures begun { IfOk result (λ token. IsJustFinding N.pool token pass.new layouts.new.entries.items) }
+        ensures turns { MatchResult result (λ _. FindBegins N.pool.limits pass.old.number query.now pass.old.front pass.new.front)
+            (λ fault. RefusedTurn N.pool.limits pass.old.number pass.old.front pass.new.front fault) }
+        ensures rests { IfErr result (λ _. IsResting N.pool pass.new) }
+        ensures legal { IsLegal N.pool.limits pass.new.front }
+        ensures number { pass.new.number ≡ pass.old.number }
+    {
         match self.open_find(rt, pass, query, layouts) {
-            Ok(token) => Ok(Begun { token, words }),
+            Ok(token) => Ok(token),
             Err(fault) => {
                 layouts.entries.clear();
                 Err(fault)
@@ -171,56 +164,55 @@ impl<N: PoolName> Engine<N> {
     }
 
     // Looks at the slices of each layout, and ends the find. The answer is sorted with the lock free.
-    pub(crate) fn finish<R: Wait, L: Lookup, W: Work>(
+    pub(crate) fn finish<R: Wait, W: Work>(
         &self,
         rt: &R,
-        alloc: Global,
         pass: &mut PassSeat,
-        token: Token,
-        lookup: &L,
+        begun: Begun,
         layouts: &mut FindLayouts,
         work: &mut W,
     ) -> Result<Ids, Memory>
-        requires begun { IsJustFinding N.pool token pass.old layouts.old.entries.items }
-        requires suits { (begun : HasToken pass.old.front pass.old.number token.opened_at) → L.suits lookup.now begun.query }
-        ensures found { IfOk result (IsAnswerWhere (L.test lookup.now) pass.old) }
+        requires begun { IsJustFinding N.pool begun.token pass.old layouts.old.entries.items }
+        ensures found { IfOk result (IsAnswerWhere (is_kept_by begun.search) pass.old) }
         ensures ended { FindEnds pass.old.number pass.old.front pass.new.front }
         ensures rests { IsResting N.pool pass.new }
         ensures legal { IsLegal N.pool.limits pass.new.front }
         ensures number { pass.new.number ≡ pass.old.number }
     {
+        let alloc = begun.search.alloc;
         let mut found = Found::new(alloc);
-        self.find_each(rt, alloc, pass, token, lookup, layouts, work, &mut found)?;
+        self.find_each(rt, pass, begun, layouts, work, &mut found)?;
         found.sort();
         let ids = Vec::with_capacity(alloc, found.len())?;
         Ok(found.into_ids(ids))
     }
 
     // Looks at the slices of one layout after the other, until the find is ended.
-    fn find_each<R: Wait, L: Lookup, W: Work>(
+    fn find_each<R: Wait, W: Work>(
         &self,
         rt: &R,
-        alloc: Global,
         pass: &mut PassSeat,
-        token: Token,
-        lookup: &L,
+        begun: Begun,
         layouts: &mut FindLayouts,
         work: &mut W,
         out: &mut Found,
     ) -> Result<(), Memory>
-        requires begun { IsJustFinding N.pool token pass.old layouts.old.entries.items }
-        requires suits { (begun : HasToken pass.old.front pass.old.number token.opened_at) → L.suits lookup.now begun.query }
+        requires begun { IsJustFinding N.pool begun.token pass.old layouts.old.entries.items }
         requires none { out.old.found ≡ [] }
-        ensures found { IfOk result (λ _. IsFoundBut (L.test lookup.now) pass.old token [] out.new.found) }
+        ensures found { IfOk result (λ _. IsFoundBut (is_kept_by begun.search) pass.old begun.token [] out.new.found) }
         ensures ended { FindEnds pass.old.number pass.old.front pass.new.front }
         ensures rests { IsResting N.pool pass.new }
         ensures legal { IsLegal N.pool.limits pass.new.front }
         ensures number { pass.new.number ≡ pass.old.number }
     {
-        let mut token = token;
+        let Begun { mut token, search } = begun;
         while let Some(entry) = layouts.entries.pop() {
-            let last = layouts.entries.is_empty();
-            match lookup.look_in(self, rt, alloc, pass, token, &entry, last, work, out) {
+            let next = Next {
+                token,
+                entry: &entry,
+                last: layouts.entries.is_empty(),
+            };
+            match self.look_in(rt, pass, next, &search, work, out) {
                 Ok(Some(open)) => token = open,
                 Ok(None) => return Ok(()),
                 Err(Memory) => {
@@ -233,30 +225,135 @@ impl<N: PoolName> Engine<N> {
         Ok(())
     }
 
-    // Looks at the candidates turn by turn, with the lock free between two. After the last slices the last turn ends the find; after
-    // others the token comes back.
-    pub(crate) fn resolve<R: Wait, V: Resolver>(
+    // Scans slices for the search, and looks at the candidates. It ends the find after the last candidate of the last slices, or where
+    // there is no memory; else the token comes back.
+    fn look_in<R: Wait, W: Work>(
+        &self,
+        rt: &R,
+        pass: &mut PassSeat,
+        next: Next<'_>,
+        search: &Search,
+        work: &mut W,
+        out: &mut Found,
+    ) -> Result<Option<Token>, Memory>
+        requires can { CanLookIn N.pool pass.old next.token next.entry.now }
+        ensures found { IfOk result (λ _. AddsFound (is_kept_by search.now) pass.old next.entry.token next.entry.entry.now.slices
+            out.old.found out.new.found) }
+        ensures goes_on { MatchResult result (IsOpenOrEnded N.pool next.entry.token next.entry.last pass.old pass.new)
+            (λ _. HasEndedFind N.pool pass.old pass.new) }
+        ensures legal { IsLegal N.pool.limits pass.new.front }
+        ensures number { pass.new.number ≡ pass.old.number }
+    {
+        let _ = &self.pool;
+        let _ = pass.number();
+        let Next { token, entry, last } = next;
+        let Ok(scanned) = self.scan_entry(pass, &token, entry, search, work) else {
+            self.drop_find(rt, pass, token);
+            return Err(Memory);
+        };
+        self.look_at(rt, pass, token, &scanned, last, out)
+    }
+
+    // Looks at candidates: first at those where the search is sure but for the rest of its words, and then at those where it is unsure.
+    fn look_at<R: Wait>(
         &self,
         rt: &R,
         pass: &mut PassSeat,
         token: Token,
-        entry: &FindLayout,
-        candidates: &Candidates,
-        resolver: &V,
+        scanned: &Scanned<'_>,
+        last: bool,
+        out: &mut Found,
+    ) -> Result<Option<Token>, Memory>
+        requires finding { IsFinding N.pool token pass.old }
+        requires of_token { AreOfToken N.pool.limits.columns token (scanned.now.hits.sure ++ scanned.now.hits.unsure) }
+        ensures found { IfOk result (λ _. FindsBoth scanned.now pass.old token out.old.found out.new.found) }
+        ensures goes_on { MatchResult result (IsOpenOrEnded N.pool token last pass.old pass.new) (λ _. HasEndedFind N.pool pass.old pass.new) }
+        ensures legal { IsLegal N.pool.limits pass.new.front }
+        ensures number { pass.new.number ≡ pass.old.number }
+    {
+        let rest = scanned.rest.words(&scanned.search.words);
+        let sure = Part {
+            candidates: &scanned.hits.sure,
+            from: 0,
+            judge: rest,
+        };
+        if scanned.hits.unsure.len() == 0 {
+            return self.resolve(rt, pass, token, sure, last, out);
+        }
+        let Some(token) = self.resolve(rt, pass, token, sure, false, out)? else {
+            unreachable!()
+        };
+        let unsure = Part {
+            candidates: &scanned.hits.unsure,
+            from: 0,
+            judge: &Doubt::of(scanned.search, rest),
+        };
+        self.resolve(rt, pass, token, unsure, last, out)
+    }
+
+    // Looks at candidates turn by turn, with the lock free between two. Where these are the last ones, the last turn ends the find, and else
+    // the token comes back. The find ends too where there is no memory for what they give.
+    fn resolve<R: Wait, J: Judge>(
+        &self,
+        rt: &R,
+        pass: &mut PassSeat,
+        token: Token,
+        part: Part<'_, J>,
+        last: bool,
+        out: &mut Found,
+    ) -> Result<Option<Token>, Memory>
+        requires finding { IsFinding N.pool token pass.old }
+        requires of_token { AreOfToken N.pool.limits.columns token part.candidates.now }
+        requires from { part.from ≡ 0 }
+        ensures found { IfOk result (λ _. FindsIn (J.test part.entry.judge.now) pass.old token part.entry.candidates.now out.old.found out.new.found) }
+        ensures goes_on { MatchResult result (IsOpenOrEnded N.pool token last pass.old pass.new) (λ _. HasEndedFind N.pool pass.old pass.new) }
+        ensures legal { IsLegal N.pool.limits pass.new.front }
+        ensures number { pass.new.number ≡ pass.old.number }
+    {
+        let Ok(()) = out.reserve(part.candidates.len()) else {
+            self.drop_find(rt, pass, token);
+            return Err(Memory);
+        };
+        Ok(self.resolve_all(rt, pass, token, part, last, out))
+    }
+
+    // The turns, where there is room for what the candidates give.
+    fn resolve_all<R: Wait, J: Judge>(
+        &self,
+        rt: &R,
+        pass: &mut PassSeat,
+        token: Token,
+        part: Part<'_, J>,
         last: bool,
         out: &mut Found,
     ) -> Option<Token>
-        requires scanned { V.scanned resolver.now N.pool token entry.now candidates.now pass.old }
-        requires room { length candidates.now ≤ out.old.room }
-        ensures found { FindsIn (V.test resolver.now) pass.old token entry.now.slices candidates.now out.old.found out.new.found }
+        requires finding { IsFinding N.pool token pass.old }
+        requires of_token { AreOfToken N.pool.limits.columns token part.candidates.now }
+        requires from { part.from ≡ 0 }
+        requires room { length part.candidates.now ≤ out.old.room }
+        ensures found { FindsIn (J.test part.entry.judge.now) pass.old token part.entry.candidates.now out.old.found out.new.found }
         ensures goes_on { IsOpenOrEnded N.pool token last pass.old pass.new result }
         ensures legal { IsLegal N.pool.limits pass.new.front }
         ensures number { pass.new.number ≡ pass.old.number }
     {
+        let Part {
+            candidates,
+            from: _,
+            judge,
+        } = part;
         let mut token = token;
         let mut from = 0;
         while let Some((open, next)) = self.resolve_turn(
-            rt, pass, token, entry, candidates, from, resolver, last, out,
+            rt,
+            pass,
+            token,
+            Part {
+                candidates,
+                from,
+                judge,
+            },
+            last,
+            out,
         ) {
             if candidates.len() <= next {
                 return Some(open);
@@ -266,109 +363,11 @@ impl<N: PoolName> Engine<N> {
         }
         None
     }
-
-    // The candidates in the slices of an entry, and the rest of the words, for which their documents are looked at. There is room for what
-    // they give.
-    fn find_candidates<W: Work>(
-        &self,
-        alloc: Global,
-        pass: &mut PassSeat,
-        token: &Token,
-        words: &WordSet,
-        entry: &FindLayout,
-        work: &mut W,
-        out: &mut Found,
-    ) -> Result<(Candidates, Rest), Memory>
-        requires can { CanLookIn N.pool pass.old token.now entry.now }
-        ensures scanned { IfOk result (λ scanned. AreScanned entry.now.layout.config pass.new (token_of entry.now.slices token.now) words.now scanned.0) }
-        ensures rest { IfOk result (λ scanned. words_of_rest words.now scanned.1 ≡ filter (λ word. not (is_exact entry.now.layout.config word)) words.now) }
-        ensures room { IfOk result (λ scanned. length scanned.0 ≤ out.new.room) }
-        ensures found { out.new.found ≡ out.old.found }
-        ensures seat { pass.new ≡ record pass.old { own = pass.new.own; told = pass.new.told } }
-    {
-        let planned = plan(alloc, entry.layout.layout(), words)?;
-        let (plan, rest) = planned;
-        let mut candidates = Candidates::new(Vec::new(alloc));
-        self.scan_entry(pass, token, words, &plan, entry, work, &mut candidates)?;
-        out.reserve(candidates.len())?;
-        Ok((candidates, rest))
-    }
-
-    // Scans the slices of an entry by its plan.
-    fn scan_entry<W: Work>(
-        &self,
-        pass: &mut PassSeat,
-        token: &Token,
-        words: &WordSet,
-        plan: &Plan,
-        entry: &FindLayout,
-        work: &mut W,
-        out: &mut Candidates,
-    ) -> Result<(), Memory>
-        requires can { CanLookIn N.pool pass.old token.now entry.now }
-        requires planned { IsPlanFor entry.now.layout.config words.now plan.now }
-        requires empty { out.old ≡ [] }
-        ensures scanned { IfOk result (λ _. AreScanned entry.now.layout.config pass.new (token_of entry.now.slices token.now) words.now out.new) }
-        ensures seat { pass.new ≡ record pass.old { own = pass.new.own; told = pass.new.told } }
-    {
-        let mut rows = Shared::new(&self.pool, pass, token);
-        self.scan_slices(&mut rows, words, plan, entry, work, out)
-    }
-
-    // Scans the slices of an entry for these words, one after the other.
-    pub(crate) fn scan_slices<W: Work>(
-        &self,
-        rows: &mut Shared<'_>,
-        words: &WordSet,
-        plan: &Plan,
-        entry: &FindLayout,
-        work: &mut W,
-        out: &mut Candidates,
-    ) -> Result<(), Memory>
-        requires scan { CanScan N.pool rows.old entry.now words.now plan.now }
-        requires empty { out.old ≡ [] }
-        ensures scanned { IfOk result (λ _. AreScanned entry.now.layout.config rows.new.seat.now (part_of entry.now rows.new) words.now out.new) }
-        ensures seen_stays { (bit : Bit) → WasReadSet rows.old bit → WasReadSet rows.new bit }
-        ensures kept { kept_of rows.new ≡ kept_of rows.old }
-    {
-        let _ = &self.pool;
-        let mut from = 0;
-        while let Some(slice) = entry.slices.next(from) {
-            work.scan(rows, entry.layout.layout(), plan, slice, out)?;
-            from = slice + 1;
-        }
-        Ok(())
-    }
 }
 
-/// The words of a query.
-impl Lookup for WordSet {
-    ghost use Rattle.engine.specs.Finds.{by_query};
-    ghost use Rattle.funnel_model.specs.Words.{AreWordsOf};
-
-    ghost test = { λ words. by_query };
-
-    ghost suits = { λ words query. AreWordsOf words query };
-
-    fn look_in<N: PoolName, R: Wait, W: Work>(
-        &self,
-        engine: &Engine<N>,
-        rt: &R,
-        alloc: Global,
-        pass: &mut PassSeat,
-        token: Token,
-        entry: &FindLayout,
-        last: bool,
-        work: &mut W,
-        out: &mut Found,
-    ) -> Result<Option<Token>, Memory> {
-        let _ = pass.number();
-        let Ok(scanned) = engine.find_candidates(alloc, pass, &token, self, entry, work, out) else {
-            engine.drop_find(rt, pass, token);
-            return Err(Memory);
-        };
-        let (candidates, rest) = scanned;
-        let rest = rest.words(self);
-        Ok(engine.resolve(rt, pass, token, entry, &candidates, rest, last, out))
-    }
+// What a find looks in next: the slices of an entry, and whether they are its last ones.
+pub(crate) struct Next<'a> {
+    pub token: Token,
+    pub entry: &'a FindLayout,
+    pub last: bool,
 }

@@ -9,10 +9,10 @@
 //! A program reads a valid configuration (`parse_config`), and has `use_engine` open an engine with it, which hands it to the
 //! program's own `UseEngine::run`; or `share_engine`, which has a thread for each pass call `ShareEngine::work`. The type of an
 //! engine, and of what it hands out, has the name of its pool: so a pass is one of the engine with the same name, and rests whenever
-//! a caller has it. So no call of an engine asks for anything but the arguments that its types say, save `find_any`, whose judge
-//! keeps only texts with all words of some branch, and `retune`, to which `read_tuning` gives a configuration. A program that proves
-//! more of what it does makes a `Blank` and names its pool itself, in a function over `N: PoolName`: so `Blank::new` asks for a valid
-//! configuration, and `open` for the one that its blank was made with and for the name of that blank's pool.
+//! a caller has it. So no call of an engine asks for anything but the arguments that its types say, save `retune`, to which
+//! `read_tuning` gives a configuration. A program that proves more of what it does makes a `Blank` and names its pool itself, in a
+//! function over `N: PoolName`: so `Blank::new` asks for a valid configuration, and `open` for the one that its blank was made with
+//! and for the name of that blank's pool.
 //!
 //! ```text
 //! use engine::{
@@ -90,12 +90,12 @@
 //!   (`begin_find`, `finish_find`) has its pass, and may be ended on another thread than that which began it.
 //! - The calls that make events wait for the lock. No column is written, no slice is scanned and none is cleared under it. A find
 //!   verifies its candidates there in turns, each of which ends after 4,096 look-ups, or with the document at which it has looked
-//!   for 256 words; where a judge decides, each document counts as 8 words at least. It sorts its answer afterwards. What else is
-//!   done there takes the longer the more there is of it: a journal copies its commits, an add that is refused as full looks through
-//!   the slices, and one that moves a document copies it. `Blank::new`, `open`, `read_tuning`, `note`, `meet` and
-//!   `close` wait for nobody.
-//! - `use_engine`, `share_engine`, `Blank::new`, `open`, `add` and `find` (and their `.._by`), `find_any`, `begin_find`, `finish_find`, `journal`, `read_tuning` and
-//!   `retune` take memory, and answer so where there is none; the others take none.
+//!   for 256 words; where a query looks for more than words, each document counts as 8 words at least. It sorts its answer
+//!   afterwards. What else is done there takes the longer the more there is of it: a journal copies its commits, an add that is
+//!   refused as full looks through the slices, and one that moves a document copies it. `Blank::new`, `open`, `read_tuning`, `note`,
+//!   `meet` and `close` wait for nobody.
+//! - `use_engine`, `share_engine`, `Blank::new`, `open`, `add`, `find` and `query` (and their `.._by`), `begin_find`, `finish_find`,
+//!   `journal`, `read_tuning` and `retune` take memory, and answer so where there is none; the others take none.
 //! - A deleted document keeps its column until all columns of its slice are done with, and the slice is cleared. So one live
 //!   document keeps its whole slice, unless the configuration has a `reserve`, for which adds move documents.
 //! - `AddFault::Full` tells what keeps documents out of each slice. It may pass without a delete: where another pass writes a column or
@@ -106,24 +106,22 @@
 
 mod adding;
 mod blank;
-mod branch_scans;
 mod client;
 mod closed;
+mod doubt;
 mod engine;
 mod finding;
-mod judging;
 pub mod laws;
-mod lookup;
-mod merged;
 mod moving;
 mod open_find;
 mod pass;
-mod query_judge;
+mod querying;
 mod reading;
 mod retuning;
+mod scanning;
+mod search;
 mod turns;
 mod using;
-mod word_expr;
 mod work;
 
 pub use blank::Blank;
@@ -131,18 +129,18 @@ pub use client::Client;
 pub use closed::Closed;
 pub use column_writer::write_column;
 pub use commit_desk::{AddFault, DeleteFault, FindFault, JournalFault, Spent};
-pub use document_store::{Doc, Judge};
 pub use engine::Engine;
 pub use funnel_model::{
-    Block, Blocked, Branches, Candidates, Claim, ClearJob, Commit, Commits, Config, Ids, Listed,
-    Memory, WordSet,
+    Block, Blocked, Candidates, Claim, ClearJob, Commit, Commits, Config, Ids, Listed, Memory,
+    WordSet,
 };
 pub use funnel_stats::{ConfigFault, parse_config};
 pub use open_find::OpenFind;
 pub use pass::{Note, Pass};
-pub use rank_matcher::scan;
+pub use querying::SearchFault;
+pub use rank_matcher::{Hits, scan_search};
 pub use retuning::TuneFault;
-pub use row_layout::{Bits, Layout, Plan};
+pub use row_layout::{Bits, Layout, Plan, SearchPlan};
 pub use row_read::Shared;
 pub use slice_recycler::{Clearer, Recycled, clear_slice};
 pub use slice_rule::{PassSeat, Pool, PoolName};

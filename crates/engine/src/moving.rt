@@ -1,13 +1,14 @@
 //! Moves: an add first moves documents out of the slice that is to be emptied. Each call of the desk is a turn of its own.
 ghost use Rattle.std.specs.Prelude.{◌≡◌, ◌↔◌, [], ◌∷◌, IfOk, IfSome, IsTrue};
+ghost use Rattle.std.specs.Option.{is_none};
 ghost use Rattle.commit_desk.specs.Moving.{AnswersTakeMove, HoldsLook, IsThereStill, event_of_move, events_of_take_move};
-ghost use Rattle.commit_desk.specs.Passes.{HasWritten, IsResting};
-ghost use Rattle.engine.specs.Moves.{EndsMove, IsLookForMove, MovesAll, WritesOrRests};
+ghost use Rattle.commit_desk.specs.Passes.{HasWritten, IsResting, WritesOrRests};
+ghost use Rattle.engine.specs.Moves.{EndsMove, IsLookForMove, MovesAll};
 ghost use Rattle.slice_recycler.specs.Turns.{IsTurn};
 
 use crate::engine::Engine;
 use crate::work::Work;
-use commit_desk::{Look, TakenMove};
+use commit_desk::{Look, NotTaken, TakenMove};
 use document_store::Doc;
 use funnel_model::{Claim, MOST_MOVES, Memory};
 use row_layout::Bits;
@@ -66,9 +67,15 @@ impl<N: PoolName> Engine<N> {
             return Err(Memory);
         };
         let taken = match self.take_move(rt, pass, look) {
-            Ok(Some(taken)) => taken,
-            Ok(None) => return Ok(false),
-            Err(Memory) => return Err(Memory),
+            Ok(taken) => taken,
+            Err(NotTaken::NoColumn(doc)) => {
+                drop(doc);
+                return Ok(false);
+            }
+            Err(NotTaken::Memory(doc)) => {
+                drop(doc);
+                return Err(Memory);
+            }
         };
         let TakenMove {
             claim,
@@ -76,7 +83,7 @@ impl<N: PoolName> Engine<N> {
             layout,
         } = taken;
         self.write(pass, &claim, &layout, look.doc.words(), &mut bits, work);
-        self.end_move(rt, pass, claim, look, &bits);
+        drop(self.end_move(rt, pass, claim, look, &bits));
         Ok(true)
     }
 
@@ -109,17 +116,17 @@ impl<N: PoolName> Engine<N> {
         self.desk.lock(rt).looks.end(look)
     }
 
-    // The second turn of a move.
+    // The second turn of a move. Where no column is claimed the document comes back, to be dropped when the lock is free again.
     fn take_move<R: Wait>(
         &self,
         rt: &R,
         pass: &mut PassSeat,
         look: Look,
-    ) -> Result<Option<TakenMove>, Memory>
+    ) -> Result<TakenMove, NotTaken>
         requires rests { IsResting N.pool pass.old }
         ensures turn { IsTurn pass.old.number pass.old.front pass.new.front
             (λ history. AnswersTakeMove N.pool.limits.events N.pool.limits history pass.old.number look result) (events_of_take_move pass.old.number result) }
-        ensures next { WritesOrRests N.pool pass.new result }
+        ensures next { WritesOrRests N.pool result pass.new }
         ensures number { pass.new.number ≡ pass.old.number }
     {
         let _ = &self.pool;
@@ -130,7 +137,7 @@ impl<N: PoolName> Engine<N> {
             .take_move(&self.pool, pass, &mut named.looks, look)
     }
 
-    // The last turn of a move. It answers whether the document was moved.
+    // The last turn of a move. Where the document isn't moved it comes back, to be dropped when the lock is free again.
     fn end_move<R: Wait>(
         &self,
         rt: &R,
@@ -138,11 +145,12 @@ impl<N: PoolName> Engine<N> {
         claim: Claim,
         look: Look,
         bits: &Bits,
-    ) -> bool
+    ) -> Option<Doc>
         requires written { HasWritten N.pool claim look.doc.words bits.now.bits pass.old }
         requires look { HoldsLook pass.old look }
-        ensures turn { IsTurn pass.old.number pass.old.front pass.new.front (λ history. IsTrue result ↔ IsThereStill history look)
-            (event_of_move pass.old.number look claim bits.now.bits result ∷ []) }
+        ensures turn { IsTurn pass.old.number pass.old.front pass.new.front (λ history. IsTrue (is_none result) ↔ IsThereStill history look)
+            (event_of_move pass.old.number look claim bits.now.bits (is_none result) ∷ []) }
+        ensures doc { IfSome result (λ doc. doc ≡ look.doc) }
         ensures rests { IsResting N.pool pass.new }
         ensures number { pass.new.number ≡ pass.old.number }
     {

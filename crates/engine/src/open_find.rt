@@ -1,5 +1,6 @@
+use crate::search::Search;
 use commit_desk::FindLayouts;
-use funnel_model::{Token, WordSet};
+use funnel_model::Token;
 use slice_rule::{PassSeat, PoolName};
 use std::marker::{Model, PhantomData};
 
@@ -25,11 +26,11 @@ impl<N: PoolName> Model for OpenFind<N> {
 
     ghost view = { λ f. view_of f.seat };
 
-    ghost invariant = { λ f. IsScanFor N.pool f.seat f.begun.token f.begun.words f.layouts.entries.items };
+    ghost invariant = { λ f. IsScanFor N.pool f.seat f.begun.token f.begun.search f.layouts.entries.items };
 }
 
-// What an open find scans for: its token, and the words of its query.
+// A find that has begun: its token, and what it looks for.
 pub(crate) struct Begun {
     pub token: Token,
-    pub words: WordSet,
+    pub search: Search,
 }

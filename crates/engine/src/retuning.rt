@@ -66,7 +66,7 @@ impl<N: PoolName> Engine<N> {
             return Err(TuneFault::Memory);
         };
         let mut layout = Some(shared);
-        match self.tune(rt, &mut pass.seat, config, &mut layout) {
+        match self.tune_turn(rt, &mut pass.seat, config, &mut layout) {
             Ok(count) => Ok(count),
             Err(spent) => Err(TuneFault::Spent(spent.events)),
         }

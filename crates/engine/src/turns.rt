@@ -4,25 +4,25 @@ ghost use Rattle.std.specs.Prelude.{◌≡◌, ◌<◌, ◌≤◌, true, [], ◌
 ghost use Rattle.funnel_model.specs.declared.event.Event.TheVariants as event;
 ghost use Rattle.funnel_model.specs.Legal.{IsLegal};
 ghost use Rattle.funnel_model.specs.Tokens.{HasToken};
-ghost use Rattle.commit_desk.specs.Answers.{AnswersCommit, AnswersFind, AnswersTune, events_of_commit, events_of_find, events_of_opened_take, events_of_tune};
+ghost use Rattle.commit_desk.specs.Answers.{AnswersCommit, AnswersFind, events_of_commit, events_of_find, events_of_opened_take, events_of_tune};
 ghost use Rattle.commit_desk.specs.FindLayouts.{AreFindLayouts};
 ghost use Rattle.commit_desk.specs.Layouts.{IsLayoutOf, TunesWith};
 ghost use Rattle.commit_desk.specs.Passes.{HasCleared, HasWritten, IsFinding, IsResting, IsToDo, IsToWrite};
-ghost use Rattle.commit_desk.specs.Resolving.{FindsUpTo};
+ghost use Rattle.commit_desk.specs.Resolving.{CanGoOn, FindsUpTo};
+ghost use Rattle.commit_desk.specs.Scans.{AreOfToken};
 ghost use Rattle.std.specs.Sync.Mutex.{mutex_guard_value};
 ghost use Rattle.commit_desk.specs.Answers.{LeavesRoom, events_of_take};
 ghost use Rattle.engine.specs.Adds.{IsLookForRoom, IsOpenAgain, TakeTurns};
-ghost use Rattle.engine.specs.Finds.{CanGoOn, ComesTo, end_of_turn, events_of_turn};
+ghost use Rattle.engine.specs.Finds.{ComesTo, end_of_turn, events_of_turn};
+ghost use Rattle.engine.specs.Turns.{AnswersTuning};
 ghost use Rattle.row_layout.specs.Layouts.{LayoutId};
+ghost use Rattle.row_layout.specs.Sound.{IsSound};
 ghost use Rattle.slice_recycler.specs.Turns.{IsTurn};
 
 use crate::engine::Engine;
-use crate::lookup::Resolver;
-use commit_desk::{
-    CommitFault, FindFault, FindLayout, FindLayouts, Named, SharedLayout, Spent, Taken,
-};
-use document_store::{Doc, Found, FreeSlots};
-use funnel_model::{Block, Candidates, Claim, ClearJob, Config, Token};
+use commit_desk::{CommitFault, FindFault, FindLayouts, Named, Part, SharedLayout, Spent, Taken};
+use document_store::{Doc, Found, FreeSlots, Judge};
+use funnel_model::{Block, Claim, ClearJob, Config, Token};
 use row_layout::Bits;
 use slice_rule::{PassSeat, PoolName};
 use std::sync::{MutexGuard, Wait};
@@ -70,7 +70,7 @@ impl<N: PoolName> Engine<N> {
         requires rests { IsResting N.pool pass.old }
         requires room { MatchOption room.old ⊥ (λ empty. (empty.items ≡ []) × (N.pool.limits.slices ≤ vec_capacity empty)) }
         requires awaited { IfSome awaited (λ slice. slice < N.pool.limits.slices) }
-        ensures turn { IsTurn pass.old.number pass.old.front pass.new.front (IsLookForRoom N.pool.limits pass.old.number doc.now.id awaited last result)
+        ensures turn { IsTurn pass.old.number pass.old.front pass.new.front (IsLookForRoom N.pool pass.old.number doc.now.id awaited last result)
             (events_of_take pass.old.number doc.now.id doc.now.text result) }
         ensures room { LeavesRoom result room.old room.new }
         ensures next { IsToDo N.pool result pass.new }
@@ -164,6 +164,7 @@ impl<N: PoolName> Engine<N> {
         ensures next { MatchResult result (λ token. IsFinding N.pool token pass.new) (λ _. IsResting N.pool pass.new) }
         ensures layouts { IfOk result (λ token. (begun : HasToken pass.new.front pass.new.number token.opened_at) →
             AreFindLayouts N.pool begun.earlier token layouts.new.entries.items) }
+        ensures sound { IfOk result (λ token. (begun : HasToken pass.new.front pass.new.number token.opened_at) → IsSound N.pool.config begun.earlier) }
         ensures number { pass.new.number ≡ pass.old.number }
         ensures legal { IsLegal N.pool.limits pass.new.front }
     {
@@ -174,39 +175,34 @@ impl<N: PoolName> Engine<N> {
             .open_find(&self.pool, pass, query, layouts)
     }
 
-    // A turn of a find that looks at its candidates in the slices of one layout, from this one on, while the turn isn't over. Where
-    // these slices are the last ones, the turn that looks at the last candidate ends the find. Any other hands the token back, and
-    // tells where the next goes on.
-    pub(crate) fn resolve_turn<R: Wait, V: Resolver>(
+    // A turn of a find that looks at candidates from one on, while the turn isn't over. Where these are its last ones, the turn that looks at
+    // the last of them ends the find. Any other hands the token back, and tells where the next goes on.
+    pub(crate) fn resolve_turn<R: Wait, J: Judge>(
         &self,
         rt: &R,
         pass: &mut PassSeat,
         token: Token,
-        entry: &FindLayout,
-        candidates: &Candidates,
-        from: usize,
-        resolver: &V,
+        part: Part<'_, J>,
         last: bool,
         out: &mut Found,
     ) -> Option<(Token, usize)>
-        requires scanned { V.scanned resolver.now N.pool token entry.now candidates.now pass.old }
-        requires can { CanGoOn candidates.now out.old from }
-        ensures found { (begun : HasToken pass.old.front pass.old.number token.opened_at) → FindsUpTo begun.earlier (V.test resolver.now begun.query)
-            (V.cost resolver.now) entry.now.slices candidates.now from (end_of_turn candidates.now result) out.old.found out.new.found }
-        ensures next { IfSome result (λ next. V.scanned resolver.now N.pool next.0 entry.now candidates.now pass.new
-            × ComesTo token candidates.now last from out.new next) }
+        requires finding { IsFinding N.pool token pass.old }
+        requires of_token { AreOfToken N.pool.limits.columns token part.candidates.now }
+        requires can { CanGoOn part.candidates.now out.old part.from }
+        ensures found { (begun : HasToken pass.old.front pass.old.number token.opened_at) → FindsUpTo begun.earlier (J.test part.entry.judge.now)
+            (J.cost part.entry.judge.now) part.entry.candidates.now part.entry.from (end_of_turn part.entry.candidates.now result) out.old.found out.new.found }
+        ensures next { IfSome result (λ next. IsFinding N.pool next.0 pass.new × ComesTo token part.entry.candidates.now last part.entry.from out.new next) }
         ensures over { result ≡ None → (last ≡ true) × IsResting N.pool pass.new }
         ensures turn { IsTurn pass.old.number pass.old.front pass.new.front (λ history. Unit {0}) (events_of_turn pass.old.number result) }
         ensures number { pass.new.number ≡ pass.old.number }
         ensures legal { IsLegal N.pool.limits pass.new.front }
     {
         let _ = &self.pool;
+        let count = part.candidates.len();
         let mut named = self.desk.lock(rt);
         let desk = &mut named.desk;
-        let next = resolver.resolve_part(
-            desk, &self.pool, pass, &token, entry, candidates, from, out,
-        );
-        if next < candidates.len() {
+        let next = desk.resolve_part(&self.pool, pass, &token, part, out);
+        if next < count {
             return Some((token, next));
         }
         if last {
@@ -230,7 +226,7 @@ impl<N: PoolName> Engine<N> {
 
     // The turn of a tuning, with the layout that each slice gets when it is cleared. Unless it is refused, the one that was
     // current before comes back in its place where no slice has its treatment, so that it is dropped when the lock is free again.
-    pub(crate) fn tune<R: Wait>(
+    pub(crate) fn tune_turn<R: Wait>(
         &self,
         rt: &R,
         pass: &mut PassSeat,
@@ -239,7 +235,7 @@ impl<N: PoolName> Engine<N> {
     ) -> Result<u64, Spent>
         requires rests { IsResting N.pool pass.old }
         requires tunes { TunesWith N.pool config.now layout.old }
-        ensures turn { IsTurn pass.old.number pass.old.front pass.new.front (λ history. AnswersTune N.pool.limits.events history result)
+        ensures turn { IsTurn pass.old.number pass.old.front pass.new.front (AnswersTuning N.pool layout.old layout.new result)
             (events_of_tune pass.old.number config.now result) }
         ensures rests { IsResting N.pool pass.new }
         ensures number { pass.new.number ≡ pass.old.number }

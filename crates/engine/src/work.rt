@@ -1,13 +1,17 @@
-ghost use Rattle.std.specs.Prelude.{◌≡◌};
+ghost use Rattle.std.specs.Prelude.{◌≡◌, None, OnOk};
 ghost use Rattle.column_writer.specs.Written.{CanWrite, SetsBits};
 ghost use Rattle.funnel_model.specs.declared.bit_list.Bit.{Bit};
-ghost use Rattle.rank_matcher.specs.SliceScans.{CanScanSlice, ScansSlice};
+ghost use Rattle.funnel_model.specs.Searches.{Searches};
+ghost use Rattle.rank_matcher.specs.SearchScans.{CanSearch, ReadsFewFor, ScansFor};
+ghost use Rattle.rank_matcher.specs.SliceScans.{CanScanSlice};
+ghost use Rattle.row_layout.specs.AtomReads.{AtomPlan};
+ghost use Rattle.row_layout.specs.SearchPlans.{ArePlansOfSearches};
 ghost use Rattle.row_read.specs.SharedRows.{IsCommittedUnder, IsInReach, WasReadSet, kept_of};
 
 use column_writer::write_column;
-use funnel_model::{Candidates, Claim, ClearJob, Memory};
-use rank_matcher::scan;
-use row_layout::{Bits, Layout, Plan};
+use funnel_model::{Claim, ClearJob, Memory};
+use rank_matcher::{Hits, scan_search};
+use row_layout::{Bits, Layout, Plan, SearchPlan};
 use row_read::Shared;
 use slice_recycler::{Clearer, clear_slice};
 use slice_rule::{PassSeat, Pool};
@@ -21,18 +25,23 @@ pub trait Work: Clearer {
         requires { CanWrite pool.now seat.old claim.now bits.now.bits }
         ensures { SetsBits seat.old seat.new bits.now.bits };
 
-    /// Appends the columns of a slice that may hold documents which meet the query.
+    /// Appends the columns of a slice that may hold documents which a search keeps, by the plan of the words that it requires and by that
+    /// of what else it asks.
     fn scan(
         &mut self,
         rows: &mut Shared<'_>,
         layout: &Layout,
         plan: &Plan,
+        residue: &SearchPlan,
         slice: u32,
-        out: &mut Candidates,
+        hits: &mut Hits,
     ) -> Result<(), Memory>
-        requires { CanScanSlice (IsInReach rows.old) layout.now plan.now slice }
-        ensures scans { ScansSlice (IsCommittedUnder rows.old) (WasReadSet rows.new) layout.now plan.now slice result out.old out.new
-            rows.old.count rows.new.count }
+        requires required { CanScanSlice (IsInReach rows.old) layout.now plan.now slice }
+        requires residue { CanSearch (IsInReach rows.old) layout.now residue.now slice }
+        ensures scans { (searches : Searches AtomPlan) → ArePlansOfSearches searches residue.now.nodes.items residue.now.rows.items →
+            OnOk result (ScansFor None (IsCommittedUnder rows.old) (WasReadSet rows.new) layout.now plan.now searches slice
+            hits.old.sure hits.old.unsure hits.new.sure hits.new.unsure) }
+        ensures reads { ReadsFewFor layout.now plan.now residue.now rows.old.count rows.new.count }
         ensures seen_stays { (bit : Bit) → WasReadSet rows.old bit → WasReadSet rows.new bit }
         ensures kept { kept_of rows.new ≡ kept_of rows.old };
 }
@@ -57,9 +66,10 @@ impl Work for Direct {
         rows: &mut Shared<'_>,
         layout: &Layout,
         plan: &Plan,
+        residue: &SearchPlan,
         slice: u32,
-        out: &mut Candidates,
+        hits: &mut Hits,
     ) -> Result<(), Memory> {
-        scan(rows, layout, plan, slice, out)
+        scan_search(rows, layout, plan, residue, slice, hits)
     }
 }

@@ -1,7 +1,7 @@
 //! A pass with its calls.
 use engine::{
     AddFault, DeleteFault, Engine, FindFault, JournalFault, OpenFind, Pass, PoolName, Recycled,
-    Spent, Work,
+    SearchFault, Spent, Work,
 };
 use funnel_model::{Block, Blocked, Commits, Ids, Memory};
 use std::alloc::Global;
@@ -61,6 +61,11 @@ impl<'e, N: PoolName, R: Wait> Caller<'e, N, R> {
             .find_by(self.rt, self.alloc, &mut self.pass, query, work)
     }
 
+    pub fn query_by<W: Work>(&mut self, text: &str, work: &mut W) -> Result<Ids, SearchFault> {
+        self.engine
+            .query_by(self.rt, self.alloc, &mut self.pass, text, work)
+    }
+
     /// Whether a find has the numbers from the first up to the second, in order.
     pub fn finds(&mut self, query: &str, range: (u64, u64)) -> bool {
         match self.find(query) {
@@ -101,12 +106,7 @@ impl<'e, N: PoolName, R: Wait> Caller<'e, N, R> {
             alloc,
         } = self;
         match engine.begin_find(rt, alloc, pass, query) {
-            Ok(find) => Some(Finding {
-                engine,
-                find,
-                rt,
-                alloc,
-            }),
+            Ok(find) => Some(Finding { engine, find, rt }),
             Err(_) => None,
         }
     }
@@ -150,19 +150,13 @@ pub(crate) struct Finding<'e, N: PoolName, R: Wait> {
     engine: &'e Engine<N>,
     find: OpenFind<N>,
     rt: &'e R,
-    alloc: Global,
 }
 
 impl<'e, N: PoolName, R: Wait> Finding<'e, N, R> {
     /// Ends the find.
     pub fn end(self) -> Result<Ids, Memory> {
-        let Finding {
-            engine,
-            find,
-            rt,
-            alloc,
-        } = self;
-        let (_, ids) = engine.finish_find(rt, alloc, find);
+        let Finding { engine, find, rt } = self;
+        let (_, ids) = engine.finish_find(rt, find);
         ids
     }
 

@@ -133,6 +133,7 @@ fn work_by<N: PoolName, R: Wait>(
 ) -> bool {
     caller.add_all_by((1, 65), 0, work)
         && has_all(caller, work)
+        && keeps_all(caller, work)
         && caller.delete_all((1, 65), 64)
         && caller.recycle_by(work) == Recycled::Done(0)
         && caller.add_all((1, 65), 128)
@@ -142,7 +143,7 @@ fn work_by<N: PoolName, R: Wait>(
 
 /// Whether each job was done once the second thread was answered.
 fn are_wanted(counts: Counts) -> bool {
-    counts.writes == 65 && counts.scans == 1 && counts.clears == 2 && counts.in_vain == 0
+    counts.writes == 65 && counts.scans == 2 && counts.clears == 2 && counts.in_vain == 0
 }
 
 /// Whether a find has the documents 1 to 64.
@@ -151,6 +152,17 @@ fn has_all<N: PoolName, R: Wait>(
     work: &mut Hooked<Watched<'_>>,
 ) -> bool {
     match caller.find_by("x", work) {
+        Ok(ids) => is_range(&ids, (1, 65)),
+        Err(_) => false,
+    }
+}
+
+/// Whether a query keeps them.
+fn keeps_all<N: PoolName, R: Wait>(
+    caller: &mut Caller<'_, N, R>,
+    work: &mut Hooked<Watched<'_>>,
+) -> bool {
+    match caller.query_by("x | -y", work) {
         Ok(ids) => is_range(&ids, (1, 65)),
         Err(_) => false,
     }

@@ -1,7 +1,7 @@
 //! Work that a test watches: it is told before each part of it.
-use engine::{Clearer, Direct, Work};
-use funnel_model::{Candidates, Claim, ClearJob, Memory};
-use row_layout::{Bits, Layout, Plan};
+use engine::{Clearer, Direct, Hits, Work};
+use funnel_model::{Claim, ClearJob, Memory};
+use row_layout::{Bits, Layout, Plan, SearchPlan};
 use row_read::Shared;
 use slice_rule::{PassSeat, Pool};
 
@@ -16,7 +16,7 @@ pub(crate) trait Hook {
     /// Before a slice is scanned.
     fn scans(&mut self);
 
-    /// After a slice was scanned: all candidates up to then.
+    /// After a slice was scanned: all columns up to then that are sure to hold a document which the search keeps, as far as bits tell.
     fn scanned(&mut self, candidates: &[(u32, u32)]);
 }
 
@@ -44,12 +44,13 @@ impl<H: Hook> Work for Hooked<H> {
         rows: &mut Shared<'_>,
         layout: &Layout,
         plan: &Plan,
+        residue: &SearchPlan,
         slice: u32,
-        out: &mut Candidates,
+        hits: &mut Hits,
     ) -> Result<(), Memory> {
         self.hook.scans();
-        Direct.scan(rows, layout, plan, slice, out)?;
-        self.hook.scanned(out.as_slice());
+        Direct.scan(rows, layout, plan, residue, slice, hits)?;
+        self.hook.scanned(hits.sure.as_slice());
         Ok(())
     }
 }

@@ -20,8 +20,6 @@ mod guards;
 #[cfg(test)]
 mod hooked;
 #[cfg(test)]
-mod judging;
-#[cfg(test)]
 mod large;
 #[cfg(test)]
 mod many_hits;

@@ -1,6 +1,6 @@
 //! Boolean queries against a plain model: small expressions over three words, at documents with each choice of these.
 use crate::caller::Caller;
-use crate::setting::{Case, config, expect};
+use crate::setting::{Case, config, expect, few_rows};
 use engine::{Client, PoolName};
 use funnel_model::Reply;
 use line_proto::{Request, Service};
@@ -173,4 +173,11 @@ fn ask_all<S: Service>(client: &mut S, alloc: Global) -> bool {
 fn queries_find_what_the_model_finds(rt: HostRuntime) {
     let alloc = rt.alloc();
     expect(&rt, alloc, config(alloc, 2, 2, 1, 1024), &Queries)
+}
+
+/// All words have the same rows, so bits tell nothing of a document but that it has words.
+#[test]
+fn queries_of_words_that_share_rows_find_what_the_model_finds(rt: HostRuntime) {
+    let alloc = rt.alloc();
+    expect(&rt, alloc, few_rows(alloc), &Queries)
 }

@@ -2,7 +2,7 @@
 
 ghost use Rattle.std.specs.Prelude.{◌≡◌, ◌≤◌, ◌^◌, ℕ, false, List, IfOk, IfErr, length, map, string_bytes};
 ghost use Rattle.funnel_io.specs.Beside.{StaysBeside};
-ghost use Rattle.funnel_model.specs.declared.config.TheConstants.{MOST_WORDS};
+ghost use Rattle.funnel_model.specs.declared.config.TheConstants.{MOST_COLUMNS, MOST_WORDS};
 ghost use Rattle.funnel_stats.specs.Configurations.{longest};
 ghost use Rattle.fit.specs.Chosen.{EndsInput, FitsInput, HasNoFit};
 ghost use Rattle.fit.specs.Ends.{Fits, IsFitted, IsMisfit, comes_to_write};
@@ -34,7 +34,7 @@ pub fn fit<S: Source, K: Sink>(
     output: &mut K,
 ) -> FitEnd
     requires some { 1 ≤ documents }
-    requires few { documents ≤ 4194304 }
+    requires few { documents ≤ MOST_COLUMNS }
     requires limit { limit ≤ 2 ^ 40 }
     ensures input_stays { StaysBeside S.borrowed S.beside_read input.old input.new }
     ensures output_stays { StaysBeside K.borrowed K.beside_write output.old output.new }
@@ -67,7 +67,7 @@ fn fit_input<S: Source>(
     input: &mut S,
 ) -> Result<Written, FitEnd>
     requires some { 1 ≤ documents }
-    requires few { documents ≤ 4194304 }
+    requires few { documents ≤ MOST_COLUMNS }
     requires limit { limit ≤ 2 ^ 40 }
     ensures stays { StaysBeside S.borrowed S.beside_read input.old input.new }
     ensures fits { IfOk result (FitsInput documents limit (S.incoming input.old) (S.incoming input.new)) }
@@ -86,7 +86,7 @@ fn fit_input<S: Source>(
 /// The configuration that is fitted to a sample, or why none is.
 fn fitted(alloc: Global, documents: u32, sample: Tally) -> Result<Written, FitEnd>
     requires some { 1 ≤ documents }
-    requires few { documents ≤ 4194304 }
+    requires few { documents ≤ MOST_COLUMNS }
     requires counted { IsCounted (entries_of sample.counts.entries) sample.documents sample.words }
     ensures fitted { (texts : List (List ℕ)) → HasCounted texts (entries_of sample.counts.entries) sample.documents sample.words →
         IfOk result (λ written. IsFitted documents texts written.config × (string_bytes written.text ≡ text_of written.config)) }
@@ -111,7 +111,7 @@ fn fitted(alloc: Global, documents: u32, sample: Tally) -> Result<Written, FitEn
 /// What a configuration for so many documents is made of, or why there is none.
 fn frame_of(documents: u32, sample: &Tally) -> Result<Frame, Misfit>
     requires some { 1 ≤ documents }
-    requires few { documents ≤ 4194304 }
+    requires few { documents ≤ MOST_COLUMNS }
     requires sums { AddsUp (entries_of sample.now.counts.entries) sample.now.documents sample.now.words }
     ensures frame { IfOk result (IsFrameOf documents sample.now.documents sample.now.words) }
     ensures misfit { (texts : List (List ℕ)) → sample.now.documents ≡ length texts → IfErr result (IsMisfit documents texts) }

@@ -1,21 +1,20 @@
 //! The words that may be listed, in the order in which they are taken.
 
-ghost use Rattle.std.specs.Prelude.{◌≡◌, ◌≤◌, ◌∷◌, ◌&&◌, ◌↔◌, [], true, false, All, IfOk, IsTrue, MatchOption, filter, map, string_bytes};
+ghost use Rattle.std.specs.Prelude.{◌≡◌, ◌≤◌, ◌&&◌, true, false, All, IfOk, MatchOption, filter, map, string_bytes};
 ghost use Rattle.std.specs.List.{IsDistinct};
 ghost use Rattle.std.specs.Str.{bytes_eq, is_utf8};
 ghost use Rattle.funnel_model.specs.Configuration.{IsBetween};
-ghost use Rattle.funnel_model.specs.Words.{IsRising};
 ghost use Rattle.funnel_model.specs.declared.config.TheConstants.{MOST_DOCUMENTS};
 ghost use Rattle.funnel_stats.specs.Faults.{is_word};
 ghost use Rattle.fit.specs.Listings.{IsRanking, may_be_listed};
 ghost use Rattle.fit.specs.Steps.{entries_of, ranked};
 
-use funnel_model::{Memory, WordSet};
+use funnel_model::Memory;
+use funnel_stats::is_word;
 use std::alloc::Global;
 use std::cmp::Reverse;
 use std::collections::HashMap;
 use treatment::{LAST_CLASS, class};
-use word_cut::words;
 
 /// A word with its count, by which words are ordered: by falling count, and then by rising word.
 pub(crate) type Ranked = (Reverse<u64>, String);
@@ -87,22 +86,4 @@ fn as_word(alloc: Global, word: Vec<u8>) -> Result<Option<String>, Memory>
     } else {
         Ok(None)
     }
-}
-
-/// Whether the text is one folded word: whether it is all that its set of words has.
-fn is_word(alloc: Global, text: &str) -> Result<bool, Memory>
-    ensures { IfOk result (λ is. is ≡ is_word text.now) }
-{
-    let Ok(set) = words(alloc, text) else {
-        return Err(Memory);
-    };
-    Ok(is_alone(&set, text))
-}
-
-/// Whether the text is all that the words are.
-fn is_alone(words: &WordSet, text: &str) -> bool
-    ensures alone { IsTrue result ↔ (words.now ≡ text.now ∷ []) }
-    ensures rising { IsRising words.now }
-{
-    words.len() == 1 && words.contains(text.as_bytes())
 }

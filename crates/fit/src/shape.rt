@@ -1,6 +1,7 @@
 //! How many slices documents need, and of which rank.
 
 ghost use Rattle.std.specs.Prelude.{◌≤◌, ◌<◌, ◌^◌, ◌↔◌, IsTrue};
+ghost use Rattle.funnel_model.specs.declared.config.TheConstants.{MOST_COLUMNS};
 ghost use Rattle.fit.specs.Shapes.{IsBestRank, IsLeastRoom, Serves};
 
 use funnel_model::MOST_RANK;
@@ -11,7 +12,7 @@ const LEAST_SLICES: u64 = 16;
 /// The least number of slices of this rank that have room for the documents, in whatever order they are replaced.
 pub(crate) fn slices_at(documents: u32, rank: u8) -> u64
     requires some { 1 ≤ documents }
-    requires few { documents ≤ 4194304 }
+    requires few { documents ≤ MOST_COLUMNS }
     requires rank { rank ≤ 6 }
     ensures least { IsLeastRoom documents rank result }
     ensures small { result < 2 ^ 32 }
@@ -23,7 +24,7 @@ pub(crate) fn slices_at(documents: u32, rank: u8) -> u64
 /// Whether the rank serves the documents.
 fn serves(documents: u32, rank: u8) -> bool
     requires some { 1 ≤ documents }
-    requires few { documents ≤ 4194304 }
+    requires few { documents ≤ MOST_COLUMNS }
     requires rank { rank ≤ 6 }
     ensures { IsTrue result ↔ Serves documents rank }
 {
@@ -33,7 +34,7 @@ fn serves(documents: u32, rank: u8) -> bool
 /// The greatest rank that serves the documents.
 pub(crate) fn best_rank(documents: u32) -> u8
     requires some { 1 ≤ documents }
-    requires few { documents ≤ 4194304 }
+    requires few { documents ≤ MOST_COLUMNS }
     ensures { IsBestRank documents result }
 {
     let mut rank = MOST_RANK;

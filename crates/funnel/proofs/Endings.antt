@@ -4,15 +4,14 @@ use Rattle.std.proofs.lemmas.Bool.{false≢true}
 use Rattle.std.proofs.lemmas.List.{length-map}
 use Rattle.std.specs.List.{AllZip}
 use Rattle.std.specs.Option.{is_some}
-use Rattle.std.specs.Prelude.{IfNone, IfSome}
+use Rattle.std.specs.Prelude.{IfSome}
 use Rattle.engine.specs.Engines.{ClosedState}
-use Rattle.funnel_io.specs.Streams.{Incoming, Outgoing}
 use Rattle.funnel_io.specs.declared.gate.Gate as Gate
 use Rattle.funnel_io.specs.declared.sink.Sink as Sink
 use Rattle.funnel_io.specs.declared.source.Source as Source
 use Rattle.funnel_server.specs.Gates.{GateState, gate_state}
 use Rattle.funnel_model.specs.declared.config.Config.{Config}
-use Rattle.funnel_model.specs.History.{base}
+use Rattle.funnel_model.specs.History.{base, commits_after}
 use Rattle.funnel_model.specs.Legal.{Limits}
 use Rattle.slice_rule.specs.Pools.{PoolId}
 use Rattle.command_line.specs.Commands.{command_of, is_fit}
@@ -24,21 +23,19 @@ use Rattle.funnel.specs.declared.ends.Why.{Why}
 use Rattle.funnel.specs.declared.ends.Why.TheVariants as why_of
 use Rattle.funnel.specs.Misfits.{misfit_of}
 use Rattle.funnel.specs.Programs.{Ends, IsConfigured, Streams}
-use Rattle.funnel.specs.Runs.{KeepsLast, RanOrNot, limits_by}
+use Rattle.funnel.specs.Runs.{KeepsLast, limits_by}
 use Rattle.funnel.specs.ServeRuns.{EndsServe, IsStartRefused, OneDidNotOpen}
 use Rattle.funnel.specs.Turns.{AreOpened, AreOpenedUntilOneFails, EndsInTurns, OpenGatesGoInTurns, ServeGoesInTurns}
 use Rattle.funnel.specs.Workers.{EndsOpenServeInTurns, EndsServeInTurns}
 
 -- an engine with the limits of the configuration keeps as many commits as it says
 pub keeps_last : (pool : PoolId) (config : Config) (closed : ClosedState) → pool.limits ≡ limits_by config →
-    closed.base ≡ base pool.limits.commits closed.history → KeepsLast config closed
-keeps_last pool config closed limits_are base_is = base_is ∙ ap (λ (l : Limits). base l.commits closed.history) limits_are
-
--- a run that left nothing of an engine had no memory to open it, and what holds then holds
-pub without_memory : {P : Type 0} (config : Config) (incoming later_incoming : Incoming) (outgoing later_outgoing : Outgoing) (why : Why) (closed : Option ClosedState) →
-    RanOrNot config incoming later_incoming outgoing later_outgoing why closed → (why ≡ why_of.Memory → P) → IfNone closed P
-without_memory config incoming later_incoming outgoing later_outgoing why None ran holds = holds ran
-without_memory config incoming later_incoming outgoing later_outgoing why (Some closed) ran holds = tt
+    closed.base ≡ base pool.limits.commits closed.history → closed.commits ≡ commits_after closed.history (base pool.limits.commits closed.history) →
+    closed.events ≡ length closed.history → KeepsLast config closed
+keeps_last pool config closed limits_are base_is commits_are events_are = record {
+  tells = record { commits = commits_are ∙ ap (commits_after closed.history) (sym base_is); events = events_are };
+  before = base_is ∙ ap (λ (l : Limits). base l.commits closed.history) limits_are;
+}
 
 -- words that are another command are no fit
 no_fit_is : (asked : Command) → ((fit : FitCommand) → asked ≡ command.Fit fit → ⊥) → is_fit (Some asked) ≡ false

@@ -2,7 +2,9 @@ pub mod Alone
 pub mod AskedTexts
 pub mod DueReplies
 pub mod Endings
+pub mod Equipped
 pub mod GateFaults
+pub mod GatesBack
 pub mod GoodEnds
 pub mod LoadEnds
 pub mod LoadPasses
@@ -14,3 +16,4 @@ pub mod ServeRuns
 pub mod ServedCalls
 pub mod ServedGates
 pub mod Turns
+pub mod Uses

@@ -28,7 +28,8 @@ use Rattle.funnel.specs.Runs.{limits_by}
 use Rattle.funnel.specs.ServeRuns.{AllWork, new_worker, new_workers, why_of_workers}
 use Rattle.funnel.specs.Serving.{new_passes}
 use Rattle.funnel.specs.Turns.{GatesGoInTurns}
-use Rattle.funnel.specs.Workers.{AreEquipped, EndsOpenServeInTurns, GaveBack, HaveWorked, HaveWorkedInTurns, gates_of, pass_of_worker, states_of, told_by}
+use Rattle.funnel.specs.Workers.{EndsOpenServeInTurns, HaveWorked, HaveWorkedInTurns, gates_of, pass_of_worker, states_of, told_by}
+use Rattle.funnel.proofs.Equipped.{AreEquipped, GaveBack}
 
 -- ---- the gates and passes go to workers
 

@@ -9,5 +9,6 @@ pub mod ServeRuns
 pub mod Serving
 pub mod Texts
 pub mod Turns
+pub mod Uses
 pub mod Words
 pub mod Workers

@@ -1,6 +1,6 @@
 -- A run: one session over a new engine, by its first pass.
 use Rattle.std.specs.Prelude.{◌≡◌, [], Option, MatchOption, All}
-use Rattle.engine.specs.Engines.{ClosedState}
+use Rattle.engine.specs.Engines.{ClosedState, IsClosed}
 use Rattle.funnel_io.specs.Borrowed.{Borrowed}
 use Rattle.funnel_io.specs.Streams.{Incoming, Outgoing}
 use Rattle.funnel_io.specs.declared.end.End.{End}
@@ -35,9 +35,11 @@ pub record HoldTheSame {S K : Type 0} (input_borrowed : S → Borrowed) (output_
   pub input : input_borrowed after.0 ≡ input_borrowed before.0
   pub output : output_borrowed after.1 ≡ output_borrowed before.1
 
--- the closed engine tells the last commits of its history, as many as the configuration says, and how many came before these
-abbrev pub KeepsLast : Config → ClosedState → Type 0
-KeepsLast config closed = closed.base ≡ base config.commits closed.history
+-- what is left of an engine tells the last commits of its history, as many as the configuration says, how many came before these, and how
+-- many events there were
+pub record KeepsLast (config : Config) (closed : ClosedState) : Type 0 where
+  pub tells : IsClosed closed
+  pub before : closed.base ≡ base config.commits closed.history
 
 -- the first pass of an engine with this opening configuration and these limits, which the session is on
 abbrev pub first_caller : Config → Limits → Caller

@@ -1,5 +1,5 @@
 -- How the gates and the passes go to the workers of a serve and come back, for the clauses of functions that are not public.
-use Rattle.std.specs.Prelude.{◌≡◌, ◌+◌, ◌-◌, List, [], ◌++◌, length, map, Option}
+use Rattle.std.specs.Prelude.{◌≡◌, ◌-◌, List, [], ◌++◌, length, map, Option}
 use Rattle.engine.specs.Engines.{ClosedState}
 use Rattle.engine.specs.Passes.{PassView}
 use Rattle.funnel_io.specs.Answers.{MatchOpening}
@@ -33,19 +33,6 @@ gates_of workers = map (λ worker. worker.gate) workers
 pub record ArePassedOn {G : Type 0} (gates left : List G) (workers : List (WorkerWithGate G)) : Type 0 where
   pub theirs : gates_of workers ≡ gates
   pub none_left : left ≡ []
-
--- some of the gates and passes of a new engine have a worker, the first ones of each, and these are left
-pub record AreEquipped (pool : PoolId) (serve : ServeCommand) (all left : List GateState) (passes : List PassView) (workers : List WorkerState) : Type 0 where
-  pub made : workers ++ new_workers pool.config pool.limits serve (length workers) left ≡ new_workers pool.config pool.limits serve 0 all
-  pub count : length workers + length left ≡ length all
-  pub passes_left : passes ≡ new_passes (length workers) (pool.config.passes - length workers)
-
--- some of the workers gave their gates and passes back, the first ones, and these are left
-pub record GaveBack (workers left : List WorkerState) (before after : List GateState) (others passes : List PassView) : Type 0 where
-  pub done : List WorkerState
-  pub parts : workers ≡ done ++ left
-  pub gates : after ≡ before ++ map (λ worker. worker.gate) done
-  pub back : passes ≡ others ++ map pass_of_worker done
 
 -- each gate had a worker, each on a pass of its own, and the gates and all passes came back, those of the workers behind the others
 pub record HaveWorked (pool : PoolId) (serve : ServeCommand) (before after : List GateState) (why : Why) (passes : List PassView) : Type 0 where

@@ -3,10 +3,14 @@ ghost use Rattle.std.specs.Prelude.{◌≡◌, ◌<◌, ℕ, List, [], All, Opti
 ghost use Rattle.std.specs.List.{AllZip};
 ghost use Rattle.engine.specs.Engines.{ClosedState};
 ghost use Rattle.funnel_io.specs.Streams.{Incoming, Outgoing};
+ghost use Rattle.funnel_io.specs.declared.line_reader.TheConstants.{MAX_LINE_LEN};
 ghost use Rattle.funnel_model.specs.declared.config.Config.{Config};
 ghost use Rattle.funnel_server.specs.Gates.{GateState, Sides};
 ghost use Rattle.funnel_server.specs.Laws.{HasFewBytes};
+ghost use Rattle.funnel_stats.specs.Configurations.{longest};
+ghost use Rattle.http_front.specs.declared.framing.TheConstants.{MAX_BODY, MAX_FIELDS, MAX_HEAD};
 ghost use Rattle.line_proto.specs.Forms.{items};
+ghost use Rattle.load_gen.specs.declared.limits.TheConstants.{MOST_DOCS, MOST_WORDS};
 ghost use Rattle.session.specs.declared.serving.TheConstants.{MOST_BYTES};
 ghost use Rattle.command_line.specs.declared.command.TheConstants.{MOST_CONNECTIONS, MOST_FITTED, MOST_IDLE, MOST_PORT};
 ghost use Rattle.command_line.specs.declared.command.Command.TheVariants as command;
@@ -14,7 +18,7 @@ ghost use Rattle.command_line.specs.declared.command.FitCommand.{FitCommand};
 ghost use Rattle.command_line.specs.declared.command.LoadCommand.{LoadCommand};
 ghost use Rattle.command_line.specs.declared.command.ServeCommand.{ServeCommand};
 ghost use Rattle.funnel.specs.declared.ends.Why.{Why};
-ghost use Rattle.command_line.specs.Commands.{command_of};
+ghost use Rattle.command_line.specs.Commands.{command_of, is_serve};
 ghost use Rattle.funnel.specs.Laws.{AllCallsAreOfSessions, AnswersInput, AreDue, CompletesFit, CompletesLoad, CompletesRun, CompletesServe};
 ghost use Rattle.funnel.specs.Laws.{EndsWell, GateIsServed, IsAccepted, IsServedUnlessFailed, KeepsNoFault, NoStreamFailed, OneFailed, RepliesAreDue, TellsFew};
 ghost use Rattle.funnel.specs.Programs.{Ends, Streams};
@@ -28,8 +32,7 @@ use funnel_io::{End, Gate};
 /// Then a run whose input has fewer bytes than it may take answers all its lines, a serve gives each connection of its gates a session,
 /// and a load is made and told, where none of them runs out of memory. A longer run ends at its limit of bytes. A serve that runs out
 /// of memory gave each connection its session too, some of which found none, or took no connection, as does one of which a worker has no
-/// thread. A fit, which has no need of the
-/// configuration, writes one where its input has as few bytes and one can be fitted to it.
+/// thread. A fit, which has no need of the configuration, writes one where its input has as few bytes and one can be fitted to it.
 pub fn programs_without_a_fault_end_well()
     ensures run { (words : List (List ℕ)) (before after : Streams) (why : Why) (closed : Option ClosedState) (config : Config) (bytes : List ℕ) →
         Ends words before after why closed → NoStreamFailed before after → IsAccepted words before command.Run config →
@@ -88,6 +91,15 @@ pub fn ends_are_told_with_their_turns<G: Gate>()
         EndsInTurns G.Gate G.Conn.Source.own G.Conn.Sink.own words before after why closed gates laters → Ends words before after why closed }
 {}
 
+/// A program gives back as many gates as it was handed. Where its words are no serve, they are as they came.
+pub fn gates_come_back<G: Gate>()
+    ensures count { (words : List (List ℕ)) (before after : Streams) (why : Why) (closed : Option ClosedState) (gates laters : List G) →
+        EndsInTurns G.Gate G.Conn.Source.own G.Conn.Sink.own words before after why closed gates laters → length laters ≡ length gates }
+    ensures unused { (words : List (List ℕ)) (before after : Streams) (why : Why) (closed : Option ClosedState) (gates laters : List G) →
+        EndsInTurns G.Gate G.Conn.Source.own G.Conn.Sink.own words before after why closed gates laters →
+        is_serve (command_of words) ≡ false → laters ≡ gates }
+{}
+
 /// A program ends with a gate fault only where a gate answered that it failed, as it was opened or asked for a connection.
 pub fn gate_faults_are_answers_of_gates<G: Gate>()
     ensures { (words : List (List ℕ)) (before after : Streams) (why : Why) (closed : Option ClosedState) (gates laters : List G) →
@@ -107,11 +119,23 @@ pub fn gates_that_stay_open_are_served_to_their_number()
         All (λ gate. gate.is_closed ≡ false) after → All (λ worker. worker.left ≡ 0) served.workers }
 {}
 
-/// The last port that there is, the most connections of a worker, seconds of a wait and documents of a fit, and the most bytes of a run.
+/// The last port that there is, the most connections of a worker, seconds of a wait and documents of a fit, the most bytes of a run, and
+/// the most documents of a load and words of each.
 pub fn numbers_of_the_program()
     ensures port { MOST_PORT ≡ 65535 }
     ensures connections { MOST_CONNECTIONS ≡ 4294967296 }
     ensures idle { MOST_IDLE ≡ 86400 }
     ensures fitted { MOST_FITTED ≡ 4194304 }
     ensures bytes { MOST_BYTES ≡ 1099511627776 }
+    ensures docs { MOST_DOCS ≡ 4194304 }
+    ensures words { MOST_WORDS ≡ 1000 }
+{}
+
+/// The most bytes of a configuration, of a line, and of the head and the body of a request over HTTP, and the most fields of the head.
+pub fn numbers_of_what_is_read()
+    ensures config { longest ≡ 16777216 }
+    ensures line { MAX_LINE_LEN ≡ 65536 }
+    ensures head { MAX_HEAD ≡ 16384 }
+    ensures body { MAX_BODY ≡ 65536 }
+    ensures fields { MAX_FIELDS ≡ 32 }
 {}

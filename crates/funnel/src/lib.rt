@@ -32,10 +32,11 @@ pub use command_line::{
 pub use ends::{Misfit, ProgramEnd, Why};
 pub use laws::{
     connections_without_a_fault_are_done, ends_are_told_with_their_turns,
-    gate_faults_are_answers_of_gates, gates_that_do_not_open_leave_their_connections,
+    gate_faults_are_answers_of_gates, gates_come_back,
+    gates_that_do_not_open_leave_their_connections,
     gates_that_stay_open_are_served_to_their_number, gates_without_a_fault_are_served,
-    numbers_of_the_program, programs_without_a_fault_end_well, runs_take_every_call,
-    the_calls_of_a_serve_are_those_of_its_sessions,
+    numbers_of_the_program, numbers_of_what_is_read, programs_without_a_fault_end_well,
+    runs_take_every_call, the_calls_of_a_serve_are_those_of_its_sessions,
 };
 pub use listening::{gates_on, idle, ports, shares_port};
 pub use port_list::Ports;

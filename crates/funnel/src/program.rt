@@ -1,11 +1,11 @@
-ghost use Rattle.std.specs.Prelude.{◌≡◌, None, Some, true, false, length, map, IfNone, IfSome};
-ghost use Rattle.engine.specs.Engines.{IsClosed};
+ghost use Rattle.std.specs.Prelude.{◌≡◌, Some, false, map};
 ghost use Rattle.funnel_server.specs.Gates.{gate_state};
-ghost use Rattle.command_line.specs.Commands.{is_fit, is_serve, reads_config};
+ghost use Rattle.command_line.specs.Commands.{is_serve, reads_config};
+ghost use Rattle.funnel.specs.Runs.{HoldTheSame};
 ghost use Rattle.funnel.specs.Turns.{EndsInTurns, RunsInTurns};
+ghost use Rattle.funnel.specs.Uses.{uses_input, uses_output};
 ghost use Rattle.funnel.specs.Words.{command_in, text_in, words_in};
 ghost use Rattle.command_line.specs.declared.command.Command.TheVariants as command;
-ghost use Rattle.command_line.specs.declared.command.LoadCommand.{LoadCommand};
 
 use crate::ends::{ProgramEnd, Why};
 use crate::fitting::misfit;
@@ -59,24 +59,14 @@ where
         result.why result.closed gates.items result.gates.items }
     ensures in_turns { command_in words.now ≡ Some command.Run →
         RunsInTurns S.read_gives K.write_gives (result.why ≡ Why.Done) (input.old, output.old) (input.new, output.new) }
-    ensures closed { IfSome result.closed IsClosed }
-    ensures load_reads_nothing { (load : LoadCommand) → command_in words.now ≡ Some (command.Load load) → input.new ≡ input.old }
-    ensures serve_uses_gates { is_serve (command_in words.now) ≡ true → (input.new ≡ input.old) × (output.new ≡ output.old) }
 
-    // A run and a load that found no memory read and wrote nothing. A serve uses neither stream; of its sessions, and of what a fit
-    // read, tells `ends`.
-    ensures without_memory { is_serve (command_in words.now) ≡ false → is_fit (command_in words.now) ≡ false → result.why ≡ Why.Memory →
-        (input.new ≡ input.old) × (output.new ≡ output.old) }
-    ensures config_untouched { reads_config (command_in words.now) ≡ false → config.new ≡ config.old }
-
-    // But for a fit and a text, nothing is read and written without an engine.
-    ensures input_untouched { is_fit (command_in words.now) ≡ false → IfNone result.closed (input.new ≡ input.old) }
-    ensures output_untouched { text_in words.now ≡ None → is_fit (command_in words.now) ≡ false → IfNone result.closed (output.new ≡ output.old) }
+    // Of the streams and gates that it is handed those that it has no use for stay as they are, also in what they don't tell.
+    ensures config_unused { reads_config (command_in words.now) ≡ false → config.new ≡ config.old }
+    ensures input_unused { uses_input (command_in words.now) result.why result.closed ≡ false → input.new ≡ input.old }
+    ensures output_unused { uses_output (text_in words.now) (command_in words.now) result.why result.closed ≡ false → output.new ≡ output.old }
     ensures gates_unused { is_serve (command_in words.now) ≡ false → result.gates ≡ gates }
-    ensures gates_count { length result.gates.items ≡ length gates.items }
     ensures config_borrowed { C.borrowed config.new ≡ C.borrowed config.old }
-    ensures input_borrowed { S.borrowed input.new ≡ S.borrowed input.old }
-    ensures output_borrowed { K.borrowed output.new ≡ K.borrowed output.old }
+    ensures borrowed { HoldTheSame S.borrowed K.borrowed (input.old, output.old) (input.new, output.new) }
 {
     if let Some(text) = text_asked(words) {
         return ProgramEnd::unopened(tell(text, output), gates);

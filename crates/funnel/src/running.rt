@@ -1,6 +1,5 @@
 //! One session over a new engine, by its first pass.
 ghost use Rattle.std.specs.Prelude.{◌≡◌, ◌≤◌, [], IfSome};
-ghost use Rattle.engine.specs.Engines.{IsClosed};
 ghost use Rattle.funnel_model.specs.Configuration.{IsValid};
 ghost use Rattle.funnel.specs.Runs.{HoldTheSame, IsBlankFor, KeepsLast, RanOrNot, first_caller};
 ghost use Rattle.funnel.specs.Serving.{FirstDid, new_passes};
@@ -30,7 +29,6 @@ pub(crate) fn run_command<R: Wait, S: Source, K: Sink>(
     requires valid { IsValid config.now }
     ensures ran { RanOrNot config.now (S.incoming input.old) (S.incoming input.new) (K.outgoing output.old) (K.outgoing output.new) result.0 result.1 }
     ensures in_turns { RunsInTurns S.read_gives K.write_gives (result.0 ≡ Why.Done) (input.old, output.old) (input.new, output.new) }
-    ensures closed { IfSome result.1 IsClosed }
     ensures kept { IfSome result.1 (KeepsLast config.now) }
     ensures without_memory { result.0 ≡ Why.Memory → (input.new ≡ input.old) × (output.new ≡ output.old) }
     ensures borrowed { HoldTheSame S.borrowed K.borrowed (input.old, output.old) (input.new, output.new) }
@@ -54,7 +52,6 @@ fn run<N: PoolName, R: Wait, S: Source, K: Sink>(
     requires blank { IsBlankFor config.now N.pool blank }
     ensures ran { RanOrNot config.now (S.incoming input.old) (S.incoming input.new) (K.outgoing output.old) (K.outgoing output.new) result.0 result.1 }
     ensures in_turns { RunsInTurns S.read_gives K.write_gives (result.0 ≡ Why.Done) (input.old, output.old) (input.new, output.new) }
-    ensures closed { IfSome result.1 IsClosed }
     ensures kept { IfSome result.1 (KeepsLast config.now) }
     ensures without_memory { result.0 ≡ Why.Memory → (input.new ≡ input.old) × (output.new ≡ output.old) }
     ensures borrowed { HoldTheSame S.borrowed K.borrowed (input.old, output.old) (input.new, output.new) }

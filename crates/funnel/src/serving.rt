@@ -1,7 +1,6 @@
 //! A serve: the connections of each gate are answered by a pass of its own of one new engine.
 ghost use Rattle.std.specs.Prelude.{◌≡◌, ◌<◌, ◌≤◌, ◌+◌, ◌-◌, ◌++◌, [], length, map, IfErr, IfNone, IfOk, IfSome, if◌then◌else◌, vec_capacity};
 ghost use Rattle.std.specs.List.{AllZip, list_any};
-ghost use Rattle.engine.specs.Engines.{IsClosed};
 ghost use Rattle.funnel_model.specs.Configuration.{IsValid};
 ghost use Rattle.funnel_io.specs.Answers.{MatchOpening};
 ghost use Rattle.funnel.specs.Runs.{IsBlankFor, KeepsLast};
@@ -37,7 +36,6 @@ where
     requires valid { IsValid config.now }
     requires enough { length gates.items ≤ config.now.passes }
     ensures ends { EndsServeInTurns G.Gate G.Conn.Source.own G.Conn.Sink.own config.now serve gates.items result.gates.items result.why result.closed }
-    ensures closed { IfSome result.closed IsClosed }
     ensures kept { IfSome result.closed (KeepsLast config.now) }
     ensures unserved { IfNone result.closed (AreOpenedInVain G.Gate result.why gates.items result.gates.items) }
     ensures count { length result.gates.items ≡ length gates.items }
@@ -96,7 +94,6 @@ where
     requires valid { IsValid config.now }
     requires enough { length gates.items ≤ config.now.passes }
     ensures ends { EndsOpenServeInTurns G.Gate G.Conn.Source.own G.Conn.Sink.own config.now serve gates.items result.gates.items result.why result.closed }
-    ensures closed { IfSome result.closed IsClosed }
     ensures kept { IfSome result.closed (KeepsLast config.now) }
     ensures refused { IfNone result.closed (IsStartRefused (length gates.items) result.why) }
     ensures untouched { IfNone result.closed (result.gates.items ≡ gates.items) }
@@ -123,7 +120,6 @@ where
     requires blank { IsBlankFor config.now N.pool blank }
     requires enough { length gates.items ≤ config.now.passes }
     ensures ends { EndsOpenServeInTurns G.Gate G.Conn.Source.own G.Conn.Sink.own config.now serve gates.items result.gates.items result.why result.closed }
-    ensures closed { IfSome result.closed IsClosed }
     ensures kept { IfSome result.closed (KeepsLast config.now) }
     ensures refused { IfNone result.closed (IsStartRefused (length gates.items) result.why) }
     ensures untouched { IfNone result.closed (result.gates.items ≡ gates.items) }

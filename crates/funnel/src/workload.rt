@@ -1,6 +1,5 @@
 //! A load over a new engine, and its summary.
 ghost use Rattle.std.specs.Prelude.{◌≡◌, None, IfSome, length};
-ghost use Rattle.engine.specs.Engines.{IsClosed};
 ghost use Rattle.funnel_model.specs.Configuration.{IsValid};
 ghost use Rattle.load_gen.specs.Summary.{summary_text};
 ghost use Rattle.funnel.specs.LoadRuns.{EndsLoad, IsLoadThatFits, Tells};
@@ -29,7 +28,6 @@ pub(crate) fn load_command<R: Threads + Wait + Sync, K: Sink>(
     requires valid { IsValid config.now }
     requires load { IsLoadThatFits config.now command }
     ensures ends { EndsLoad config.now command (K.outgoing output.old) (K.outgoing output.new) result.0 result.1 }
-    ensures closed { IfSome result.1 IsClosed }
     ensures kept { IfSome result.1 (KeepsLast config.now) }
     ensures borrowed { K.borrowed output.new ≡ K.borrowed output.old }
     ensures untouched { result.1 ≡ None → output.new ≡ output.old }
@@ -54,7 +52,6 @@ fn make_load<N: PoolName + Send + Sync, R: Threads + Wait + Sync, K: Sink>(
     requires blank { IsBlankFor config.now N.pool blank }
     requires load { IsLoadThatFits config.now command }
     ensures ends { EndsLoad config.now command (K.outgoing output.old) (K.outgoing output.new) result.0 result.1 }
-    ensures closed { IfSome result.1 IsClosed }
     ensures kept { IfSome result.1 (KeepsLast config.now) }
     ensures borrowed { K.borrowed output.new ≡ K.borrowed output.old }
     ensures untouched { result.1 ≡ None → output.new ≡ output.old }

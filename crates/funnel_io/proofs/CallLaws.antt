@@ -1,9 +1,9 @@
 -- Calls on a stream, one after another.
-use Rattle.std.proofs.Common.{◌≡◌, ◌<◌, ◌+◌, ◌-◌, ℕ, true, false, List, [], ◌∷◌, ◌++◌, length, take, drop, sym, refl, ap, ◌∙◌, arith, append_assoc, append-nil, length-append, length-take, length-drop, take-append-drop}
+use Rattle.std.proofs.Common.{◌≡◌, ◌<◌, ◌+◌, ◌-◌, ℕ, true, false, List, [], ◌∷◌, ◌++◌, length, take, drop, sym, refl, ap, ◌∙◌, subst, arith, append_assoc, append-nil, length-append, length-take, length-drop, take-append-drop}
 use Rattle.std.proofs.lemmas.List.{take_rest}
 use Rattle.std.proofs.Math.Seq.{take-length}
 use Rattle.funnel_io.specs.Answers.{MatchGot, read_failed}
-use Rattle.funnel_io.specs.Calls.{Read, Write, Leads, AreOfRest, GaveBytes, IsOfRest, TookBytes, WritesAs, bytes_read, bytes_written, found_end, is_end, last_failed}
+use Rattle.funnel_io.specs.Calls.{Read, Write, Leads, AreOfRest, GaveBytes, IsOfRest, IsReadBelow, IsRoomFor, TookBytes, WritesAs, bytes_read, bytes_written, found_end, is_end, last_failed}
 use Rattle.funnel_io.specs.declared.sink.Put.TheVariants as put
 use Rattle.funnel_io.specs.declared.source.Got.{Got}
 use Rattle.funnel_io.specs.declared.source.Got.TheVariants as got
@@ -88,3 +88,18 @@ gave_bytes-append (read ∷ reads) earlier gave gave_before = gave
 pub last_failed-append : (reads earlier : List Read) → last_failed reads ≡ false → last_failed earlier ≡ false → last_failed (reads ++ earlier) ≡ false
 last_failed-append [] earlier none none_before = none_before
 last_failed-append (read ∷ reads) earlier none none_before = none
+
+-- a read, after others of which so many bytes were left, with room enough for these
+pub below_at : (limit still room : ℕ) (earlier : List Read) → still + length (bytes_read earlier) ≡ limit → 0 < still → IsRoomFor room still → IsReadBelow limit earlier room
+below_at limit still room earlier count some enough =
+    let left : still ≡ limit - length (bytes_read earlier) = omega (arith, count) in
+    record { some = omega (arith, count, some); enough = subst (λ n. IsRoomFor room n) left enough }
+
+-- so it is after further ones, that came before them
+pub below_after : (limit may room : ℕ) (earlier before : List Read) → may + length (bytes_read before) ≡ limit → IsReadBelow may earlier room
+    → IsReadBelow limit (earlier ++ before) room
+below_after limit may room earlier before count is =
+    let taken : length (bytes_read (earlier ++ before)) ≡ length (bytes_read before) + length (bytes_read earlier) =
+    ap (λ (bs : List ℕ). length bs) (bytes_read-append earlier before) ∙ length-append (bytes_read before) (bytes_read earlier) in
+    let left : may - length (bytes_read earlier) ≡ limit - length (bytes_read (earlier ++ before)) = omega (arith, count, taken) in
+    record { some = omega (arith, count, taken, is.some); enough = subst (λ n. IsRoomFor room n) left is.enough }

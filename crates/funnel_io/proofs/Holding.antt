@@ -5,14 +5,13 @@ use Rattle.std.proofs.lemmas.Bool.Decides.{leb_tells}
 use Rattle.std.proofs.lemmas.List.{take-take}
 use Rattle.std.proofs.lemmas.List.Elements.{All-append}
 use Rattle.memchr.specs.Find.{IsFirstByte, is_byte}
-use Rattle.funnel_io.specs.Calls.{Read}
-use Rattle.funnel_io.specs.LineReading.{IsRoomFor}
+use Rattle.funnel_io.specs.Calls.{Read, IsRoomFor}
 use Rattle.funnel_io.specs.Lines.{HasNoNewline}
 use Rattle.funnel_io.specs.declared.source.Got.{Got}
 use Rattle.funnel_io.specs.Streams.{Incoming}
 use Rattle.funnel_io.proofs.BufferReads.{range_grown, range_kept}
-use Rattle.funnel_io.specs.LineBuffers.{IsInPlace, ReadsOnce}
-use Rattle.funnel_io.specs.BufferReads.{ReadsBehind}
+use Rattle.funnel_io.specs.LineBuffers.{IsInPlace}
+use Rattle.funnel_io.specs.BufferReads.{ReadsBehind, ReadsOnce}
 use Rattle.funnel_io.proofs.Ranges.{range_cut, range_first, get_or-range, length-range, none_found, none_before, found_byte}
 
 -- two ranges without newline are one without newline

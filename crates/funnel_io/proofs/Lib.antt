@@ -3,6 +3,7 @@ pub mod Sending
 pub mod CallLaws
 pub mod CutLaws
 pub mod PlaceLaws
+pub mod MemoryLaws
 pub mod Ranges
 pub mod BufferReads
 pub mod Holding

@@ -3,7 +3,7 @@ use Rattle.std.proofs.Common.{◌≡◌, ◌≢◌, ◌<◌, ◌+◌, ℕ, Bool,
 use Rattle.std.proofs.lemmas.List.Elements.{All-append, All-tail}
 use Rattle.funnel_io.specs.Answers.{MatchGot, read_failed}
 use Rattle.funnel_io.specs.Calls.{Read, Leads, GaveBytes, bytes_read, found_end, is_end, last_failed}
-use Rattle.funnel_io.specs.LineBuffers.{ReadsOnce}
+use Rattle.funnel_io.specs.BufferReads.{ReadsOnce}
 use Rattle.funnel_io.specs.LineReading.{ReaderState, HasGiven, Gives, NextLine, AreNeeded, IsNeeded, line_failed}
 use Rattle.funnel_io.specs.LineSteps.{KeepsEnd, ReadsNext}
 use Rattle.funnel_io.specs.Lines.{HasNoNewline}
@@ -13,6 +13,7 @@ use Rattle.funnel_io.specs.declared.source.Got.{Got}
 use Rattle.funnel_io.specs.declared.source.Got.TheVariants as got
 use Rattle.funnel_io.proofs.LineLaws.{reads_on}
 use Rattle.funnel_io.proofs.Taking.{Takes-nil, Takes-trans}
+use Rattle.funnel_io.proofs.CallLaws.{below_at}
 
 -- bytes without newline end without one
 pub clean_behind : (xs ys : List ℕ) → HasNoNewline (xs ++ ys) → HasNoNewline ys
@@ -111,10 +112,7 @@ module _ {S : Type 0} (incoming : S → Incoming) (gives : S → Read → S → 
       not_ended = sym p.ended ∙ not_ended;
       going_on = p.going_on;
       undecided = p.clean clean;
-      still = still;
-      still_is = p.count;
-      some = some;
-      enough = n.room;
+      below = below_at may still n.read.room p.reads p.count some n.room;
     }
 
     takes_all : Takes (bytes_read p.reads ++ n.read.bytes) (incoming before) (incoming after)

@@ -2,7 +2,7 @@
 use Rattle.std.specs.Prelude.{◌≡◌, ◌+◌, ◌-◌, ◌<◌, ◌≤◌, ⊤, ℕ, List, [], ◌++◌, length, min, take}
 use Rattle.std.specs.Io.KnownBytes.{IsAtEnd}
 use Rattle.funnel_io.specs.Answers.{MatchGot, read_failed}
-use Rattle.funnel_io.specs.Calls.{Read}
+use Rattle.funnel_io.specs.Calls.{Read, IsRoomFor}
 use Rattle.funnel_io.specs.Counts.{counted}
 use Rattle.funnel_io.specs.Streams.{Incoming, Takes}
 use Rattle.funnel_io.specs.declared.source.Got.{Got}
@@ -34,4 +34,14 @@ pub record ReadsBehind {S : Type 0} (incoming : S → Incoming) (gives : S → R
   pub within : end' ≤ length new
   pub moved : end' ≡ end + length read.bytes
   pub behind : take end' new ≡ take end old ++ read.bytes
+  pub count : may' + length read.bytes ≡ may
+
+-- one read was made, of at most as many bytes as may be taken, and its bytes stand behind those that were held
+pub record ReadsOnce {S : Type 0} (incoming : S → Incoming) (gives : S → Read → S → Type 0) (before after : S) (old new : List ℕ) (answer : Got) (may may' : ℕ) : Type 0 where
+  pub read : Read
+  pub answered : read.answer ≡ answer
+  pub step : gives before read after
+  pub room : IsRoomFor read.room may
+  pub takes : Takes read.bytes (incoming before) (incoming after)
+  pub grown : new ≡ old ++ read.bytes
   pub count : may' + length read.bytes ≡ may

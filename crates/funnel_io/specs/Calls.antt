@@ -1,5 +1,5 @@
 -- Calls on a stream, one after another.
-use Rattle.std.specs.Prelude.{◌≡◌, ◌<◌, ⊤, ℕ, Bool, true, false, List, [], ◌∷◌, ◌++◌, length, MatchBool}
+use Rattle.std.specs.Prelude.{◌≡◌, ◌-◌, ◌<◌, ◌≤◌, ◌⊎◌, ⊤, ℕ, Bool, true, false, List, [], ◌∷◌, ◌++◌, length, MatchBool}
 use Rattle.funnel_io.specs.Answers.{MatchGot, MatchPut, bytes_put, read_failed}
 use Rattle.funnel_io.specs.declared.source.Got.{Got}
 use Rattle.funnel_io.specs.declared.source.Got.TheVariants as got
@@ -10,6 +10,10 @@ pub record Read : Type 0 where
   pub room : ℕ
   pub answer : Got
   pub bytes : List ℕ
+
+-- so much room is enough for a read: for 64 bytes, or for all bytes that may be taken where these are fewer
+abbrev pub IsRoomFor : ℕ → ℕ → Type 0
+IsRoomFor room may = (64 ≤ room) ⊎ (room ≡ may)
 
 -- a write: the piece that it was handed, and what it answered
 pub record Write : Type 0 where
@@ -25,6 +29,16 @@ Leads gives before (call ∷ earlier) after = (middle : _) × Leads gives before
 abbrev pub bytes_read : List Read → List ℕ
 bytes_read [] = []
 bytes_read (read ∷ earlier) = bytes_read earlier ++ read.bytes
+
+-- a read, after these, comes before so many bytes were taken, and has room enough for those that may still be
+pub record IsReadBelow (limit : ℕ) (earlier : List Read) (room : ℕ) : Type 0 where
+  pub some : length (bytes_read earlier) < limit
+  pub enough : IsRoomFor room (limit - length (bytes_read earlier))
+
+-- so it is with each of the reads
+abbrev pub AreBelow : ℕ → List Read → Type 0
+AreBelow limit [] = ⊤
+AreBelow limit (read ∷ earlier) = AreBelow limit earlier × IsReadBelow limit earlier read.room
 
 -- the last of the reads, if there is one, gave bytes
 abbrev pub GaveBytes : List Read → Type 0

@@ -1,10 +1,6 @@
 -- The bytes in a reader's buffer.
-use Rattle.std.specs.Prelude.{◌≡◌, ◌≤◌, ◌+◌, ℕ, List, ◌++◌, length, slice_range}
-use Rattle.funnel_io.specs.Calls.{Read}
-use Rattle.funnel_io.specs.LineReading.{IsRoomFor}
+use Rattle.std.specs.Prelude.{◌≡◌, ◌≤◌, ℕ, List, length, slice_range}
 use Rattle.funnel_io.specs.Lines.{HasNoNewline}
-use Rattle.funnel_io.specs.Streams.{Incoming, Takes}
-use Rattle.funnel_io.specs.declared.source.Got.{Got}
 use Rattle.funnel_io.specs.declared.line_buffer.TheConstants.{CAPACITY}
 
 -- the line that was taken last, the bytes that are held, and how many more fit behind them
@@ -22,13 +18,3 @@ pub record IsInPlace (buffer : List ℕ) (line_start line_end start searched end
   pub not_past_end : searched ≤ end
   pub within : end ≤ length buffer
   pub clean : HasNoNewline (slice_range buffer start searched)
-
--- one read was made, of at most as many bytes as may be taken, and its bytes stand behind those that were held
-pub record ReadsOnce {S : Type 0} (incoming : S → Incoming) (gives : S → Read → S → Type 0) (before after : S) (old new : List ℕ) (answer : Got) (may may' : ℕ) : Type 0 where
-  pub read : Read
-  pub answered : read.answer ≡ answer
-  pub step : gives before read after
-  pub room : IsRoomFor read.room may
-  pub takes : Takes read.bytes (incoming before) (incoming after)
-  pub grown : new ≡ old ++ read.bytes
-  pub count : may' + length read.bytes ≡ may

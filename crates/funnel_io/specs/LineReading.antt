@@ -1,7 +1,7 @@
 -- What a reader of lines holds, and the lines that it gives of the bytes that it takes.
 use Rattle.std.specs.Prelude.{◌≡◌, ◌+◌, ◌<◌, ◌≤◌, ◌⊎◌, ⊤, ℕ, Bool, true, false, ◌||◌, List, [], ◌∷◌, ◌++◌, length, All, Contains, MatchBool, if◌then◌else◌}
 use Rattle.std.specs.Io.KnownBytes.{IsAtEnd}
-use Rattle.funnel_io.specs.Calls.{Read, Leads, GaveBytes, bytes_read, found_end, last_failed}
+use Rattle.funnel_io.specs.Calls.{Read, Leads, GaveBytes, IsReadBelow, bytes_read, found_end, last_failed}
 use Rattle.funnel_io.specs.Lines.{HasNoNewline, lines, with_newlines}
 use Rattle.funnel_io.specs.Streams.{Incoming, Takes}
 use Rattle.funnel_io.specs.declared.line_reader.TheConstants.{MAX_LINE_LEN}
@@ -61,19 +61,12 @@ pub record IsUndecided (reader : ReaderState) : Type 0 where
   pub clean : HasNoNewline reader.held
   pub not_ended : reader.ended ≡ false
 
--- so much room is enough for a read: for 64 bytes, or for all bytes that may be taken where these are fewer
-abbrev pub IsRoomFor : ℕ → ℕ → Type 0
-IsRoomFor room may = (64 ≤ room) ⊎ (room ≡ may)
-
--- a read, after these, has to be made: the bytes held then decide no answer, and some may be taken
+-- a read, after these, has to be made: the bytes held then decide no answer, and some may be taken, for which it has room enough
 pub record IsNeeded (reader : ReaderState) (may : ℕ) (earlier : List Read) (room : ℕ) : Type 0 where
   pub not_ended : reader.ended ≡ false
   pub going_on : GaveBytes earlier
   pub undecided : HasNoNewline (reader.held ++ bytes_read earlier)
-  pub still : ℕ
-  pub still_is : still + length (bytes_read earlier) ≡ may
-  pub some : 0 < still
-  pub enough : IsRoomFor room still
+  pub below : IsReadBelow may earlier room
 
 -- each of the reads, of which the last comes first, has to be made
 abbrev pub AreNeeded : ReaderState → ℕ → List Read → Type 0

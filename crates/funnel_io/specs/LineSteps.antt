@@ -1,7 +1,7 @@
 -- What the steps of reading lines give, for the clauses of functions that are not public.
 use Rattle.std.specs.Prelude.{◌≡◌, ◌+◌, ⊤, ℕ, Bool, ◌||◌, List, ◌++◌, length}
-use Rattle.funnel_io.specs.Calls.{Read, is_end}
-use Rattle.funnel_io.specs.LineReading.{ReaderState, HoldsEnd, HasGiven, IsRoomFor}
+use Rattle.funnel_io.specs.Calls.{Read, IsRoomFor, is_end}
+use Rattle.funnel_io.specs.LineReading.{ReaderState, HoldsEnd, HasGiven}
 use Rattle.funnel_io.specs.Lines.{HasNoNewline}
 use Rattle.funnel_io.specs.Streams.{Incoming, Takes}
 use Rattle.funnel_io.specs.declared.source.Got.{Got}

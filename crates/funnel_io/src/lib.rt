@@ -7,19 +7,20 @@
 #![tactic(auto)]
 
 mod borrower;
+mod calling;
 mod connection;
 mod cutting;
 mod duplex;
 mod end;
 mod file_source;
 mod gate;
+mod laws;
 mod line_buffer;
 mod line_reader;
 mod listening;
 mod mem_gate;
 mod mem_sink;
 mod mem_source;
-mod memory;
 mod opened_file;
 mod pair;
 mod passing;
@@ -41,11 +42,11 @@ pub use duplex::{Duplex, MemConn};
 pub use end::End;
 pub use file_source::FileSource;
 pub use gate::{Gate, Next, Opening};
+pub use laws::calls_in_memory_have_one_answer;
 pub use line_reader::{Line, LineReader, MAX_LINE_LEN};
 pub use mem_gate::MemGate;
 pub use mem_sink::MemSink;
 pub use mem_source::MemSource;
-pub use memory::Memory;
 pub use opened_file::OpenedFile;
 pub use pair::Pair;
 pub use reader_source::{ReaderSource, StdinSource};

@@ -2,14 +2,13 @@ ghost use Rattle.std.specs.Prelude.{◌≡◌, ◌<◌, ◌≤◌, ◌+◌, [], 
 ghost use Rattle.funnel_io.specs.Beside.{StaysBeside};
 ghost use Rattle.funnel_io.specs.BufferReads.{TellsRead};
 ghost use Rattle.funnel_io.specs.Lines.{HasNoNewline};
-ghost use Rattle.funnel_io.specs.LineBuffers.{ReadsOnce};
+ghost use Rattle.funnel_io.specs.BufferReads.{ReadsOnce};
 
 use crate::line_reader::MAX_LINE_LEN;
-use crate::memory::Memory;
 use crate::reading::read_behind;
 use crate::source::{Got, Source};
 use memchr::memchr;
-use std::alloc::Global;
+use std::alloc::{AllocError, Global};
 use std::marker::Model;
 
 /// The fewest bytes that a read has room for, where as many may be taken.
@@ -48,7 +47,7 @@ impl Model for LineBuffer {
 }
 
 impl LineBuffer {
-    pub(crate) fn new(alloc: Global) -> Result<LineBuffer, Memory>
+    pub(crate) fn new(alloc: Global) -> Result<LineBuffer, AllocError>
         ensures empty { IfOk result (λ held. held.bytes ≡ []) }
         ensures no_line { IfOk result (λ held. held.line ≡ []) }
     {

@@ -8,9 +8,8 @@ ghost use Rattle.funnel_io.specs.LineReading.{unused, HasGiven, Gives, NextLine,
 ghost use Rattle.funnel_io.specs.LineSteps.{ReadsNext, KeepsEnd, IsOfBytes};
 
 use crate::line_buffer::{LEAST_ROOM, LineBuffer};
-use crate::memory::Memory;
 use crate::source::{Got, Source};
-use std::alloc::Global;
+use std::alloc::{AllocError, Global};
 use std::marker::Model;
 
 /// The most bytes of a line, without its newline. A carriage return at its end counts.
@@ -55,7 +54,7 @@ impl Model for LineReader {
 
 impl LineReader {
     /// A reader that holds nothing. It takes all the memory that it ever needs.
-    pub fn new(alloc: Global) -> Result<LineReader, Memory>
+    pub fn new(alloc: Global) -> Result<LineReader, AllocError>
         ensures unused { IfOk result (λ reader. reader ≡ unused) }
         ensures nothing_given { IfOk result (λ reader. HasGiven reader [] []) }
     {

@@ -5,9 +5,8 @@ ghost use Rattle.funnel_io.specs.Answers.{MatchNext};
 use crate::duplex::MemConn;
 use crate::end::End;
 use crate::gate::{Gate, Next, Opening};
-use crate::memory::Memory;
 use crate::served_conn::ServedConn;
-use std::alloc::Global;
+use std::alloc::{AllocError, Global};
 use std::marker::Model;
 
 /// A gate that hands out stored connections, and whose calls of `next` of given numbers fail. It can be made to refuse to be opened.
@@ -49,7 +48,11 @@ impl Model for MemGate {
 impl MemGate {
     /// A gate of these connections, which were not used yet. Calls of `next` are numbered from 1,
     /// and those in `fails` fail.
-    pub fn new(alloc: Global, mut waiting: Vec<MemConn>, fails: Vec<u64>) -> Result<MemGate, Memory>
+    pub fn new(
+        alloc: Global,
+        mut waiting: Vec<MemConn>,
+        fails: Vec<u64>,
+    ) -> Result<MemGate, AllocError>
         requires { All IsUnused waiting.items }
         ensures { IfOk result (λ gate. gate ≡ record {
           waiting = waiting.items;

@@ -4,9 +4,8 @@ ghost use Rattle.funnel_io.specs.Answers.{MatchPut, bytes_put};
 ghost use Rattle.funnel_io.specs.Streams.{Writes};
 
 use crate::borrower::Borrower;
-use crate::memory::Memory;
 use crate::sink::{Put, Sink};
-use std::alloc::Global;
+use std::alloc::{AllocError, Global};
 use std::marker::Model;
 
 /// A sink that keeps what is written, within a room that is set when it is made.
@@ -38,7 +37,7 @@ impl Model for MemSink {
 
 impl MemSink {
     /// A sink with room for so many bytes. Writes are numbered from 1, and those in `fails` fail.
-    pub fn new(alloc: Global, room: usize, fails: Vec<u64>) -> Result<MemSink, Memory>
+    pub fn new(alloc: Global, room: usize, fails: Vec<u64>) -> Result<MemSink, AllocError>
         ensures { IfOk result (λ sink. sink ≡ record {
           written = [];
           room = room;

@@ -1,6 +1,7 @@
 ghost use Rattle.std.specs.Prelude.{◌≡◌};
 
 use crate::borrower::Borrower;
+use crate::calling::read_once;
 use crate::source::{Got, Source};
 use std::io;
 use std::io::{Read, Stdin};
@@ -55,14 +56,6 @@ impl<R: Read> Source for ReaderSource<R> {
     ghost beside_read = { λ _. nothing_written };
 
     fn read(&mut self, room: &mut [u8]) -> Got {
-        match self.reader.read(room) {
-            Ok(0) => Got::End,
-            Ok(n) => Got::Bytes(n),
-            Err(error) => {
-                self.error = Some(error);
-                self.faults = self.faults.saturating_add(1);
-                Got::Failed
-            }
-        }
+        read_once(&mut self.reader, room, &mut self.faults, &mut self.error)
     }
 }

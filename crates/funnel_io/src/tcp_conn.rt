@@ -1,11 +1,12 @@
 ghost use Rattle.std.specs.Prelude.{◌≡◌};
 
 use crate::borrower::Borrower;
+use crate::calling::{read_once, write_once};
 use crate::connection::Connection;
 use crate::sink::{Put, Sink};
 use crate::source::{Got, Source};
 use std::io;
-use std::io::{Read, Write};
+use std::io::Read;
 use std::marker::Model;
 use std::net::{Shutdown, TcpStream};
 use std::time::{Clock, Duration, Instant};
@@ -78,17 +79,10 @@ impl Source for TcpConn {
     ghost beside_read = { λ c. record { written = None; faults = c.writes } };
 
     fn read(&mut self, room: &mut [u8]) -> Got {
-        match self.stream.read(room) {
-            Ok(0) => {
-                self.ended = true;
-                Got::End
-            }
-            Ok(n) => Got::Bytes(n),
-            Err(_) => {
-                self.read_faults = self.read_faults.saturating_add(1);
-                Got::Failed
-            }
-        }
+        let mut error = None;
+        let got = read_once(&mut self.stream, room, &mut self.read_faults, &mut error);
+        self.ended |= got == Got::End;
+        got
     }
 }
 
@@ -100,13 +94,8 @@ impl Sink for TcpConn {
     ghost beside_write = { λ c. record { left = None; taken = None; faults = c.reads } };
 
     fn write(&mut self, piece: &[u8]) -> Put {
-        match self.stream.write(piece) {
-            Ok(0) | Err(_) => {
-                self.write_faults = self.write_faults.saturating_add(1);
-                Put::Failed
-            }
-            Ok(n) => Put::Bytes(n),
-        }
+        let mut error = None;
+        write_once(&mut self.stream, piece, &mut self.write_faults, &mut error)
     }
 }
 

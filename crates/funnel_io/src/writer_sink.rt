@@ -1,10 +1,10 @@
-ghost use Rattle.std.specs.Prelude.{◌≡◌, true};
-ghost use Rattle.funnel_io.specs.Counts.{counted};
+ghost use Rattle.std.specs.Prelude.{◌≡◌};
 
 use crate::borrower::Borrower;
+use crate::calling::write_once;
 use crate::sink::{Put, Sink};
 use std::io;
-use std::io::{ErrorKind, Stdout, Write};
+use std::io::{Stdout, Write};
 use std::marker::Model;
 
 /// A sink over a writer of std's. It tells its bytes where the writer does. Each error of the
@@ -45,17 +45,6 @@ impl<W> WriterSink<W> {
     pub fn error(&self) -> Option<io::Error> {
         self.error
     }
-
-    // Counts a write that failed so.
-    fn fail(&mut self, error: io::Error) -> Put
-        ensures failed { result ≡ Put.Failed }
-        ensures faults { self.new.faults ≡ counted true self.old.faults }
-        ensures writer { self.new.inner ≡ self.old.inner }
-    {
-        self.error = Some(error);
-        self.faults = self.faults.saturating_add(1);
-        Put::Failed
-    }
 }
 
 impl<W> Borrower for WriterSink<W> {}
@@ -68,10 +57,6 @@ impl<W: Write> Sink for WriterSink<W> {
     ghost beside_write = { λ _. nothing_read };
 
     fn write(&mut self, piece: &[u8]) -> Put {
-        match self.writer.write(piece) {
-            Ok(0) => self.fail(io::Error::from(ErrorKind::WriteZero)),
-            Ok(n) => Put::Bytes(n),
-            Err(error) => self.fail(error),
-        }
+        write_once(&mut self.writer, piece, &mut self.faults, &mut self.error)
     }
 }

@@ -4,14 +4,14 @@ ghost use Rattle.funnel_io.specs.MemGates.{IsUnused};
 
 use crate::streams::source_of;
 use funnel_io::{
-    Connection, End, Gate, Got, MemConn, MemGate, MemSink, Memory, Next, Opening, ServedConn,
-    WriteFailed, write_all,
+    Connection, End, Gate, Got, MemConn, MemGate, MemSink, Next, Opening, ServedConn, WriteFailed,
+    write_all,
 };
-use std::alloc::Global;
+use std::alloc::{AllocError, Global};
 use std::process::Abort;
 use std::test::Fail;
 
-fn conn_of(alloc: Global, piece: &[u8]) -> Result<MemConn, Memory>
+fn conn_of(alloc: Global, piece: &[u8]) -> Result<MemConn, AllocError>
     ensures { IfOk result IsUnused }
 {
     let source = source_of(alloc, &[piece], &[])?;

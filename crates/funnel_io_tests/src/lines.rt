@@ -2,7 +2,7 @@
 ghost use Rattle.std.specs.Prelude.{◌≡◌, [], ◌∷◌, true, false};
 ghost use Rattle.funnel_io.specs.Lines.{lines};
 
-use funnel_io::{Line, LineReader, MemSource, Memory};
+use funnel_io::{Line, LineReader, MemSource};
 use std::alloc::{AllocError, Global};
 use std::process::Abort;
 use std::test::Fail;
@@ -33,7 +33,7 @@ fn expect_lines<R: Abort>(
     cut: Cut<'_>,
     most: u64,
     wanted: &[(Line, &[u8])],
-) -> Result<u64, Memory> {
+) -> Result<u64, AllocError> {
     let mut source = cut.source(alloc)?;
     let mut reader = LineReader::new(alloc)?;
     let mut left = most;
@@ -107,7 +107,7 @@ fn expect_both<R: Abort>(
     alloc: Global,
     bytes: &[u8],
     answer: (Line, &[u8]),
-) -> Result<(), Memory> {
+) -> Result<(), AllocError> {
     let wanted = [answer, answer, (Line::Finished, &[])];
     for size in [1, 999, 65_536, 300_000] {
         let cut = Cut {
@@ -127,7 +127,7 @@ fn expect_line<R: Abort>(
     count: usize,
     ending: &[u8],
     answer: Line,
-) -> Result<(), Memory> {
+) -> Result<(), AllocError> {
     let line = letters(alloc, count, ending)?;
     let bytes = twice(alloc, &line)?;
     let text: &[u8] = if answer == Line::Whole { &line } else { &[] };
@@ -193,7 +193,7 @@ fn expect_all_taken<R: Abort>(
     most: u64,
     first: (Line, &[u8]),
     second: (Line, &[u8]),
-) -> Result<(), Memory> {
+) -> Result<(), AllocError> {
     let cut = Cut {
         bytes: b"abc\ndef\n",
         size: 8,

@@ -6,7 +6,7 @@ ghost use Rattle.funnel_io.specs.Streams.{Takes};
 use crate::streams::{
     expect_reads, expect_sent, expect_writes, expect_written, sink_of, source_of,
 };
-use funnel_io::{Got, MemSink, MemSource, Memory, Pair, Put, Source, WriteFailed};
+use funnel_io::{Got, MemSink, MemSource, Pair, Put, Source, WriteFailed};
 use std::process::Abort;
 use std::test::Fail;
 
@@ -99,11 +99,5 @@ fn all_bytes_go_through_a_pair(rt: HostRuntime) -> Result<(), Fail> {
     expect_pair(&rt, &mut source, &mut sink);
     expect_written(&rt, &sink, b"helloyou");
     expect_reads(&rt, &mut source, &[(Got::Bytes(1), b"a---")]);
-    Ok(())
-}
-
-#[test]
-fn want_of_memory_is_told_in_words(rt: HostRuntime) -> Result<(), Fail> {
-    assert_eq!(rt; Memory.to_string(rt.alloc())?.as_str(), "memory ran out");
     Ok(())
 }

@@ -1,10 +1,10 @@
 //! A gate on a port.
 use crate::network::{Network, Seen};
 use funnel_io::{
-    Connection, End, Gate, Got, Line, LineReader, Memory, Next, Opening, Put, SharedPort, Source,
-    TcpGate, write_all,
+    Connection, End, Gate, Got, Line, LineReader, Next, Opening, Put, SharedPort, Source, TcpGate,
+    write_all,
 };
-use std::alloc::Global;
+use std::alloc::{AllocError, Global};
 use std::io::{ErrorKind, Read, Write};
 use std::net::{Ipv4Addr, Shutdown, SocketAddr, TcpListener, TcpStream};
 use std::test::Fail;
@@ -81,7 +81,7 @@ fn echo<G: Gate>(gate: &mut G, reader: &mut LineReader) -> Line {
 }
 
 /// Whether a gate that is opened answers the lines of the next two connections to their end.
-fn echo_twice<G: Gate>(gate: &mut G, alloc: Global) -> Result<bool, Memory> {
+fn echo_twice<G: Gate>(gate: &mut G, alloc: Global) -> Result<bool, AllocError> {
     if gate.open() == Opening::Fault {
         return Ok(false);
     }

@@ -1,7 +1,7 @@
 //! What the tests make and expect of streams.
 ghost use Rattle.std.specs.Prelude.{◌≡◌, [], IfOk};
 
-use funnel_io::{Got, MemSink, MemSource, Memory, Put, Sink, Source, WriteFailed, write_all};
+use funnel_io::{Got, MemSink, MemSource, Put, Sink, Source, WriteFailed, write_all};
 use std::alloc::{AllocError, Global};
 use std::process::Abort;
 
@@ -21,7 +21,7 @@ pub(crate) fn source_of(
     Ok(MemSource::new(owned, fails.to_vec(alloc)?))
 }
 
-pub(crate) fn sink_of(alloc: Global, room: usize, fails: &[u64]) -> Result<MemSink, Memory> {
+pub(crate) fn sink_of(alloc: Global, room: usize, fails: &[u64]) -> Result<MemSink, AllocError> {
     MemSink::new(alloc, room, fails.to_vec(alloc)?)
 }
 

@@ -13,7 +13,6 @@ pub mod ExampleLemmas
 pub mod Fills
 pub mod Histories
 pub mod Invariants
-pub mod Kept
 pub mod LastEvents
 pub mod ListedLemmas
 pub mod LiveColumns
@@ -52,5 +51,6 @@ pub mod TreatmentLemmas
 pub mod TuneFacts
 pub mod TuningLemmas
 pub mod WordClasses
+pub mod WordExprLemmas
 pub mod WordLemmas
 pub mod WordSetLemmas

@@ -67,6 +67,43 @@ module _ {A B : Type 0} (Fits : A → B → Type 0) (test : A → Bool) (ruled_o
         implies-or (sure ruled_out known f) (passes test e) _ _ (search-sure e f alike.0) (some-sure es fs alike.1)
     some-sure _ _ alike = absurd alike
 
+-- atoms that fit another way
+module _ {A B : Type 0} (Fits Others : A → B → Type 0) (more : (a : A) (b : B) → Fits a b → Others a b) where
+  mutual
+    pub alike-weaker : (search : Search A) (read : Search B) → AreAlike Fits search read → AreAlike Others search read
+    alike-weaker (atom_of a) (atom_of b) alike = more a b alike
+    alike-weaker (all_of es) (all_of fs) alike = each-weaker es fs alike
+    alike-weaker (some_of es) (some_of fs) alike = each-weaker es fs alike
+    alike-weaker (not_of e) (not_of f) alike = alike-weaker e f alike
+    alike-weaker _ _ alike = absurd alike
+
+    pub each-weaker : (es : Searches A) (fs : Searches B) → AreEachAlike Fits es fs → AreEachAlike Others es fs
+    each-weaker no_entries no_entries alike = tt
+    each-weaker (entry e es) (entry f fs) alike = (alike-weaker e f alike.0, each-weaker es fs alike.1)
+    each-weaker _ _ alike = absurd alike
+
+-- searches that are alike to a third through a second
+module _ {A B C : Type 0} (First : A → B → Type 0) (Second : B → C → Type 0) (Both : A → C → Type 0)
+    (join : (a : A) (b : B) (c : C) → First a b → Second b c → Both a c) where
+  mutual
+    pub alike-through : (s : Search A) (t : Search B) (u : Search C) → AreAlike First s t → AreAlike Second t u → AreAlike Both s u
+    alike-through (atom_of a) (atom_of b) (atom_of c) first second = join a b c first second
+    alike-through (all_of es) (all_of fs) (all_of gs) first second = each-through es fs gs first second
+    alike-through (some_of es) (some_of fs) (some_of gs) first second = each-through es fs gs first second
+    alike-through (not_of e) (not_of f) (not_of g) first second = alike-through e f g first second
+    alike-through (atom_of a) (atom_of b) _ first second = absurd second
+    alike-through (all_of es) (all_of fs) _ first second = absurd second
+    alike-through (some_of es) (some_of fs) _ first second = absurd second
+    alike-through (not_of e) (not_of f) _ first second = absurd second
+    alike-through _ _ _ first second = absurd first
+
+    pub each-through : (es : Searches A) (fs : Searches B) (gs : Searches C) → AreEachAlike First es fs → AreEachAlike Second fs gs → AreEachAlike Both es gs
+    each-through no_entries no_entries no_entries first second = tt
+    each-through (entry e es) (entry f fs) (entry g gs) first second = (alike-through e f g first.0 second.0, each-through es fs gs first.1 second.1)
+    each-through no_entries no_entries (entry g gs) first second = absurd second
+    each-through (entry e es) (entry f fs) no_entries first second = absurd second
+    each-through _ _ _ first second = absurd first
+
 pub told-right : ReadSearchesAreRight
 told-right text search told alike =
     let right = search-may (IsRightOf text) (has_all text) (λ t. t.ruled_out) (λ t. t.known) (λ a b is. is.open_to) (λ a b is. is.has) search told alike in

@@ -45,6 +45,13 @@ impl Candidates {
         Ok(())
     }
 
+    /// Takes all out. It keeps its memory.
+    pub fn clear(&mut self)
+        ensures { self.new ≡ [] }
+    {
+        self.columns.clear();
+    }
+
     /// The pairs that it was made of.
     pub fn into_inner(self) -> Vec<(u32, u32)>
         ensures { result.items ≡ self }

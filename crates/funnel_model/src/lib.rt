@@ -5,7 +5,6 @@
 mod bit_list;
 mod block;
 mod blocked;
-mod branches;
 mod call;
 mod candidates;
 mod claim;
@@ -27,7 +26,6 @@ mod word_set;
 pub use bit_list::{Bit, BitList};
 pub use block::Block;
 pub use blocked::Blocked;
-pub use branches::Branches;
 pub use call::{Call, MOST_MOVES};
 pub use candidates::Candidates;
 pub use claim::{Claim, ClearJob, Token};

@@ -1,5 +1,5 @@
 -- A worker's turns, one after another.
-use Rattle.std.proofs.Common.{◌≡◌, ◌<◌, ◌⊎◌, true, false, List, [], ◌∷◌, reverse, refl, sym, ap, ◌∙◌, subst, inl, inr, arith}
+use Rattle.std.proofs.Common.{◌≡◌, ◌<◌, ◌⊎◌, ℕ, true, false, List, [], ◌∷◌, reverse, refl, sym, ap, ◌∙◌, subst, inl, inr, arith}
 use Rattle.std.proofs.lemmas.List.{reverse-append}
 use Rattle.funnel_io.specs.Calls.{Leads}
 use Rattle.funnel_io.specs.declared.end.End.TheVariants as end_of
@@ -7,23 +7,29 @@ use Rattle.funnel_io.specs.declared.gate.Gate as Gate
 use Rattle.funnel_io.specs.declared.gate.Next.TheVariants as next
 use Rattle.funnel_io.specs.declared.sink.Sink as Sink
 use Rattle.funnel_io.specs.declared.source.Source as Source
-use Rattle.funnel_server.proofs.Visits.{serves_none, serves_one, stops_at_limit, stops_without}
+use Rattle.funnel_server.proofs.Visits.{WorksOn, serves_none, serves_one, stops_at_limit, stops_without}
 use Rattle.funnel_server.specs.Gates.{sides_of}
 use Rattle.funnel_server.specs.GateTurns.{AsksNoMore, GetsNoMore, TakesTurn, WorksInTurns, none_by}
-use Rattle.funnel_server.specs.Turns.{AsksInVain, ServesInTurn, StopsInTurns, WorksOnInTurns}
+use Rattle.funnel_server.specs.Laws.{CountsOut}
+use Rattle.funnel_server.specs.Turns.{AsksInVain, ServesInTurn, StopsInTurns}
 use Rattle.funnel_server.specs.Workers.{HasMetNoFault, Visit, WorkerState, WorkerWithGate, Works, sides_after, sides_before}
 
 module _ {G C : Type 0} (gate : Gate.Ghosts G C) (source : Source.Ghosts C) (sink : Sink.Ghosts C) where
   abbrev Turn : G → Visit → G → Type 0
   Turn = TakesTurn gate source sink
 
+  -- so far a worker served these connections, one in each turn, and its gate did not fail
+  pub record WorksOnInTurns (before now : WorkerWithGate G) : Type 0 where
+    pub so_far : WorksOn before.state now.state
+    pub turns : Leads (TakesTurn gate source sink) before.gate (reverse so_far.visits) now.gate
+
   -- a worker that is ready took no turn yet
-  pub no_turn : (worker : WorkerWithGate G) → HasMetNoFault worker.state → WorksOnInTurns gate source sink worker worker
+  pub no_turn : (worker : WorkerWithGate G) → HasMetNoFault worker.state → WorksOnInTurns worker worker
   no_turn worker ready = record { so_far = serves_none worker.state ready; turns = refl }
 
   -- it took one more
-  pub one_turn : (start before after : WorkerWithGate G) → WorksOnInTurns gate source sink start before →
-      ServesInTurn gate source sink before after → WorksOnInTurns gate source sink start after
+  pub one_turn : (start before after : WorkerWithGate G) → WorksOnInTurns start before →
+      ServesInTurn gate source sink before after → WorksOnInTurns start after
   one_turn start before after on then = record {
     so_far = serves_one start.state before.state after.state on.so_far then.serves;
     turns = subst (λ (visits : List Visit). Leads Turn start.gate visits after.gate) (sym (reverse-append on.so_far.visits (then.serves.visit ∷ [])))
@@ -31,7 +37,7 @@ module _ {G C : Type 0} (gate : Gate.Ghosts G C) (source : Source.Ghosts C) (sin
   }
 
   -- it asked once more, and got no connection
-  pub stops_in_vain : (start before after : WorkerWithGate G) → WorksOnInTurns gate source sink start before →
+  pub stops_in_vain : (start before after : WorkerWithGate G) → WorksOnInTurns start before →
       AsksInVain gate before after → StopsInTurns gate source sink start after
   stops_in_vain start before after on then = record {
     works = stops_without start.state before.state after.state on.so_far then.gets;
@@ -41,7 +47,7 @@ module _ {G C : Type 0} (gate : Gate.Ghosts G C) (source : Source.Ghosts C) (sin
   }
 
   -- it may serve no more
-  pub stops_in_time : (start now : WorkerWithGate G) → WorksOnInTurns gate source sink start now →
+  pub stops_in_time : (start now : WorkerWithGate G) → WorksOnInTurns start now →
       now.state.left ≡ 0 → StopsInTurns gate source sink start now
   stops_in_time start now on none = record {
     works = stops_at_limit start.state now.state on.so_far none;
@@ -53,6 +59,20 @@ module _ {G C : Type 0} (gate : Gate.Ghosts G C) (source : Source.Ghosts C) (sin
   -- a turn that touched nothing leaves the sides as they came
   pub sides_stay : (before after : G) (visit : Visit) → Turn before visit after → visit.end ≡ end_of.Memory → sides_after visit ≡ sides_before visit
   sides_stay before after visit turn none = turn.went ∙ ap (sides_of source sink) (turn.untouched none) ∙ sym turn.came
+
+  -- by a number that tells how many are out, each turn gives back what it was handed
+  given_back : (out : G → ℕ) → CountsOut gate out → (before : G) (visits : List Visit) (served : G) → Leads Turn before visits served → out served ≡ out before
+  given_back out counts before [] served lead = ap out (sym lead)
+  given_back out counts before (visit ∷ earlier) served lead =
+      let turn = lead.2 in
+      let handed = counts.hands_out lead.0 turn.middle turn.handed_out turn.asked in
+      let back = counts.takes_back turn.middle served turn.handed_back visit.end turn.done in
+      let until = given_back out counts before earlier lead.0 lead.1 in
+      omega (arith, handed, back, until)
+
+  pub all_given_back : (out : G → ℕ) → CountsOut gate out → (before after : WorkerWithGate G) (works : WorksInTurns gate source sink before after) →
+      out works.in_turns.served ≡ out before.gate
+  all_given_back out counts before after works = given_back out counts before.gate (reverse works.works.visits) works.in_turns.served works.in_turns.turns
 
   -- ---- once it has stopped and its gate is ended, which tells what it told before, all its calls are told
 

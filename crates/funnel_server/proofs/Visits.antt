@@ -9,8 +9,14 @@ use Rattle.std.proofs.lemmas.List.Folds.{list_any-append}
 use Rattle.funnel_io.specs.Counts.{counted}
 use Rattle.funnel_model.specs.declared.event.Event.{Event}
 use Rattle.funnel_server.specs.Gates.{Sides}
-use Rattle.funnel_server.specs.Turns.{GetsNone, ServesNext, WorksOn}
-use Rattle.funnel_server.specs.Workers.{AreInOrder, HasMetNoFault, IsVisit, Visit, WorkerState, Works, is_memory, served_by, sides_before}
+use Rattle.funnel_server.specs.Turns.{GetsNone, ServesNext}
+use Rattle.funnel_server.specs.Workers.{AreInOrder, HasMetNoFault, HasServedVisits, IsVisit, Visit, WorkerState, Works, is_memory, served_by, sides_before}
+
+-- so far a worker served these connections, and its gate did not fail
+pub record WorksOn (before now : WorkerState) : Type 0 where
+  pub visits : List Visit
+  pub serves : HasServedVisits before now visits
+  pub no_fault : now.fault ≡ false
 
 pub in_order-push : (front middle after : List Event) (visits : List Visit) (visit : Visit) → AreInOrder front visits middle → visit.before.front ≡ middle
     → visit.after.front ≡ after → AreInOrder front (visits ++ visit ∷ []) after

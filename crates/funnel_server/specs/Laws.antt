@@ -1,11 +1,13 @@
 -- What the laws of workers say.
-use Rattle.std.specs.Prelude.{◌≡◌, ◌<◌, ◌≤◌, ◌⊎◌, ⊤, ℕ, Bool, true, false, List, [], ◌∷◌, ◌++◌, length, Some, IfSome}
+use Rattle.std.specs.Prelude.{◌≡◌, ◌<◌, ◌≤◌, ◌+◌, ◌-◌, ◌⊎◌, ⊤, ℕ, Bool, true, false, List, [], ◌∷◌, ◌++◌, length, Some, IfSome}
 use Rattle.std.specs.List.{All, AllZip, flat_map}
 use mathlib.Core.List.{IsPrefix}
 use Rattle.funnel_io.specs.Served.{Served}
 use Rattle.funnel_io.specs.Streams.{Incoming}
 use Rattle.funnel_io.specs.declared.end.End.{End}
 use Rattle.funnel_io.specs.declared.end.End.TheVariants as end_of
+use Rattle.funnel_io.specs.declared.gate.Gate as Gate
+use Rattle.funnel_io.specs.declared.gate.Next.TheVariants as next
 use Rattle.funnel_model.specs.declared.call.Call.{Call}
 use Rattle.funnel_model.specs.declared.call.Call.TheVariants as call
 use Rattle.funnel_model.specs.declared.event.Event.{Event}
@@ -124,6 +126,11 @@ pub record VisitHasNoFault (visit : Visit) : Type 0 where
 -- a session answered all lines of its input, or all its requests up to one whose response closes the connection, or found no memory to begin
 abbrev pub SessionEndsWell : Visit → Type 0
 SessionEndsWell visit = (visit.end ≡ end_of.Done) ⊎ (visit.end ≡ end_of.Memory)
+
+-- a number that a gate tells by its calls: it rises by one with a connection that is handed out, and falls by one with one that is taken back
+pub record CountsOut {G C : Type 0} (gate : Gate.Ghosts G C) (out : G → ℕ) : Type 0 where
+  pub hands_out : (before after : G) (conn : C) → gate.next_gives before (next.Conn conn) after → out after ≡ out before + 1
+  pub takes_back : (before after : G) (conn : C) (end : End) → gate.done_gives before conn end after → out after ≡ out before - 1
 
 -- a worker of a load asked all calls of its share, one after another, and found memory for each; what it has seen since has no
 -- event of its pass

@@ -7,7 +7,7 @@ use Rattle.funnel_io.specs.declared.gate.Gate as Gate
 use Rattle.funnel_io.specs.declared.sink.Sink as Sink
 use Rattle.funnel_io.specs.declared.source.Source as Source
 use Rattle.funnel_server.specs.GateTurns.{AsksNoMore, GetsNoMore, TakesTurn, none_by}
-use Rattle.funnel_server.specs.Workers.{GivesNoMore, HasServedVisits, IsVisit, Visit, WorkerState, WorkerWithGate, Works, is_memory, served_by, sides_before}
+use Rattle.funnel_server.specs.Workers.{GivesNoMore, IsVisit, Visit, WorkerState, WorkerWithGate, Works, is_memory, served_by, sides_before}
 
 -- a worker served the first of the connections that waited
 pub record ServesNext (before after : WorkerState) : Type 0 where
@@ -34,12 +34,6 @@ pub record GetsNone (before after : WorkerState) : Type 0 where
   pub faults : after.gate.faults ≡ counted after.fault before.gate.faults
   pub why : (after.fault ≡ true) ⊎ GivesNoMore after.gate
 
--- so far a worker served these connections, and its gate did not fail
-pub record WorksOn (before now : WorkerState) : Type 0 where
-  pub visits : List Visit
-  pub serves : HasServedVisits before now visits
-  pub no_fault : now.fault ≡ false
-
 -- a worker asked its gate once, and got none
 pub record AsksInVain {G C : Type 0} (gate : Gate.Ghosts G C) (before after : WorkerWithGate G) : Type 0 where
   pub gets : GetsNone before.state after.state
@@ -50,11 +44,6 @@ module _ {G C : Type 0} (gate : Gate.Ghosts G C) (source : Source.Ghosts C) (sin
   pub record ServesInTurn (before after : WorkerWithGate G) : Type 0 where
     pub serves : ServesNext before.state after.state
     pub turn : TakesTurn gate source sink before.gate serves.visit after.gate
-
-  -- so far a worker served these connections, one in each turn, and its gate did not fail
-  pub record WorksOnInTurns (before now : WorkerWithGate G) : Type 0 where
-    pub so_far : WorksOn before.state now.state
-    pub turns : Leads (TakesTurn gate source sink) before.gate (reverse so_far.visits) now.gate
 
   -- a worker served some connections, one in each turn, and stopped; its gate is not ended yet
   pub record StopsInTurns (before now : WorkerWithGate G) : Type 0 where

@@ -8,7 +8,7 @@ ghost use Rattle.funnel_model.specs.History.{IsFrontOf};
 ghost use Rattle.load_gen.specs.Jobs.{queries_of};
 ghost use Rattle.funnel_server.specs.Gates.{Sides};
 ghost use Rattle.funnel_server.specs.GateTurns.{TakesTurn, WorksInTurns, none_by};
-ghost use Rattle.funnel_server.specs.Laws.{AsksShare, SessionEndsWell, GoesOnByCalls, HasCause, HasFewBytes, VisitHasNoFault};
+ghost use Rattle.funnel_server.specs.Laws.{AsksShare, CountsOut, SessionEndsWell, GoesOnByCalls, HasCause, HasFewBytes, VisitHasNoFault};
 ghost use Rattle.funnel_server.specs.Loads.{AreAsked, ComesToQueries, Course};
 ghost use Rattle.funnel_server.specs.Workers.{GivesNoMore, HasServedVisits, IsVisit, Visit, WorkerState, WorkerWithGate, Works};
 ghost use Rattle.funnel_server.specs.Workers.{served_by, sides_after, sides_before};
@@ -49,6 +49,13 @@ pub fn sessions_without_a_fault_end_well()
 pub fn turns_without_memory_leave_the_connection<G: Gate>()
     ensures { (before after : G) (visit : Visit) → TakesTurn G.Gate G.Conn.Source.own G.Conn.Sink.own before visit after →
         visit.end ≡ End.Memory → sides_after visit ≡ sides_before visit }
+{}
+
+/// A worker gives each connection back that its gate handed out, before it asks for the next. So as many are out as were before it
+/// began, by each number that the gate's calls tell of it.
+pub fn workers_give_back_what_they_are_handed<G: Gate>()
+    ensures { (out : G → ℕ) → CountsOut G.Gate out → (before after : WorkerWithGate G)
+        (works : WorksInTurns G.Gate G.Conn.Source.own G.Conn.Sink.own before after) → out works.in_turns.served ≡ out before.gate }
 {}
 
 /// A worker that stopped though it may serve more asked its gate once more, and got no connection. One whose gate failed had that

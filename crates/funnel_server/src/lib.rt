@@ -29,8 +29,8 @@ mod workers;
 pub use laws::{
     a_workers_calls_are_those_of_its_sessions, kept_ends_have_their_cause,
     sessions_without_a_fault_end_well, turns_without_memory_leave_the_connection,
-    workers_ask_until_they_get_none, workers_of_a_load_ask_their_share,
-    workers_without_a_fault_serve_all,
+    workers_ask_until_they_get_none, workers_give_back_what_they_are_handed,
+    workers_of_a_load_ask_their_share, workers_without_a_fault_serve_all,
 };
 pub use loads::run_load;
 pub use worker::Worker;

@@ -93,7 +93,7 @@ impl<'a, G: Gate, N: PoolName, R: Wait> Worker<'a, G, N, R> {
                 return false;
             }
         };
-        let end = answer(self.http, &mut self.client, &mut conn);
+        let end = serve_conn(self.http, &mut self.client, &mut conn);
         self.gate.done(conn, end);
         self.left -= 1;
         self.memory |= found_no_memory(end);
@@ -102,7 +102,7 @@ impl<'a, G: Gate, N: PoolName, R: Wait> Worker<'a, G, N, R> {
 }
 
 /// Answers the requests of a connection, or its lines.
-fn answer<N: PoolName, R: Wait, C: Connection>(
+fn serve_conn<N: PoolName, R: Wait, C: Connection>(
     http: bool,
     client: &mut Client<'_, N, R>,
     conn: &mut C,

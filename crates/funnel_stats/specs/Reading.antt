@@ -1,7 +1,7 @@
 -- What reading a configuration from a source gives.
 use Rattle.std.specs.Prelude.{◌≡◌, ◌+◌, ◌≤◌, ℕ, Bool, true, false, List, [], ◌∷◌, length, Option, Result, Ok, Err, MatchResult, ⊤}
 use Rattle.std.specs.Io.KnownBytes.{IsAtEnd}
-use Rattle.funnel_io.specs.Calls.{Read, Leads, GaveBytes, found_end, last_failed}
+use Rattle.funnel_io.specs.Calls.{Read, Leads, AreBelow, GaveBytes, found_end, last_failed}
 use Rattle.funnel_io.specs.Streams.{Incoming, Takes}
 use Rattle.funnel_model.specs.declared.config.Config.{Config}
 use Rattle.funnel_stats.specs.Configurations.{configuration, longest}
@@ -42,10 +42,11 @@ abbrev pub AreGoingOn : List Read → Type 0
 AreGoingOn [] = ⊤
 AreGoingOn (read ∷ earlier) = AreGoingOn earlier × GaveBytes earlier
 
--- these are all reads of the source, none after one that gave no bytes. With a configuration the last found the end, and the last one
--- failed exactly where the answer is a failed read
+-- these are all reads of the source, none after one that gave no bytes, and each with room enough for what may still be taken. With a
+-- configuration the last found the end, and the last one failed exactly where the answer is a failed read
 pub record EndsReading {S X : Type 0} (read_gives : S → Read → S → Type 0) (answer : Result X ConfigFault) (before after : S) : Type 0 where
   pub reads : List Read
   pub lead : Leads read_gives before reads after
   pub going_on : AreGoingOn reads
+  pub below : AreBelow (longest + 1) reads
   pub ended : MatchResult answer (λ _. found_end reads ≡ true) (λ fault. last_failed reads ≡ is_failed_read fault)

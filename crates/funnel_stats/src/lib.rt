@@ -24,6 +24,7 @@ pub use laws::{
     entries_are_in_byte_order, texts_are_tuned_by_what_they_give, the_empty_text_gives_defaults,
     tunings_change_statistics_alone,
 };
+pub use listing::is_word;
 pub use parsing::parse_config;
 pub use reading::read_config;
 pub use tuning::read_tuning;

@@ -1,4 +1,4 @@
-ghost use Rattle.std.specs.Prelude.{◌≡◌, ◌↔◌, [], ◌∷◌, true, false, Some, IsTrue, IfOk, MatchOption, MatchResult, map, option_map, option_and_then};
+ghost use Rattle.std.specs.Prelude.{◌≡◌, ◌↔◌, [], ◌∷◌, true, false, Some, IsTrue, IfOk, MatchOption, map, option_map, option_and_then};
 ghost use Rattle.funnel_model.specs.Listed.{IsInByteOrder};
 ghost use Rattle.funnel_model.specs.Words.{IsRising};
 ghost use Rattle.serde_json.specs.Find.{as_object};
@@ -13,7 +13,7 @@ use crate::fault::ConfigFault;
 use crate::kept::Kept;
 use crate::key::Key;
 use crate::object::value_of;
-use funnel_model::{Listed, Text, WordSet};
+use funnel_model::{Listed, Memory, Text, WordSet};
 use serde_json::{Map, Value};
 use std::alloc::Global;
 use word_cut::words;
@@ -65,11 +65,13 @@ fn check_words(alloc: Global, listed: &Map<String, Value>) -> Result<(), ConfigF
     Ok(())
 }
 
-/// Whether the text is one folded word: whether it is all that its set of words has.
-fn is_word(alloc: Global, text: &str) -> Result<bool, ConfigFault>
-    ensures { MatchResult result (λ is. is ≡ is_word text.now) (λ fault. fault ≡ ConfigFault.Memory) }
+/// Whether a text is one folded word, as a listed word is: whether it is all that its set of words has.
+pub fn is_word(alloc: Global, text: &str) -> Result<bool, Memory>
+    ensures { IfOk result (λ is. is ≡ is_word text.now) }
 {
-    let found = words(alloc, text)?;
+    let Ok(found) = words(alloc, text) else {
+        return Err(Memory);
+    };
     Ok(is_alone(&found, text))
 }
 

@@ -27,7 +27,7 @@ pub fn read_config<S: Source>(alloc: Global, source: &mut S) -> Result<Config, C
         (λ fault. (S.incoming source.new).faults ≡ counted (is_failed_read fault) (S.incoming source.old).faults) }
     ensures valid { IfOk result IsValid }
 
-    // It reads on only after a read that gave bytes.
+    // It reads on only after a read that gave bytes, with room for 64 further ones, or for all that may still be taken.
     ensures reads { EndsReading S.read_gives result source.old source.new }
 {
     let bytes = read_all(alloc, source)?;
@@ -47,7 +47,7 @@ fn read_all<S: Source>(alloc: Global, source: &mut S) -> Result<Vec<u8>, ConfigF
     let mut bytes = Vec::new(alloc);
     let mut room = [0; PIECE];
     while bytes.len() <= LONGEST {
-        let wanted = PIECE.min(LONGEST + 1 - bytes.len());
+        let wanted = (LONGEST + 1 - bytes.len()).min(PIECE);
         match source.read(&mut room[..wanted]) {
             Got::Bytes(n) => bytes.extend_from_slice(&room[..n])?,
             Got::End => return Ok(bytes),

@@ -17,10 +17,10 @@ use Rattle.http_front.specs.Entries.{Asks, IsRefusedAtHead, IsRouted, ReadsEntry
 use Rattle.http_front.specs.Queries.{decoded, find_by, find_of, plain}
 use Rattle.http_front.specs.Routes.{Document, Documents, EndsFind, Find, HasNoRoute, IsRoute, Place, Route}
 use Rattle.http_front.specs.Sessions.{Exchanges, IsPost}
-use Rattle.http_front.specs.Steps.{AnswersFront, AnswersRoute, IsWhole, cause_of, entry_of}
+use Rattle.http_front.specs.Steps.{AnswersFrame, AnswersRoute, IsWhole, cause_of, entry_of}
 use Rattle.http_front.specs.declared.cause.Cause.{Cause}
 use Rattle.http_front.specs.declared.cause.Cause.TheVariants as cause
-use Rattle.http_front.specs.declared.front.Parts.{Parts}
+use Rattle.http_front.specs.declared.framing.Parts.{Parts}
 use Rattle.http_front.specs.declared.outcome.Outcome.{Outcome}
 use Rattle.http_front.specs.declared.outcome.Outcome.TheVariants as outcome
 use Rattle.http_front.proofs.DocumentLaws.{asks_of_two}
@@ -89,7 +89,7 @@ last_route why closing (Some asked) = refl
 -- a whole request of a route is answered
 pub routed : (caller : Caller) (before after : List Event) (bytes : List ℕ) (parts : Parts) (route : Route) (told : Outcome) → IsWhole bytes parts
     → IsRoute (span_bytes bytes parts.method) (span_bytes bytes parts.target) route → AnswersRoute route (span_bytes bytes parts.body) caller before told after
-    → AnswersFront bytes parts.body.end parts.closes caller before told after
+    → AnswersFrame bytes parts.body.end parts.closes caller before told after
 routed caller before after bytes parts route told whole matches answers = record {
   entry = entry_of route whole.body parts.closes;
   reads = reads_route bytes route parts.closes whole.body (drop parts.body.end bytes) (record {
@@ -104,7 +104,7 @@ routed caller before after bytes parts route told whole matches answers = record
 
 -- and one without a route is refused
 pub unrouted : (caller : Caller) (front : List Event) (bytes : List ℕ) (parts : Parts) → IsWhole bytes parts
-    → HasNoRoute (span_bytes bytes parts.method) (span_bytes bytes parts.target) → AnswersFront bytes parts.body.end parts.closes caller front (outcome.Refused cause.Route) front
+    → HasNoRoute (span_bytes bytes parts.method) (span_bytes bytes parts.target) → AnswersFrame bytes parts.body.end parts.closes caller front (outcome.Refused cause.Route) front
 unrouted caller front bytes parts whole none = record {
   entry = Refused cause.Route parts.closes;
   reads = (whole.head, whole.body, whole.request, sym whole.closes, rw (whole.method, whole.target) at none);
@@ -139,5 +139,5 @@ refused_reads bytes rest cause.Route is = absurd is.3
 refused_reads bytes rest cause.Body is = absurd is.3
 refused_reads bytes rest cause.Query is = absurd is.3
 
-pub refused : (caller : Caller) (front : List Event) (bytes : List ℕ) (why : Cause) → IsRefusedAtHead bytes why → AnswersFront bytes 0 true caller front (outcome.Refused why) front
+pub refused : (caller : Caller) (front : List Event) (bytes : List ℕ) (why : Cause) → IsRefusedAtHead bytes why → AnswersFrame bytes 0 true caller front (outcome.Refused why) front
 refused caller front bytes why is = record { entry = Refused why true; reads = refused_reads bytes (drop 0 bytes) why is; last = refl; answers = inl (refl, refl) }

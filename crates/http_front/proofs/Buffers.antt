@@ -1,16 +1,12 @@
 -- What a buffer holds after a read, and after bytes were let go.
-use Rattle.std.proofs.Common.{◌≡◌, ℕ, ◌+◌, ◌-◌, ◌≤◌, List, length, min, take, drop, sym, ap, ◌∙◌, subst, inl, inr, arith}
+use Rattle.std.proofs.Common.{◌≡◌, ℕ, ◌+◌, ◌-◌, ◌≤◌, List, take, drop, sym, ap, ◌∙◌, arith}
 use Rattle.std.specs.Prelude.{slice_range}
 use Rattle.std.proofs.lemmas.List.{drop-drop, drop-take}
-use Rattle.funnel_io.proofs.BufferReads.{range_grown}
-use Rattle.funnel_io.proofs.Holding.{room_for}
-use Rattle.funnel_io.specs.BufferReads.{ReadsBehind}
+use Rattle.funnel_io.specs.BufferReads.{ReadsBehind, ReadsOnce}
 use Rattle.funnel_io.specs.Calls.{Read}
-use Rattle.funnel_io.specs.LineReading.{IsRoomFor}
 use Rattle.funnel_io.specs.Streams.{Incoming}
 use Rattle.funnel_io.specs.declared.source.Got.{Got}
 use Rattle.http_front.specs.Steps.{HasRead, IsInPlace}
-use Rattle.http_front.specs.TurnSteps.{ReadsOnce}
 
 -- the first bytes were let go
 pub range_after : (xs : List ℕ) (start end count : ℕ) → start + count ≤ end → slice_range xs (start + count) end ≡ drop count (slice_range xs start end)
@@ -32,22 +28,12 @@ module _ {S : Type 0} (incoming : S → Incoming) (gives : S → Read → S → 
     within = reads.within;
   }
 
-  -- what the read gave stands behind the bytes that were there
-  pub has_read : HasRead (incoming before) (incoming after) (slice_range old start end) (slice_range new start end') may may'
-  has_read = record {
-    bytes = reads.read.bytes;
-    takes = reads.takes;
-    grown = range_grown old new reads.read.bytes start end end' reads.behind place.in_order place.within;
-    count = reads.count;
-  }
-
-  -- and this is the call
-  pub reads_once : 64 ≤ length old - end → ReadsOnce gives answer before after (slice_range old start end) (slice_range new start end') may may'
-  reads_once enough = record {
-    read = reads.read;
-    answered = reads.answered;
-    step = reads.step;
-    room = subst (λ (room : ℕ). IsRoomFor room may) (sym reads.room) (room_for may (length old - end) enough);
-    grown = range_grown old new reads.read.bytes start end end' reads.behind place.in_order place.within;
-    count = reads.count;
-  }
+-- what one read gave was read
+pub read_once : {S : Type 0} (incoming : S → Incoming) (gives : S → Read → S → Type 0) (before after : S) (old new : List ℕ) (answer : Got) (may may' : ℕ)
+    → ReadsOnce incoming gives before after old new answer may may' → HasRead (incoming before) (incoming after) old new may may'
+read_once incoming gives before after old new answer may may' once = record {
+  bytes = once.read.bytes;
+  takes = once.takes;
+  grown = once.grown;
+  count = once.count;
+}

@@ -1,4 +1,4 @@
--- What stands at the front of bytes, by the grammar of heads.
+-- What begins bytes, by the grammar of heads.
 use Rattle.std.proofs.Common.{◌≡◌, ◌≢◌, ℕ, ◌+◌, ◌-◌, ◌*◌, ◌<◌, ◌≤◌, List, [], ◌∷◌, ◌++◌, Some, None, Result, Err, length, take, sym, ap, ◌∙◌, subst, inl, inr, arith, append-nil, length-append, take_all, All}
 use Rattle.std.proofs.lemmas.List.{nil_from_length}
 use Rattle.std.proofs.lemmas.List.Elements.{All-head, All-tail}
@@ -44,9 +44,9 @@ undecided_without_head bytes none may few =
     }
 
 -- a head that is short is read of the bytes that a head may have
-front_head : (bytes : List ℕ) (head : RequestHead) (after : List ℕ) (n : ℕ) → ReadsRequest bytes head after → length (print_request head) ≤ n
+first_head : (bytes : List ℕ) (head : RequestHead) (after : List ℕ) (n : ℕ) → ReadsRequest bytes head after → length (print_request head) ≤ n
     → ReadsRequest (take n bytes) head (take (n - length (print_request head)) after)
-front_head bytes head after n reads short =
+first_head bytes head after n reads short =
     let text = print_request head in
     let whole : n ≡ length text + (n - length text) = omega arith in
     (reads.0, ap (take n) reads.1 ∙ ap (λ k. take k (text ++ after)) whole ∙ take-append-add text after (n - length text))
@@ -54,7 +54,7 @@ front_head bytes head after n reads short =
 -- a head that is read is no bad one
 pub never_bad : (bytes : List ℕ) (head : RequestHead) (after : List ℕ) → HasHead bytes head after → IsBadHead bytes → ⊥
 never_bad bytes head after has (inl no_prefix) = no_prefix.none head after has.reads
-never_bad bytes head after has (inr (inl long)) = long.none head _ (front_head bytes head after 16384 has.reads has.short)
+never_bad bytes head after has (inr (inl long)) = long.none head _ (first_head bytes head after 16384 has.reads has.short)
 never_bad bytes head after has (inr (inr many)) =
     let same = (request_unique bytes head many.head after many.after has.reads many.reads).0 in
     omega (arith, has.few, many.many, ap (λ (h : RequestHead). length h.fields) same)
@@ -110,8 +110,8 @@ fields_room (f ∷ fields) last all =
     omega (arith, field_room f (All-head IsField f fields all), fields_room fields last (All-tail IsField f fields all), length-append {A = ℕ})
 
 -- so bytes of a head have fewer fields than that
-pub few_fields : (front : List ℕ) → length front ≤ 16384 → RequestExceeds 5461 front → ⊥
-few_fields front short (begin, rest, joined, head, reads, many) =
+pub few_fields : (first : List ℕ) → length first ≤ 16384 → RequestExceeds 5461 first → ⊥
+few_fields first short (begin, rest, joined, head, reads, many) =
     omega (
       arith,
       many,
@@ -123,14 +123,14 @@ few_fields front short (begin, rest, joined, head, reads, many) =
     )
 
 -- so an error says that no bytes can follow that make a head
-pub never_head : (front : List ℕ) (room : ℕ) (e : Error) → length front ≤ 16384 → room ≡ 5461 → (e ≢ TooManyHeaders → NeverHasRequest front)
-    → (◌≡◌ {A = Result (Status RequestSpans) Error} (Err e) (Err TooManyHeaders) → RequestExceeds room front) → NeverHasRequest front
-never_head front room e short room_is invalid too_many =
-    invalid (λ is. few_fields front short (subst (λ (n : ℕ). RequestExceeds n front) room_is (too_many (ap (λ (x : Error). Err x) is))))
+pub never_head : (first : List ℕ) (room : ℕ) (e : Error) → length first ≤ 16384 → room ≡ 5461 → (e ≢ TooManyHeaders → NeverHasRequest first)
+    → (◌≡◌ {A = Result (Status RequestSpans) Error} (Err e) (Err TooManyHeaders) → RequestExceeds room first) → NeverHasRequest first
+never_head first room e short room_is invalid too_many =
+    invalid (λ is. few_fields first short (subst (λ (n : ℕ). RequestExceeds n first) room_is (too_many (ap (λ (x : Error). Err x) is))))
 
 -- the bytes that a head may have never become one
-pub bad_front : (bytes : List ℕ) → NeverHasRequest (take 16384 bytes) → (MayBecomeRequest (take 16384 bytes) → ⊥) → IsBadHead bytes
-bad_front bytes never no_may =
+pub bad_start : (bytes : List ℕ) → NeverHasRequest (take 16384 bytes) → (MayBecomeRequest (take 16384 bytes) → ⊥) → IsBadHead bytes
+bad_start bytes never no_may =
     let none = subst HasNoRequest (append-nil (take 16384 bytes)) (never []) in
     elim (leb_tells 16384 (length bytes)) [
       | inl many ↦ inr (inl (record { many = many.1; none = none }))

@@ -17,9 +17,9 @@ use Rattle.http_front.specs.declared.cause.Cause.TheVariants as cause
 use Rattle.http_front.proofs.HeadLaws.{no_entry_without_body}
 
 -- the spans of a head that was parsed, with those of its fields alone
-pub head_at : (front : List ℕ) (spans : List HeaderSpan) (r : RequestSpans) → length front ≤ 16384 → IsRequestWithin front spans r → IsRequestOf front spans r
-    → HasHeadAt front (take r.headers spans) r
-head_at front spans r few within is = (
+pub head_at : (first : List ℕ) (spans : List HeaderSpan) (r : RequestSpans) → length first ≤ 16384 → IsRequestWithin first spans r → IsRequestOf first spans r
+    → HasHeadAt first (take r.headers spans) r
+head_at first spans r few within is = (
   is.0,
   record {
     reads = is.1.reads;
@@ -38,33 +38,33 @@ head_at front spans r few within is = (
   },
 )
 
-module _ (bytes front : List ℕ) (fields : List HeaderSpan) (r : RequestSpans) (front_is : front ≡ take 16384 bytes) (head : RequestHead) (is : IsHeadAt front fields r head) where
+module _ (bytes first : List ℕ) (fields : List HeaderSpan) (r : RequestSpans) (first_is : first ≡ take 16384 bytes) (head : RequestHead) (is : IsHeadAt first fields r head) where
   reads_all : ReadsRequest bytes head (drop r.len bytes)
   reads_all =
-      let more = ReadsRequest-append front head (drop r.len front) (drop 16384 bytes) is.reads in
-      let whole : front ++ drop 16384 bytes ≡ bytes = ap (λ f. f ++ drop 16384 bytes) front_is ∙ take-append-drop 16384 bytes in
-      let read = subst (λ (b : List ℕ). ReadsRequest b head (drop r.len front ++ drop 16384 bytes)) whole more in
-      let rest : drop r.len bytes ≡ drop r.len front ++ drop 16384 bytes =
-      ap (drop r.len) read.1 ∙ drop_at (print_request head) (drop r.len front ++ drop 16384 bytes) r.len (sym is.len) in
+      let more = ReadsRequest-append first head (drop r.len first) (drop 16384 bytes) is.reads in
+      let whole : first ++ drop 16384 bytes ≡ bytes = ap (λ f. f ++ drop 16384 bytes) first_is ∙ take-append-drop 16384 bytes in
+      let read = subst (λ (b : List ℕ). ReadsRequest b head (drop r.len first ++ drop 16384 bytes)) whole more in
+      let rest : drop r.len bytes ≡ drop r.len first ++ drop 16384 bytes =
+      ap (drop r.len) read.1 ∙ drop_at (print_request head) (drop r.len first ++ drop 16384 bytes) r.len (sym is.len) in
       subst (ReadsRequest bytes head) (sym rest) read
 
   fields_count : length fields ≡ length head.fields
-  fields_count = sym (length-map fields (header_bytes front)) ∙ ap length is.fields_are ∙ length-map head.fields name_and_value
+  fields_count = sym (length-map fields (header_bytes first)) ∙ ap length is.fields_are ∙ length-map head.fields name_and_value
 
   head_all : length fields ≤ 32 → HasHead bytes head (drop r.len bytes)
   head_all few = record { reads = reads_all; short = omega (arith, is.len, is.short); few = omega (arith, fields_count, few) }
 
-  few_fields : length (map (header_bytes front) fields) ≤ 32 → length fields ≤ 32
-  few_fields few = omega (arith, few, length-map fields (header_bytes front))
+  few_fields : length (map (header_bytes first) fields) ≤ 32 → length fields ≤ 32
+  few_fields few = omega (arith, few, length-map fields (header_bytes first))
 
   -- the head is refused
-  pub judged_refused : (why : Cause) → IsRefusedByFields (map (header_bytes front) fields) why → IsRefusedAtHead bytes why
+  pub judged_refused : (why : Cause) → IsRefusedByFields (map (header_bytes first) fields) why → IsRefusedAtHead bytes why
   judged_refused cause.Head many = inr (inr (record {
     head = head;
     after = drop r.len bytes;
     reads = reads_all;
     short = omega (arith, is.len, is.short);
-    many = omega (arith, many, length-map fields (header_bytes front), fields_count);
+    many = omega (arith, many, length-map fields (header_bytes first), fields_count);
   }))
   judged_refused cause.Coding bad = (head, drop r.len bytes, head_all (few_fields bad.0), rw (← is.fields_are) bad.1)
   judged_refused cause.Length bad = (head, drop r.len bytes, head_all (few_fields bad.0), rw (← is.fields_are) bad.1)
@@ -73,7 +73,7 @@ module _ (bytes front : List ℕ) (fields : List HeaderSpan) (r : RequestSpans) 
   judged_refused cause.Body bad = absurd bad.1
   judged_refused cause.Query bad = absurd bad.1
 
-  module _ (count : ℕ) (good : IsGoodHead (map (header_bytes front) fields) count) where
+  module _ (count : ℕ) (good : IsGoodHead (map (header_bytes first) fields) count) where
     good_head : IsGoodHead (fields_of head) count
     good_head = subst (λ (fs : List (List ℕ × List ℕ)). IsGoodHead fs count) is.fields_are good
 
@@ -86,14 +86,14 @@ module _ (bytes front : List ℕ) (fields : List HeaderSpan) (r : RequestSpans) 
           no_entry_without_body (bytes ++ others) head (drop r.len bytes ++ others) count
           (record { reads = ReadsRequest-append bytes head (drop r.len bytes) others reads_all; short = (head_all (few_fields good.few)).short; few = (head_all (few_fields good.few)).few })
           good_head
-          (omega (arith, few, length-append {A = ℕ}, length-drop {A = ℕ}, is.within, ap length front_is, length-take {A = ℕ}));
+          (omega (arith, few, length-append {A = ℕ}, length-drop {A = ℕ}, is.within, ap length first_is, length-take {A = ℕ}));
     }
 
     -- the span is that of the bytes
-    same_span : (span : Span) → IsWithin r.len span → span_bytes bytes span ≡ span_bytes front span
+    same_span : (span : Span) → IsWithin r.len span → span_bytes bytes span ≡ span_bytes first span
     same_span span within =
-        range_front bytes front span.start span.end 16384 (omega (arith, within.1, is.short))
-        (sym front_is ∙ sym (take_all 16384 front (omega (arith, ap length front_is, length-take {A = ℕ}))))
+        range_front bytes first span.start span.end 16384 (omega (arith, within.1, is.short))
+        (sym first_is ∙ sym (take_all 16384 first (omega (arith, ap length first_is, length-take {A = ℕ}))))
 
     span_within : (span : Span) → IsWithin r.len span → r.len ≤ length bytes → IsWithin (length bytes) span
     span_within span within fits = (within.0, omega (arith, within.1, fits))
@@ -101,14 +101,14 @@ module _ (bytes front : List ℕ) (fields : List HeaderSpan) (r : RequestSpans) 
     some_head : 0 < r.len
     some_head = omega (arith, is.len, is.reads.0.method.0, ap length (print_request-append head []), length-append {A = ℕ})
 
-    closes_head : closes_with r.version (map (header_bytes front) fields) ≡ closes head
+    closes_head : closes_with r.version (map (header_bytes first) fields) ≡ closes head
     unfolding closes
     closes_head =
-        ap (λ v. (v == 0) || closes_by (connections (map (header_bytes front) fields))) is.version
+        ap (λ v. (v == 0) || closes_by (connections (map (header_bytes first) fields))) is.version
         ∙ ap (λ (fs : List (List ℕ × List ℕ)). (head.minor == 0) || closes_by (connections fs)) is.fields_are
 
     -- the request is whole
-    pub judged_whole : r.len + count ≤ length bytes → (closing : Bool) → closing ≡ closes_with r.version (map (header_bytes front) fields)
+    pub judged_whole : r.len + count ≤ length bytes → (closing : Bool) → closing ≡ closes_with r.version (map (header_bytes first) fields)
         → IsWhole bytes (record { method = r.method; target = r.path; body = record { start = r.len; end = r.len + count }; closes = closing })
     judged_whole fits closing closes_is =
         let body : List ℕ = slice_range bytes r.len (r.len + count) in

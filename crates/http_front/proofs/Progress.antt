@@ -23,14 +23,14 @@ use Rattle.http_front.specs.Heads.{HasHead, HasRequest}
 use Rattle.http_front.specs.Responses.{is_long, text_of}
 use Rattle.http_front.specs.Routes.{Route}
 use Rattle.http_front.specs.Sessions.{Answers, AnswersAll, AnswersOpen, Exchange, Exchanges, Session, entries_of, response_of, responses}
-use Rattle.http_front.specs.Steps.{AnswersFront, HasRead, HasServed, IsRendered, StopsUndecided}
+use Rattle.http_front.specs.Steps.{AnswersFrame, HasRead, HasServed, IsRendered, StopsUndecided}
 use Rattle.http_front.specs.declared.cause.Cause.{Cause}
 use Rattle.http_front.specs.declared.cause.Cause.TheVariants as cause
 use Rattle.http_front.specs.declared.outcome.Outcome.{Outcome}
 use Rattle.http_front.specs.declared.outcome.Outcome.TheVariants as outcome
 use Rattle.funnel_model.proofs.Absence.{neither}
 
--- further bytes leave a head at the front as it is
+-- further bytes leave a head that begins them as it is
 pub HasHead-append : (bytes : List ℕ) (head : RequestHead) (after more : List ℕ) → HasHead bytes head after → HasHead (bytes ++ more) head (after ++ more)
 HasHead-append bytes head after more has = record {
   reads = ReadsRequest-append bytes head after more has.reads;
@@ -182,7 +182,7 @@ served_read caller limit may may' held held' old now incoming' p r stay = record
 
 module _ (caller : Caller) (limit may : ℕ) (held : List ℕ) (old now : Stand) (p : HasServed caller limit may held old now) where
   -- the next entry was answered, and this is the text of its response
-  module _ (len : ℕ) (closing : Bool) (told : Outcome) (front' : List Event) (a : AnswersFront held len closing caller now.front told front')
+  module _ (len : ℕ) (closing : Bool) (told : Outcome) (front' : List Event) (a : AnswersFrame held len closing caller now.front told front')
       (text : List ℕ) (r : IsRendered closing told text) where
     is_told : IsTold caller now.front a.entry text front'
     is_told = rendered caller now.front front' a.entry told text a.answers (subst (λ (c : Bool). IsRendered c told text) (sym a.last) r)

@@ -2,21 +2,23 @@
 use Rattle.std.proofs.Common.{◌≡◌, ◌<◌, ℕ, Bool, true, false, List, [], ◌∷◌, ◌++◌, length, drop, refl, sym, ap, ◌∙◌, subst, inl, inr, arith, append-nil, append_assoc, length-append}
 use Rattle.std.specs.List.{list_any}
 use Rattle.funnel_io.specs.Answers.{MatchGot}
-use Rattle.funnel_io.specs.Calls.{Read, Write, Leads, GaveBytes, WritesAs, bytes_read, found_end, is_end}
+use Rattle.funnel_io.specs.Calls.{Read, Write, Leads, GaveBytes, WritesAs, AreBelow, bytes_read, found_end, is_end}
+use Rattle.funnel_io.specs.BufferReads.{ReadsOnce}
+use Rattle.funnel_io.specs.Streams.{Incoming}
 use Rattle.funnel_io.specs.declared.end.End.{End}
 use Rattle.funnel_io.specs.declared.end.End.TheVariants as end_of
 use Rattle.funnel_io.specs.declared.source.Got.{Got}
 use Rattle.funnel_io.specs.declared.source.Got.TheVariants as got
-use Rattle.funnel_io.proofs.CallLaws.{bytes_read-append, gave_bytes-append}
+use Rattle.funnel_io.proofs.CallLaws.{below_after, below_at, bytes_read-append, gave_bytes-append}
 use Rattle.funnel_model.specs.declared.event.Event.{Event}
 use Rattle.line_proto.specs.Services.{Caller}
 use Rattle.session.proofs.Turns.{stops_last, stops_written, taken_more, taken_none}
-use Rattle.session.specs.Turns.{AreBelow, AreReadInTurn, StopsReading, answers_of, reads_of}
+use Rattle.session.specs.Turns.{AreReadInTurn, AreTurns, StopsReading, Turn, answers_of, reads_of}
 use Rattle.http_front.specs.Entries.{BeginsWith, Entry, HasNoEntry, is_last}
 use Rattle.http_front.specs.Sessions.{Exchange, entries_of}
-use Rattle.http_front.specs.Steps.{AnswersFront, IsRendered, IsUndecided}
+use Rattle.http_front.specs.Steps.{AnswersFrame, IsRendered, IsUndecided}
 use Rattle.http_front.specs.Turns.{request_by_request}
-use Rattle.http_front.specs.TurnSteps.{AreNeeded, FindsEndAs, HasHadTurns, ReadsAsNeeded, ReadsOnce}
+use Rattle.http_front.specs.TurnSteps.{AreNeeded, FindsEndAs, HasHadTurns, ReadsAsNeeded}
 use Rattle.http_front.specs.declared.outcome.Outcome.{Outcome}
 use Rattle.http_front.proofs.Progress.{BeginsWith-append, BeginsWith-push, IsTold, entries-push, last-push, rendered}
 
@@ -60,14 +62,14 @@ module _ {S : Type 0} (read_gives : S → Read → S → Type 0) where
   }
 
   -- one more read had to be made
-  pub reads_next : (Undecided : List ℕ → Type 0) (Last : List Read → Type 0) (first between now : S) (held held' held'' : List ℕ) (may may' may'' : ℕ) (answer : Got)
+  pub reads_next : (incoming : S → Incoming) (Undecided : List ℕ → Type 0) (Last : List Read → Type 0) (first between now : S) (held held' held'' : List ℕ) (may may' may'' : ℕ) (answer : Got)
       → ReadsAsNeeded Undecided GaveBytes read_gives first between held held' may may' → Undecided held' → 0 < may'
-      → ReadsOnce read_gives answer between now held' held'' may' may'' → ((read : Read) (earlier : List Read) → read.answer ≡ answer → Last (read ∷ earlier))
+      → ReadsOnce incoming read_gives between now held' held'' answer may' may'' → ((read : Read) (earlier : List Read) → read.answer ≡ answer → Last (read ∷ earlier))
       → ReadsAsNeeded Undecided Last read_gives first now held held'' may may''
-  reads_next Undecided Last first between now held held' held'' may may' may'' answer p undecided some once last = record {
+  reads_next incoming Undecided Last first between now held held' held'' may may' may'' answer p undecided some once last = record {
     reads = once.read ∷ p.reads;
     lead = (between, p.lead, once.step);
-    needed = (p.needed, record { going_on = p.last; undecided = subst Undecided p.grown undecided; still = may'; still_is = p.count; some = some; enough = once.room });
+    needed = (p.needed, record { going_on = p.last; undecided = subst Undecided p.grown undecided; below = below_at may may' once.read.room p.reads p.count some once.room });
     last = last once.read p.reads once.answered;
     grown = once.grown ∙ (ap (λ bs. bs ++ once.read.bytes) p.grown ∙ append_assoc held (bytes_read p.reads) once.read.bytes);
     count = omega (arith, p.count, once.count, length-append (bytes_read p.reads) once.read.bytes);
@@ -89,16 +91,7 @@ module _ {S : Type 0} (read_gives : S → Read → S → Type 0) where
       record {
         going_on = gave_bytes-append earlier p.reads needed.1.going_on p.last;
         undecided = subst HasNoEntry (sym (behind earlier)) (undecided.none (bytes_read earlier) needed.1.undecided);
-        still = needed.1.still;
-        still_is = omega (
-          arith,
-          needed.1.still_is,
-          p.count,
-          ap length (bytes_read-append earlier p.reads),
-          length-append (bytes_read p.reads) (bytes_read earlier),
-        );
-        some = needed.1.some;
-        enough = needed.1.enough;
+        below = below_after may may' read.room earlier p.reads p.count needed.1.below;
       },
     )
 
@@ -150,17 +143,8 @@ module _ {S : Type 0} (read_gives : S → Read → S → Type 0) (write_gives : 
     -- and below the limit
     below_on : (reads : List Read) → AreNeeded HasNoEntry held may reads → AreBelow limit (reads ++ reads_of p.so_far.turns)
     below_on [] needed = p.so_far.below
-    below_on (read ∷ earlier) needed = (
-      below_on earlier needed.0,
-      omega (
-        arith,
-        needed.1.some,
-        needed.1.still_is,
-        p.so_far.count,
-        ap length (bytes_read-append earlier (reads_of p.so_far.turns)),
-        length-append (bytes_read (reads_of p.so_far.turns)) (bytes_read earlier),
-      ),
-    )
+    below_on (read ∷ earlier) needed =
+        (below_on earlier needed.0, below_after limit may read.room earlier (reads_of p.so_far.turns) p.so_far.count needed.1.below)
 
     -- no further request came
     pub stops_reading : (end : End) → ReadsAsNeeded HasNoEntry (FindsEndAs end) read_gives now middle held held' may may'
@@ -171,7 +155,7 @@ module _ {S : Type 0} (read_gives : S → Read → S → Type 0) (write_gives : 
 
     -- a request came, and this is the text of its response
     module _ (r : ReadsAsNeeded HasNoEntry GaveBytes read_gives now middle held held' may may') (caller : Caller) (front front' : List Event) (len : ℕ) (closing : Bool)
-        (told : Outcome) (a : AnswersFront held' len closing caller front told front') (text : List ℕ) (rendering : IsRendered closing told text) (after : S) where
+        (told : Outcome) (a : AnswersFrame held' len closing caller front told front') (text : List ℕ) (rendering : IsRendered closing told text) (after : S) where
       is_told : IsTold caller front a.entry text front'
       is_told = rendered caller front front' a.entry told text a.answers (subst (λ (c : Bool). IsRendered c told text) (sym a.last) rendering)
 
@@ -213,3 +197,9 @@ module _ {S : Type 0} (read_gives : S → Read → S → Type 0) (write_gives : 
       -- a write of it failed
       pub stops_failed : WritesAs write_gives text middle after true → StopsReading request_by_request read_gives write_gives limit (end_of.WriteFault ≡ end_of.Done) before after
       stops_failed w = stops_writing true (end_of.WriteFault ≡ end_of.Done) (λ done. cc) w
+
+-- with each turn the bytes that were read begin with the requests that are answered
+pub requests_due : (turns : List (Turn Exchange)) → AreTurns request_by_request turns →
+    (rest : List ℕ) × BeginsWith (bytes_read (reads_of turns)) (entries_of (answers_of turns)) rest
+requests_due [] are = ([], refl)
+requests_due (turn ∷ earlier) are = are.1.due

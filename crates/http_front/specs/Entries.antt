@@ -10,7 +10,7 @@ use Rattle.http_front.specs.Documents.{document_of}
 use Rattle.http_front.specs.Queries.{find_of}
 use Rattle.http_front.specs.declared.cause.Cause.{Cause}
 use Rattle.http_front.specs.declared.cause.Cause.TheVariants as cause
-use Rattle.http_front.specs.declared.front.TheConstants.{MAX_BODY}
+use Rattle.http_front.specs.declared.framing.TheConstants.{MAX_BODY}
 
 -- a whole request with the call of its route, or a refusal, which has no call; and whether the response closes the connection
 pub data Entry : Type 0 where

@@ -6,7 +6,7 @@ use Rattle.httparse.specs.Ascii.{comma}
 use Rattle.httparse.specs.Grammar.{HasNoRequest, MayBecomeRequest, ReadsRequest, RequestHead, print_request, trim_ows}
 use Rattle.httparse.specs.Spans.{name_and_value}
 use Rattle.line_proto.specs.Forms.{number_of}
-use Rattle.http_front.specs.declared.front.TheConstants.{MAX_BODY, MAX_FIELDS, MAX_HEAD}
+use Rattle.http_front.specs.declared.framing.TheConstants.{MAX_BODY, MAX_FIELDS, MAX_HEAD}
 
 -- the bytes begin with a head that is not too long and has not too many fields, and then come these bytes
 pub record HasHead (bytes : List ℕ) (head : RequestHead) (after : List ℕ) : Type 0 where

@@ -5,7 +5,7 @@ use Rattle.std.specs.Str.{is_utf8}
 use Rattle.funnel_model.specs.declared.call.Call.{Call}
 use Rattle.funnel_model.specs.declared.call.Call.TheVariants as call
 
--- a byte at the front of the others, where there are others
+-- a byte before the others, where there are others
 abbrev pub put : ℕ → Option (List ℕ) → Option (List ℕ)
 put byte others = option_map (λ bytes. byte ∷ bytes) others
 

@@ -1,6 +1,6 @@
 -- What a server's buffers have room for.
 use Rattle.std.specs.Prelude.{◌≡◌, ◌≤◌, length, vec_capacity}
-use Rattle.http_front.specs.declared.front.TheConstants.{MAX_HEAD, MOST_FIELDS}
+use Rattle.http_front.specs.declared.framing.TheConstants.{MAX_HEAD, MOST_FIELDS}
 use Rattle.http_front.specs.declared.response.TheConstants.{TEXT_ROOM}
 use Rattle.http_front.specs.declared.serving.Server.{Server}
 

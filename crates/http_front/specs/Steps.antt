@@ -26,12 +26,12 @@ use Rattle.http_front.specs.declared.cause.Cause.{Cause}
 use Rattle.http_front.specs.declared.cause.Cause.TheVariants as cause
 use Rattle.http_front.specs.declared.fields.Values.{Values}
 use Rattle.http_front.specs.declared.fields.Values.TheVariants as values
-use Rattle.http_front.specs.declared.front.TheConstants.{MAX_BODY, MAX_FIELDS, MAX_HEAD}
-use Rattle.http_front.specs.declared.front.Front.{Front}
-use Rattle.http_front.specs.declared.front.Front.TheVariants as front
-use Rattle.http_front.specs.declared.front.Parts.{Parts}
-use Rattle.http_front.specs.declared.front.Seen.{Seen}
-use Rattle.http_front.specs.declared.front.Seen.TheVariants as seen
+use Rattle.http_front.specs.declared.framing.TheConstants.{MAX_BODY, MAX_FIELDS, MAX_HEAD}
+use Rattle.http_front.specs.declared.framing.Frame.{Frame}
+use Rattle.http_front.specs.declared.framing.Frame.TheVariants as frame
+use Rattle.http_front.specs.declared.framing.Parts.{Parts}
+use Rattle.http_front.specs.declared.framing.Seen.{Seen}
+use Rattle.http_front.specs.declared.framing.Seen.TheVariants as seen
 use Rattle.http_front.specs.declared.outcome.Outcome.{Outcome}
 use Rattle.http_front.specs.declared.outcome.Outcome.TheVariants as outcome
 
@@ -71,9 +71,9 @@ pub record IsWhole (bytes : List ℕ) (parts : Parts) : Type 0 where
   pub closes : parts.closes ≡ closes head
 
 -- what begins the bytes: a whole request, or a head that is refused
-abbrev pub IsFront : List ℕ → Front → Type 0
-IsFront bytes (front.Request parts) = IsWhole bytes parts
-IsFront bytes (front.Refused why) = IsRefusedAtHead bytes why
+abbrev pub IsFrame : List ℕ → Frame → Type 0
+IsFrame bytes (frame.Request parts) = IsWhole bytes parts
+IsFrame bytes (frame.Refused why) = IsRefusedAtHead bytes why
 
 -- these spans are those of a head that begins the bytes
 pub record IsHeadAt (bytes : List ℕ) (fields : List HeaderSpan) (spans : RequestSpans) (head : RequestHead) : Type 0 where
@@ -116,7 +116,7 @@ pub record IsUndecided (bytes : List ℕ) (least : ℕ) : Type 0 where
 
 -- what the bytes decide
 abbrev pub IsSeen : List ℕ → Seen → Type 0
-IsSeen bytes (seen.Front front) = IsFront bytes front
+IsSeen bytes (seen.Frame frame) = IsFrame bytes frame
 IsSeen bytes (seen.More least) = IsUndecided bytes least
 
 -- the cause for which a request of a route is refused that asks for no call
@@ -134,7 +134,7 @@ AnswersRoute route body caller before told after =
     (closing : Bool) → Exchanges caller before (record { entry = entry_of route body closing; told = told }) after
 
 -- an entry begins the bytes, which ends there and closes the connection or not, and is answered from front to front
-pub record AnswersFront (bytes : List ℕ) (len : ℕ) (closing : Bool) (caller : Caller) (before : List Event) (told : Outcome) (after : List Event) : Type 0 where
+pub record AnswersFrame (bytes : List ℕ) (len : ℕ) (closing : Bool) (caller : Caller) (before : List Event) (told : Outcome) (after : List Event) : Type 0 where
   pub entry : Entry
   pub reads : ReadsEntry bytes entry (drop len bytes)
   pub last : is_last entry ≡ closing

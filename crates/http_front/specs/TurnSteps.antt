@@ -1,12 +1,10 @@
 -- The calls on a connection of requests so far, for the clauses of functions that are not public.
-use Rattle.std.specs.Prelude.{◌≡◌, ◌+◌, ◌<◌, ⊤, ℕ, true, false, List, [], ◌∷◌, ◌++◌, length}
+use Rattle.std.specs.Prelude.{◌≡◌, ◌+◌, ⊤, ℕ, true, false, List, [], ◌∷◌, ◌++◌, length}
 use Rattle.std.specs.List.{list_any}
-use Rattle.funnel_io.specs.Calls.{Read, Write, Leads, GaveBytes, bytes_read, found_end}
-use Rattle.funnel_io.specs.LineReading.{IsRoomFor}
+use Rattle.funnel_io.specs.Calls.{Read, Write, Leads, GaveBytes, IsReadBelow, bytes_read, found_end}
 use Rattle.funnel_io.specs.Streams.{Incoming}
 use Rattle.funnel_io.specs.declared.end.End.{End}
 use Rattle.funnel_io.specs.declared.end.End.TheVariants as end_of
-use Rattle.funnel_io.specs.declared.source.Got.{Got}
 use Rattle.session.specs.Turns.{answers_of, reads_of}
 use Rattle.session.specs.TurnSteps.{HasTakenTurns}
 use Rattle.http_front.specs.Entries.{BeginsWith, is_last}
@@ -14,24 +12,12 @@ use Rattle.http_front.specs.Sessions.{entries_of}
 use Rattle.http_front.specs.Steps.{HasRead, StopsUndecided}
 use Rattle.http_front.specs.Turns.{request_by_request}
 
--- one read was made, with room enough, and its bytes stand behind those that were held
-pub record ReadsOnce {S : Type 0} (read_gives : S → Read → S → Type 0) (answer : Got) (before after : S) (old new : List ℕ) (may may' : ℕ) : Type 0 where
-  pub read : Read
-  pub answered : read.answer ≡ answer
-  pub step : read_gives before read after
-  pub room : IsRoomFor read.room may
-  pub grown : new ≡ old ++ read.bytes
-  pub count : may' + length read.bytes ≡ may
-
 -- a read comes where the bytes held and those read so far decide nothing, the read before it gave bytes, and some may still be read, for
 -- which it has room enough
 pub record IsNeeded (Undecided : List ℕ → Type 0) (held : List ℕ) (may : ℕ) (earlier : List Read) (room : ℕ) : Type 0 where
   pub going_on : GaveBytes earlier
   pub undecided : Undecided (held ++ bytes_read earlier)
-  pub still : ℕ
-  pub still_is : still + length (bytes_read earlier) ≡ may
-  pub some : 0 < still
-  pub enough : IsRoomFor room still
+  pub below : IsReadBelow may earlier room
 
 -- each of the reads, of which the last comes first, has to be made
 abbrev pub AreNeeded : (List ℕ → Type 0) → List ℕ → ℕ → List Read → Type 0

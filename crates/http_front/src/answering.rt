@@ -1,10 +1,10 @@
 ghost use Rattle.std.specs.Prelude.{◌≡◌, ◌≤◌, List, ℕ, length, vec_capacity};
 ghost use Rattle.http_front.specs.Routes.{Documents, Find};
-ghost use Rattle.http_front.specs.Steps.{AnswersFront, AnswersRoute, IsWhole};
+ghost use Rattle.http_front.specs.Steps.{AnswersFrame, AnswersRoute, IsWhole};
 
 use crate::cause::Cause;
 use crate::document::parse_document;
-use crate::front::{MAX_HEAD, Parts};
+use crate::framing::{MAX_HEAD, Parts};
 use crate::outcome::Outcome;
 use crate::query::decode;
 use crate::routing::{Route, parse_route};
@@ -22,7 +22,7 @@ pub(crate) struct Decoding {
 }
 
 /// Has the service answer a request that is whole, or refuses it for its route, its body or its query.
-pub(crate) fn answer<S: Service>(
+pub(crate) fn outcome_of<S: Service>(
     service: &mut S,
     bytes: &[u8],
     parts: &Parts,
@@ -31,7 +31,7 @@ pub(crate) fn answer<S: Service>(
     requires whole { IsWhole bytes.now parts.now }
     requires room { MAX_HEAD ≤ vec_capacity decoding.old.query }
     ensures caller { S.caller service.new ≡ S.caller service.old }
-    ensures answers { AnswersFront bytes.now parts.now.body.end parts.now.closes (S.caller service.old) (S.front service.old) result (S.front service.new) }
+    ensures answers { AnswersFrame bytes.now parts.now.body.end parts.now.closes (S.caller service.old) (S.front service.old) result (S.front service.new) }
     ensures room { vec_capacity decoding.old.query ≤ vec_capacity decoding.new.query }
 {
     match parse_route(parts.method.of(bytes), parts.target.of(bytes)) {

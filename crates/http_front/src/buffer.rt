@@ -1,10 +1,8 @@
 ghost use Rattle.std.specs.Prelude.{◌≡◌, ◌<◌, ◌≤◌, ◌+◌, [], IfOk, length, drop};
 ghost use Rattle.funnel_io.specs.Beside.{StaysBeside};
-ghost use Rattle.funnel_io.specs.BufferReads.{TellsRead};
-ghost use Rattle.http_front.specs.Steps.{HasRead};
-ghost use Rattle.http_front.specs.TurnSteps.{ReadsOnce};
+ghost use Rattle.funnel_io.specs.BufferReads.{ReadsOnce, TellsRead};
 
-use crate::front::{MAX_BODY, MAX_HEAD};
+use crate::framing::{MAX_BODY, MAX_HEAD};
 use funnel_io::{Got, Source, read_behind};
 use std::alloc::{AllocError, Global};
 use std::marker::Model;
@@ -82,8 +80,7 @@ impl Buffer {
         requires few { length self.old.bytes < LONGEST }
         requires some { 0 < left.old }
         ensures stays { StaysBeside C.borrowed C.beside_read conn.old conn.new }
-        ensures read { HasRead (C.incoming conn.old) (C.incoming conn.new) self.old.bytes self.new.bytes left.old left.new }
-        ensures once { ReadsOnce C.read_gives result conn.old conn.new self.old.bytes self.new.bytes left.old left.new }
+        ensures once { ReadsOnce C.incoming C.read_gives conn.old conn.new self.old.bytes self.new.bytes result left.old left.new }
         ensures told { TellsRead C.incoming result conn.old conn.new left.old left.new }
     {
         self.make_room();
@@ -106,8 +103,7 @@ impl Buffer {
         requires room { LEAST_ROOM ≤ self.old.room }
         requires some { 0 < left.old }
         ensures stays { StaysBeside C.borrowed C.beside_read conn.old conn.new }
-        ensures read { HasRead (C.incoming conn.old) (C.incoming conn.new) self.old.bytes self.new.bytes left.old left.new }
-        ensures once { ReadsOnce C.read_gives result conn.old conn.new self.old.bytes self.new.bytes left.old left.new }
+        ensures once { ReadsOnce C.incoming C.read_gives conn.old conn.new self.old.bytes self.new.bytes result left.old left.new }
         ensures told { TellsRead C.incoming result conn.old conn.new left.old left.new }
     {
         read_behind(conn, &mut self.room, &mut self.end, left)

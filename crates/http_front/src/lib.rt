@@ -10,7 +10,7 @@ mod cause;
 mod closing;
 mod document;
 mod fields;
-mod front;
+mod framing;
 mod head_end;
 mod laws;
 mod numbers;
@@ -21,9 +21,10 @@ mod routing;
 mod serving;
 
 pub use cause::Cause;
-pub use front::{MAX_BODY, MAX_FIELDS, MAX_HEAD};
+pub use framing::{MAX_BODY, MAX_FIELDS, MAX_HEAD};
 pub use laws::{
-    a_connection_is_one_run_of_calls, bytes_have_one_list_of_requests, turns_write_their_responses,
+    a_connection_is_one_run_of_calls, bytes_have_one_list_of_requests,
+    responses_come_after_their_requests, turns_write_their_responses,
 };
 pub use outcome::Outcome;
 pub use serving::serve_http;

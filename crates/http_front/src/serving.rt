@@ -5,14 +5,14 @@ ghost use Rattle.session.specs.Turns.{StopsReading};
 ghost use Rattle.session.specs.declared.serving.TheConstants.{MOST_BYTES};
 ghost use Rattle.http_front.specs.Ends.{ServesRequests};
 ghost use Rattle.http_front.specs.Entries.{HasNoEntry};
-ghost use Rattle.http_front.specs.Steps.{AnswersFront, HasServed, IsFront};
+ghost use Rattle.http_front.specs.Steps.{AnswersFrame, HasServed, IsFrame};
 ghost use Rattle.http_front.specs.Ready.{IsReady};
 ghost use Rattle.http_front.specs.Turns.{request_by_request};
 ghost use Rattle.http_front.specs.TurnSteps.{EndsUndecided, HasHadTurns, ReadsOn};
 
-use crate::answering::{Decoding, answer};
+use crate::answering::{Decoding, outcome_of};
 use crate::buffer::{Buffer, LONGEST};
-use crate::front::{Front, MAX_HEAD, MOST_FIELDS, Seen, look};
+use crate::framing::{Frame, MAX_HEAD, MOST_FIELDS, Seen, look};
 use crate::outcome::Outcome;
 use crate::response::{TEXT_ROOM, render};
 use funnel_io::{Connection, End, Got, write_all};
@@ -42,7 +42,8 @@ pub fn serve_http<S: Service, C: Connection>(
 
     // A request has its turn only where the response before it was written whole, at one go, and didn't close. Anything more
     // is read only where each request that is whole had its turn, and every read gave bytes. Nothing is read once `limit`
-    // bytes were taken, and with `Done` the last read found the end, or a response closes.
+    // bytes were taken, each read has room for 64 bytes or for all that may still be taken, and with `Done` the last read
+    // found the end, or a response closes.
     ensures in_turns { StopsReading request_by_request C.read_gives C.write_gives limit (result ≡ End.Done) conn.old conn.new }
     ensures untouched { result ≡ End.Memory → (conn.new ≡ conn.old) × (service.new ≡ service.old) }
 {
@@ -119,11 +120,11 @@ impl Server {
         ensures started { result ≡ Some End.Memory → ⊥ }
         ensures fewer { IfNone result (length self.new.buffer.bytes + self.new.left < length self.old.buffer.bytes + self.old.left) }
     {
-        let front = match self.next_front(conn, limit) {
-            Ok(front) => front,
+        let frame = match self.next_frame(conn, limit) {
+            Ok(frame) => frame,
             Err(end) => return Some(end),
         };
-        let answer = self.answer(service, &front);
+        let answer = self.respond(service, &frame);
         render(&answer.told, answer.closing, &mut self.body, &mut self.text);
         let Ok(()) = write_all(conn, self.text.as_slice()) else {
             return Some(End::WriteFault);
@@ -135,24 +136,24 @@ impl Server {
         None
     }
 
-    /// Answers the request at the front.
-    fn answer<S: Service>(&mut self, service: &mut S, front: &Front) -> Answer
+    /// Answers the request that begins the bytes.
+    fn respond<S: Service>(&mut self, service: &mut S, frame: &Frame) -> Answer
         requires ready { IsReady self.old }
-        requires front { IsFront self.old.buffer.bytes front.now }
+        requires frame { IsFrame self.old.buffer.bytes frame.now }
         ensures kept { self.new ≡ record self.old { decoding = self.new.decoding } }
         ensures ready { IsReady self.new }
         ensures caller { S.caller service.new ≡ S.caller service.old }
-        ensures answers { AnswersFront self.old.buffer.bytes result.len result.closing
+        ensures answers { AnswersFrame self.old.buffer.bytes result.len result.closing
             (S.caller service.old) (S.front service.old) result.told (S.front service.new) }
         ensures some { result.closing ≡ false → (0 < result.len) × (result.len ≤ length self.old.buffer.bytes) }
     {
-        match front {
-            Front::Request(parts) => Answer {
-                told: answer(service, self.buffer.bytes(), parts, &mut self.decoding),
+        match frame {
+            Frame::Request(parts) => Answer {
+                told: outcome_of(service, self.buffer.bytes(), parts, &mut self.decoding),
                 closing: parts.closes,
                 len: parts.body.end,
             },
-            Front::Refused(cause) => Answer {
+            Frame::Refused(cause) => Answer {
                 told: Outcome::Refused(*cause),
                 closing: true,
                 len: 0,
@@ -160,12 +161,12 @@ impl Server {
         }
     }
 
-    /// Reads until the bytes decide what stands at their front, or says how the connection ends.
-    fn next_front<C: Connection>(&mut self, conn: &mut C, limit: u64) -> Result<Front, End>
+    /// Reads until the bytes decide what begins them, or says how the connection ends.
+    fn next_frame<C: Connection>(&mut self, conn: &mut C, limit: u64) -> Result<Frame, End>
         requires { IsReady self.old }
         ensures ready { IsReady self.new }
         ensures stays { StaysBeside C.borrowed C.beside_read conn.old conn.new }
-        ensures front { IfOk result (IsFront self.new.buffer.bytes) }
+        ensures frame { IfOk result (IsFrame self.new.buffer.bytes) }
         ensures reads { OnOk result (ReadsOn HasNoEntry C.incoming C.read_gives conn.old conn.new
             self.old.buffer.bytes self.new.buffer.bytes self.old.left self.new.left) }
         ensures ends { IfErr result (λ end. EndsUndecided HasNoEntry limit end C.incoming C.read_gives conn.old conn.new
@@ -173,7 +174,7 @@ impl Server {
     {
         loop {
             match look(self.buffer.bytes(), &mut self.spans) {
-                Seen::Front(front) => return Ok(front),
+                Seen::Frame(frame) => return Ok(frame),
                 Seen::More(least) => self.read_until(conn, least, limit)?,
             }
         }

@@ -20,6 +20,8 @@ mod queries;
 #[cfg(test)]
 mod scans;
 #[cfg(test)]
+mod search_scans;
+#[cfg(test)]
 mod setting;
 #[cfg(test)]
 mod stages;

@@ -1,6 +1,6 @@
-//! Queries as they are read, and the words of their branches.
-use bool_query::{QueryFault, branches, parse_query};
-use funnel_model::{Expr, Text, WordSet};
+//! Queries as they are read.
+use bool_query::{QueryFault, parse_query};
+use funnel_model::{Expr, Text};
 use std::alloc::Global;
 use std::test::Fail;
 
@@ -68,27 +68,4 @@ fn right_faults(alloc: Global) -> usize {
 #[test]
 fn a_text_is_refused_at_its_first_wrong_token(rt: HostRuntime) {
     assert_eq!(rt; right_faults(rt.alloc()), REFUSED.len());
-}
-
-/// Whether the branches have so many words.
-fn are_sizes(branches: &[WordSet], wanted: &[usize]) -> bool {
-    let mut same = branches.len() == wanted.len();
-    for (set, size) in branches.iter().zip(wanted) {
-        same &= set.len() == *size;
-    }
-    same
-}
-
-/// Whether those of the query have.
-fn has_sizes(alloc: Global, text: &str, wanted: &[usize]) -> Result<bool, Fail> {
-    let expr = parse_query(alloc, text)?;
-    let found = branches(alloc, &expr)?;
-    Ok(are_sizes(found.as_slice(), wanted))
-}
-
-#[test]
-fn a_branch_has_the_words_that_it_asks_for(rt: HostRuntime) -> Result<(), Fail> {
-    let text = "wi-fi -dog | (cat dog | dog bird) fish | -cat";
-    assert!(rt; has_sizes(rt.alloc(), text, &[2, 2, 0])?);
-    Ok(())
 }

@@ -4,8 +4,8 @@ ghost use Rattle.funnel_model.specs.Configuration.{IsBetween};
 ghost use Rattle.index_tests.specs.Settings.{CanBeListed};
 ghost use Rattle.row_layout.specs.Rows.{IsRowOf};
 
-use crate::setting::{config, layout_of};
-use funnel_model::{Candidates, Listed, Memory};
+use crate::setting::layout_of_blocks;
+use funnel_model::{Candidates, Listed};
 use plan_rows::plan;
 use rank_matcher::scan;
 use row_layout::{Layout, Plan};
@@ -21,17 +21,6 @@ fn otter(alloc: Global) -> Result<Listed, AllocError>
 {
     let otter = String::from_str(alloc, "otter")?;
     Ok(Listed::new(vec![in alloc; (otter, 62)]?))
-}
-
-/// Two slices, with as many rows as this word wants.
-fn layout(alloc: Global, blocks: u32, max_rank: u8) -> Result<Layout, Memory>
-    requires blocks { IsBetween 1 2 blocks }
-    requires max_rank { max_rank ≤ 6 }
-    ensures { IfOk result (λ layout. layout.config.slices ≡ 2) }
-{
-    let mut config = config(max_rank, 10, 10, 1000, 0, otter(alloc)?);
-    config.blocks = blocks;
-    layout_of(alloc, &config)
 }
 
 /// A plan for slices that are laid out so.
@@ -67,7 +56,7 @@ fn plan_of(alloc: Global, blocks: u32, max_rank: u8, query: &str) -> Result<Plan
     requires blocks { IsBetween 1 2 blocks }
     requires max_rank { max_rank ≤ 6 }
 {
-    let layout = layout(alloc, blocks, max_rank)?;
+    let layout = layout_of_blocks(alloc, blocks, max_rank, otter(alloc)?)?;
     let plan = plan_in(alloc, &layout, query)?;
     Ok(Planned { layout, plan })
 }

@@ -71,6 +71,23 @@ pub(crate) fn layout_of(alloc: Global, config: &Config) -> Result<Layout, Memory
     Layout::new(alloc, config)
 }
 
+/// The layout of two slices of so many blocks, with rows up to this rank.
+pub(crate) fn layout_of_blocks(
+    alloc: Global,
+    blocks: u32,
+    max_rank: u8,
+    words: Listed,
+) -> Result<Layout, Memory>
+    requires blocks { IsBetween 1 4 blocks }
+    requires max_rank { max_rank ≤ 6 }
+    requires words { CanBeListed 1000 words }
+    ensures { IfOk result (λ layout. layout.config.slices ≡ 2) }
+{
+    let mut config = config(max_rank, 10, 10, 1000, 0, words);
+    config.blocks = blocks;
+    layout_of(alloc, &config)
+}
+
 /// A layout with the three words and ranks up to 6.
 pub(crate) fn ranked_layout(alloc: Global) -> Result<Layout, Memory>
     ensures slices { IfOk result (λ layout. layout.config.slices ≡ 2) }

@@ -11,6 +11,10 @@ name_of_document id = codes "u" ++ decimal id
 abbrev pub text_of_document : ℕ → ℕ → ℕ → List ℕ
 text_of_document state words id = name_of_document id ++ flat_map (λ word. 32 ∷ word) (next_words state words)
 
+-- the most bytes of a text with so many drawn words: its name has a letter and at most 7 digits, and each word a space, a letter and at most 4
+abbrev pub longest_text : ℕ → ℕ
+longest_text words = 8 + 6 * words
+
 -- the text of document i, whose number is i + 1. Each document before it made as many draws
 abbrev pub document : ℕ → ℕ → ℕ → List ℕ
 document words seed i = text_of_document (state_after seed (i * words)) words (i + 1)

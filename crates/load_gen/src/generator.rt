@@ -1,4 +1,4 @@
-ghost use Rattle.std.specs.Prelude.{◌≡◌, ◌/◌, ◌^◌, ℕ};
+ghost use Rattle.std.specs.Prelude.{◌≡◌, ◌≤◌, ◌/◌, ◌^◌, ℕ, decimal, length};
 ghost use Rattle.load_gen.specs.Generator.{next_state, number_in};
 
 use std::marker::Model;
@@ -38,6 +38,7 @@ impl Generator {
     pub(crate) fn draw(&mut self) -> u64
         ensures state { self.new ≡ next_state self.old }
         ensures number { result ≡ number_in (self.new / 2 ^ 33) }
+        ensures short { length (decimal result) ≤ 4 }
     {
         self.state = self.state.wrapping_mul(MULTIPLIER).wrapping_add(INCREMENT);
         number_of(self.state >> 33)

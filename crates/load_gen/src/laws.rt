@@ -1,7 +1,7 @@
-ghost use Rattle.std.specs.Prelude.{◌≡◌, ◌↔◌, ◌<◌, ◌/◌, ℕ, List, [], ◌∷◌, codes, length, map, drop, replicate, Contains};
+ghost use Rattle.std.specs.Prelude.{◌≡◌, ◌↔◌, ◌<◌, ◌≤◌, ◌/◌, ℕ, List, [], ◌∷◌, codes, length, map, drop, replicate, Contains};
 ghost use Rattle.funnel_model.specs.declared.call.Call.TheVariants as call;
-ghost use Rattle.load_gen.specs.declared.limits.TheConstants.{DELETED_ONE_IN};
-ghost use Rattle.load_gen.specs.Documents.{documents};
+ghost use Rattle.load_gen.specs.declared.limits.TheConstants.{DELETED_ONE_IN, MOST_DOCS};
+ghost use Rattle.load_gen.specs.Documents.{document, documents, longest_text};
 ghost use Rattle.load_gen.specs.Jobs.{FallsTo, adds_of, count_all, deletes_of, jobs, share};
 
 /// Workers share the documents: to each one falls what its share says, so that no document falls to two. Their shares
@@ -11,6 +11,11 @@ pub fn workers_share_the_documents()
         → Contains (share texts workers worker) (i, text) ↔ FallsTo texts workers worker i text }
     ensures all { (texts : List (List ℕ)) (workers : ℕ) → 0 < workers → count_all workers (share texts workers) ≡ length texts }
     ensures deleted { (texts : List (List ℕ)) (workers : ℕ) → 0 < workers → count_all workers (deletes_of texts workers) ≡ length texts / DELETED_ONE_IN }
+{}
+
+/// No text of a load has more bytes than the room that is taken for it.
+pub fn texts_fit_in_their_room()
+    ensures { (words seed i : ℕ) → i < MOST_DOCS → length (document words seed i) ≤ longest_text words }
 {}
 
 /// The documents of a load of two documents with one drawn word each from the seed 0, and the calls of the second of two

@@ -10,7 +10,7 @@ mod load;
 mod queries;
 mod report;
 
-pub use laws::{example_jobs, workers_share_the_documents};
+pub use laws::{example_jobs, texts_fit_in_their_room, workers_share_the_documents};
 pub use limits::{CHECKED_ONE_IN, DELETED_ONE_IN, MOST_DOCS, MOST_WORDS};
 pub use load::{Load, make};
 pub use queries::query;

@@ -1,1 +1,3 @@
-mod Wholes
+pub mod Added
+pub mod Heads
+pub mod Wholes

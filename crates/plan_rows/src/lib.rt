@@ -4,6 +4,8 @@
 
 mod planning;
 mod rest;
+mod searching;
 
 pub use planning::plan;
 pub use rest::Rest;
+pub use searching::plan_search;

@@ -3,8 +3,8 @@ ghost use Rattle.std.specs.Prelude.{All, IfOk};
 ghost use Rattle.funnel_io.specs.MemGates.{IsUnused};
 
 use crate::setting::{NONE, Pieces, sink_of, source_of};
-use funnel_io::{MemConn, MemGate, Memory};
-use std::alloc::Global;
+use funnel_io::{MemConn, MemGate};
+use std::alloc::{AllocError, Global};
 
 /// A connection: what it sends, and which of its reads and of its writes fail.
 pub(crate) type Conn = (Pieces, &'static [u64], &'static [u64]);
@@ -23,7 +23,7 @@ pub(crate) const CLOSED: GateRow = GateRow {
     refuses: false,
 };
 
-fn conn_of(alloc: Global, conn: &Conn) -> Result<MemConn, Memory>
+fn conn_of(alloc: Global, conn: &Conn) -> Result<MemConn, AllocError>
     ensures { IfOk result IsUnused }
 {
     let source = source_of(alloc, conn.0, conn.1)?;
@@ -31,7 +31,7 @@ fn conn_of(alloc: Global, conn: &Conn) -> Result<MemConn, Memory>
     Ok(MemConn::new(source, sink))
 }
 
-fn conns_of(alloc: Global, conns: &[Conn]) -> Result<Vec<MemConn>, Memory>
+fn conns_of(alloc: Global, conns: &[Conn]) -> Result<Vec<MemConn>, AllocError>
     ensures { IfOk result (λ made. All IsUnused made.items) }
 {
     let mut waiting = Vec::new(alloc);
@@ -41,13 +41,13 @@ fn conns_of(alloc: Global, conns: &[Conn]) -> Result<Vec<MemConn>, Memory>
     Ok(waiting)
 }
 
-fn gate_of(alloc: Global, row: &GateRow) -> Result<MemGate, Memory> {
+fn gate_of(alloc: Global, row: &GateRow) -> Result<MemGate, AllocError> {
     let fails = row.fails.to_vec(alloc)?;
     let gate = MemGate::new(alloc, conns_of(alloc, row.conns)?, fails)?;
     Ok(if row.refuses { gate.refusing() } else { gate })
 }
 
-pub(crate) fn gates_of(alloc: Global, rows: &[GateRow]) -> Result<Vec<MemGate>, Memory> {
+pub(crate) fn gates_of(alloc: Global, rows: &[GateRow]) -> Result<Vec<MemGate>, AllocError> {
     let mut gates = Vec::new(alloc);
     for row in rows {
         gates.push(gate_of(alloc, row)?)?;
@@ -56,7 +56,7 @@ pub(crate) fn gates_of(alloc: Global, rows: &[GateRow]) -> Result<Vec<MemGate>, 
 }
 
 /// One gate with these connections.
-pub(crate) fn one_gate(alloc: Global, conns: &[Conn]) -> Result<Vec<MemGate>, Memory> {
+pub(crate) fn one_gate(alloc: Global, conns: &[Conn]) -> Result<Vec<MemGate>, AllocError> {
     let gate = MemGate::new(alloc, conns_of(alloc, conns)?, Vec::new(alloc))?;
     let mut gates = Vec::new(alloc);
     gates.push(gate)?;

@@ -3,10 +3,9 @@ use crate::setting::{
     NONE, Pieces, SOUND, Streams, UNREAD, end_of, expect, sink_of, source_of, streams_of,
 };
 use funnel_io::{
-    Borrower, Connection, End, Gate, Got, MemSink, MemSource, Memory, Next, Opening, Put, Sink,
-    Source,
+    Borrower, Connection, End, Gate, Got, MemSink, MemSource, Next, Opening, Put, Sink, Source,
 };
-use std::alloc::Global;
+use std::alloc::{AllocError, Global};
 use std::marker::Model;
 use std::sync::Wait;
 use std::sync::atomic::{AtomicBool, Ordering};
@@ -147,7 +146,7 @@ fn meeting_gate<'a>(
     waits_at: u64,
     replied: &'a AtomicBool,
     awaited: &'a AtomicBool,
-) -> Result<MeetingGate<'a>, Memory> {
+) -> Result<MeetingGate<'a>, AllocError> {
     let source = source_of(alloc, pieces, NONE)?;
     let sink = sink_of(alloc, 100, NONE)?;
     let conn = Meeting {
@@ -171,7 +170,7 @@ fn meeting_gates<'a>(
     alloc: Global,
     first: &'a AtomicBool,
     second: &'a AtomicBool,
-) -> Result<Vec<MeetingGate<'a>>, Memory> {
+) -> Result<Vec<MeetingGate<'a>>, AllocError> {
     let mut gates = Vec::new(alloc);
     gates.push(meeting_gate(alloc, (b"add 1 a\n", 8), 1, first, second)?)?;
     gates.push(meeting_gate(alloc, (b"add 2 b\nplace\n", 8), 2, second, first)?)?;
@@ -211,7 +210,7 @@ fn meet<R: Threads + Wait + Sync>(
     alloc: Global,
     first: &AtomicBool,
     second: &AtomicBool,
-) -> Result<(u8, bool), Memory> {
+) -> Result<(u8, bool), AllocError> {
     let mut streams = streams_of(alloc, (b"", UNREAD), SOUND)?;
     let gates = meeting_gates(alloc, first, second)?;
     Ok(serve_gates(rt, alloc, &mut streams, gates))

@@ -2,8 +2,8 @@
 use crate::endings::{Wanted, is_seen};
 use crate::gates::{GateRow, gates_of};
 use crate::setting::{Fails, Inputs, Streams, end_of, expect, streams_of};
-use funnel_io::{MemGate, Memory};
-use std::alloc::Global;
+use funnel_io::MemGate;
+use std::alloc::{AllocError, Global};
 use std::process::Abort;
 use std::sync::Wait;
 use std::thread::Threads;
@@ -24,7 +24,7 @@ pub(crate) fn seen<R: Threads + Wait + Sync>(
     rt: &R,
     alloc: Global,
     row: &Row,
-) -> Result<(u8, bool), Memory> {
+) -> Result<(u8, bool), AllocError> {
     let mut streams = streams_of(alloc, row.1, row.2)?;
     seen_over(rt, alloc, row, &mut streams)
 }
@@ -34,7 +34,7 @@ fn seen_over<R: Threads + Wait + Sync>(
     alloc: Global,
     row: &Row,
     streams: &mut Streams,
-) -> Result<(u8, bool), Memory> {
+) -> Result<(u8, bool), AllocError> {
     let gates = gates_of(alloc, row.3)?;
     Ok(seen_with(rt, alloc, row, streams, gates))
 }
@@ -57,7 +57,7 @@ pub(crate) fn expect_all<R: Threads + Wait + Abort + Sync>(
     rt: &R,
     alloc: Global,
     rows: &[Row],
-) -> Result<(), Memory> {
+) -> Result<(), AllocError> {
     for row in rows {
         let seen = seen(rt, alloc, row)?;
         expect(rt, (row.0, seen), (row.0, (row.4, true)));

@@ -3,8 +3,8 @@ use crate::endings::Wanted;
 use crate::gates::{Conn, GateRow, one_gate};
 use crate::rows::{Row, expect_all, seen_with};
 use crate::setting::{NONE, SOUND, UNREAD, expect, streams_of};
-use funnel_io::{End, MemGate, Memory};
-use std::alloc::Global;
+use funnel_io::{End, MemGate};
+use std::alloc::{AllocError, Global};
 use std::test::Fail;
 
 const ONE: &[&str] = &["serve", "--port", "7000", "--workers", "1"];
@@ -122,7 +122,7 @@ fn many_connections_are_served(rt: HostRuntime) -> Result<(), Fail> {
     Ok(())
 }
 
-fn many_connections(alloc: Global) -> Result<Vec<MemGate>, Memory> {
+fn many_connections(alloc: Global) -> Result<Vec<MemGate>, AllocError> {
     let conns = vec![in alloc; WHOLE; MANY]?;
     one_gate(alloc, &conns)
 }

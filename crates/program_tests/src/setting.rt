@@ -2,7 +2,7 @@
 ghost use Rattle.std.specs.Prelude.{◌≡◌, [], IfOk};
 
 use funnel::{ProgramEnd, funnel_main};
-use funnel_io::{Gate, MemSink, MemSource, Memory};
+use funnel_io::{Gate, MemSink, MemSource};
 use std::alloc::{AllocError, Global};
 use std::fmt::Debug;
 use std::process::Abort;
@@ -56,14 +56,18 @@ pub(crate) fn source_of(
 }
 
 /// A sink with room for so many bytes, whose writes of these numbers fail.
-pub(crate) fn sink_of(alloc: Global, room: usize, fails: &[u64]) -> Result<MemSink, Memory>
+pub(crate) fn sink_of(alloc: Global, room: usize, fails: &[u64]) -> Result<MemSink, AllocError>
     ensures written { IfOk result (λ sink. sink.written ≡ []) }
     ensures faults { IfOk result (λ sink. sink.faults ≡ 0) }
 {
     MemSink::new(alloc, room, fails.to_vec(alloc)?)
 }
 
-pub(crate) fn streams_of(alloc: Global, inputs: Inputs, fails: Fails) -> Result<Streams, Memory> {
+pub(crate) fn streams_of(
+    alloc: Global,
+    inputs: Inputs,
+    fails: Fails,
+) -> Result<Streams, AllocError> {
     let output = sink_of(alloc, 4_000, fails[2])?;
     let config = source_of(alloc, (inputs.0, 1_000), fails[0])?;
     let input = source_of(alloc, inputs.1, fails[1])?;

@@ -1,6 +1,7 @@
 //! Configurations that are fitted to samples.
 
 ghost use Rattle.std.specs.Prelude.{◌≤◌, ◌<◌, ◌^◌};
+ghost use Rattle.funnel_model.specs.declared.config.TheConstants.{MOST_COLUMNS};
 
 use crate::configurations::{source, told};
 use fit::fit;
@@ -20,13 +21,11 @@ fn fitted(
     write_fails: &[u64],
 ) -> Result<String, AllocError>
     requires some { 1 ≤ documents }
-    requires few { documents ≤ 4194304 }
+    requires few { documents ≤ MOST_COLUMNS }
     requires limit { limit ≤ 2 ^ 40 }
 {
     let mut input: MemSource = source(alloc, bytes, 7, read_fails)?;
-    let Ok(mut output) = MemSink::new(alloc, 1_000, Vec::from_slice(alloc, write_fails)?) else {
-        return Err(AllocError);
-    };
+    let mut output = MemSink::new(alloc, 1_000, Vec::from_slice(alloc, write_fails)?)?;
     let end = fit(alloc, documents, limit, &mut input, &mut output);
     let text = String::from_utf8_lossy(alloc, output.bytes())?;
     format!(in alloc; "{end:?} {text}")
@@ -51,7 +50,7 @@ fn words_are_listed_with_the_documents_that_have_them(rt: HostRuntime) -> Result
 fn what_is_written_is_a_configuration(rt: HostRuntime) -> Result<(), Fail> {
     let alloc = rt.alloc();
     let mut input = source(alloc, b"add 1 b a\nadd 2 a", 7, &[])?;
-    let mut output = MemSink::new(alloc, 1_000, Vec::new(alloc)).map_err(|_| AllocError)?;
+    let mut output = MemSink::new(alloc, 1_000, Vec::new(alloc))?;
     fit(alloc, 100, 1_000, &mut input, &mut output);
     let mut written = source(alloc, output.bytes(), 7, &[])?;
     let answer = told(alloc, &read_config(alloc, &mut written))?;

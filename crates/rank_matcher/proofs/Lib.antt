@@ -7,8 +7,10 @@ pub mod SetBits
 pub mod Ranges
 pub mod DocumentHits
 pub mod Intersections
+pub mod LeftColumns
 pub mod Passing
 pub mod ColumnTests
 pub mod ReadCounts
 pub mod Walks
 pub mod Scans
+pub mod SearchScans

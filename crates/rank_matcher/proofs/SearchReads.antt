@@ -4,6 +4,7 @@ use Rattle.std.specs.List.{list_all, list_any}
 use Rattle.std.specs.declared.option.Option.{Option}
 use Rattle.std.proofs.lemmas.Bool.{false_from_ne_true, false≢true}
 use Rattle.std.proofs.lemmas.List.Elements.{All-weaker}
+use Rattle.funnel_model.proofs.SearchLemmas.{alike-weaker, each-weaker}
 use Rattle.funnel_model.specs.Searches.{Search, Searches, AreAlike, AreEachAlike, AreEachTold, AreToldWhileTheyMay, all_of, atom_of, each_may, each_sure, entry, may, no_entries, not_of, some_of, sure}
 use Rattle.funnel_model.specs.declared.bit_list.Bit.{Bit}
 use Rattle.row_layout.specs.AtomReads.{AtomPlan, AtomRead, BitRead, Tells, as_set, as_zero, is_known, is_ruled_out, unread}
@@ -36,21 +37,6 @@ and-last false b c = refl
 or-last : (a b c : Bool) → ((a || b) || c) ≡ (a || (b || c))
 or-last true b c = refl
 or-last false b c = refl
-
--- atoms that fit another way
-module _ {A B : Type 0} (Fits Others : A → B → Type 0) (more : (a : A) (b : B) → Fits a b → Others a b) where
-  mutual
-    alike-weaker : (search : Search A) (read : Search B) → AreAlike Fits search read → AreAlike Others search read
-    alike-weaker (atom_of a) (atom_of b) alike = more a b alike
-    alike-weaker (all_of es) (all_of fs) alike = each-weaker es fs alike
-    alike-weaker (some_of es) (some_of fs) alike = each-weaker es fs alike
-    alike-weaker (not_of e) (not_of f) alike = alike-weaker e f alike
-    alike-weaker _ _ alike = absurd alike
-
-    each-weaker : (es : Searches A) (fs : Searches B) → AreEachAlike Fits es fs → AreEachAlike Others es fs
-    each-weaker no_entries no_entries alike = tt
-    each-weaker (entry e es) (entry f fs) alike = (alike-weaker e f alike.0, each-weaker es fs alike.1)
-    each-weaker _ _ alike = absurd alike
 
 -- one entry more
 module _ {A B : Type 0} (Fits : A → B → Type 0) where

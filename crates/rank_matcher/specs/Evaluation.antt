@@ -5,7 +5,7 @@ use Rattle.std.specs.declared.option.Option.{Option}
 use Rattle.std.specs.declared.option.Option.TheVariants.{Some}
 use Rattle.funnel_model.specs.Searches.{Search, Searches, AreAlike, AreEachAlike, AreEachTold, AreToldWhileTheyMay, IsToldWhole, each_may, each_sure, may, sure}
 use Rattle.funnel_model.specs.declared.bit_list.Bit.{Bit}
-use Rattle.row_layout.specs.AtomReads.{AtomPlan, AtomRead, BitRead, IsReadOf, Tells, is_known, is_ruled_out, is_set_read, is_zero}
+use Rattle.row_layout.specs.AtomReads.{AtomPlan, AtomRead, BitRead, Tells, WasReadAs, is_known, is_ruled_out, is_set_read, is_zero}
 use Rattle.row_layout.specs.DocumentBits.{bit_from}
 use Rattle.row_layout.specs.declared.row.Row.{Row}
 use Rattle.row_read.specs.Bits.{has_bit, is_set}
@@ -40,9 +40,8 @@ pub record HasReadRows (told : Option (List ℕ)) (least seen : Bit → Type 0) 
   pub zero : list_any (λ b. is_zero b.1) bits ≡ not all_set
 
 -- an atom was read so at the column
-pub record WasReadAt (told : Option (List ℕ)) (least seen : Bit → Type 0) (first column : ℕ) (plan : AtomPlan) (read : AtomRead) : Type 0 where
-  pub of_plan : IsReadOf plan read
-  pub tells : All (λ b. Tells (WasReadZero told least) (WasReadSet told seen) b.1 (bit_from first column b.0)) read.bits
+abbrev pub WasReadAt : Option (List ℕ) → (Bit → Type 0) → (Bit → Type 0) → ℕ → ℕ → AtomPlan → AtomRead → Type 0
+WasReadAt told least seen first column = WasReadAs (WasReadZero told least) (WasReadSet told seen) (bit_from first column)
 
 -- as much was read of an atom as counts: each planned bit as set, or one as zero
 abbrev pub IsToldOf : AtomRead → Type 0

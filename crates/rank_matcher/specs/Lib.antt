@@ -2,6 +2,8 @@ pub mod Hits
 pub mod Reads
 pub mod Appended
 pub mod SliceScans
+pub mod Left
+pub mod SearchScans
 pub mod SetBits
 pub mod Walk
 pub mod Evaluation

@@ -70,7 +70,7 @@ pub struct Told {
 
 /// Evaluates a search for the columns of the mask, from left to right. It ends an `And` where no column is left that may.
 #[cycle(evaluate)]
-pub(crate) fn evaluate<R: Rows>(rows: &mut R, place: Place, part: Part<'_>, mask: u64) -> Told
+fn evaluate<R: Rows>(rows: &mut R, place: Place, part: Part<'_>, mask: u64) -> Told
     requires plan { (search : Search AtomPlan) × IsPlanOfSearch search part.nodes.now part.rows.now }
     requires can_read { CanRead (R.reach rows.old) place.first place.word part.rows.now }
     ensures told { (search : Search AtomPlan) → IsPlanOfSearch search part.entry.nodes.now part.entry.rows.now →
@@ -104,7 +104,7 @@ pub(crate) fn evaluate<R: Rows>(rows: &mut R, place: Place, part: Part<'_>, mask
 
 /// The same of all of several searches. Each is evaluated for the columns that those before it leave.
 #[cycle(evaluate)]
-fn evaluate_all<R: Rows>(rows: &mut R, place: Place, part: Part<'_>, mask: u64) -> Told
+pub(crate) fn evaluate_all<R: Rows>(rows: &mut R, place: Place, part: Part<'_>, mask: u64) -> Told
     requires plan { (searches : Searches AtomPlan) × ArePlansOfSearches searches part.nodes.now part.rows.now }
     requires can_read { CanRead (R.reach rows.old) place.first place.word part.rows.now }
     ensures told { (searches : Searches AtomPlan) → ArePlansOfSearches searches part.entry.nodes.now part.entry.rows.now →

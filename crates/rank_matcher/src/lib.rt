@@ -8,13 +8,18 @@
 #![tactic(auto)]
 
 mod evaluation;
+mod hits;
 mod laws;
+mod left;
 mod scanning;
+mod search_scan;
 mod searching;
 mod walk;
 mod words;
 
 pub use evaluation::Told;
+pub use hits::Hits;
 pub use laws::{documents_with_all_bits_are_hits, written_bits_are_found};
 pub use scanning::scan;
+pub use search_scan::scan_search;
 pub use searching::search_word;

@@ -1,19 +1,19 @@
 ghost use Rattle.std.specs.Prelude.{◌≡◌, ℕ, ◌+◌, ◌*◌, ◌<◌, ◌≤◌, length};
-ghost use Rattle.funnel_model.specs.Searches.{Search};
+ghost use Rattle.funnel_model.specs.Searches.{Searches};
 ghost use Rattle.funnel_model.specs.Sizes.{columns_of_slice};
-ghost use Rattle.rank_matcher.specs.Evaluation.{ForEachBit, HasReadSearch, IsWithin};
+ghost use Rattle.rank_matcher.specs.Evaluation.{ForEachBit, HasReadAll, IsWithin};
 ghost use Rattle.rank_matcher.specs.SliceScans.{CanScanSlice};
 ghost use Rattle.row_layout.specs.AtomReads.{AtomPlan};
 ghost use Rattle.row_layout.specs.DocumentBits.{slice_start};
-ghost use Rattle.row_layout.specs.SearchPlans.{IsPlanOfSearch};
+ghost use Rattle.row_layout.specs.SearchPlans.{ArePlansOfSearches};
 ghost use Rattle.row_read.specs.Readable.{StaysReadable};
 
-use crate::evaluation::{Part, Place, Told, evaluate};
+use crate::evaluation::{Part, Place, Told, evaluate_all};
 use row_layout::{Layout, SearchPlan};
 use row_read::Rows;
 
-/// Which of the 64 columns of a word of a slice, of those that the mask has, may be such as a search keeps, and which surely are. Each
-/// atom's place goes by its own reads. It reads from left to right, and in an `And` no more once none of the columns is left
+/// Which of the 64 columns of a word of a slice, of those that the mask has, may be such as all of some searches keep, and which surely
+/// are. Each atom's place goes by its own reads. It reads from left to right, and within an "all of" no more once no column is left
 /// that may; how much it reads is told only to be no more than each row once for each place.
 pub fn search_word<R: Rows>(
     rows: &mut R,
@@ -25,9 +25,9 @@ pub fn search_word<R: Rows>(
 ) -> Told
     requires slice { CanScanSlice (R.reach rows.old) layout.now plan.now.rows.items slice }
     requires word { 64 * word < columns_of_slice layout.now.config }
-    requires plan { (search : Search AtomPlan) × IsPlanOfSearch search plan.now.nodes.items plan.now.rows.items }
-    ensures told { (search : Search AtomPlan) → IsPlanOfSearch search plan.now.nodes.items plan.now.rows.items →
-        ForEachBit (λ column. HasReadSearch (R.told rows.old) (R.least rows.old) (R.seen rows.new) (slice_start layout.now.room slice) column search)
+    requires plan { (searches : Searches AtomPlan) × ArePlansOfSearches searches plan.now.nodes.items plan.now.rows.items }
+    ensures told { (searches : Searches AtomPlan) → ArePlansOfSearches searches plan.now.nodes.items plan.now.rows.items →
+        ForEachBit (λ column. HasReadAll (R.told rows.old) (R.least rows.old) (R.seen rows.new) (slice_start layout.now.room slice) column searches)
         word mask result.may result.sure }
     ensures within { IsWithin result.may mask }
     ensures sure { IsWithin result.sure result.may }
@@ -40,5 +40,5 @@ pub fn search_word<R: Rows>(
         rows: plan.rows.as_slice(),
     };
     let place = Place { first, word };
-    evaluate(rows, place, part, mask)
+    evaluate_all(rows, place, part, mask)
 }

@@ -27,7 +27,12 @@ pub(crate) fn push_words(
 }
 
 /// Adds the columns of a slice whose bits are set in the word that stands for the 64 columns from `first` on.
-fn push_columns(out: &mut Candidates, slice: u32, first: u32, word: u64) -> Result<(), Memory>
+pub(crate) fn push_columns(
+    out: &mut Candidates,
+    slice: u32,
+    first: u32,
+    word: u64,
+) -> Result<(), Memory>
     requires fits { first + 64 ≤ 2 ^ 32 }
     ensures all { OnOk result (out.new ≡ out.old ++ candidates_of slice (map (λ bit. first + bit) (set_bits word))) }
     ensures part { (front : List ℕ) × IsBeginning front (set_bits word) × (out.new ≡ out.old ++ candidates_of slice (map (λ bit. first + bit) front)) }

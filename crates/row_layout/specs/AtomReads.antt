@@ -64,9 +64,10 @@ Tells IsZero IsSet as_zero bit = IsZero bit
 Tells IsZero IsSet as_set bit = IsSet bit
 Tells IsZero IsSet unread bit = Unit {0}
 
--- so it is of each bit that was read for the atom at the column of the slice, where each slice has room for this many words
-abbrev pub TellsEach : (Bit → Type 0) → (Bit → Type 0) → ℕ → ℕ → ℕ → AtomRead → Type 0
-TellsEach IsZero IsSet room slice column read = All (λ b. Tells IsZero IsSet b.1 (bit_of_row room slice column b.0)) read.bits
+-- so it is of each bit that was read for an atom with this plan
+pub record WasReadAs (IsZero IsSet : Bit → Type 0) (bit_of : Row → Bit) (plan : AtomPlan) (read : AtomRead) : Type 0 where
+  pub of_plan : IsReadOf plan read
+  pub tells : All (λ b. Tells IsZero IsSet b.1 (bit_of b.0)) read.bits
 
 -- where the column owns the bit, each document that stands there has it
 abbrev pub IsOfItsOwner : Limits → Config → List Event → ℕ → ℕ → Bit → Type 0
@@ -79,6 +80,5 @@ IsOfItsOwner limits opening history slice column bit =
 pub record WasReadAfter (limits : Limits) (opening : Config) (history : List Event) (slice column : ℕ) (words : List (List ℕ)) (read : AtomRead) : Type 0 where
   pub plan : AtomPlan
   pub planned : IsPlanOf (treat opening slice history) words plan
-  pub of_plan : IsReadOf plan read
-  pub told : TellsEach (λ bit. IsCommitted history slice bit → ⊥) (IsOfItsOwner limits opening history slice column)
-      (words_of_slice opening) slice column read
+  pub read_as : WasReadAs (λ bit. IsCommitted history slice bit → ⊥) (IsOfItsOwner limits opening history slice column)
+      (bit_of_row (words_of_slice opening) slice column) plan read

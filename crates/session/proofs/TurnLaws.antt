@@ -4,9 +4,9 @@ use Rattle.std.proofs.lemmas.Bool.{true≢false}
 use Rattle.std.proofs.Math.Bool.{or-false}
 use Rattle.funnel_io.specs.declared.source.Got.{Got}
 use Rattle.funnel_io.specs.declared.source.Got.TheVariants as got
-use Rattle.funnel_io.proofs.CallLaws.{bytes_read-append, gave_bytes, gave_bytes-append, last_failed-append}
+use Rattle.funnel_io.proofs.CallLaws.{below_after, bytes_read-append, gave_bytes, gave_bytes-append, last_failed-append}
 use Rattle.funnel_io.proofs.LineLaws.{given_first, given_first_or_end, still_given}
-use Rattle.funnel_io.specs.Calls.{Read, Write, WritesAs, bytes_read, found_end, is_end}
+use Rattle.funnel_io.specs.Calls.{Read, Write, WritesAs, AreBelow, bytes_read, found_end, is_end}
 use Rattle.funnel_io.specs.LineReading.{ReaderState, AreNeeded, HasGiven, unused}
 use Rattle.funnel_io.specs.Lines.{lines}
 use Rattle.funnel_io.specs.Streams.{Incoming}
@@ -19,7 +19,7 @@ use Rattle.line_proto.specs.Texts.{text_of}
 use Rattle.session.proofs.Turns.{stops_last, stops_written, taken_more, taken_none}
 use Rattle.session.specs.Laws.{FindsEnd}
 use Rattle.session.specs.Steps.{EndsNext, HasGone, IsRendered, ReadsOn}
-use Rattle.session.specs.Turns.{AreBelow, AreReadInTurn, StopsReading, answers_of, line_by_line, reads_of}
+use Rattle.session.specs.Turns.{AreReadInTurn, AreTurns, StopsReading, Turn, answers_of, line_by_line, reads_of}
 
 -- a text that was rendered is a reply's
 reply_to : (reply : Reply) (room : ℕ) (text : List ℕ) → IsRendered reply room text → (other : Reply) × (text ≡ text_of other)
@@ -73,17 +73,8 @@ module _ {S : Type 0} (read_gives : S → Read → S → Type 0) (write_gives : 
     -- and below the limit
     below_on : (reads : List Read) → AreNeeded reader may reads → AreBelow limit (reads ++ reads_of p.so_far.turns)
     below_on [] needed = p.so_far.below
-    below_on (read ∷ earlier) needed = (
-      below_on earlier needed.0,
-      omega (
-        arith,
-        needed.1.still_is,
-        needed.1.some,
-        p.so_far.count,
-        ap length (bytes_read-append earlier (reads_of p.so_far.turns)),
-        length-append (bytes_read (reads_of p.so_far.turns)) (bytes_read earlier),
-      ),
-    )
+    below_on (read ∷ earlier) needed =
+        (below_on earlier needed.0, below_after limit may read.room earlier (reads_of p.so_far.turns) p.so_far.count needed.1.below)
 
     -- no further line came
     module _ (r : ReadsOn read_gives now middle reader reader' may may' false) where
@@ -163,3 +154,9 @@ done_finds_end read_gives write_gives limit done before after stops is =
       | inl found ↦ finds_end (stops.goes.last ++ reads_of stops.goes.turns) found
       | inr closes ↦ cc
     ]
+
+-- with each turn as many lines have ended as there are replies
+pub replies_due : (turns : List (Turn Reply)) → AreTurns line_by_line turns →
+    length (answers_of turns) ≤ length (lines (bytes_read (reads_of turns)) (found_end (reads_of turns)))
+replies_due [] are = omega arith
+replies_due (turn ∷ earlier) are = are.1.due

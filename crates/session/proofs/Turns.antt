@@ -4,11 +4,11 @@ use Rattle.std.specs.List.{flat_map}
 use Rattle.std.proofs.lemmas.List.Concat.{flat_map-append}
 use mathlib.Core.List.{IsPrefix}
 use Rattle.funnel_io.specs.Answers.{bytes_put}
-use Rattle.funnel_io.specs.Calls.{Read, Write, Leads, AreOfRest, WritesAs, bytes_read, bytes_written, found_end}
+use Rattle.funnel_io.specs.Calls.{Read, Write, Leads, AreBelow, AreOfRest, WritesAs, bytes_read, bytes_written, found_end}
 use Rattle.funnel_io.specs.declared.sink.Put.{Put}
 use Rattle.funnel_io.specs.declared.sink.Put.TheVariants as put
 use Rattle.funnel_io.proofs.CallLaws.{bytes_read-append}
-use Rattle.session.specs.Turns.{Protocol, Turn, AreBelow, AreLast, AreReadInTurn, AreTurns, Follows, IsWritten, StopsReading, answers_of, bytes_of, reads_of}
+use Rattle.session.specs.Turns.{Protocol, Turn, AreLast, AreReadInTurn, AreTurns, Follows, IsWritten, StopsReading, answers_of, bytes_of, reads_of}
 use Rattle.session.specs.TurnSteps.{HasTakenTurns}
 
 -- where the last answer was written whole, reads for which none was due may come last

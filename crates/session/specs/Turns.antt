@@ -1,7 +1,7 @@
 -- The calls on a connection, turn by turn: a turn reads until an answer is due, and writes it. What is answered, line by line or request by
 -- request, is the protocol's affair.
-use Rattle.std.specs.Prelude.{◌≡◌, ◌<◌, ◌≤◌, ◌⊎◌, ⊤, ℕ, Bool, true, false, List, [], ◌∷◌, ◌++◌, length}
-use Rattle.funnel_io.specs.Calls.{Read, Write, Leads, AreOfRest, GaveBytes, bytes_read, bytes_written, found_end}
+use Rattle.std.specs.Prelude.{◌≡◌, ◌≤◌, ◌⊎◌, ⊤, ℕ, Bool, true, false, List, [], ◌∷◌, ◌++◌, length}
+use Rattle.funnel_io.specs.Calls.{Read, Write, Leads, AreBelow, AreOfRest, GaveBytes, bytes_read, bytes_written, found_end}
 use Rattle.funnel_io.specs.Lines.{lines}
 use Rattle.funnel_model.specs.declared.reply.Reply.{Reply}
 use Rattle.line_proto.specs.Texts.{text_of}
@@ -93,12 +93,8 @@ pub record GoesInTurns {S A : Type 0} (protocol : Protocol A) (read_gives : S �
   pub last_lead : Leads read_gives middle last after
   pub last_are : AreLast protocol turns last
 
--- no read comes once so many bytes were taken
-abbrev pub AreBelow : ℕ → List Read → Type 0
-AreBelow limit [] = ⊤
-AreBelow limit (read ∷ earlier) = AreBelow limit earlier × (length (bytes_read earlier) < limit)
-
--- the calls go in turns, no read comes once the limit was taken, and where all is done the last read found the end or an answer closes
+-- the calls go in turns, no read comes once the limit was taken, each has room enough, and where all is done the last read found the end or
+-- an answer closes
 pub record StopsReading {S A : Type 0} (protocol : Protocol A) (read_gives : S → Read → S → Type 0) (write_gives : S → Write → S → Type 0) (limit : ℕ) (done : Type 0) (before after : S) : Type 0 where
   pub goes : GoesInTurns protocol read_gives write_gives before after
   pub below : AreBelow limit (goes.last ++ reads_of goes.turns)

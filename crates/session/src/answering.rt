@@ -11,7 +11,7 @@ use line_proto::{Service, parse_line, reply_text};
 pub(crate) const TEXT_ROOM: usize = 64;
 
 /// The service's reply to a line that is not too long, or the refusal of a line that has no form.
-pub(crate) fn answer<S: Service>(service: &mut S, line: &[u8]) -> Reply
+pub(crate) fn reply_to<S: Service>(service: &mut S, line: &[u8]) -> Reply
     requires { length line.now ≤ MAX_LINE_LEN }
     ensures caller { S.caller service.new ≡ S.caller service.old }
     ensures answers { AnswersItem (S.caller service.old) (S.front service.old) (item_of line.now) result (S.front service.new) }

@@ -2,7 +2,8 @@
 ghost use Rattle.std.specs.Prelude.{◌≡◌, ◌≢◌, ◌≤◌, ◌⊎◌, ◌++◌, ℕ, List, [], length};
 ghost use Rattle.std.specs.Io.KnownBytes.{IsAtEnd};
 ghost use mathlib.Core.List.{IsPrefix};
-ghost use Rattle.funnel_io.specs.Lines.{rest_of};
+ghost use Rattle.funnel_io.specs.Calls.{bytes_read, found_end};
+ghost use Rattle.funnel_io.specs.Lines.{lines, rest_of};
 ghost use Rattle.funnel_io.specs.declared.end.End.{End};
 ghost use Rattle.funnel_model.specs.declared.call.Call.TheVariants as call;
 ghost use Rattle.funnel_model.specs.declared.event.Event.{Event};
@@ -69,6 +70,13 @@ pub fn sessions_that_are_done_found_the_end<C: Connection>()
 /// What the turns of a session write begins the texts of their replies.
 pub fn turns_write_their_replies()
     ensures { (turns : List (Turn Reply)) → AreTurns line_by_line turns → IsPrefix (bytes_of turns) (texts (answers_of turns)) }
+{}
+
+/// No reply comes before its line: with each turn as many lines have ended as there are replies, by a newline or by the end of the
+/// input that the last read found.
+pub fn replies_come_after_their_lines()
+    ensures { (turns : List (Turn Reply)) → AreTurns line_by_line turns →
+        length (answers_of turns) ≤ length (lines (bytes_read (reads_of turns)) (found_end (reads_of turns))) }
 {}
 
 /// A find that found no memory is over: its pass has no token, and made no other call. So is a query, whose find is that of the empty

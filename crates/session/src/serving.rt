@@ -6,7 +6,7 @@ ghost use Rattle.session.specs.Steps.{AnswersNext, EndsNext, HasGone, HasServedL
 ghost use Rattle.session.specs.Turns.{StopsReading, line_by_line};
 ghost use Rattle.session.specs.declared.serving.TheConstants.{MOST_BYTES};
 
-use crate::answering::{TEXT_ROOM, answer, render};
+use crate::answering::{TEXT_ROOM, render, reply_to};
 use funnel_io::{Connection, End, Line, LineReader, write_all};
 use funnel_model::Reply;
 use line_proto::Service;
@@ -36,7 +36,8 @@ pub fn serve_session<S: Service, C: Connection>(
 
     // A line has its turn only once it was read, and where the reply before it was written whole, at one go. Anything more
     // is read only where each line that ended so far had its turn, and every read gave bytes. Nothing is read once `limit`
-    // bytes were taken, and with `Done` the last read found the end.
+    // bytes were taken, each read has room for 64 bytes or for all that may still be taken, and with `Done` the last read
+    // found the end.
     ensures in_turns { StopsReading line_by_line C.read_gives C.write_gives limit (result ≡ End.Done) conn.old conn.new }
     ensures untouched { result ≡ End.Memory → (conn.new ≡ conn.old) × (service.new ≡ service.old) }
 {
@@ -124,7 +125,7 @@ impl Server {
             < most_lines self.old.reader.held self.old.reader.long + self.old.left) }
     {
         match self.reader.next_line(conn, &mut self.left) {
-            Line::Whole => Ok(answer(service, self.reader.line())),
+            Line::Whole => Ok(reply_to(service, self.reader.line())),
             Line::Long => Ok(Reply::Long),
             Line::Finished => Err(End::Done),
             Line::Failed => Err(End::ReadFault),

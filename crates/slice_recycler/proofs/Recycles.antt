@@ -1,5 +1,5 @@
 -- What a recycle is answered, from its turns.
-use Rattle.std.proofs.Common.{◌≡◌, ℕ, List, [], ◌∷◌, Ok, true, refl, sym, ap, subst, inr}
+use Rattle.std.proofs.Common.{◌≡◌, ℕ, List, [], ◌∷◌, Result, Ok, true, refl, sym, ap, subst, inr}
 use Rattle.std.specs.List.{Contains}
 use Rattle.funnel_model.specs.declared.call.Call.TheVariants as call
 use Rattle.funnel_model.specs.declared.claim.ClearJob.{ClearJob}
@@ -13,7 +13,7 @@ use Rattle.slice_rule.specs.declared.view.Fact.TheVariants as fact
 use Rattle.slice_rule.specs.Numbers.{last_number}
 use Rattle.slice_rule.specs.Pools.{PoolId}
 use Rattle.slice_rule.specs.Seats.{HoldsJob, PassState}
-use Rattle.commit_desk.specs.Answers.{AnswersClear}
+use Rattle.commit_desk.specs.Answers.{AnswersClear, events_of_clear}
 use Rattle.commit_desk.specs.Passes.{HasCleared, IsToClear}
 use Rattle.commit_desk.specs.declared.answers.ClearRefusal.{ClearRefusal}
 use Rattle.commit_desk.specs.declared.answers.ClearRefusal.TheVariants as clear
@@ -22,8 +22,8 @@ use Rattle.commit_desk.proofs.CallEnds.{seated_still}
 use Rattle.slice_recycler.specs.Cleared.{CanClearSlice, ClearsSlice, IsRoomOf}
 use Rattle.slice_recycler.specs.Recycles.{IsRefusedTurn, RecycleTurns, refused_as, reply_of_recycle, work_on}
 use Rattle.slice_recycler.specs.declared.recycling.Recycled.TheVariants as recycled
-use Rattle.slice_recycler.specs.Turns.{IsTurn}
-use Rattle.slice_recycler.proofs.Steps.{own-unanswered, quiet_turn, step_made_after, step_made_by_turn, step_spent_turn}
+use Rattle.slice_recycler.specs.Turns.{IsTurn, StartsClear}
+use Rattle.slice_recycler.proofs.Steps.{own-unanswered, quiet_turn, step_made_after, step_made_by_turn, step_spent_turn, turn_as}
 
 module _ (limits : Limits) (pass : ℕ) (before after : List Event) where
   pub refused_turns : (refusal : ClearRefusal) → IsRefusedTurn limits pass before after refusal → RecycleTurns limits pass before after (refused_as refusal)
@@ -51,6 +51,11 @@ module _ (limits : Limits) (pass : ℕ) (before after : List Event) where
         let opened = event.Opened pass slice true in
         step_made_after limits pass before middle after opened call.Recycle (reply.Recycled slice) idle
         (quiet_turn pass before middle (clears ∷ []) first (own-unanswered pass (clears ∷ []) refl) refl) second refl (call_by-own pass opened refl) refl refl (refl, refl) legal
+
+-- what the first turn of a recycle is answered
+pub started : (answer : Result ToClear ClearRefusal) (pool : PoolId) (pass : ℕ) (before after : List Event) → IsTurn pass before after (StartsClear pool pass answer) (events_of_clear pass answer) →
+    IsTurn pass before after (λ history. AnswersClear pool.limits.events pool.limits history pass answer) (events_of_clear pass answer)
+started answer pool pass before after = turn_as pass before after (events_of_clear pass answer) (λ history starts. starts.answers)
 
 -- a pass that is to clear a slice can, where each slice has room for so many words
 pub can_clear : (pool : PoolId) (seat : PassState) (job : ClearJob) (room : ℕ) → IsToClear pool job seat → IsRoomOf room pool → CanClearSlice pool seat job room

@@ -101,6 +101,11 @@ module _ {answers : List Event → Type 0} (pass : ℕ) (before after events : L
       (record { more = events; whole = turn.made; none = none; few = omega (arith, moved_by-still pass events still) })
 
 -- A turn without an event leaves the last event of the pass as it was.
+-- a turn whose answer says something tells it
+pub turn_as : {answers tells : List Event → Type 0} (pass : ℕ) (before after events : List Event) → ((history : List Event) → answers history → tells history) →
+    IsTurn pass before after answers events → IsTurn pass before after tells events
+turn_as pass before after events says turn = record { earlier = turn.earlier; seen = turn.seen; answer = says turn.earlier turn.answer; made = turn.made }
+
 pub idle_still : {answers : List Event → Type 0} (pass : ℕ) (before after : List Event) → IsTurn pass before after answers [] → IsIdle pass before → IsIdle pass after
 idle_still pass before after turn idle =
     let last = ap (last_by pass) (turn.made ∙ append-nil turn.earlier) ∙ last_by-front pass before turn.earlier turn.seen in

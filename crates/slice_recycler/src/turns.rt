@@ -2,9 +2,9 @@
 ghost use Rattle.std.specs.Prelude.{◌≡◌, [], ◌∷◌, true};
 ghost use Rattle.funnel_model.specs.declared.event.Event.TheVariants as event;
 ghost use Rattle.funnel_model.specs.Legal.{IsLegal};
-ghost use Rattle.commit_desk.specs.Answers.{AnswersClear, events_of_clear};
+ghost use Rattle.commit_desk.specs.Answers.{events_of_clear};
 ghost use Rattle.commit_desk.specs.Passes.{HasCleared, IsResting};
-ghost use Rattle.slice_recycler.specs.Turns.{ClearsOrRests, IsTurn};
+ghost use Rattle.slice_recycler.specs.Turns.{ClearsOrRests, IsTurn, StartsClear};
 
 use commit_desk::{ClearRefusal, Named, ToClear};
 use document_store::FreeSlots;
@@ -12,7 +12,8 @@ use funnel_model::ClearJob;
 use slice_rule::{PassSeat, Pool, PoolName};
 use std::sync::{Mutex, Wait};
 
-// The first turn: the desk names the slice, or refuses.
+// The first turn: the desk names the slice, or refuses. A layout that no slice has any more comes back with it, to be dropped when the lock
+// is free again.
 pub(crate) fn start<N: PoolName, R: Wait>(
     rt: &R,
     pool: &Pool,
@@ -22,7 +23,7 @@ pub(crate) fn start<N: PoolName, R: Wait>(
     requires named { pool.now ≡ N.pool }
     requires rests { IsResting pool.now seat.old }
     ensures turn { IsTurn seat.old.number seat.old.front seat.new.front
-        (λ history. AnswersClear pool.now.limits.events pool.now.limits history seat.old.number result) (events_of_clear seat.old.number result) }
+        (StartsClear pool.now seat.old.number result) (events_of_clear seat.old.number result) }
     ensures next { ClearsOrRests pool.now seat.new result }
     ensures number { seat.new.number ≡ seat.old.number }
     ensures legal { IsLegal pool.now.limits seat.new.front }

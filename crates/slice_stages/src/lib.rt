@@ -10,4 +10,4 @@ mod stage;
 mod stages;
 
 pub use stage::Stage;
-pub use stages::Stages;
+pub use stages::{Stages, all_below};

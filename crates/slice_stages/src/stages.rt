@@ -240,8 +240,8 @@ impl Stages {
     }
 }
 
-// The set of so many slices.
-fn all_below(slices: u32) -> SliceSet
+/// The set of so many slices.
+pub fn all_below(slices: u32) -> SliceSet
     requires { slices ≤ MOST_SLICES }
     ensures { (slice : ℕ) → Contains result slice ↔ (slice < slices) }
 {

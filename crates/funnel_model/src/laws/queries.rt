@@ -1,5 +1,5 @@
-//! Laws of boolean queries: what an expression asks of the texts that it keeps, that a text is answered in one way, and how its call is.
-ghost use Rattle.std.specs.Prelude.{◌≡◌, ◌⊎◌, ℕ, List, [], ◌∷◌, ◌++◌, true, codes};
+//! Laws of boolean queries: that a text is answered in one way, and how its call is.
+ghost use Rattle.std.specs.Prelude.{◌≡◌, ◌⊎◌, ℕ, List, [], ◌∷◌, ◌++◌, codes};
 ghost use Rattle.funnel_model.specs.declared.call.Call.TheVariants as call;
 ghost use Rattle.funnel_model.specs.declared.event.Event.{Event};
 ghost use Rattle.funnel_model.specs.declared.event.Event.TheVariants as event;
@@ -7,16 +7,10 @@ ghost use Rattle.funnel_model.specs.declared.expr.Expr.{Expr};
 ghost use Rattle.funnel_model.specs.declared.reply.Reply.{Reply};
 ghost use Rattle.funnel_model.specs.declared.reply.Reply.TheVariants as reply;
 ghost use Rattle.funnel_model.specs.Example.{first_added, small};
-ghost use Rattle.funnel_model.specs.Expressions.{Tree, answer_by, keeps, must, tree_of};
+ghost use Rattle.funnel_model.specs.Expressions.{Tree, answer_by, tree_of};
 ghost use Rattle.funnel_model.specs.Legal.{Limits};
 ghost use Rattle.funnel_model.specs.Queries.{IsMalformed, IsQuery, IsTooDeep};
 ghost use Rattle.funnel_model.specs.Steps.{IsJudged, IsMade, IsSpent, LacksMemory, Step};
-ghost use Rattle.funnel_model.specs.Words.{has_word};
-
-/// A text that an expression keeps has every word that the expression asks of each text.
-pub fn kept_texts_have_the_words()
-    ensures { (expr : Tree) (text word : List ℕ) → keeps expr text ≡ true → must expr word ≡ true → has_word text word ≡ true }
-{}
 
 /// A text is the query of one expression, or it is refused for one cause at one place.
 pub fn queries_have_one_answer()

@@ -1,4 +1,4 @@
-use Rattle.std.proofs.Common.{◌≡◌, ℕ, List, Ok, Some, None, length, refl, sym, ◌∙◌, ap, ap₂, arith, subst, ⊎_elim}
+use Rattle.std.proofs.Common.{◌≡◌, ℕ, List, length, sym, ◌∙◌, ap, ap₂, arith, subst, ⊎_elim}
 use Rattle.std.proofs.lemmas.Bool.{cases_order}
 use Rattle.funnel_model.specs.declared.claim.Claim.{Claim}
 use Rattle.funnel_model.specs.declared.event.Event.{Event}
@@ -7,11 +7,8 @@ use Rattle.funnel_model.specs.Legal.{Limits, MayTake}
 use Rattle.funnel_model.specs.Slices.{IsInState, Live, claimed}
 use Rattle.funnel_model.proofs.Columns.{one_state}
 use Rattle.funnel_model.proofs.ReserveLemmas.{one_held_count, one_ready, one_source}
-use Rattle.commit_desk.specs.Answers.{TakesCalls}
-use Rattle.commit_desk.specs.Laws.{NextLookIsOne, TakeOfMoveIsOne, TakeOfMoveWantsMemory}
-use Rattle.commit_desk.specs.Moving.{AnswersTakeMove, HasRoomToEmpty, IsLowestFree, IsLowestLive, IsNamedAgain, IsNextToMove, LacksRoomToEmpty, LooksState}
-use Rattle.commit_desk.specs.declared.answers.TakenMove.{TakenMove}
-use Rattle.commit_desk.specs.declared.look.Look.{Look}
+use Rattle.commit_desk.specs.Laws.{NextLookIsOne, TakeOfMoveHasCause, TakeOfMoveIsOne}
+use Rattle.commit_desk.specs.Moving.{HasRoomToEmpty, IsLowestFree, IsLowestLive, IsNamedAgain, IsNextToMove, LacksRoomToEmpty, LooksState}
 use Rattle.commit_desk.proofs.laws.moves_have_one_answer.Goals as goal
 
 -- the lowest column that no look names is one
@@ -86,38 +83,31 @@ room_not_wanting limits history slice has lacks =
     let fewer = lacks.fewer in
     omega (arith, held, ready, enough, fewer)
 
--- where a column is taken, it is not refused
-none_refused : (most : ℕ) (limits : Limits) (history : List Event) (pass : ℕ) (look : Look) (slice column : ℕ) → TakesCalls most history →
-    MayTake limits history pass slice column → (slice ≡ look.slice → ⊥) → HasRoomToEmpty limits history look.slice → AnswersTakeMove most limits history pass look (Ok None) → ⊥
-none_refused most limits history pass look slice column takes may apart room refused = ⊎_elim
-    (λ many. absurd (omega (arith, takes, many)))
+take_is_one : TakeOfMoveIsOne
+take_is_one most limits history pass look taken other is is_too =
+    let slices = one_slice limits history pass taken.claim.slice taken.claim.column other.claim.slice other.claim.column is.0.may is_too.0.may in
+    let columns = one_column limits history pass taken.claim.slice taken.claim.column other.claim.slice other.claim.column is.0.may is_too.0.may in
+    (ap₂ (λ s c. let k : Claim = record { slice = s; column = c } in k) slices columns, is.1 ∙ sym is_too.1)
+
+-- where a column may be taken, it isn't said that none may
+has_cause : TakeOfMoveHasCause
+has_cause most limits history pass look doc refused some =
+    let slice = some.0 in
+    let column = some.1 in
+    let may = some.2 in
+    ⊎_elim
+    (λ many. let takes = may.takes_calls in absurd (omega (arith, takes, many)))
     (λ others. ⊎_elim
-    (λ no_room. no_room slice may.in_range may.room)
+    (λ gone. gone may.there)
+    (λ others. ⊎_elim
+    (λ no_room. no_room slice may.may.in_range may.may.room)
     (λ rest. ⊎_elim
-    (λ its_own. apart (one_slice limits history pass slice column look.slice its_own.0 may its_own.1))
-    (λ lacks. room_not_wanting limits history look.slice room lacks)
+    (λ its_own. may.other (one_slice limits history pass slice column look.slice its_own.0 may.may its_own.1))
+    (λ lacks. room_not_wanting limits history look.slice may.room lacks)
     rest)
     others)
-    refused
-
-taken_not_refused : (most : ℕ) (limits : Limits) (history : List Event) (pass : ℕ) (look : Look) (taken : TakenMove) →
-    AnswersTakeMove most limits history pass look (Ok (Some taken)) → AnswersTakeMove most limits history pass look (Ok None) → ⊥
-taken_not_refused most limits history pass look taken is refused =
-    none_refused most limits history pass look taken.claim.slice taken.claim.column is.0 is.1 is.2 is.4 refused
-
-take_is_one : TakeOfMoveIsOne
-take_is_one most limits history pass look (Some taken) (Some other) is is_too =
-    let slices = one_slice limits history pass taken.claim.slice taken.claim.column other.claim.slice other.claim.column is.1 is_too.1 in
-    let columns = one_column limits history pass taken.claim.slice taken.claim.column other.claim.slice other.claim.column is.1 is_too.1 in
-    let claims : taken.claim ≡ other.claim = ap₂ (λ s c. let k : Claim = record { slice = s; column = c } in k) slices columns in
-    ap₂ (λ (c : Claim) (l : Look). Some (c, l)) claims (is.3 ∙ sym is_too.3)
-take_is_one most limits history pass look (Some taken) None is is_too = absurd (taken_not_refused most limits history pass look taken is is_too)
-take_is_one most limits history pass look None (Some other) is is_too = absurd (taken_not_refused most limits history pass look other is_too is)
-take_is_one most limits history pass look None None is is_too = refl
-
--- where memory is wanting, a column may be taken
-wants_memory : TakeOfMoveWantsMemory
-wants_memory most limits history pass look memory is refused = none_refused most limits history pass look is.2 is.3 is.0 is.4 is.5 is.1 refused
+    others)
+    refused.0
 
 pub returns : goal.returns
-returns c = (next_is_one, take_is_one, wants_memory)
+returns c = (next_is_one, take_is_one, has_cause)

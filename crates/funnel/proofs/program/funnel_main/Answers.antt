@@ -1,19 +1,18 @@
-use Rattle.std.proofs.Common.{rules, ◌≡◌, false, length, map, Some, None, inl, inr, refl, sym, ap, ◌∙◌, subst}
+use Rattle.std.proofs.Common.{rules, ◌≡◌, false, length, map, Some, None, inl, inr, refl, sym, ap, subst, ◌∙◌}
 use Rattle.std.proofs.lemmas.List.{length-map}
 use Rattle.funnel_server.specs.Gates.{gate_state}
-use Rattle.std.proofs.lemmas.Bool.{false≢true}
-use Rattle.std.specs.Option.{is_some}
-use Rattle.command_line.specs.Commands.{command_of, is_fit, is_serve}
+use Rattle.command_line.specs.Commands.{command_of, is_fit}
 use Rattle.funnel.specs.Texts.{text_asked}
-use Rattle.funnel.proofs.AskedTexts.{asked_is_no_command, asks_no_text}
+use Rattle.funnel.proofs.AskedTexts.{asks_no_text}
 use Rattle.funnel.specs.Ends.{why_of_config}
 use Rattle.funnel.specs.Misfits.{misfit_of}
 use Rattle.funnel.specs.Programs.{Streams}
 use Rattle.funnel.specs.Words.{words_in}
 use Rattle.command_line.specs.declared.command.Command.TheVariants as command
 use Rattle.funnel.specs.declared.ends.Why.TheVariants as why_of
-use Rattle.funnel.proofs.Endings.{are_no_fit, serve_in_turns, without_memory}
+use Rattle.funnel.proofs.Endings.{are_no_fit, serve_in_turns}
 use Rattle.funnel.proofs.Turns.{refused_not_done, runs_nowhere}
+use Rattle.funnel.proofs.Uses.{fits_are_written, fits_read, not_carried_out, run_without_memory, texts_are_written, unread_by_run, unwritten_by_load, unwritten_by_run}
 use Rattle.funnel.proofs.program.funnel_main.Goals as goal
 
 pub returns-in-Some-clause-in_turns : goal.returns-in-Some-clause-in_turns
@@ -21,10 +20,10 @@ returns-in-Some-clause-in_turns g c is_run =
     let told : text_asked (words_in c.args.words.now) ≡ Some c.in-Some.text = search rules in
     absurd (asks_no_text (words_in c.args.words.now) command.Run c.in-Some.text is_run told)
 
-pub returns-in-Some-clause-serve_uses_gates : goal.returns-in-Some-clause-serve_uses_gates
-returns-in-Some-clause-serve_uses_gates g c serves =
+pub returns-in-Some-clause-output_unused : goal.returns-in-Some-clause-output_unused
+returns-in-Some-clause-output_unused g c unused =
     let told : text_asked (words_in c.args.words.now) ≡ Some c.in-Some.text = search rules in
-    absurd (false≢true (sym (ap is_serve (asked_is_no_command (words_in c.args.words.now) (ap is_some told))) ∙ serves))
+    absurd (texts_are_written (words_in c.args.words.now) c.in-Some.text _ _ told unused)
 
 pub returns-in-Err-Memory-clause-in_turns : goal.returns-in-Err-Memory-clause-in_turns
 returns-in-Err-Memory-clause-in_turns g c is_run =
@@ -91,10 +90,30 @@ returns-in-Load-clause-ends g c =
     let no_fit : is_fit (command_of words) ≡ false = ap is_fit words_are in
     search (rules, no_fit)
 
-pub returns-in-Run-clause-input_untouched : goal.returns-in-Run-clause-input_untouched
-returns-in-Run-clause-input_untouched g c no_fit =
-    without_memory _ _ _ _ _ _ _ c.run_command-why.ensures.ran (λ memory. (c.run_command-why.ensures.without_memory memory).0)
+pub returns-in-Run-clause-input_unused : goal.returns-in-Run-clause-input_unused
+returns-in-Run-clause-input_unused g c unused =
+    let words_are : command_of (words_in c.args.words.now) ≡ Some command.Run = search rules in
+    (run_without_memory _ _ _ _ _ _ _ c.run_command-why.ensures.ran c.run_command-why.ensures.without_memory
+    (unread_by_run (words_in c.args.words.now) _ _ words_are unused)).0
 
-pub returns-in-Run-clause-output_untouched : goal.returns-in-Run-clause-output_untouched
-returns-in-Run-clause-output_untouched g c no_text no_fit =
-    without_memory _ _ _ _ _ _ _ c.run_command-why.ensures.ran (λ memory. (c.run_command-why.ensures.without_memory memory).1)
+pub returns-in-Run-clause-output_unused : goal.returns-in-Run-clause-output_unused
+returns-in-Run-clause-output_unused g c unused =
+    let words_are : command_of (words_in c.args.words.now) ≡ Some command.Run = search rules in
+    (run_without_memory _ _ _ _ _ _ _ c.run_command-why.ensures.ran c.run_command-why.ensures.without_memory
+    (unwritten_by_run (words_in c.args.words.now) _ _ words_are unused)).1
+
+pub returns-in-Load-clause-output_unused : goal.returns-in-Load-clause-output_unused
+returns-in-Load-clause-output_unused g c unused =
+    let words_are : command_of (words_in c.args.words.now) ≡ Some (command.Load c.in-Load.load) = search rules in
+    not_carried_out _ _ c.load_command-why.ensures.untouched c.load_command-why.ensures.without_memory
+    (unwritten_by_load (words_in c.args.words.now) c.in-Load.load _ _ words_are unused)
+
+pub returns-in-Fit-clause-input_unused : goal.returns-in-Fit-clause-input_unused
+returns-in-Fit-clause-input_unused g c unused =
+    let words_are : command_of (words_in c.args.words.now) ≡ Some (command.Fit c.in-Fit.fit) = search rules in
+    absurd (fits_read (words_in c.args.words.now) c.in-Fit.fit _ _ words_are unused)
+
+pub returns-in-Fit-clause-output_unused : goal.returns-in-Fit-clause-output_unused
+returns-in-Fit-clause-output_unused g c unused =
+    let words_are : command_of (words_in c.args.words.now) ≡ Some (command.Fit c.in-Fit.fit) = search rules in
+    absurd (fits_are_written (words_in c.args.words.now) c.in-Fit.fit _ _ words_are unused)

@@ -25,4 +25,4 @@ pub returns-clause-kept : goal.returns-clause-kept
 returns-clause-kept g c =
     let pool = g.N.PoolName.pool in
     let limits_are = opened_limits pool c.args.blank c.args.config.now (sym c.requires.blank.named) c.requires.blank.limits in
-    keeps_last pool c.args.config.now c.close.result limits_are c.close.ensures.base
+    keeps_last pool c.args.config.now c.close.result limits_are c.close.ensures.base c.close.ensures.commits c.close.ensures.events

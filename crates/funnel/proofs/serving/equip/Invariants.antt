@@ -1,5 +1,6 @@
 use Rattle.std.proofs.Common.{◌≡◌, ◌≤◌, ◌++◌, length, vec_capacity}
-use Rattle.funnel.specs.Workers.{AreEquipped, gates_of, states_of, told_by}
+use Rattle.funnel.specs.Workers.{gates_of, states_of, told_by}
+use Rattle.funnel.proofs.Equipped.{AreEquipped}
 use Rattle.funnel.proofs.serving.equip.Given as goal
 
 abbrev pub invariant-loop-alloc : goal.invariant-loop-alloc

@@ -3,7 +3,7 @@ use Rattle.std.proofs.lemmas.List.{length-map}
 use Rattle.funnel_model.specs.declared.config.Config.{Config}
 use Rattle.funnel_server.specs.Gates.{gate_state}
 use Rattle.funnel.specs.Workers.{HaveWorkedInTurns}
-use Rattle.funnel.proofs.Endings.{not_begun}
+use Rattle.funnel.proofs.Endings.{keeps_last, not_begun}
 use Rattle.funnel.proofs.Opened.{opened_config, opened_counted, opened_limits}
 use Rattle.funnel.proofs.ServeRuns.{has_served, worked_count}
 use Rattle.funnel.specs.declared.ends.Why.TheVariants as why_of
@@ -21,6 +21,12 @@ returns-in-Ok-ran-clause-ends g c =
     c.close.result limits_are config_is counted
     (omega (arith, enough, length-map c.args.gates.items (gate_state g.G.Gate g.G.Conn.Source g.G.Conn.Sink)))
     worked c.close.ensures.legal c.close.ensures.caused c.close.ensures.sound c.close.ensures.passes
+
+pub returns-in-Ok-ran-clause-kept : goal.returns-in-Ok-ran-clause-kept
+returns-in-Ok-ran-clause-kept g c =
+    let pool = g.N.PoolName.pool in
+    let limits_are = opened_limits pool c.args.blank c.args.config.now (sym c.requires.blank.named) c.requires.blank.limits in
+    keeps_last pool c.args.config.now c.close.result limits_are c.close.ensures.base c.close.ensures.commits c.close.ensures.events
 
 pub returns-in-Ok-ran-clause-count : goal.returns-in-Ok-ran-clause-count
 returns-in-Ok-ran-clause-count g c =

@@ -1,6 +1,7 @@
 use Rattle.std.proofs.Common.{◌≡◌, ◌≤◌, ◌+◌, ◌++◌, length, vec_capacity}
 use Rattle.std.specs.Vec.Iter.{into_iter_items}
-use Rattle.funnel.specs.Workers.{GaveBack, gates_of, states_of, told_by}
+use Rattle.funnel.specs.Workers.{gates_of, states_of, told_by}
+use Rattle.funnel.proofs.Equipped.{GaveBack}
 use Rattle.funnel.proofs.serving.take_back.Given as goal
 
 abbrev pub invariant-loop-worker : goal.invariant-loop-worker

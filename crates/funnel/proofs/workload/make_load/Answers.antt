@@ -99,10 +99,10 @@ pub returns-in-Ok-results-clause-kept : goal.returns-in-Ok-results-clause-kept
 returns-in-Ok-results-clause-kept g c =
     let pool = g.N.PoolName.pool in
     let limits_are = opened_limits pool c.args.blank c.args.config.now (sym c.requires.blank.named) c.requires.blank.limits in
-    keeps_last pool c.args.config.now c.close-closed.result limits_are c.close-closed.ensures.base
+    keeps_last pool c.args.config.now c.close-closed.result limits_are c.close-closed.ensures.base c.close-closed.ensures.commits c.close-closed.ensures.events
 
 pub returns-clause-kept : goal.returns-clause-kept
 returns-clause-kept g c =
     let pool = g.N.PoolName.pool in
     let limits_are = opened_limits pool c.args.blank c.args.config.now (sym c.requires.blank.named) c.requires.blank.limits in
-    keeps_last pool c.args.config.now c.close-closed.result limits_are c.close-closed.ensures.base
+    keeps_last pool c.args.config.now c.close-closed.result limits_are c.close-closed.ensures.base c.close-closed.ensures.commits c.close-closed.ensures.events

@@ -3,4 +3,4 @@ use Rattle.funnel_stats.proofs.WordTests.{is_word-by}
 use Rattle.funnel_stats.proofs.listing.is_word.Goals as goal
 
 pub returns : goal.returns
-returns c = is_word-by c.args.text.now c.in_ok-found.found c.is_alone.result c.is_alone.ensures.rising c.in_ok-found.ensures c.is_alone.ensures.alone
+returns c = is_word-by c.args.text.now c.in-Ok.found c.is_alone.result c.is_alone.ensures.rising c.in-Ok.ensures c.is_alone.ensures.alone

@@ -8,7 +8,7 @@ invariant-loop-room g l = record {
   taken : HasTaken l.bytes.items (g.S.Source.incoming l.fn.source) (g.S.Source.incoming l.source)
       (g.S.Borrower.borrowed l.fn.source) (g.S.Borrower.borrowed l.source)
       (g.S.Source.beside_read l.fn.source) (g.S.Source.beside_read l.source);
-  read : HasRead g.S.Source.read_gives l.fn.source l.source;
+  read : HasRead g.S.Source.read_gives l.bytes.items l.fn.source l.source;
 }
 
 abbrev pub decreases-loop-room : goal.decreases-loop-room

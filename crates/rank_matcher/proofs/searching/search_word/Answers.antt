@@ -12,8 +12,8 @@ use Rattle.rank_matcher.specs.Evaluation.{Covers}
 use Rattle.rank_matcher.proofs.searching.search_word.Goals as goal
 
 -- the rows of the layout have a word that covers each word of the slice
-pub evaluate-requires-clause-can_read : goal.evaluate-requires-clause-can_read
-evaluate-requires-clause-can_read g c =
+pub evaluate_all-requires-clause-can_read : goal.evaluate_all-requires-clause-can_read
+evaluate_all-requires-clause-can_read g c =
     let config = c.args.layout.now.config in
     let range = c.slice_range-first.ensures in
     let reach = g.R.Rows.reach c.args.rows.now in

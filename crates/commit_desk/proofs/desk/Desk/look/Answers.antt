@@ -1,4 +1,4 @@
-use Rattle.std.proofs.Common.{◌≡◌, ⊎_elim, inl, inr, ℕ, List, [], sym, ap, ◌∙◌, subst, append-nil}
+use Rattle.std.proofs.Common.{◌≡◌, ⊎_elim, inl, inr, ℕ, List, [], None, Some, Ok, sym, ap, ◌∙◌, subst, append-nil}
 use Rattle.std.specs.List.{list_any}
 use Rattle.funnel_model.specs.declared.event.Event.{Event}
 use Rattle.funnel_model.specs.Events.{deletes_or_drops}
@@ -7,7 +7,7 @@ use Rattle.funnel_model.specs.Legal.{Limits}
 use Rattle.funnel_model.specs.Reserve.{IsSource}
 use Rattle.funnel_model.specs.Slices.{IsInState, Live}
 use Rattle.commit_desk.specs.Desks.{DeskState}
-use Rattle.commit_desk.specs.Moving.{HasLive, IsLowestFree, IsNamedAgain, IsNextToMove, IsToBeEmptied, LooksState, document_of}
+use Rattle.commit_desk.specs.Moving.{HasLive, IsLookAtNext, IsLowestFree, IsNamedAgain, IsNextToMove, IsToBeEmptied, LooksState, document_of, looks_after, with_look}
 use Rattle.commit_desk.specs.declared.look.Look.{Look}
 use Rattle.commit_desk.proofs.Causes.{source_is_caused}
 use Rattle.commit_desk.proofs.FindTurns.{desk_is}
@@ -57,22 +57,25 @@ returns-clause-answer c =
     let now = c.args.self.now in
     let up = c.catch_up.ensures in
     let look = c.in_ok-look.look in
-    let start = c.before.before.before.before.before.before.before in
+    let start = c.before.before.before.before.before.before in
+    let number : c.number-pass.result ≡ c.args.seat.now.number = c.number-pass.ensures.number ∙ up.seat.number in
+    let forgot : c.forget.new.self ≡ with_look c.args.looks.now c.args.seat.now.number None = c.forget.ensures ∙ ap (λ n. with_look c.args.looks.now n None) number in
     let e = empties_now start in
     let found = c.next_to_move-column.ensures in
-    let next : IsNextToMove now.pool.limits c.args.looks.now now.history c.in-Some.slice c.next_to_move-column.result found.0 found.1 =
-    subst (λ (d : DeskState). IsNextToMove d.pool.limits c.args.looks.now d.history c.in-Some.slice c.next_to_move-column.result found.0 found.1) (looked_now start) found.2 in
+    let next : IsNextToMove now.pool.limits c.forget.new.self now.history c.in-Some.slice c.next_to_move-column.result found.0 found.1 =
+    subst (λ (d : DeskState). IsNextToMove d.pool.limits c.forget.new.self d.history c.in-Some.slice c.next_to_move-column.result found.0 found.1) (looked_now start) found.2 in
     let lives = live_now start look c.in_ok-look.ensures.slice c.in_ok-look.ensures.column c.in_ok-look.ensures.live in
-    let of_slice : IsNextToMove now.pool.limits c.args.looks.now now.history look.slice c.next_to_move-column.result found.0 found.1 =
-    subst (λ k. IsNextToMove now.pool.limits c.args.looks.now now.history k c.next_to_move-column.result found.0 found.1) (sym c.in_ok-look.ensures.slice) next in
-    let of_column : IsNextToMove now.pool.limits c.args.looks.now now.history look.slice look.column found.0 found.1 =
-    subst (λ k. IsNextToMove now.pool.limits c.args.looks.now now.history look.slice k found.0 found.1) (sym c.in_ok-look.ensures.column) of_slice in (
-      record {
-        held = e.0;
-        empties = subst (λ k. IsToBeEmptied c.args.reserve now.events_limit now.pool.limits now.history c.args.id k e.0) (sym c.in_ok-look.ensures.slice) e.1;
-        next = next_is now.pool.limits c.args.looks.now now.history look.slice look.column found.0 (document_of look) found.1 look.since of_column lives;
-      },
-      c.in_ok-look.ensures.opened ∙ c.number.ensures.number ∙ up.seat.number,
+    let of_slice : IsNextToMove now.pool.limits c.forget.new.self now.history look.slice c.next_to_move-column.result found.0 found.1 =
+    subst (λ k. IsNextToMove now.pool.limits c.forget.new.self now.history k c.next_to_move-column.result found.0 found.1) (sym c.in_ok-look.ensures.slice) next in
+    let of_column : IsNextToMove now.pool.limits c.forget.new.self now.history look.slice look.column found.0 found.1 =
+    subst (λ k. IsNextToMove now.pool.limits c.forget.new.self now.history look.slice k found.0 found.1) (sym c.in_ok-look.ensures.column) of_slice in (
+      subst (λ (l : LooksState). IsLookAtNext c.args.reserve now.events_limit now.pool.limits l now.history c.args.id look) forgot
+          (record {
+            held = e.0;
+            empties = subst (λ k. IsToBeEmptied c.args.reserve now.events_limit now.pool.limits now.history c.args.id k e.0) (sym c.in_ok-look.ensures.slice) e.1;
+            next = next_is now.pool.limits c.forget.new.self now.history look.slice look.column found.0 (document_of look) found.1 look.since of_column lives;
+          }),
+      c.in_ok-look.ensures.opened ∙ number,
     )
 
 pub returns-clause-look : goal.returns-clause-look
@@ -81,7 +84,7 @@ returns-clause-look c =
     let up = c.catch_up.ensures in
     let look = c.in_ok-look.look in
     let front = c.catch_up.new.seat.front in
-    let start = c.before.before.before.before.before.before.before in
+    let start = c.before.before.before.before.before.before in
     let front_now : c.args.self.now.history ≡ front = sym (ap (λ (d : DeskState). d.history) (view_now start.before.before)) ∙ sym up.front in
     let e = empties_now start in
     let source : IsSource i.home.pool.limits i.home.history c.in-Some.slice e.0 = subst (λ (d : DeskState). IsSource d.pool.limits d.history c.in-Some.slice e.0) (sym c.self.view_is) e.1.source in
@@ -93,3 +96,14 @@ returns-clause-look c =
       of_text = c.in_ok-look.ensures.of_text;
       cause = ap (list_any deletes_or_drops) (up.front ∙ up.home.history) ∙ source_is_caused i.home.pool i.events_limit i.home.history (books_of i) c.in-Some.slice e.0 c.self.invariant source;
     }
+
+-- the looks, without what the pass itself had named
+forgot_now : (c : After-to_be_emptied) → c.forget.new.self ≡ with_look c.args.looks.now c.args.seat.now.number None
+forgot_now c = c.forget.ensures ∙ ap (λ n. with_look c.args.looks.now n None) (c.number-pass.ensures.number ∙ c.catch_up.ensures.seat.number)
+
+pub returns-in_default-clause-looks : goal.returns-in_default-clause-looks
+returns-in_default-clause-looks c = forgot_now c.before
+
+pub returns-clause-looks : goal.returns-clause-looks
+returns-clause-looks c =
+    c.name.ensures ∙ ap (λ (l : LooksState). looks_after l (Ok (Some c.in_ok-look.look))) (forgot_now c.before.before.before.before.before.before.before.before)

@@ -1,6 +1,7 @@
 use Rattle.std.proofs.Common.{◌≡◌, ℕ, sym, ap, ◌∙◌, arith}
 use Rattle.std.proofs.lemmas.Bool.{false≢true}
 use Rattle.funnel_model.specs.History.{Document}
+use Rattle.document_store.proofs.SlotLemmas.{column_is_over}
 use Rattle.commit_desk.specs.Desks.{DeskState}
 use Rattle.commit_desk.specs.Moving.{IsFreeToMove}
 use Rattle.commit_desk.proofs.Inside.{books_of}
@@ -10,7 +11,7 @@ use Rattle.commit_desk.proofs.desk.Desk.lowest_free.Goals as goal
 pub loop-column-init : goal.loop-column-init
 loop-column-init c lower d since below free =
     let i = c.self.inside in
-    none_live_over c.args.self.now i.home i.events_limit (books_of i) c.self.invariant c.self.view_is c.args.slice lower (λ at. c.first_over-column.ensures lower at below) d since free.live
+    none_live_over c.args.self.now i.home i.events_limit (books_of i) c.self.invariant c.self.view_is c.args.slice lower (λ at. column_is_over i.records c.args.slice c.first_over-column.result lower c.first_over-column.ensures at below) d since free.live
 
 pub loop-column-preserved : goal.loop-column-preserved
 loop-column-preserved c lower d since in' free =

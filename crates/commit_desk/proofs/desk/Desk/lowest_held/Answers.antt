@@ -1,4 +1,5 @@
 use Rattle.std.proofs.Common.{◌≡◌, ◌+◌, ◌<◌, false, sym, ap, ◌∙◌, subst, arith}
+use Rattle.document_store.proofs.SlotLemmas.{column_is_over}
 use Rattle.funnel_model.specs.Legal.{IsLegal}
 use Rattle.funnel_model.specs.Slices.{is_clearing}
 use Rattle.commit_desk.specs.Desks.{DeskState}
@@ -11,7 +12,8 @@ loop-column-init c =
     let kept = c.self.invariant.kept in
     subst (λ (d : DeskState). NoneHeldBelow d.history c.args.slice c.first_over-column.result) c.self.view_is
     (none_held-over i.home.pool.limits i.home.history i.records c.args.slice c.first_over-column.result kept.legal kept.recorded
-    (subst (λ (d : DeskState). is_clearing c.args.slice d.history ≡ false) (sym c.self.view_is) c.requires.not_clearing) c.first_over-column.ensures)
+    (subst (λ (d : DeskState). is_clearing c.args.slice d.history ≡ false) (sym c.self.view_is) c.requires.not_clearing)
+    (λ at in' below. column_is_over i.records c.args.slice c.first_over-column.result at c.first_over-column.ensures in' below))
 
 pub loop-column-preserved : goal.loop-column-preserved
 loop-column-preserved c =

@@ -15,13 +15,13 @@ use Rattle.slice_rule.specs.Numbers.{last_number}
 use Rattle.slice_rule.specs.Pools.{PoolId}
 use Rattle.commit_desk.specs.Desks.{DeskState, IsCaughtUp, Makes}
 use Rattle.commit_desk.specs.Journals.{with_commit}
-use Rattle.commit_desk.specs.Kept.{Books}
-use Rattle.commit_desk.proofs.DocumentEvents.{desk-add, desk-as, taken_column}
+use Rattle.commit_desk.proofs.DocumentEvents.{desk-add, desk-as}
 use Rattle.commit_desk.proofs.HeldClaims.{bits_now}
 use Rattle.commit_desk.proofs.Inside.{books_of, desk_of}
 use Rattle.commit_desk.proofs.Journals.{journal_fits}
-use Rattle.commit_desk.proofs.RecordFacts.{no_entry, none_live_in_pending, taken_is_pending}
-use Rattle.commit_desk.proofs.Turns.{makes_one}
+use Rattle.commit_desk.proofs.RecordFacts.{no_entry, none_live_in_pending}
+use Rattle.commit_desk.proofs.MadeEvents.{desk_at, made_with, number_is}
+use Rattle.commit_desk.proofs.TakenColumns.{HasTaken, has_taken}
 use Rattle.commit_desk.proofs.desk.Desk.make_add.Goals as goal
 
 pub make_event-number-requires-clause-ready : goal.make_event-number-requires-clause-ready
@@ -29,50 +29,26 @@ make_event-number-requires-clause-ready c =
     subst (λ n. (b : Bit) → Contains c.args.bits.now.bits b ↔ Contains c.args.seat.now.own (fact.BitSet (last_number n c.args.seat.now.front) b)) (sym c.number-pass.ensures.number)
     c.requires.written.bits_set
 
-abbrev books : goal.After-live-arg-1 → Books
-books c =
-    let i = c.self.inside in record {
-      slices = i.slices;
-      columns = i.columns;
-      events = i.events;
-      journal = i.journal;
-      table = i.records;
-      live = i.live;
-      tokens = i.tokens;
-      layouts = i.layouts;
-      stages = i.stages;
-    }
-
--- the pass's last event is its claim of the column
-taken_now : (c : goal.After-live-arg-1) → last_by c.number-pass.result c.self.inside.home.history ≡ Some (event.Take c.number-pass.result c.args.claim.slice c.args.claim.column)
-taken_now c =
-    let history = c.self.inside.home.history in
-    let front : c.args.seat.now.front ≡ history = c.requires.caught_up.front ∙ sym (ap (λ (d : DeskState). d.history) c.self.view_is) in
-    subst (λ n. last_by n history ≡ Some (event.Take n c.args.claim.slice c.args.claim.column)) (sym c.number-pass.ensures.number)
-    (subst (λ (h : List Event). last_by c.args.seat.now.number h ≡ Some (event.Take c.args.seat.now.number c.args.claim.slice c.args.claim.column)) front c.requires.written.holds)
-
-column_now : (c : goal.After-live-arg-1) → IsColumn c.self.inside.records c.args.claim.slice c.args.claim.column
-column_now c =
+-- what is kept of the column that it has claimed
+held : (c : goal.After-live-arg-1) → HasTaken c.self.inside.home.history (books_of c.self.inside) c.number-pass.result c.args.claim
+held c =
     let i = c.self.inside in
-    taken_column i.home.pool i.events_limit i.home.history (books c) c.self.invariant c.number-pass.result c.args.claim.slice c.args.claim.column (taken_now c)
+    has_taken c.args.self.now i.home i.events_limit (books_of i) c.self.invariant c.self.view_is c.args.seat.now c.requires.caught_up c.number-pass.result c.number-pass.ensures.number c.args.claim c.requires.written.holds
 
 absent_now : (c : goal.After-live-arg-1) → is_live c.args.doc.id c.self.inside.home.history ≡ false
 absent_now c = subst (λ (d : DeskState). is_live c.args.doc.id d.history ≡ false) (sym c.self.view_is) c.requires.may.0
 
 pub live-requires-clause-in_range : goal.live-requires-clause-in_range
-live-requires-clause-in_range c = column_now c
+live-requires-clause-in_range c = (held c).column
 
 pub live-requires-clause-pending : goal.live-requires-clause-pending
-live-requires-clause-pending c =
-    let i = c.self.inside in
-    let kept = c.self.invariant.kept in
-    (c.number-pass.result, taken_is_pending i.home.pool.limits i.home.history i.records kept.legal kept.recorded c.number-pass.result c.args.claim.slice c.args.claim.column (taken_now c) (column_now c))
+live-requires-clause-pending c = (c.number-pass.result, (held c).pending)
 
 pub add-requires-clause-slice : goal.add-requires-clause-slice
-add-requires-clause-slice c = let here = (column_now c.before.before).slice_in_range in omega (arith, here, c.self.invariant.kept.listed.slices_are)
+add-requires-clause-slice c = let here = (held c.before.before).column.slice_in_range in omega (arith, here, c.self.invariant.kept.listed.slices_are)
 
 pub add-requires-clause-column : goal.add-requires-clause-column
-add-requires-clause-column c = let here = (column_now c.before.before).column_in_range in omega (arith, here, c.self.invariant.kept.listed.columns_are)
+add-requires-clause-column c = let here = (held c.before.before).column.column_in_range in omega (arith, here, c.self.invariant.kept.listed.columns_are)
 
 -- the column that was claimed is pending, so it has no live document
 pub add-requires-clause-free : goal.add-requires-clause-free
@@ -81,7 +57,7 @@ add-requires-clause-free c other found =
     let kept = c.self.invariant.kept in
     let entry = kept.listed.listed other c.args.claim.slice c.args.claim.column found in
     none_live_in_pending i.home.pool.limits i.home.history i.records kept.legal kept.recorded c.number-pass.result c.args.claim.slice c.args.claim.column
-    (taken_now c.before.before) (column_now c.before.before) entry.doc entry.live
+    (held c.before.before).taken (held c.before.before).column entry.doc entry.live
 
 pub add-requires-clause-absent : goal.add-requires-clause-absent
 add-requires-clause-absent c =
@@ -97,17 +73,14 @@ allowed_now c =
     allowed_by i.home.pool.limits i.home.history (event.Add c.number-pass.result c.args.doc.id c.args.doc.text c.args.claim.slice c.args.claim.column c.args.bits.now.bits)
     (subst (λ (p : PoolId). c.number-pass.result < p.limits.passes) pool c.number-pass.ensures.in_range) c.self.invariant.none_awaited
     (record {
-      taken = taken_now c;
+      taken = (held c).taken;
       absent = absent_now c;
       inside = subst (λ (d : DeskState). All (λ (b : Bit). IsInSlice d.pool.limits.slice_words c.args.claim.slice b.word) c.args.bits.now.bits) (sym c.self.view_is) c.requires.written.inside;
       in_word = c.requires.of_words;
     })
 
 number_now : (c : goal.After-live-arg-1) → c.make_event-number.result ≡ length c.self.inside.home.history + 1
-number_now c =
-    let made = c.make_event-number.ensures in
-    made.number ∙ ap length made.home.history
-    ∙ length-append c.self.inside.home.history (event.Add c.number-pass.result c.args.doc.id c.args.doc.text c.args.claim.slice c.args.claim.column c.args.bits.now.bits ∷ [])
+number_now c = let made = c.make_event-number.ensures in number_is c.self.inside.home c.make_event-number.new.home (event.Add c.number-pass.result c.args.doc.id c.args.doc.text c.args.claim.slice c.args.claim.column c.args.bits.now.bits) c.make_event-number.result made.home made.number
 
 place_now : (c : goal.After-live-arg-1) → c.place-place.result + 1 ≡ place c.self.inside.home.history + 1
 place_now c = ap (λ n. n + 1) (c.place-place.ensures ∙ c.self.invariant.kept.journal_is.place_is)
@@ -146,7 +119,7 @@ invariant_of-self c =
       stages = i.stages;
     })
     c.make_event-number.result c.push.new.self c.live.new.self c.add.new.self i.stages
-    (desk-add i.home.pool i.events_limit i.home.history (books earlier) c.self.invariant pass s k doc bits c.add.new.self (allowed_now earlier) c.words.ensures.of_text
+    (desk-add i.home.pool i.events_limit i.home.history (books_of i) c.self.invariant pass s k doc bits c.add.new.self (allowed_now earlier) c.words.ensures.of_text
     (bits_now c.args.self.now (desk_of i) c.args.seat.now doc.words s k bits c.self.view_is c.requires.caught_up.front c.requires.written.document)
     (λ other. c.add.ensures.columns other ∙ ap (λ n. cond (other == n) (Some (s, k)) (column_of i.live other)) id)
     c.add.ensures.slices c.add.ensures.slice_columns)
@@ -163,12 +136,5 @@ returns-clause-made c =
     let made = c.make_event-number.ensures in
     let home = c.make_event-number.new.home in
     let seat = c.make_event-number.new.seat in
-    let doc = c.args.doc in
-    let s = c.args.claim.slice in
-    let k = c.args.claim.column in
-    let now : DeskState = record { pool = i.home.pool; events_limit = i.events_limit; history = i.home.history } in
-    let next : DeskState = record { pool = home.pool; events_limit = i.events_limit; history = home.history } in
-    subst (λ n. Makes (event.Add n doc.id doc.text s k c.args.bits.now.bits ∷ []) c.args.self.now next c.args.seat.now seat) c.number-pass.ensures.number
-    (subst (λ (d : DeskState). Makes (event.Add c.number-pass.result doc.id doc.text s k c.args.bits.now.bits ∷ []) d next c.args.seat.now seat) c.self.view_is
-    (makes_one now next c.args.seat.now seat (event.Add c.number-pass.result doc.id doc.text s k c.args.bits.now.bits)
-    (subst (λ (d : DeskState). IsCaughtUp d c.args.seat.now) (sym c.self.view_is) c.requires.caught_up) made.home.pool refl made.home.history (invariant_of-self c).kept.legal made.seat))
+    subst (λ n. Makes (event.Add n c.args.doc.id c.args.doc.text c.args.claim.slice c.args.claim.column c.args.bits.now.bits ∷ []) c.args.self.now (desk_at home i.events_limit) c.args.seat.now seat) c.number-pass.ensures.number
+    (made_with c.args.self.now i.home home i.events_limit c.args.seat.now seat (event.Add c.number-pass.result c.args.doc.id c.args.doc.text c.args.claim.slice c.args.claim.column c.args.bits.now.bits) c.self.view_is c.requires.caught_up made.home (invariant_of-self c).kept.legal made.seat)

@@ -13,14 +13,13 @@ use Rattle.slice_stages.specs.declared.stage.Stage.TheVariants as stage
 use Rattle.commit_desk.specs.Answers.{MayDeleteNow}
 use Rattle.commit_desk.specs.Desks.{DeskState, IsCaughtUp, Makes}
 use Rattle.commit_desk.specs.Journals.{with_commit}
-use Rattle.commit_desk.specs.Kept.{Books}
 use Rattle.commit_desk.specs.Records.{IsEntry}
 use Rattle.commit_desk.proofs.DocumentEvents.{desk-as, desk-delete, live_stage, none_retired_later}
 use Rattle.commit_desk.proofs.Inside.{books_of}
 use Rattle.commit_desk.proofs.Journals.{journal_fits}
 use Rattle.commit_desk.proofs.Options.{none_some}
 use Rattle.commit_desk.proofs.RecordFacts.{live_entry}
-use Rattle.commit_desk.proofs.Turns.{makes_one}
+use Rattle.commit_desk.proofs.MadeEvents.{desk_at, made_with, number_is}
 use Rattle.commit_desk.proofs.desk.Desk.make_delete.Goals as goal
 
 -- a live number is in the live list
@@ -33,20 +32,6 @@ unreachable-requires c =
     let e = live_entry i.home.pool.limits i.home.history i.records kept.legal kept.recorded i.live kept.listed c.args.id may.live in
     none_some (e.slice, e.column) (sym c.in_default.is ∙ c.remove.ensures.was ∙ e.entry)
 
-abbrev books : goal.After-delete-arg-1 → Books
-books c =
-    let i = c.self.inside in record {
-      slices = i.slices;
-      columns = i.columns;
-      events = i.events;
-      journal = i.journal;
-      table = i.records;
-      live = i.live;
-      tokens = i.tokens;
-      layouts = i.layouts;
-      stages = i.stages;
-    }
-
 abbrev entry_now : (c : goal.After-delete-arg-1) → IsEntry c.self.inside.records c.args.id c.in-Some.slice c.in-Some.column
 entry_now c = c.self.invariant.kept.listed.listed c.args.id c.in-Some.slice c.in-Some.column (sym c.in-Some.ensures.was)
 
@@ -54,12 +39,10 @@ stage_now : (c : goal.After-delete-arg-1) → (first : ℕ) × (over : ℕ) × (
 stage_now c =
     let i = c.self.inside in
     let e = entry_now c in
-    live_stage i.home.pool i.events_limit i.home.history (books c) c.self.invariant c.in-Some.slice c.in-Some.column e.doc e.in_table e.live
+    live_stage i.home.pool i.events_limit i.home.history (books_of i) c.self.invariant c.in-Some.slice c.in-Some.column e.doc e.in_table e.live
 
 number_now : (c : goal.After-delete-arg-1) → c.make_event-number.result ≡ length c.self.inside.home.history + 1
-number_now c =
-    let made = c.make_event-number.ensures in
-    made.number ∙ ap length made.home.history ∙ length-append c.self.inside.home.history (event.Del c.number-pass.result c.args.id ∷ [])
+number_now c = let made = c.make_event-number.ensures in number_is c.self.inside.home c.make_event-number.new.home (event.Del c.number-pass.result c.args.id) c.make_event-number.result made.home made.number
 
 pub delete-requires-clause-in_range : goal.delete-requires-clause-in_range
 delete-requires-clause-in_range c = (entry_now c).in_table
@@ -79,7 +62,7 @@ end_column-requires-clause-used c = subst IsUsed (sym (stage_now c.before.before
 pub end_column-requires-clause-last : goal.end_column-requires-clause-last
 end_column-requires-clause-last c =
     let i = c.self.inside in
-    none_retired_later i.home.pool i.events_limit i.home.history (books c.before.before) c.self.invariant c.make_event-number.result (number_now c.before.before)
+    none_retired_later i.home.pool i.events_limit i.home.history (books_of i) c.self.invariant c.make_event-number.result (number_now c.before.before)
 
 pub end_column-requires-clause-later : goal.end_column-requires-clause-later
 end_column-requires-clause-later c = let within = c.self.invariant.kept.staged.mark_within in omega (arith, within, number_now c.before.before)
@@ -135,7 +118,7 @@ invariant_of-self c =
       stages = with_stage i.stages s ended;
     })
     c.make_event-number.result c.push.new.self c.delete.new.self c.remove.new.self c.end_column.new.self
-    (desk-delete i.home.pool i.events_limit i.home.history (books earlier) c.self.invariant pass s k at.0 at.1 doc e.live c.remove.new.self
+    (desk-delete i.home.pool i.events_limit i.home.history (books_of i) c.self.invariant pass s k at.0 at.1 doc e.live c.remove.new.self
     (subst (λ n. IsAllowed i.home.pool.limits i.home.history (event.Del pass n)) (sym e.number) (allowed_now earlier)) may.takes_calls e.in_table
     (λ other. c.in-Some.ensures.columns other ∙ ap (λ n. cond (other == n) None (column_of i.live other)) (sym e.number))
     c.in-Some.ensures.slices c.in-Some.ensures.slice_columns at.2)
@@ -154,9 +137,5 @@ returns-clause-made c =
     let made = c.make_event-number.ensures in
     let home = c.make_event-number.new.home in
     let seat = c.make_event-number.new.seat in
-    let now : DeskState = record { pool = i.home.pool; events_limit = i.events_limit; history = i.home.history } in
-    let next : DeskState = record { pool = home.pool; events_limit = i.events_limit; history = home.history } in
-    subst (λ n. Makes (event.Del n c.args.id ∷ []) c.args.self.now next c.args.seat.now seat) c.number-pass.ensures.number
-    (subst (λ (d : DeskState). Makes (event.Del c.number-pass.result c.args.id ∷ []) d next c.args.seat.now seat) c.self.view_is
-    (makes_one now next c.args.seat.now seat (event.Del c.number-pass.result c.args.id)
-    (subst (λ (d : DeskState). IsCaughtUp d c.args.seat.now) (sym c.self.view_is) c.requires.caught_up) made.home.pool refl made.home.history (invariant_of-self c).kept.legal made.seat))
+    subst (λ n. Makes (event.Del n c.args.id ∷ []) c.args.self.now (desk_at home i.events_limit) c.args.seat.now seat) c.number-pass.ensures.number
+    (made_with c.args.self.now i.home home i.events_limit c.args.seat.now seat (event.Del c.number-pass.result c.args.id) c.self.view_is c.requires.caught_up made.home (invariant_of-self c).kept.legal made.seat)

@@ -8,7 +8,7 @@ use Rattle.slice_rule.specs.Seats.{PassState}
 use Rattle.commit_desk.specs.Desks.{DeskState, IsCaughtUp, Makes}
 use Rattle.commit_desk.proofs.FindEvents.{desk-end, end_allowed}
 use Rattle.commit_desk.proofs.Inside.{books_of, desk_of}
-use Rattle.commit_desk.proofs.Turns.{makes_one}
+use Rattle.commit_desk.proofs.MadeEvents.{desk_at, made_with}
 use Rattle.commit_desk.proofs.TokenEvents.{token_is_kept}
 use Rattle.commit_desk.proofs.desk.Desk.make_end.Goals as goal
 
@@ -58,9 +58,5 @@ returns-clause-made c =
     let made = c.make_event-self-inside.ensures in
     let home = c.make_event-self-inside.new.home in
     let seat = c.make_event-self-inside.new.seat in
-    let desk = desk_of i in
-    let next : DeskState = record { pool = home.pool; events_limit = i.events_limit; history = home.history } in
-    subst (λ n. Makes (event.End n ∷ []) c.args.self.now next c.args.seat.now seat) c.number-pass.ensures.number
-    (subst (λ (d : DeskState). Makes (event.End c.number-pass.result ∷ []) d next c.args.seat.now seat) c.self.view_is
-    (makes_one desk next c.args.seat.now seat (event.End c.number-pass.result) (subst (λ (d : DeskState). IsCaughtUp d c.args.seat.now) (sym c.self.view_is) c.requires.caught_up)
-    made.home.pool refl made.home.history (invariant_of-self c).kept.legal made.seat))
+    subst (λ n. Makes (event.End n ∷ []) c.args.self.now (desk_at home i.events_limit) c.args.seat.now seat) c.number-pass.ensures.number
+    (made_with c.args.self.now i.home home i.events_limit c.args.seat.now seat (event.End c.number-pass.result) c.self.view_is c.requires.caught_up made.home (invariant_of-self c).kept.legal made.seat)

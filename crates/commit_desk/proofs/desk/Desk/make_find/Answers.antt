@@ -10,7 +10,7 @@ use Rattle.commit_desk.specs.Answers.{TakesCalls}
 use Rattle.commit_desk.specs.Desks.{DeskState, IsCaughtUp, Makes}
 use Rattle.commit_desk.proofs.FindEvents.{desk-find, find_allowed, token_held}
 use Rattle.commit_desk.proofs.Inside.{books_of, desk_of}
-use Rattle.commit_desk.proofs.Turns.{makes_one}
+use Rattle.commit_desk.proofs.MadeEvents.{desk_at, made_with, number_is}
 use Rattle.commit_desk.proofs.StageFacts.{used_slices}
 use Rattle.commit_desk.proofs.TokenEvents.{idle_has_none}
 use Rattle.commit_desk.proofs.desk.Desk.make_find.Goals as goal
@@ -49,7 +49,7 @@ opened_now : (c : goal.After-in_use) → c.make_event-opened_at.result ≡ lengt
 opened_now c =
     let i = c.self.inside in
     let made = c.make_event-opened_at.ensures in
-    made.number ∙ ap length made.home.history ∙ length-append i.home.history (event.Find c.number-pass.result c.args.query.now ∷ [])
+    number_is i.home c.make_event-opened_at.new.home (event.Find c.number-pass.result c.args.query.now) c.make_event-opened_at.result made.home made.number
 
 place_now : (c : goal.After-in_use) → c.place-place.result ≡ place c.self.inside.home.history
 place_now c = c.place-place.ensures ∙ c.self.invariant.kept.journal_is.place_is
@@ -90,10 +90,6 @@ returns-clause-made c =
     let made = c.make_event-opened_at.ensures in
     let home = c.make_event-opened_at.new.home in
     let seat = c.make_event-opened_at.new.seat in
-    let query = c.args.query.now in
-    let now = desk_of i in
-    let next : DeskState = record { pool = home.pool; events_limit = i.events_limit; history = home.history } in
-    subst (λ n. Makes (event.Find n query ∷ []) c.args.self.now next c.args.seat.now seat) c.number-pass.ensures.number
-    (subst (λ (d : DeskState). Makes (event.Find c.number-pass.result query ∷ []) d next c.args.seat.now seat) c.self.view_is
-    (makes_one now next c.args.seat.now seat (event.Find c.number-pass.result query) (subst (λ (d : DeskState). IsCaughtUp d c.args.seat.now) (sym c.self.view_is) c.requires.caught_up)
-    made.home.pool refl made.home.history (invariant_of-self c).kept.legal made.seat))
+    subst (λ n. Makes (event.Find n c.args.query.now ∷ []) c.args.self.now (desk_at home i.events_limit) c.args.seat.now seat) c.number-pass.ensures.number
+    (made_with c.args.self.now i.home home i.events_limit c.args.seat.now seat (event.Find c.number-pass.result c.args.query.now) c.self.view_is c.requires.caught_up made.home
+    (invariant_of-self c).kept.legal made.seat)

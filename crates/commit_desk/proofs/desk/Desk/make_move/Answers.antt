@@ -21,7 +21,7 @@ use Rattle.commit_desk.proofs.MoveEvents.{desk-move}
 use Rattle.commit_desk.proofs.MovedRecords.{moved_slot, moved_table, over_slot}
 use Rattle.commit_desk.proofs.MoveTurns.{allowed_now, cause_now, column_then, from_now, id_now, none_there, pending_then, same_now, stage_now, to_now}
 use Rattle.commit_desk.proofs.Options.{none_some}
-use Rattle.commit_desk.proofs.Turns.{makes_one}
+use Rattle.commit_desk.proofs.MadeEvents.{desk_at, made_with, number_is}
 use Rattle.commit_desk.proofs.desk.Desk.make_move.Goals as goal
 
 pub make_event-number-requires-clause-allowed : goal.make_event-number-requires-clause-allowed
@@ -97,7 +97,7 @@ end_column-requires-clause-last c =
     let i = c.self.inside in
     let made = c.make_event-number.ensures in
     none_retired_later i.home.pool i.events_limit i.home.history (books_of i) c.self.invariant c.make_event-number.result
-    (made.number ∙ ap length made.home.history ∙ length-append i.home.history (event.Move c.number-pass.result c.id-id.result c.args.claim.slice c.args.claim.column c.args.bits.now.bits ∷ []))
+    (number_is i.home c.make_event-number.new.home (event.Move c.number-pass.result c.id-id.result c.args.claim.slice c.args.claim.column c.args.bits.now.bits) c.make_event-number.result made.home made.number)
 
 pub invariant_of-self : goal.invariant_of-self
 invariant_of-self c =
@@ -113,7 +113,7 @@ invariant_of-self c =
     let st = stage_now c.args.self.now i.home i.events_limit (books_of i) c.self.invariant c.self.view_is c.args.seat.now c.requires.caught_up c.number-pass.result c.number-pass.ensures.number c.args.claim c.requires.written.holds c.args.look c.requires.look c.requires.there in
     let same_id : look.doc.id ≡ at.doc.id = id_now c.args.self.now i.home i.events_limit (books_of i) c.self.invariant c.self.view_is c.args.seat.now c.requires.caught_up c.number-pass.result c.number-pass.ensures.number c.args.claim c.requires.written.holds c.args.look c.requires.look c.requires.there in
     let number : c.make_event-number.result ≡ length i.home.history + 1 =
-    made.number ∙ ap length made.home.history ∙ length-append i.home.history (event.Move pass c.id-id.result s k c.args.bits.now.bits ∷ []) in
+    number_is i.home home (event.Move pass c.id-id.result s k bits) c.make_event-number.result made.home made.number in
     let last = length i.home.history + 1 in
     let table = moved_table i.records look.slice look.column (over_slot (slot_at i.records look.slice look.column) at.doc at.lives last) s k (moved_slot look.place look.doc last) in
     let stages = with_stage i.stages look.slice (after_end i.home.pool.limits.columns last st.0 st.1) in
@@ -156,10 +156,7 @@ returns-clause-made c =
     let seat = c.make_event-number.new.seat in
     let s = c.args.claim.slice in
     let k = c.args.claim.column in
-    let now : DeskState = record { pool = i.home.pool; events_limit = i.events_limit; history = i.home.history } in
-    let next : DeskState = record { pool = home.pool; events_limit = i.events_limit; history = home.history } in
-    subst (λ n. Makes (event.Move c.args.seat.now.number n s k c.args.bits.now.bits ∷ []) c.args.self.now next c.args.seat.now seat) c.id-id.ensures
-    (subst (λ n. Makes (event.Move n c.id-id.result s k c.args.bits.now.bits ∷ []) c.args.self.now next c.args.seat.now seat) c.number-pass.ensures.number
-    (subst (λ (d : DeskState). Makes (event.Move c.number-pass.result c.id-id.result s k c.args.bits.now.bits ∷ []) d next c.args.seat.now seat) c.self.view_is
-    (makes_one now next c.args.seat.now seat (event.Move c.number-pass.result c.id-id.result s k c.args.bits.now.bits)
-    (subst (λ (d : DeskState). IsCaughtUp d c.args.seat.now) (sym c.self.view_is) c.requires.caught_up) made.home.pool refl made.home.history (invariant_of-self c).kept.legal made.seat)))
+    subst (λ n. Makes (event.Move c.args.seat.now.number n s k c.args.bits.now.bits ∷ []) c.args.self.now (desk_at home i.events_limit) c.args.seat.now seat) c.id-id.ensures
+    (subst (λ n. Makes (event.Move n c.id-id.result s k c.args.bits.now.bits ∷ []) c.args.self.now (desk_at home i.events_limit) c.args.seat.now seat) c.number-pass.ensures.number
+    (made_with c.args.self.now i.home home i.events_limit c.args.seat.now seat (event.Move c.number-pass.result c.id-id.result s k c.args.bits.now.bits) c.self.view_is c.requires.caught_up made.home
+    (invariant_of-self c).kept.legal made.seat))

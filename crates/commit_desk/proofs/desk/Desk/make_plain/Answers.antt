@@ -1,10 +1,10 @@
 use Rattle.std.proofs.Common.{◌≡◌, ◌<◌, [], ◌∷◌, length, refl, sym, ap, ◌∙◌, subst}
 use Rattle.funnel_model.specs.Legal.{IsAllowed}
 use Rattle.slice_rule.specs.Pools.{PoolId}
-use Rattle.commit_desk.specs.Desks.{DeskState, IsCaughtUp, Makes}
-use Rattle.commit_desk.specs.Kept.{Books}
+use Rattle.commit_desk.specs.Desks.{DeskState}
 use Rattle.commit_desk.proofs.PlainEvents.{allowed_now, desk-plain}
-use Rattle.commit_desk.proofs.Turns.{makes_one}
+use Rattle.commit_desk.proofs.Inside.{books_of}
+use Rattle.commit_desk.proofs.MadeEvents.{made_with}
 use Rattle.commit_desk.proofs.desk.Desk.make_plain.Goals as goal
 
 pub make_event-self-inside-requires-clause-allowed :
@@ -20,21 +20,10 @@ pub invariant_of-self : goal.invariant_of-self
 invariant_of-self g c =
     let i = c.self.inside in
     let desk : DeskState = record { pool = i.home.pool; events_limit = i.events_limit; history = i.home.history } in
-    let books : Books = record {
-      slices = i.slices;
-      columns = i.columns;
-      events = i.events;
-      journal = i.journal;
-      table = i.records;
-      live = i.live;
-      tokens = i.tokens;
-      stages = i.stages;
-      layouts = i.layouts;
-    } in
     let home = c.make_event-self-inside.new.home in
     let made = c.make_event-self-inside.ensures in
     let e = g.E.Entry.event c.args.entry.now in
-    desk-plain i.home.pool home.pool i.events_limit i.home.history home.history books c.make_event-self-inside.result e c.self.invariant c.requires.plain
+    desk-plain i.home.pool home.pool i.events_limit i.home.history home.history (books_of i) c.make_event-self-inside.result e c.self.invariant c.requires.plain
     (allowed_now desk c.args.self.now c.args.seat.now.number e c.self.view_is c.self.invariant.none_awaited c.requires.caught_up.in_range c.requires.own c.requires.may)
     (subst (λ (d : DeskState). length d.history < d.events_limit) (sym c.self.view_is) c.requires.takes_calls)
     made.home.pool made.home.history made.number
@@ -43,10 +32,5 @@ pub returns-clause-made : goal.returns-clause-made
 returns-clause-made g c =
     let i = c.self.inside in
     let made = c.make_event-self-inside.ensures in
-    let home = c.make_event-self-inside.new.home in
-    let desk : DeskState = record { pool = i.home.pool; events_limit = i.events_limit; history = i.home.history } in
-    let next : DeskState = record { pool = home.pool; events_limit = i.events_limit; history = home.history } in
-    let e = g.E.Entry.event c.args.entry.now in
-    subst (λ (d : DeskState). Makes (e ∷ []) d next c.args.seat.now c.make_event-self-inside.new.seat) c.self.view_is
-    (makes_one desk next c.args.seat.now c.make_event-self-inside.new.seat e (subst (λ (d : DeskState). IsCaughtUp d c.args.seat.now) (sym c.self.view_is) c.requires.caught_up)
-    made.home.pool refl made.home.history (invariant_of-self g c).kept.legal made.seat)
+    made_with c.args.self.now i.home c.make_event-self-inside.new.home i.events_limit c.args.seat.now c.make_event-self-inside.new.seat (g.E.Entry.event c.args.entry.now) c.self.view_is c.requires.caught_up
+    made.home (invariant_of-self g c).kept.legal made.seat

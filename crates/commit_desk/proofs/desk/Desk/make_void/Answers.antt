@@ -13,72 +13,41 @@ use Rattle.slice_rule.specs.Pools.{PoolId}
 use Rattle.slice_stages.specs.Stages.{IsUsed, after_end, stage_of, with_stage}
 use Rattle.slice_stages.specs.declared.stage.Stage.TheVariants as stage
 use Rattle.commit_desk.specs.Desks.{DeskState, IsCaughtUp, Makes}
-use Rattle.commit_desk.specs.Kept.{Books}
-use Rattle.commit_desk.proofs.DocumentEvents.{desk-as, none_retired_later, taken_column, taken_stage}
+use Rattle.commit_desk.proofs.DocumentEvents.{desk-as, none_retired_later}
 use Rattle.commit_desk.proofs.MoveEvents.{desk-void}
-use Rattle.commit_desk.proofs.RecordFacts.{taken_is_pending}
-use Rattle.commit_desk.proofs.Turns.{makes_one}
+use Rattle.commit_desk.proofs.Inside.{books_of}
+use Rattle.commit_desk.proofs.MadeEvents.{desk_at, made_with, number_is}
+use Rattle.commit_desk.proofs.TakenColumns.{HasTaken, has_taken}
 use Rattle.commit_desk.proofs.desk.Desk.make_void.Goals as goal
 
-abbrev books : goal.After-drop_column-arg-1 → Books
-books c =
-    let i = c.self.inside in record {
-      slices = i.slices;
-      columns = i.columns;
-      events = i.events;
-      journal = i.journal;
-      table = i.records;
-      live = i.live;
-      tokens = i.tokens;
-      layouts = i.layouts;
-      stages = i.stages;
-    }
-
--- the pass's last event is its claim of the column
-taken_now : (c : goal.After-drop_column-arg-1) → last_by c.number-pass.result c.self.inside.home.history ≡ Some (event.Take c.number-pass.result c.args.claim.slice c.args.claim.column)
-taken_now c =
-    let history = c.self.inside.home.history in
-    let front : c.args.seat.now.front ≡ history = c.requires.caught_up.front ∙ sym (ap (λ (d : DeskState). d.history) c.self.view_is) in
-    subst (λ n. last_by n history ≡ Some (event.Take n c.args.claim.slice c.args.claim.column)) (sym c.number-pass.ensures.number)
-    (subst (λ (h : List Event). last_by c.args.seat.now.number h ≡ Some (event.Take c.args.seat.now.number c.args.claim.slice c.args.claim.column)) front c.requires.claim)
-
-column_now : (c : goal.After-drop_column-arg-1) → IsColumn c.self.inside.records c.args.claim.slice c.args.claim.column
-column_now c =
+-- what is kept of the column that it has claimed
+held : (c : goal.After-drop_column-arg-1) → HasTaken c.self.inside.home.history (books_of c.self.inside) c.number-pass.result c.args.claim
+held c =
     let i = c.self.inside in
-    taken_column i.home.pool i.events_limit i.home.history (books c) c.self.invariant c.number-pass.result c.args.claim.slice c.args.claim.column (taken_now c)
-
-stage_now : (c : goal.After-drop_column-arg-1) → (first : ℕ) × (over : ℕ) × (stage_of c.self.inside.stages c.args.claim.slice ≡ stage.InUse first over)
-stage_now c =
-    let i = c.self.inside in
-    taken_stage i.home.pool i.events_limit i.home.history (books c) c.self.invariant c.number-pass.result c.args.claim.slice c.args.claim.column (taken_now c)
+    has_taken c.args.self.now i.home i.events_limit (books_of i) c.self.invariant c.self.view_is c.args.seat.now c.requires.caught_up c.number-pass.result c.number-pass.ensures.number c.args.claim c.requires.claim
 
 number_now : (c : goal.After-drop_column-arg-1) → c.make_event-number.result ≡ length c.self.inside.home.history + 1
-number_now c =
-    let made = c.make_event-number.ensures in
-    made.number ∙ ap length made.home.history ∙ length-append c.self.inside.home.history (event.Void c.number-pass.result c.args.claim.slice c.args.claim.column ∷ [])
+number_now c = let made = c.make_event-number.ensures in number_is c.self.inside.home c.make_event-number.new.home (event.Void c.number-pass.result c.args.claim.slice c.args.claim.column) c.make_event-number.result made.home made.number
 
 pub drop_column-requires-clause-in_range : goal.drop_column-requires-clause-in_range
-drop_column-requires-clause-in_range c = column_now c
+drop_column-requires-clause-in_range c = (held c).column
 
 pub drop_column-requires-clause-pending : goal.drop_column-requires-clause-pending
-drop_column-requires-clause-pending c =
-    let i = c.self.inside in
-    let kept = c.self.invariant.kept in
-    (c.number-pass.result, taken_is_pending i.home.pool.limits i.home.history i.records kept.legal kept.recorded c.number-pass.result c.args.claim.slice c.args.claim.column (taken_now c) (column_now c))
+drop_column-requires-clause-pending c = (c.number-pass.result, (held c).pending)
 
 pub end_column-requires-clause-in_range : goal.end_column-requires-clause-in_range
 end_column-requires-clause-in_range c =
     let kept = c.self.invariant.kept in
-    let here = (column_now c.before.before).slice_in_range in
+    let here = (held c.before.before).column.slice_in_range in
     omega (arith, here, kept.recorded.slices_are, kept.staged.count)
 
 pub end_column-requires-clause-used : goal.end_column-requires-clause-used
-end_column-requires-clause-used c = subst IsUsed (sym (stage_now c.before.before).2) tt
+end_column-requires-clause-used c = subst IsUsed (sym (held c.before.before).stage.2) tt
 
 pub end_column-requires-clause-last : goal.end_column-requires-clause-last
 end_column-requires-clause-last c =
     let i = c.self.inside in
-    none_retired_later i.home.pool i.events_limit i.home.history (books c.before.before) c.self.invariant c.make_event-number.result (number_now c.before.before)
+    none_retired_later i.home.pool i.events_limit i.home.history (books_of i) c.self.invariant c.make_event-number.result (number_now c.before.before)
 
 pub end_column-requires-clause-later : goal.end_column-requires-clause-later
 end_column-requires-clause-later c = let within = c.self.invariant.kept.staged.mark_within in omega (arith, within, number_now c.before.before)
@@ -90,7 +59,7 @@ allowed_now c =
     let pool : c.args.seat.now.pool ≡ i.home.pool = c.requires.caught_up.seated.same ∙ sym (ap (λ (d : DeskState). d.pool) c.self.view_is) in
     allowed_by i.home.pool.limits i.home.history (event.Void c.number-pass.result c.args.claim.slice c.args.claim.column)
     (subst (λ (p : PoolId). c.number-pass.result < p.limits.passes) pool c.number-pass.ensures.in_range) c.self.invariant.none_awaited
-    (record { taken = taken_now c })
+    (record { taken = (held c).taken })
 
 pub invariant_of-self : goal.invariant_of-self
 invariant_of-self c =
@@ -101,7 +70,7 @@ invariant_of-self c =
     let s = c.args.claim.slice in
     let k = c.args.claim.column in
     let earlier = c.before.before.before.before.before in
-    let at = stage_now earlier in
+    let at = (held earlier).stage in
     let e = event.Void pass s k in
     let ended = after_end i.home.pool.limits.columns (length i.home.history + 1) at.0 at.1 in
     desk-as i.home.pool home.pool i.events_limit (i.home.history ++ e ∷ []) home.history
@@ -117,7 +86,7 @@ invariant_of-self c =
       stages = with_stage i.stages s ended;
     })
     c.make_event-number.result i.journal c.drop_column.new.self i.live c.end_column.new.self
-    (desk-void i.home.pool i.events_limit i.home.history (books earlier) c.self.invariant pass s k at.0 at.1 (allowed_now earlier)
+    (desk-void i.home.pool i.events_limit i.home.history (books_of i) c.self.invariant pass s k at.0 at.1 (allowed_now earlier)
     (subst (λ (d : DeskState). list_any deletes_or_drops d.history ≡ true) (sym c.self.view_is) c.requires.cause) at.2)
     made.home.pool made.home.history (number_now earlier) refl c.drop_column.ensures refl
     (c.end_column.ensures at.0 at.1 at.2 ∙ ap (λ n. with_stage i.stages s (after_end n c.make_event-number.result at.0 at.1)) c.self.invariant.kept.staged.columns_are
@@ -129,11 +98,5 @@ returns-clause-made c =
     let made = c.make_event-number.ensures in
     let home = c.make_event-number.new.home in
     let seat = c.make_event-number.new.seat in
-    let s = c.args.claim.slice in
-    let k = c.args.claim.column in
-    let now : DeskState = record { pool = i.home.pool; events_limit = i.events_limit; history = i.home.history } in
-    let next : DeskState = record { pool = home.pool; events_limit = i.events_limit; history = home.history } in
-    subst (λ n. Makes (event.Void n s k ∷ []) c.args.self.now next c.args.seat.now seat) c.number-pass.ensures.number
-    (subst (λ (d : DeskState). Makes (event.Void c.number-pass.result s k ∷ []) d next c.args.seat.now seat) c.self.view_is
-    (makes_one now next c.args.seat.now seat (event.Void c.number-pass.result s k)
-    (subst (λ (d : DeskState). IsCaughtUp d c.args.seat.now) (sym c.self.view_is) c.requires.caught_up) made.home.pool refl made.home.history (invariant_of-self c).kept.legal made.seat))
+    subst (λ n. Makes (event.Void n c.args.claim.slice c.args.claim.column ∷ []) c.args.self.now (desk_at home i.events_limit) c.args.seat.now seat) c.number-pass.ensures.number
+    (made_with c.args.self.now i.home home i.events_limit c.args.seat.now seat (event.Void c.number-pass.result c.args.claim.slice c.args.claim.column) c.self.view_is c.requires.caught_up made.home (invariant_of-self c).kept.legal made.seat)

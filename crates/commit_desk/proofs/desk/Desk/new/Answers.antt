@@ -12,8 +12,8 @@ use Rattle.commit_desk.specs.Layouts.{AreFirst}
 use Rattle.commit_desk.proofs.KeptNew.{columns_as_made, few_columns, kept-new, some_columns}
 use Rattle.commit_desk.proofs.desk.Desk.new.Goals as goal
 
-pub invariant_of-result : goal.invariant_of-result
-invariant_of-result c =
+pub invariant_of-desk : goal.invariant_of-desk
+invariant_of-desk c =
     let pool = c.args.home.pool in
     let config = c.args.config.now in
     let limits = limits_of config (words_of_slice config) in

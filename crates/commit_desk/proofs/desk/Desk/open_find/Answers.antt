@@ -1,4 +1,5 @@
 use Rattle.std.proofs.Common.{Ok, subst}
+use Rattle.row_layout.specs.Sound.{IsSound}
 use Rattle.commit_desk.specs.Answers.{AnswersFind}
 use Rattle.commit_desk.specs.Desks.{DeskState}
 use Rattle.commit_desk.specs.FindLayouts.{AreFindLayouts}
@@ -23,3 +24,7 @@ returns-clause-layouts c =
     let same = desk_is c.args.self.now c.self.inside.home c.catch_up.new.home c.self.inside.events_limit c.self.view_is c.catch_up.ensures.home in
     subst (λ (d : DeskState). AreFindLayouts d.pool d.history c.make_find.result c.share_layouts.new.layouts.entries.items) same
     (c.in-Ok.ensures c.make_find.result c.make_find.ensures.answer.3)
+
+-- what the desk keeps is of a history whose adds and moves have their bits
+pub returns-clause-sound : goal.returns-clause-sound
+returns-clause-sound c = subst (λ (d : DeskState). IsSound d.pool.config d.history) c.self.view_is c.self.invariant.kept.sound

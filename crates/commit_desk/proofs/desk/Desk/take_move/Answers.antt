@@ -4,7 +4,8 @@ use Rattle.funnel_model.specs.Legal.{IsIdle, MayTake}
 use Rattle.funnel_model.specs.Slices.{claimed}
 use Rattle.commit_desk.specs.Answers.{TakesCalls}
 use Rattle.commit_desk.specs.Desks.{DeskState}
-use Rattle.commit_desk.specs.Moving.{ClaimsNoneFor, MayClaimFor}
+use Rattle.commit_desk.specs.Moving.{MayTakeFor, MayTakeNone}
+use Rattle.commit_desk.specs.declared.look.Look.{Look}
 use Rattle.commit_desk.proofs.FindTurns.{desk_is}
 use Rattle.commit_desk.proofs.Turns.{idle_now}
 use Rattle.commit_desk.proofs.desk.Desk.take_move.Goals as goal
@@ -17,18 +18,22 @@ idle_then : (c : After-slice_for_move) → IsIdle c.catch_up.new.seat.number c.c
 idle_then c =
     let e = c.catch_up.ensures in idle_now c.args.seat.now c.catch_up.new.seat c.catch_up.new.home.history e.seat e.none_since e.front c.requires.idle
 
--- what is claimed, or why nothing is
-none_for : (c : After-slice_for_move) → ClaimsNoneFor c.self.inside.events_limit c.catch_up.new.home.pool.limits c.catch_up.new.home.history c.catch_up.new.seat.number c.args.look.slice →
-    ClaimsNoneFor c.args.self.now.events_limit c.args.self.now.pool.limits c.args.self.now.history c.args.seat.now.number c.args.look.slice
+-- what may be claimed, or why nothing may
+none_for : (c : After-slice_for_move) → MayTakeNone c.self.inside.events_limit c.catch_up.new.home.pool.limits c.catch_up.new.home.history c.catch_up.new.seat.number c.args.look →
+    MayTakeNone c.args.self.now.events_limit c.args.self.now.pool.limits c.args.self.now.history c.args.seat.now.number c.args.look
 none_for c none =
-    subst (λ n. ClaimsNoneFor c.args.self.now.events_limit c.args.self.now.pool.limits c.args.self.now.history n c.args.look.slice) c.catch_up.ensures.seat.number
-    (subst (λ (d : DeskState). ClaimsNoneFor d.events_limit d.pool.limits d.history c.catch_up.new.seat.number c.args.look.slice) (view_now c) none)
+    subst (λ n. MayTakeNone c.args.self.now.events_limit c.args.self.now.pool.limits c.args.self.now.history n c.args.look) c.catch_up.ensures.seat.number
+    (subst (λ (d : DeskState). MayTakeNone d.events_limit d.pool.limits d.history c.catch_up.new.seat.number c.args.look) (view_now c) none)
 
-may_for : (c : After-slice_for_move) (slice : ℕ) → MayClaimFor c.self.inside.events_limit c.catch_up.new.home.pool.limits c.catch_up.new.home.history c.catch_up.new.seat.number c.args.look.slice slice →
-    MayClaimFor c.args.self.now.events_limit c.args.self.now.pool.limits c.args.self.now.history c.args.seat.now.number c.args.look.slice slice
+abbrev MayTakeNext : DeskState → ℕ → Look → ℕ → Type 0
+MayTakeNext d pass look slice = MayTakeFor d.events_limit d.pool.limits d.history pass look slice (length (claimed slice d.history))
+
+may_for : (c : After-slice_for_move) (slice : ℕ) →
+    MayTakeNext (record { pool = c.catch_up.new.home.pool; events_limit = c.self.inside.events_limit; history = c.catch_up.new.home.history }) c.catch_up.new.seat.number c.args.look slice →
+    MayTakeNext c.args.self.now c.args.seat.now.number c.args.look slice
 may_for c slice may =
-    subst (λ n. MayClaimFor c.args.self.now.events_limit c.args.self.now.pool.limits c.args.self.now.history n c.args.look.slice slice) c.catch_up.ensures.seat.number
-    (subst (λ (d : DeskState). MayClaimFor d.events_limit d.pool.limits d.history c.catch_up.new.seat.number c.args.look.slice slice) (view_now c) may)
+    subst (λ n. MayTakeNext c.args.self.now n c.args.look slice) c.catch_up.ensures.seat.number
+    (subst (λ (d : DeskState). MayTakeNext d c.catch_up.new.seat.number c.args.look slice) (view_now c) may)
 
 pub claim_laid-requires-clause-takes_calls : goal.claim_laid-requires-clause-takes_calls
 claim_laid-requires-clause-takes_calls c =
@@ -43,27 +48,21 @@ claim_laid-requires-clause-may c =
 pub returns-in_default-clause-answer : goal.returns-in_default-clause-answer
 returns-in_default-clause-answer c =
     let at = (goal.at.returns-in_default-clause-answer c).After-slice_for_move in
-    none_for at (c.in_default.ensures.answer c.catch_up.new.seat.number (idle_then at))
+    (none_for at (c.in_default.ensures.answer c.catch_up.new.seat.number (idle_then at)), c.end.ensures.doc)
 
 pub returns-in-Ok-clause-answer : goal.returns-in-Ok-clause-answer
 returns-in-Ok-clause-answer c =
     let at = (goal.at.returns-in-Ok-clause-answer c).After-slice_for_move in
     let now = c.args.self.now in
+    let pass = c.args.seat.now.number in
     let may = may_for at c.in-Some.slice (c.in-Some.ensures.answer c.catch_up.new.seat.number (idle_then at)) in
     let same = c.in-Some.ensures.same ∙ view_now at in
-    let slice : c.in-Ok.claim.slice ≡ c.in-Some.slice = ap (λ (k : Claim). k.slice) c.in-Ok.ensures.claim in
-    let column : c.in-Ok.claim.column ≡ length (claimed c.in-Some.slice now.history) =
-    ap (λ (k : Claim). k.column) c.in-Ok.ensures.claim ∙ ap (λ (d : DeskState). length (claimed c.in-Some.slice d.history)) same in (
-      may.takes_calls,
-      subst (λ n. MayTake now.pool.limits now.history c.args.seat.now.number n c.in-Ok.claim.column) (sym slice)
-          (subst (λ n. MayTake now.pool.limits now.history c.args.seat.now.number c.in-Some.slice n) (sym column) may.may),
-      λ is. may.other (sym slice ∙ is),
-      refl,
-      may.room,
-    )
+    let claim : c.in-Ok.claim ≡ record { slice = c.in-Some.slice; column = length (claimed c.in-Some.slice now.history) } =
+    c.in-Ok.ensures.claim ∙ ap (λ (d : DeskState). let k : Claim = record { slice = c.in-Some.slice; column = length (claimed c.in-Some.slice d.history) } in k) same in
+    (subst (λ (k : Claim). MayTakeFor now.events_limit now.pool.limits now.history pass c.args.look k.slice k.column) (sym claim) may, refl)
 
 pub returns-in-Err-clause-answer : goal.returns-in-Err-clause-answer
 returns-in-Err-clause-answer c =
     let at = (goal.at.returns-in-Err-clause-answer c).After-slice_for_move in
     let may = may_for at c.in-Some.slice (c.in-Some.ensures.answer c.catch_up.new.seat.number (idle_then at)) in
-    (may.takes_calls, may.room, c.in-Some.slice, length (claimed c.in-Some.slice c.args.self.now.history), may.may, may.other)
+    ((c.in-Some.slice, length (claimed c.in-Some.slice c.args.self.now.history), may), c.end-in-Err.ensures.doc)

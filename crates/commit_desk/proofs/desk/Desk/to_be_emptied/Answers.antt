@@ -27,22 +27,22 @@ returns-then-is_spent-clause-answer c slice held is =
 pub returns-in_default-clause-answer : goal.returns-in_default-clause-answer
 returns-in_default-clause-answer c slice held is = c.in_default.ensures slice held is.source
 
-pub returns-then-ready-room_for-clause-answer : goal.returns-then-ready-room_for-clause-answer
-returns-then-ready-room_for-clause-answer c slice held is =
+pub returns-then-ready-room_to_empty-clause-answer : goal.returns-then-ready-room_to_empty-clause-answer
+returns-then-ready-room_to_empty-clause-answer c slice held is =
     let limits = c.args.self.now.pool.limits in
     let history = c.args.self.now.history in
     let source = one_source limits history c.in-Some.slice slice c.in-Some.held held c.in-Some.ensures is.source in
-    let one = one_ready limits history c.ready.result is.room.0 c.ready.ensures.ready is.room.1 in
-    let room = is.room.2 in
-    let less = c.if-ready-room_for.true in
-    let ceil = c.room_for.ensures in
-    let same = one_held_count limits.columns history slice c.in-Some.held held (subst (λ k. HoldsColumns limits.columns history k c.in-Some.held) source c.in-Some.ensures.can.holds) is.source.can.holds in
+    let one = one_ready limits history c.ready.result is.room.ready c.ready.ensures.ready is.room.are_ready in
+    let room = is.room.enough in
+    let less = c.if-ready-room_to_empty.true in
+    let ceil = c.room_to_empty.ensures in
+    let same = one_held_count limits.columns history slice c.in-Some.held is.room.held (subst (λ k. HoldsColumns limits.columns history k c.in-Some.held) source c.in-Some.ensures.can.holds) is.room.holds in
     omega (arith, one, room, less, ceil, same)
 
 pub returns-clause-answer : goal.returns-clause-answer
 returns-clause-answer c =
-    let more = c.if-ready-room_for.false in
-    let ceil = c.room_for.ensures in
+    let more = c.if-ready-room_to_empty.false in
+    let ceil = c.room_to_empty.ensures in
     let spare = c.if-reserve-spare.false in (
       c.in-Some.held,
       record {
@@ -52,6 +52,12 @@ returns-clause-answer c =
         };
         short = (c.spare.result, c.spare.ensures, omega (arith, spare));
         source = c.in-Some.ensures;
-        room = (c.ready.result, c.ready.ensures.ready, omega (arith, more, ceil));
+        room = record {
+          held = c.in-Some.held;
+          holds = c.in-Some.ensures.can.holds;
+          ready = c.ready.result;
+          are_ready = c.ready.ensures.ready;
+          enough = omega (arith, more, ceil);
+        };
       },
     )

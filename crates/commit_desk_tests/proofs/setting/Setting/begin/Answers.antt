@@ -2,7 +2,7 @@ use Rattle.std.proofs.Common.{[], Ok, sym, ◌∙◌, subst}
 use Rattle.commit_desk.proofs.CallEnds.{finds_or_rests}
 use Rattle.slice_rule.specs.Pools.{PoolId}
 use Rattle.slice_rule.specs.Seats.{IsSeated}
-use Rattle.commit_desk_tests.proofs.Scans.{entry_of_find, left, popped, query_of_begun}
+use Rattle.commit_desk_tests.proofs.Scans.{left, popped}
 use Rattle.commit_desk_tests.proofs.setting.Setting.begin.Goals as goal
 
 pub invariant_of-result : goal.invariant_of-result
@@ -14,13 +14,9 @@ invariant_of-result g c =
     record {
       finding = finds_or_rests name c.self.inside.desk c.open_find.new.self c.caller.inside.seat c.open_find.new.seat seat.seated.same c.open_find.ensures.none_outstanding seat.idle []
           (Ok token) begun.token begun.events;
-      of_token = entry_of_find c.self.inside.desk c.open_find.new.self c.caller.inside.seat c.open_find.new.seat [] token c.open_find.new.layouts.entries.items c.in-Some.entry name
-          c.self.invariant.desk_of_name begun.answer.2 begun.events begun.layouts
+      of_token = begun.layouts.among c.in-Some.entry
           (popped c.open_find.new.layouts.entries.items c.pop.new.self.items c.pop.result c.in-Some.entry c.pop.ensures.items c.in-Some.is);
-      others = λ other has. entry_of_find c.self.inside.desk c.open_find.new.self c.caller.inside.seat c.open_find.new.seat [] token c.open_find.new.layouts.entries.items other name
-          c.self.invariant.desk_of_name begun.answer.2 begun.events begun.layouts
-          (left c.open_find.new.layouts.entries.items c.pop.new.self.items c.pop.result other c.pop.ensures.items has);
-      query = query_of_begun c.self.inside.desk c.open_find.new.self c.caller.inside.seat c.open_find.new.seat [] token.opened_at begun.answer.2 begun.events;
+      others = λ other has. begun.layouts.among other (left c.open_find.new.layouts.entries.items c.pop.new.self.items c.pop.result other c.pop.ensures.items has);
     }
 
 pub end_find-requires-clause-seat : goal.end_find-requires-clause-seat

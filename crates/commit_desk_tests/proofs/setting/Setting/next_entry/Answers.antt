@@ -9,5 +9,4 @@ invariant_of-finding g c =
       finding = is.finding;
       of_token = is.others c.in-Some.entry (popped at.layouts.entries.items c.pop.new.self.items c.pop.result c.in-Some.entry c.pop.ensures.items c.in-Some.is);
       others = λ other has. is.others other (left at.layouts.entries.items c.pop.new.self.items c.pop.result other c.pop.ensures.items has);
-      query = is.query;
     }

@@ -12,7 +12,7 @@ invariant_of-self c =
     let has = read-held i.slices i.columns i.held.items i.first_over.items i.free c.args.self.now c.self.invariant c.self.view_is c.args.slice at.slice_in_range c.index_mut.result.now (Some c.in-Some.slots) c.index_mut.ensures.value c.in-Some.is in
     subst (λ (slots : List Slot). AreKept i.slices i.columns (set i.held.items c.args.slice (Some slots)) i.first_over.items i.free) (sym c.set.ensures)
     (kept-set i.slices i.columns i.held.items i.first_over.items i.free c.args.self.now c.self.invariant c.self.view_is c.args.slice at.slice_in_range c.args.column at.column_in_range c.in-Some.slots has
-    c.args.slot c.requires.not_over c.requires.fits)
+    c.args.slot c.requires.not_over c.requires.still c.requires.fits)
 
 pub returns : goal.returns
 returns c =

@@ -8,7 +8,7 @@ returns-in-Ok-clause-begun g c =
     let limits = g.N.PoolName.pool.limits in
     let seat = c.pass.inside.seat in
     let query = c.args.query.now in
-    let next = c.take_token.new.pass in
+    let next = c.begin_words.new.pass in
     rw (← c.pass.view_is)
     (record { call = begins_call limits seat.number query seat.front next.front c.in-Ok.ensures.turns; legal = c.in-Ok.ensures.legal; number = c.in-Ok.ensures.number })
 
@@ -17,7 +17,7 @@ returns-in-Err-clause-refused g c =
     let limits = g.N.PoolName.pool.limits in
     let seat = c.pass.inside.seat in
     let query = c.args.query.now in
-    let next = c.take_token.new.pass in
+    let next = c.begin_words.new.pass in
     let did = c.in-Err.ensures in
     rw (← c.pass.view_is)
     (record {

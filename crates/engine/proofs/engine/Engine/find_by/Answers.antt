@@ -1,5 +1,6 @@
 use Rattle.std.proofs.Common.{◌∙◌, subst, inr}
 use Rattle.std.proofs.lemmas.Result.{err_from_is_err_and}
+use Rattle.engine.proofs.Answered.{found_words}
 use Rattle.engine.proofs.Finds.{dropped_step, ended_turns, found_step, found_turns, refused_step}
 use Rattle.funnel_model.specs.Legal.{IsIdle}
 use Rattle.engine.proofs.engine.Engine.find_by.Goals as goal
@@ -10,7 +11,7 @@ returns-in_err-begun-clause-call g c =
     let limits = g.N.PoolName.pool.limits in
     let query = c.args.query.now in
     let seat = c.pass.inside.seat in
-    let next = c.take_token.new.pass in
+    let next = c.begin_words.new.pass in
     let did = c.in_err-begun.ensures in
     rw (p.1, p.2)
     (rw (← c.pass.view_is)
@@ -24,7 +25,7 @@ returns-clause-call g c =
     let limits = g.N.PoolName.pool.limits in
     let seat = c.pass.inside.seat in
     let query = c.args.query.now in
-    let middle = c.take_token.new.pass in
+    let middle = c.begin_words.new.pass in
     let end = c.finish.new.pass in
     let began = c.in_ok-begun.ensures in
     let did = c.in-Ok.ensures in
@@ -32,7 +33,8 @@ returns-clause-call g c =
     rw (← c.pass.view_is)
     (record {
       step = found_step limits seat.number query seat.front end.front c.pass.invariant.idle did.legal (subst (λ n. IsIdle n end.front) number did.rests.idle) c.in-Ok.ids
-          (found_turns limits seat.number query seat.front middle began.number began.turns end.front did.ended c.in-Ok.ids did.found);
+          (found_turns limits seat.number query seat.front middle began.number began.turns end.front did.ended c.in-Ok.ids
+          (found_words g.N.PoolName.pool c.begin_words.new.pass c.in_ok-begun.begun.token c.in_ok-begun.begun.search c.begin_words.new.layouts.entries.items began.begun c.in-Ok.ids did.found));
       number = number;
     })
 
@@ -45,7 +47,8 @@ returns-clause-turns g c =
     let began = c.in_ok-begun.ensures in
     let did = c.in-Ok.ensures in
     rw (← c.pass.view_is)
-    (found_turns limits seat.number query seat.front c.take_token.new.pass began.number began.turns after did.ended c.in-Ok.ids did.found)
+    (found_turns limits seat.number query seat.front c.begin_words.new.pass began.number began.turns after did.ended c.in-Ok.ids
+    (found_words g.N.PoolName.pool c.begin_words.new.pass c.in_ok-begun.begun.token c.in_ok-begun.begun.search c.begin_words.new.layouts.entries.items began.begun c.in-Ok.ids did.found))
 
 pub returns-in_default-clause-call : goal.returns-in_default-clause-call
 returns-in_default-clause-call g c =
@@ -59,7 +62,7 @@ returns-in_default-clause-call g c =
     rw (← c.pass.view_is)
     (record {
       step = dropped_step limits seat.number query seat.front end.front c.pass.invariant.idle did.legal (subst (λ n. IsIdle n end.front) number did.rests.idle)
-          (ended_turns limits seat.number query seat.front c.take_token.new.pass began.number began.turns end.front did.ended);
+          (ended_turns limits seat.number query seat.front c.begin_words.new.pass began.number began.turns end.front did.ended);
       number = number;
     })
 
@@ -71,4 +74,4 @@ returns-in_default-clause-turns g c =
     let after = c.finish.new.pass.front in
     let began = c.in_ok-begun.ensures in
     rw (← c.pass.view_is)
-    (inr (ended_turns limits seat.number query seat.front c.take_token.new.pass began.number began.turns after c.finish.ensures.ended))
+    (inr (ended_turns limits seat.number query seat.front c.begin_words.new.pass began.number began.turns after c.finish.ensures.ended))

@@ -2,17 +2,18 @@ use Rattle.std.proofs.Common.{◌≡◌, ℕ, AllPairs, Contains, length}
 use Rattle.commit_desk.specs.declared.find_layouts.FindLayout.{FindLayout}
 use Rattle.commit_desk.specs.Passes.{IsFinding}
 use Rattle.engine.specs.Finds.{IsFoundBut}
+use Rattle.engine.specs.Searches.{is_kept_by}
 use Rattle.funnel_model.specs.History.{IsFrontOf}
 use Rattle.engine.proofs.engine.Engine.find_each.Given as goal
 
 -- what is found is that of the slices but those of the entries that are left
 abbrev pub invariant-loop-entry : goal.invariant-loop-entry
 invariant-loop-entry g l = record {
-  found : IsFoundBut (g.L.Lookup.test l.lookup) l.fn.pass l.fn.token l.layouts.entries.items l.out.found;
+  found : IsFoundBut (is_kept_by l.search) l.fn.pass l.fn.begun.token l.layouts.entries.items l.out.found;
   among : (entry : FindLayout) → Contains l.layouts.entries.items entry → Contains l.fn.layouts.entries.items entry;
   apart : AllPairs (λ (one other : FindLayout). (slice : ℕ) → Contains one.slices slice → Contains other.slices slice → ⊥) l.layouts.entries.items;
-  finding : IsFinding g.N.PoolName.pool l.fn.token l.pass;
-  same : l.token ≡ l.fn.token;
+  finding : IsFinding g.N.PoolName.pool l.fn.begun.token l.pass;
+  same : l.token ≡ l.fn.begun.token;
   seen : IsFrontOf l.fn.pass.number l.fn.pass.front l.pass.front;
   number : l.pass.number ≡ l.fn.pass.number;
 }

@@ -1,6 +1,7 @@
 use Rattle.std.proofs.Common.{[], ◌∷◌, List, ℕ, ap, sym, ◌∙◌}
 use Rattle.commit_desk.specs.Judging.{answer_where}
 use Rattle.engine.proofs.FindParts.{found_is_answer}
+use Rattle.engine.specs.Searches.{is_kept_by}
 use Rattle.engine.proofs.OpenFinds.{begun_last}
 use Rattle.funnel_model.specs.declared.event.Event.{Event}
 use Rattle.funnel_model.specs.declared.event.Event.TheVariants as event
@@ -10,8 +11,8 @@ use Rattle.engine.proofs.engine.Engine.finish.Goals as goal
 pub returns-clause-found : goal.returns-clause-found
 returns-clause-found g c earlier query at =
     let pass = c.args.pass.now in
-    let token = c.args.token in
-    let test = g.L.Lookup.test c.args.lookup.now in
+    let token = c.args.begun.token in
+    let test = is_kept_by c.args.begun.search in
     let finding = c.requires.begun.finding in
     let begun = finding.holds.begun in
     let did = c.find_each.ensures in
@@ -21,4 +22,4 @@ returns-clause-found g c earlier query at =
     ∙ found_is_answer test g.N.PoolName.pool pass token finding after did.legal
     (turn_grows {answers = λ history. Unit {0}} pass.number pass.front after (event.End pass.number ∷ []) did.ended) c.find_each.new.out.found c.sort.new.self.found c.in_ok-find_each.ensures.found c.sort.ensures.same
     c.sort.ensures.rising
-    ∙ ap (λ (h : List Event). answer_where h (test begun.query)) (sym same.0) ∙ ap (λ (q : List ℕ). answer_where earlier (test q)) (sym same.1)
+    ∙ ap (λ (h : List Event). answer_where h test) (sym same.0)

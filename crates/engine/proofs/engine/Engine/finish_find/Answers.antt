@@ -1,3 +1,4 @@
+use Rattle.engine.proofs.Answered.{answers_words}
 use Rattle.engine.proofs.Finds.{end_is_quiet}
 use Rattle.slice_recycler.proofs.Steps.{quiet_adds_none}
 use Rattle.engine.proofs.engine.Engine.finish_find.Goals as goal
@@ -13,3 +14,9 @@ returns-clause-pass g c =
       legal = did.legal;
       number = did.number;
     })
+
+pub returns-clause-found : goal.returns-clause-found
+returns-clause-found g c =
+    let find = c.find.inside in
+    rw (← c.find.view_is)
+    (answers_words g.N.PoolName.pool find.seat find.begun.token find.begun.search find.layouts.entries.items c.find.invariant c.finish-answer.result c.finish-answer.ensures.found)

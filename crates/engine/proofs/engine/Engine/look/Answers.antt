@@ -1,7 +1,23 @@
-use Rattle.engine.proofs.MovePasses.{rests_on}
+use Rattle.std.proofs.Common.{[], ap, sym, ◌∙◌, subst}
+use Rattle.slice_rule.specs.Pools.{PoolId}
+use Rattle.slice_recycler.specs.Turns.{IsTurn}
+use Rattle.engine.specs.Moves.{IsLookForMove}
+use Rattle.commit_desk.proofs.CallEnds.{rests_none}
+use Rattle.engine.proofs.MovePasses.{looked_for}
 use Rattle.engine.proofs.engine.Engine.look.Goals as goal
+
+pub returns-clause-turn : goal.returns-clause-turn
+returns-clause-turn g c =
+    let pool = g.N.PoolName.pool in
+    let pass = c.args.pass.now in
+    let named = c.deref_mut-named.result.now in
+    let did = c.look.ensures in
+    let is = c.self.invariant in
+    subst (λ r. IsTurn pass.number pass.front c.look.new.seat.front (IsLookForMove r pool.limits pass.number c.args.id c.look.result) []) (is.kept_free ∙ ap (λ (p : PoolId). p.config.reserve) is.of_name)
+    (looked_for pool named.desk c.look.new.self pass c.look.new.seat named.looks c.self.inside.reserve c.args.id c.look.result named.of_pool (named.limit ∙ sym named.pool_limit) named.each_pass did.answer did.events)
 
 pub returns-clause-rests : goal.returns-clause-rests
 returns-clause-rests g c =
     let looked = c.look.ensures in
-    rests_on g.N.PoolName.pool c.deref_mut-named.result.now.desk c.look.new.self c.args.pass.now c.look.new.seat looked.none_outstanding c.requires.rests looked.events
+    let rests = c.requires.rests in
+    rests_none g.N.PoolName.pool c.deref_mut-named.result.now.desk c.look.new.self c.args.pass.now c.look.new.seat rests.seated.same looked.none_outstanding rests.idle looked.events

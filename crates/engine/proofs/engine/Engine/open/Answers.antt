@@ -14,18 +14,19 @@ use Rattle.engine.proofs.engine.Engine.open.Goals as goal
 
 pub invariant_of-new : goal.invariant_of-new
 invariant_of-new g c =
-    let made = c.in_ok-desk.ensures in
+    let made = c.in_ok-made.ensures in
+    let desk = c.in_ok-made.made.0 in
     let blank = c.blank.invariant in
-    let of : c.in_ok-desk.desk.pool ≡ c.blank.inside.pool = ap (λ (d : DeskState). d.pool) made ∙ ap (λ (h : HomeState). h.pool) blank.new_home in
-    let limits : c.in_ok-desk.desk.pool.limits ≡ limits_of c.blank.inside.pool.config (words_of_slice c.blank.inside.pool.config) =
+    let of : desk.pool ≡ c.blank.inside.pool = ap (λ (d : DeskState). d.pool) made.desk ∙ ap (λ (h : HomeState). h.pool) blank.new_home in
+    let limits : desk.pool.limits ≡ limits_of c.blank.inside.pool.config (words_of_slice c.blank.inside.pool.config) =
     ap (λ (p : PoolId). p.limits) of ∙ blank.of_config.limits in
     let config : c.args.config.now ≡ c.blank.inside.pool.config = sym (ap (λ (p : PoolId). p.config) c.blank.view_is ∙ c.requires.made_with) in
-    let passes : c.args.config.now.passes ≡ c.in_ok-desk.desk.pool.limits.passes = ap (λ (k : Config). k.passes) config ∙ sym (ap (λ (l : Limits). l.passes) limits) in
+    let passes : c.args.config.now.passes ≡ desk.pool.limits.passes = ap (λ (k : Config). k.passes) config ∙ sym (ap (λ (l : Limits). l.passes) limits) in
     record {
       of_pool = of ∙ c.blank.view_is ∙ c.requires.named;
-      limit = ap (λ (d : DeskState). d.events_limit) made;
+      limit = ap (λ (d : DeskState). d.events_limit) made.desk;
       pool_limit = ap (λ (p : PoolId). p.limits.events) of ∙ ap (λ (l : Limits). l.events) blank.of_config.limits;
-      each_pass = ap length c.in_ok-looks.ensures ∙ length-replicate c.args.config.now.passes None ∙ passes;
+      each_pass = ap length made.looks ∙ length-replicate c.args.config.now.passes None ∙ passes;
     }
 
 pub name_passes-requires : goal.name_passes-requires

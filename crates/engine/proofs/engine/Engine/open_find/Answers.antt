@@ -1,5 +1,5 @@
 use Rattle.commit_desk.proofs.CallEnds.{finds_or_rests}
-use Rattle.engine.proofs.Finds.{layouts_then}
+use Rattle.engine.proofs.Finds.{layouts_then, sound_then}
 use Rattle.engine.proofs.engine.Engine.open_find.Goals as goal
 
 pub returns-clause-next : goal.returns-clause-next
@@ -14,3 +14,9 @@ returns-clause-layouts g c =
     let found = c.open_find.ensures in
     let named = c.deref_mut.result.now in
     layouts_then g.N.PoolName.pool named.desk c.open_find.new.self c.args.pass.now c.open_find.new.seat c.args.query.now c.open_find.result c.open_find.new.layouts.entries.items named.of_pool found.events found.layouts
+
+pub returns-clause-sound : goal.returns-clause-sound
+returns-clause-sound g c =
+    let found = c.open_find.ensures in
+    let named = c.deref_mut.result.now in
+    sound_then g.N.PoolName.pool named.desk c.open_find.new.self c.args.pass.now c.open_find.new.seat c.args.query.now c.open_find.result named.of_pool found.events found.sound

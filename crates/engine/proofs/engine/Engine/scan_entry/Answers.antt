@@ -1,5 +1,7 @@
-use Rattle.std.proofs.Common.{sym, ◌∙◌}
+use Rattle.std.proofs.Common.{sym, subst, ◌∙◌}
+use Rattle.engine.specs.Scans.{IsPlannedFor}
 use Rattle.engine.proofs.Scans.{readable_by}
+use Rattle.row_layout.specs.Layouts.{LayoutId}
 use Rattle.engine.proofs.engine.Engine.scan_entry.Goals as goal
 
 pub new-rows-requires : goal.new-rows-requires
@@ -9,8 +11,10 @@ new-rows-requires g c =
 
 pub scan_slices-requires-clause-scan : goal.scan_slices-requires-clause-scan
 scan_slices-requires-clause-scan g c =
-    let made = c.new-rows.ensures in
-    record {
-      readable = readable_by g.N.PoolName.pool c.args.entry.now c.args.pass.now c.args.token.now c.new-rows.result c.requires.can made.can_read (made.pool ∙ c.self.invariant.of_name) made.token;
-      planned = c.requires.planned;
-    }
+    let made = c.new-rows.ensures in (
+      c.args.search.now,
+      record {
+        readable = readable_by g.N.PoolName.pool c.args.entry.now c.args.pass.now c.args.token.now c.new-rows.result c.requires.can made.can_read (made.pool ∙ c.self.invariant.of_name) made.token;
+        is_planned = subst (λ (l : LayoutId). IsPlannedFor l.config c.args.search.now c.in_ok-planned.planned) c.layout.ensures c.in_ok-planned.ensures;
+      },
+    )

@@ -13,5 +13,5 @@ invariant-loop g l = record {
   room : MatchOption l.room ⊥ (λ empty. (empty.items ≡ []) × (g.N.PoolName.pool.limits.slices ≤ vec_capacity empty));
   in_range : IfSome l.awaited (λ slice. slice < g.N.PoolName.pool.limits.slices);
   seen : IsFrontOf l.fn.pass.number l.fn.pass.front l.pass.front;
-  waited : WaitedBefore g.N.PoolName.pool.limits l.fn.pass.number l.fn.pass.front l.pass.front l.awaited l.counter;
+  waited : WaitedBefore g.N.PoolName.pool l.fn.pass.number l.fn.pass.front l.pass.front l.awaited l.counter;
 }

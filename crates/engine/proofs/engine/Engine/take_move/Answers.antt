@@ -1,9 +1,10 @@
-use Rattle.engine.proofs.MovePasses.{writes_or_rests}
+use Rattle.commit_desk.proofs.CallEnds.{writes_or_rests}
 use Rattle.engine.proofs.engine.Engine.take_move.Goals as goal
 
 pub returns-clause-next : goal.returns-clause-next
 returns-clause-next g c =
     let desk = c.deref_mut-named.result.now.desk in
+    let rests = c.requires.rests in
     let took = c.take_move.ensures in
-    writes_or_rests g.N.PoolName.pool desk c.take_move.new.self c.args.pass.now c.take_move.new.seat took.none_outstanding
-    c.deref_mut-named.result.now.of_pool c.requires.rests desk.events_limit c.args.look c.take_move.result took.answer took.fresh took.events
+    writes_or_rests g.N.PoolName.pool desk c.take_move.new.self c.args.pass.now c.take_move.new.seat rests.seated.same took.none_outstanding rests.idle
+    c.deref_mut-named.result.now.of_pool desk.events_limit c.args.look c.take_move.result took.answer took.fresh took.events

@@ -1,4 +1,4 @@
-use Rattle.funnel_server.specs.Turns.{WorksOnInTurns}
+use Rattle.funnel_server.proofs.GateTurns.{WorksOnInTurns}
 use Rattle.funnel_server.proofs.worker.Worker.serve_all.Given as goal
 
 abbrev pub invariant-loop-self : goal.invariant-loop-self

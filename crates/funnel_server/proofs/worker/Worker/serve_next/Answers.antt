@@ -44,24 +44,24 @@ returns g c =
     let visit : Visit = record {
       http = c.self.inside.http;
       before = record { front = c.self.inside.client.front; incoming = g.G.Conn.Source.incoming c.in-Conn.conn; outgoing = g.G.Conn.Sink.outgoing c.in-Conn.conn };
-      after = record { front = c.answer-end.new.client.front; incoming = g.G.Conn.Source.incoming c.answer-end.new.conn; outgoing = g.G.Conn.Sink.outgoing c.answer-end.new.conn };
-      end = c.answer-end.result;
+      after = record { front = c.serve_conn-end.new.client.front; incoming = g.G.Conn.Source.incoming c.serve_conn-end.new.conn; outgoing = g.G.Conn.Sink.outgoing c.serve_conn-end.new.conn };
+      end = c.serve_conn-end.result;
     } in
     rw (← c.self.view_is) (record {
       serves = record {
         visit = visit;
         session = record {
           fresh = c.in-Conn.ensures.fresh;
-          serves = c.answer-end.ensures.serves;
+          serves = c.serve_conn-end.ensures.serves;
           untouched = λ memory.
-              let same = c.answer-end.ensures.untouched memory in
+              let same = c.serve_conn-end.ensures.untouched memory in
               λ i. record { front = (same.1 i).front; incoming = g.G.Conn.Source.incoming (same.0 i); outgoing = g.G.Conn.Sink.outgoing (same.0 i) };
         };
         begins = refl;
         ends = refl;
         protocol = refl;
         same_protocol = refl;
-        same_pass = c.answer-end.ensures.caller;
+        same_pass = c.serve_conn-end.ensures.caller;
         count = omega (arith, subst (λ w. 0 < w.state.left) (sym c.self.view_is) c.requires.some);
         waited = first_waited _ c.in-Conn.conn (g.G.Gate.waiting c.self.inside.gate) (g.G.Gate.waiting c.next.new.self) (g.G.Gate.waiting c.done.new.self) c.in-Conn.ensures.waiting c.done.ensures.waiting;
         served = c.done.ensures.served ∙ ap (option_map (λ (earlier : List Served). earlier ++ served_by visit ∷ [])) c.in-Conn.ensures.served;
@@ -73,10 +73,10 @@ returns g c =
         handed_out = c.in-Conn.conn;
         middle = c.next.new.self;
         asked = c.in-Conn.ensures.gives;
-        handed_back = c.answer-end.new.conn;
-        lines = c.answer-end.ensures.by_line;
-        requests = c.answer-end.ensures.by_request;
-        untouched = λ memory. (c.answer-end.ensures.untouched memory).0;
+        handed_back = c.serve_conn-end.new.conn;
+        lines = c.serve_conn-end.ensures.by_line;
+        requests = c.serve_conn-end.ensures.by_request;
+        untouched = λ memory. (c.serve_conn-end.ensures.untouched memory).0;
         done = c.done.ensures.gives;
         came = refl;
         went = refl;

@@ -19,7 +19,7 @@ returns-in-Whole-clause-answers g c = record {
   next = λ taken so_far has_given. (
     c.next_line.new.self.line,
     c.in-Whole.ensures.next.gives taken so_far has_given,
-    rw c.line.ensures at c.answer.ensures.answers,
+    rw c.line.ensures at c.reply_to.ensures.answers,
   );
 }
 

@@ -1,0 +1,108 @@
+//! Boolean queries.
+ghost use Rattle.std.specs.Prelude.{◌≡◌};
+ghost use Rattle.engine.specs.Faults.{of_find, of_text};
+ghost use Rattle.engine.specs.Searches.{MakesQuery, QueryTurns};
+
+use crate::engine::Engine;
+use crate::open_find::Begun;
+use crate::pass::Pass;
+use crate::search::read_search;
+use crate::work::{Direct, Work};
+use bool_query::QueryFault;
+use commit_desk::FindFault;
+use funnel_model::Ids;
+use slice_rule::PoolName;
+use std::alloc::Global;
+use std::error::Error;
+use std::fmt;
+use std::sync::Wait;
+
+/// Why a query is not answered. Places are bytes of its text.
+#[derive(Clone, Copy, Debug, PartialEq, Eq)]
+pub enum SearchFault {
+    /// A token starts here that can't stand where it does, and it is the first; or the text, which ends here, ends too early.
+    Syntax(u64),
+    /// A `(` or `-` starts here that is the first to open a 65th level.
+    Deep(u64),
+    /// The history has so many events that no call is taken any more.
+    Spent(u64),
+    /// No memory was found.
+    Memory,
+}
+
+impl fmt::Display for SearchFault {
+    fn fmt<W: fmt::Write>(&self, f: &mut fmt::Formatter<W>) -> fmt::Result {
+        match self {
+            SearchFault::Syntax(at) => write!(f, "no query at byte {at}"),
+            SearchFault::Deep(at) => write!(f, "too many levels at byte {at}"),
+            SearchFault::Spent(events) => write!(f, "no call is taken after {events} events"),
+            SearchFault::Memory => f.write_str("out of memory"),
+        }
+    }
+}
+
+impl Error for SearchFault {}
+
+impl From<QueryFault> for SearchFault {
+    ghost from_gives = { λ fault e. e ≡ of_text fault };
+
+    fn from(fault: QueryFault) -> Self {
+        match fault {
+            QueryFault::Syntax(at) => SearchFault::Syntax(at),
+            QueryFault::Deep(at) => SearchFault::Deep(at),
+            QueryFault::Memory => SearchFault::Memory,
+        }
+    }
+}
+
+impl From<FindFault> for SearchFault {
+    ghost from_gives = { λ fault e. e ≡ of_find fault };
+
+    fn from(fault: FindFault) -> Self {
+        match fault {
+            FindFault::Spent(events) => SearchFault::Spent(events),
+            FindFault::Memory => SearchFault::Memory,
+        }
+    }
+}
+
+impl<N: PoolName> Engine<N> {
+    /// The numbers of the documents that are live when the query begins and that its expression keeps, in the order in which they were
+    /// added. It makes the events of a find of the empty query. It waits for the lock to begin, unless its text is refused or there is no
+    /// memory for it, and then, where it did begin, for each turn. One ends as that of a find does, where each document counts as 8 words at
+    /// least that is looked at for more than words; and with the last candidate of which bits tell more than of the others.
+    pub fn query<R: Wait>(
+        &self,
+        rt: &R,
+        alloc: Global,
+        pass: &mut Pass<N>,
+        text: &str,
+    ) -> Result<Ids, SearchFault>
+        ensures call { MakesQuery N.pool.limits text.now result pass.old pass.new }
+        ensures turns { QueryTurns N.pool.limits pass.old.number text.now pass.old.front pass.new.front result }
+    {
+        self.query_by(rt, alloc, pass, text, &mut Direct)
+    }
+
+    /// A query whose slices are scanned by `work`, while the lock is free.
+    pub fn query_by<R: Wait, W: Work>(
+        &self,
+        rt: &R,
+        alloc: Global,
+        pass: &mut Pass<N>,
+        text: &str,
+        work: &mut W,
+    ) -> Result<Ids, SearchFault>
+        ensures call { MakesQuery N.pool.limits text.now result pass.old pass.new }
+        ensures turns { QueryTurns N.pool.limits pass.old.number text.now pass.old.front pass.new.front result }
+    {
+        let _ = pass.number();
+        let search = read_search(alloc, text)?;
+        let token = self.begin(rt, &mut pass.seat, "", &mut pass.layouts)?;
+        let begun = Begun { token, search };
+        let Ok(ids) = self.finish(rt, &mut pass.seat, begun, &mut pass.layouts, work) else {
+            return Err(SearchFault::Memory);
+        };
+        Ok(ids)
+    }
+}
