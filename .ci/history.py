@@ -9,11 +9,13 @@ LONGEST_LINE = 65_536
 FORMS = [
     re.compile(form, re.DOTALL)
     for form in (
-        "(add) ([0-9]{1,20})(?: (.*))?",
-        "(del) ([0-9]{1,20})",
+        "(add|put) ([0-9]{1,20})(?: (.*))?",
+        "(del|get) ([0-9]{1,20})",
         "(find)(?: (.*))?",
         "(query) (.*)",
-        "(place)",
+        "(count)(?: (.*))?",
+        "(newest|oldest) ([0-9]{1,20})(?: (.*))?",
+        "(place|stats)",
         "(journal) ([0-9]{1,20})",
         "(recycle)",
         "(tune) (.*)",
@@ -28,12 +30,15 @@ TUNINGS = {
     '{"slices":2}': "refused tuning 4",
     "[]": "refused tuning 3",
 }
-# The word of the reply to a request that is made, and the sign of its commit.
-COMMITS = {"add": ("added", "+"), "del": ("deleted", "-")}
+# What a stats tells beside the documents and the place.
+UNKNOWN = ["base", "columns", "free", "retired", "finds"]
+# The words of the reply to a request that is made, and the sign of its commit.
+COMMITS = {"add": ("added", "+"), "put": ("added|replaced", "+"), "del": ("deleted", "-")}
 
 
 def request_of(line):
-    """Takes a line apart: its command and what stands after it. For a line that is no request it is the refusal alone."""
+    """Takes a line apart: its command and what stands after it, in place of an expression that isn't there None. For a line that is
+    no request it is the refusal alone."""
     if len(line) > LONGEST_LINE:
         return ("refused long",)
     try:
@@ -43,8 +48,10 @@ def request_of(line):
     match = next(filter(None, (form.fullmatch(text) for form in FORMS)), None)
     if match is None:
         return ("refused line",)
-    command, *rest = (part or "" for part in match.groups())
-    if command in ("add", "del", "journal"):
+    command, *rest = match.groups()
+    if command not in ("count", "newest", "oldest"):
+        rest = [part or "" for part in rest]
+    if command in ("add", "put", "del", "get", "newest", "oldest", "journal"):
         rest[0] = int(rest[0])
         if rest[0] >= 2**64:
             return ("refused line",)
@@ -53,8 +60,8 @@ def request_of(line):
 
 def commit_told(request, reply):
     """The place and the commit that this reply to the request tells, or none."""
-    word, sign = COMMITS.get(request[0], ("", ""))
-    match = word and re.fullmatch(f"{word} ([0-9]+)", reply)
+    words, sign = COMMITS.get(request[0], ("", ""))
+    match = words and re.fullmatch(f"(?:{words}) ([0-9]+)", reply)
     return (int(match[1]), f"{sign}{request[1]}") if match else None
 
 
@@ -128,18 +135,25 @@ class History:
     def __init__(self, commits, texts):
         """Takes the text of each add too, by its place."""
         self.commits = commits
-        # After 0, 1, 2, ... commits: the live numbers in the order of their adds, each with its place and its words.
+        # After 0, 1, 2, ... commits: the live numbers in the order of their adds, each with its place, its words and its text.
         self.live = [{}]
         for place, commit in enumerate(commits, 1):
-            adds, number = commit[0] == "+", int(commit[1:])
+            number = int(commit[1:])
             live = dict(self.live[-1])
-            if adds == (number in live):
+            if live.pop(number, None) is None and commit[0] == "-":
                 raise ValueError(f"commit {place} is {commit}, which the commits before it don't allow")
-            if adds:
-                live[number] = (place, words_of(texts[place]))
-            else:
-                del live[number]
+            if commit[0] == "+":
+                live[number] = (place, words_of(texts[place]), texts[place])
             self.live.append(live)
+
+    def found(self, live, text):
+        """The live numbers that the boolean query keeps, or all without one; or the refusal of its text."""
+        if text is None:
+            return [*live], None
+        reading = Reading(text)
+        if reading.refusal:
+            return [], reading.refusal
+        return [number for number, (_, has, _) in live.items() if reading.keeps(has)], None
 
     def reply(self, request, count):
         """The reply to the request after so many commits, or none where it would be a commit itself."""
@@ -147,18 +161,26 @@ class History:
         match request:
             case ("add", number, _):
                 return f"refused present {live[number][0]}" if number in live else None
+            case ("put", _, _):
+                return None
             case ("del", number):
                 return None if number in live else "refused absent"
+            case ("get", number):
+                return f"text {live[number][0]} {live[number][2]}" if number in live else "refused absent"
             case ("find", query):
                 words = words_of(query)
-                found = [number for number, (_, has) in live.items() if words <= has]
+                found = [number for number, (_, has, _) in live.items() if words <= has]
                 return " ".join(map(str, ["found", len(found), *found]))
             case ("query", text):
-                reading = Reading(text)
-                if reading.refusal:
-                    return reading.refusal
-                found = [number for number, (_, has) in live.items() if reading.keeps(has)]
-                return " ".join(map(str, ["found", len(found), *found]))
+                found, refusal = self.found(live, text)
+                return refusal or " ".join(map(str, ["found", len(found), *found]))
+            case ("count", text):
+                found, refusal = self.found(live, text)
+                return refusal or f"count {len(found)}"
+            case ("newest" | "oldest" as end, most, text):
+                found, refusal = self.found(live, text)
+                some = (found[::-1] if end == "newest" else found)[:most]
+                return refusal or " ".join(map(str, ["found", len(found), *some]))
             case ("place",):
                 return f"place {count}"
             case ("journal", first):
@@ -170,15 +192,18 @@ class History:
     def fits(self, request, reply, count):
         """Whether a request that is no commit may have this reply after so many commits. Where none is known, any will do.
 
-        Of slices the model knows nothing: a recycle may be answered by each of its replies, and any add may find them full. Nor does
-        it count tunings."""
+        Of slices the model knows nothing: a recycle may be answered by each of its replies, any add or put may find them full, and of
+        columns a stats may tell any numbers. Nor does it count tunings."""
         if request == ("recycle",):
             return reply is None or re.fullmatch("nothing retired|recycled [0-9]+|guarded [0-9]+ [0-9]+", reply)
         if request[0] == "tune":
             return reply is None or re.fullmatch(TUNINGS[request[1]], reply)
+        if request == ("stats",):
+            known = f"stats documents {len(self.live[count])} place {count}"
+            return reply is None or re.fullmatch(known + "".join(f" {name} [0-9]+" for name in UNKNOWN), reply)
         wanted = self.reply(request, count)
         if wanted is None:
-            return request[0] == "add" and reply in (None, "refused full")
+            return request[0] in ("add", "put") and reply in (None, "refused full")
         return reply in (None, wanted)
 
     def count_after(self, request, reply, least):
@@ -188,6 +213,8 @@ class History:
         told = commit_told(request, reply) if reply else None
         if told:
             place, commit = told
-            return place if self.commits[place - 1 : place] == [commit] and least < place else None
+            known = self.commits[place - 1 : place] == [commit] and least < place
+            # An add is told that it replaced a document where its number was live, and then it is a put.
+            return place if known and (commit[0] == "-" or reply.startswith("replaced") == (request[1] in self.live[place - 1])) else None
         counts = range(least, len(self.live))
         return next((count for count in counts if self.fits(request, reply, count)), None)

@@ -94,7 +94,7 @@ class Connection:
 
     def take(self, reply):
         self.replies.append(reply)
-        if match := re.fullmatch("(?:added|deleted|place) ([0-9]+)", reply):
+        if match := re.fullmatch("(?:added|replaced|deleted|place) ([0-9]+)", reply):
             Told.commits = max(Told.commits, int(match[1]))
         self.is_served.set()
 
@@ -175,7 +175,7 @@ def line_of_each_commit(connections, commits):
         if connection.fate == "reset":
             for line in range(len(connection.replies), len(connection.lines)):
                 request = connection.requests[line]
-                if request[0] in ("add", "del") and connection.lines[line].endswith(b"\n"):
+                if request[0] in ("add", "put", "del") and connection.lines[line].endswith(b"\n"):
                     unread["+-"[request[0] == "del"] + str(request[1])] = (connection, line)
     for place, commit in enumerate(commits, 1):
         if place not in makers:
@@ -186,12 +186,13 @@ def line_of_each_commit(connections, commits):
 
 
 def complete(connections, makers):
-    """Gives the lines of a reset connection, up to its last commit, the replies that were lost, where a commit tells them."""
+    """Gives the lines of a reset connection, up to its last commit, the replies that were lost, where a commit tells them: what it
+    puts was never live before."""
     for place, (connection, line) in makers.items():
         if line >= len(connection.replies):
             connection.replies += [None] * (line + 1 - len(connection.replies))
         if connection.replies[line] is None:
-            connection.replies[line] = f"{'added' if connection.requests[line][0] == 'add' else 'deleted'} {place}"
+            connection.replies[line] = f"{'deleted' if connection.requests[line][0] == 'del' else 'added'} {place}"
 
 
 def check(connections):

@@ -1,16 +1,19 @@
-"""Asks a serve over HTTP, by curl where it is installed, by http.client, and by so many random requests, right and wrong ones, cut at random places, each of
-whose responses a plain model tells, and prints what came of it: over_http.py PROGRAM COUNT."""
+"""Asks a serve over HTTP, each path by curl where it is installed and by http.client on one connection, and by so many random requests,
+right and wrong ones, cut at random places, each of whose responses a plain model tells, and prints what came of it: over_http.py PROGRAM
+COUNT. It writes a configuration of its own for the paths, and the one that was there again."""
 
 import http.client
 import json
+import re
 import shutil
 import socket
 import subprocess
 import sys
+from functools import partial
 from os.path import commonprefix
 from random import Random
 from threading import Thread
-from urllib.parse import quote, urlencode
+from urllib.parse import quote
 
 from ports import connect, free_port
 
@@ -20,33 +23,121 @@ REASONS = {
     400: "Bad Request",
     404: "Not Found",
     409: "Conflict",
+    410: "Gone",
     413: "Content Too Large",
     501: "Not Implemented",
 }
 MOST = 1 << 64
 
 
-def ask(client, method, target, body=None):
-    """The status and the body of a response over one connection."""
+# Each path with a request to it, in this order: the method, the target, the body, the status, and the body of the response.
+PATHS = [
+    ("POST", "/documents", '{"id":7,"text":"The cat sat"}', 201, '{"place":1}'),
+    ("POST", "/documents", '{"id":7,"text":"a dog"}', 409, '{"error":"present","place":1}'),
+    ("PUT", "/documents/7", '{"text":"The cat\\nsat \\"\\u0001"}', 200, '{"place":2}'),
+    ("PUT", "/documents/9", '{"text":"a black cat"}', 201, '{"place":3}'),
+    ("PUT", "/documents/9", '{"id":9,"text":"x"}', 400, '{"error":"body"}'),
+    ("PUT", "/documents/9", '{}', 400, '{"error":"body"}'),
+    ("PUT", "/documents/x", '{"text":"x"}', 404, '{"error":"route"}'),
+    ("GET", "/documents/7", None, 200, '{"id":7,"place":2,"text":"The cat\\nsat \\"\\u0001"}'),
+    ("GET", "/documents/8", None, 404, '{"error":"absent"}'),
+    ("GET", "/documents/8?q=a", None, 404, '{"error":"route"}'),
+    ("GET", "/find?q=CAT+sat", None, 200, '{"ids":[7]}'),
+    ("GET", "/find", None, 200, '{"ids":[7,9]}'),
+    ("GET", "/find?newest=1&q=cat", None, 200, '{"count":2,"ids":[9]}'),
+    ("GET", "/find?oldest=1", None, 200, '{"count":2,"ids":[7]}'),
+    ("GET", "/query?q=cat%20-sat", None, 200, '{"ids":[9]}'),
+    ("GET", "/query?q=cat&newest=18446744073709551615", None, 200, '{"count":2,"ids":[9,7]}'),
+    ("GET", "/query?oldest=0&q=-cat", None, 200, '{"count":0,"ids":[]}'),
+    ("GET", "/query", None, 400, '{"error":"syntax","at":0}'),
+    ("GET", "/query?newest=3", None, 400, '{"error":"syntax","at":0}'),
+    ("GET", "/query?q=(a%20b)%20%7C%7C", None, 400, '{"error":"syntax","at":7}'),
+    ("GET", f"/query?q={'(' * 65}", None, 400, '{"error":"deep","at":64}'),
+    ("GET", "/query?q=%ff", None, 400, '{"error":"query"}'),
+    ("GET", "/query?q=a&q=b", None, 404, '{"error":"route"}'),
+    ("GET", "/query?q=a&newest=1&oldest=1", None, 404, '{"error":"route"}'),
+    ("GET", "/query?q=a&newest=x", None, 404, '{"error":"route"}'),
+    ("GET", "/query?q=a&most=1", None, 404, '{"error":"route"}'),
+    ("GET", "/query?q=a&", None, 404, '{"error":"route"}'),
+    ("GET", "/count?q=cat%20-sat", None, 200, '{"count":1}'),
+    ("GET", "/count", None, 200, '{"count":2}'),
+    ("GET", "/count?q=", None, 400, '{"error":"syntax","at":0}'),
+    ("GET", "/count?newest=1", None, 404, '{"error":"route"}'),
+    ("DELETE", "/documents/9", None, 200, '{"place":4}'),
+    ("GET", "/place", None, 200, '{"place":4}'),
+    ("GET", "/journal?from=2", None, 200, '{"commits":[{"add":9},{"del":9}]}'),
+    ("GET", "/journal?from=4", None, 200, '{"commits":[]}'),
+    ("GET", "/journal?from=0", None, 410, '{"error":"trimmed"}'),
+    ("GET", "/journal", None, 404, '{"error":"route"}'),
+    ("GET", "/stats", None, 200, '{"documents":1,"place":4,"base":1,"columns":128,"free":125,"retired":0,"finds":0}'),
+    ("POST", "/recycle", None, 409, '{"error":"nothing"}'),
+    ("POST", "/tune", '{"tail":9}', 200, '{"tuned":1}'),
+    ("POST", "/tune", '{"tail":20}', 409, '{"error":"wide"}'),
+    ("POST", "/tune", '{"slices":2}', 400, '{"error":"tuning","fault":4}'),
+    ("POST", "/tune", "[]", 400, '{"error":"tuning","fault":3}'),
+    ("POST", "/tune", "", 200, '{"tuned":2}'),
+    ("PUT", "/tune", '{"tail":9}', 404, '{"error":"route"}'),
+]
+NUMBERS = {
+    "funnel_documents": ("gauge", 1),
+    "funnel_commits_total": ("counter", 4),
+    "funnel_commits_trimmed_total": ("counter", 1),
+    "funnel_columns": ("gauge", 128),
+    "funnel_columns_free": ("gauge", 125),
+    "funnel_slices_retired": ("gauge", 0),
+    "funnel_finds_running": ("gauge", 0),
+}
+
+
+def by_curl(port, method, target, body):
+    """The status and the body of a response to curl."""
+    data = [] if body is None else ["--data-binary", body]
+    command = ["curl", "-sg", "-X", method, *data, "-w", "\n%{http_code}", f"http://127.0.0.1:{port}{target}"]
+    told, _, status = subprocess.check_output(command, text=True).rpartition("\n")
+    return int(status), told
+
+
+def by_client(client, method, target, body):
+    """The same over one connection of http.client."""
     client.request(method, target, body)
     response = client.getresponse()
-    return f"{response.status} {response.read().decode()}"
+    return response.status, response.read().decode()
 
 
-def type_commands(port):
-    """Puts a document, finds it and deletes it, as a user does who has curl; without curl the same by http.client."""
-    page = f"http://127.0.0.1:{port}"
-    document = '{"id":7,"text":"The cat sat"}'
-    if shutil.which("curl"):
-        curl = ["curl", "-s", "-w", " %{http_code}"]
-        yield subprocess.check_output([*curl, f"{page}/documents", "-d", document], text=True)
-        yield subprocess.check_output([*curl, "-G", f"{page}/find", "--data-urlencode", "q=CAT sat"], text=True)
-        yield subprocess.check_output([*curl, "-X", "DELETE", f"{page}/documents/7"], text=True)
-        return
-    query = urlencode({"q": "CAT sat"})
-    for method, target, body in [("POST", "/documents", document), ("GET", f"/find?{query}", None), ("DELETE", "/documents/7", None)]:
-        status, told = ask(http.client.HTTPConnection("127.0.0.1", port), method, target, body).split(" ", 1)
-        yield f"{told} {status}"
+def try_paths(ask):
+    """Asks for each path, and tells those that are answered otherwise."""
+    for method, target, body, *wanted in PATHS:
+        got = ask(method, target, body)
+        if got != tuple(wanted):
+            print(f"{method} {target}: wanted {wanted}, got {got}")
+    return len(PATHS)
+
+
+def metrics_of(text):
+    """The numbers of Prometheus' text format, each with its type: each name has its help, its type and then its value."""
+    found, told = {}, {}
+    for line in text.removesuffix("\n").split("\n"):
+        if match := re.fullmatch(r"# (HELP|TYPE) ([a-zA-Z_:][a-zA-Z0-9_:]*) (.+)", line):
+            kind, name, rest = match.groups()
+            if name in found or kind in told.setdefault(name, {}):
+                raise ValueError(f"{line!r} stands behind what it is of, or twice")
+            told[name][kind] = rest
+        elif match := re.fullmatch(r"([a-zA-Z_:][a-zA-Z0-9_:]*) ([0-9]+)", line):
+            name, value = match.groups()
+            if name in found or told.get(name, {}).keys() != {"HELP", "TYPE"}:
+                raise ValueError(f"{line!r} comes without its help and type, or twice")
+            found[name] = (told[name]["TYPE"], int(value))
+        else:
+            raise ValueError(f"{line!r} is none of the format")
+    return found
+
+
+def read_metrics(client):
+    """Whether the metrics are well formed and tell the numbers."""
+    client.request("GET", "/metrics")
+    response = client.getresponse()
+    text = response.read().decode()
+    return response.status == 200 and response.headers["Content-Type"] == "text/plain; version=0.0.4" and text.endswith("\n") and metrics_of(text) == NUMBERS
 
 
 def hold_a_connection(port):
@@ -66,7 +157,8 @@ def hold_a_connection(port):
         ("POST", "/documents", "{" + " " * 65_535),
         ("GET", "/find?q=%zz", None),
     ]:
-        yield ask(client, method, target, body)
+        status, told = by_client(client, method, target, body)
+        yield f"{status} {told}"
     # The next request isn't one, and its response closes the connection.
     client.sock.sendall(b"\1")
     yield client.sock.makefile("rb").read().decode().replace("\r\n", "|")
@@ -76,63 +168,84 @@ def pipeline(port):
     """What three requests are answered that are sent at one go, of which the second one asks to close the connection."""
     with connect(port) as client:
         client.sendall(b"GET /place HTTP/1.1\r\n\r\nGET /place HTTP/1.1\r\nConnection: x, Close\r\n\r\nGET /place HTTP/1.1\r\n\r\n")
-        return client.makefile("rb").read().count(b'{"place":3}')
+        return client.makefile("rb").read().count(b'{"place":1}')
 
 
 class Model:
-    """The live documents, and the response to each request."""
+    """The live documents, each with its place, its words and its text, and the response to each request as a status and a body."""
 
     def __init__(self):
         self.live = {}
         self.place = 0
 
-    def find(self, query):
-        words = set(query.casefold().split())
-        return [number for number, (_, text) in self.live.items() if words <= text]
+    def add(self, number, text):
+        if number in self.live:
+            return 409, f'{{"error":"present","place":{self.live[number][0]}}}'
+        return self.put(number, text)
 
-    def call(self, method, target, body, asked):
-        """The status and the body: `asked` is what the body or the query stands for, or None."""
-        if method == "POST" and target == "/documents":
-            if asked is None:
-                return 400, '{"error":"body"}'
-            number, text = asked
-            if number in self.live:
-                return 409, f'{{"error":"present","place":{self.live[number][0]}}}'
-            self.place += 1
-            self.live[number] = (self.place, set(text.casefold().split()))
-            return 201, f'{{"place":{self.place}}}'
-        if method == "DELETE":
-            if self.live.pop(asked, None) is None:
-                return 404, '{"error":"absent"}'
-            self.place += 1
-            return 200, f'{{"place":{self.place}}}'
-        if target.startswith("/find"):
-            if asked is None:
-                return 400, '{"error":"query"}'
-            return 200, f'{{"ids":[{",".join(map(str, self.find(asked)))}]}}'
+    def put(self, number, text):
+        replaced = self.live.pop(number, None)
+        self.place += 1
+        self.live[number] = (self.place, words_of(text), text)
+        return 200 if replaced else 201, f'{{"place":{self.place}}}'
+
+    def get(self, number):
+        if number not in self.live:
+            return 404, '{"error":"absent"}'
+        place, _, text = self.live[number]
+        return 200, f'{{"id":{number},"place":{place},"text":{json.dumps(text, ensure_ascii=False)}}}'
+
+    def delete(self, number):
+        if self.live.pop(number, None) is None:
+            return 404, '{"error":"absent"}'
+        self.place += 1
         return 200, f'{{"place":{self.place}}}'
+
+    def found(self, has, lacks, told):
+        """What is told of the documents that have all words of the one text and none of the other's: all, their count, or some."""
+        ids = [number for number, (_, words, _) in self.live.items() if words_of(has) <= words and not words_of(lacks) & words]
+        amount, most = told
+        if amount == "count":
+            return 200, f'{{"count":{len(ids)}}}'
+        if amount == "all":
+            return 200, f'{{"ids":{array(ids)}}}'
+        some = (ids[::-1] if amount == "newest" else ids)[:most]
+        return 200, f'{{"count":{len(ids)},"ids":{array(some)}}}'
+
+
+def words_of(text):
+    return set(text.casefold().split())
+
+
+def array(ids):
+    return f"[{','.join(map(str, ids))}]"
 
 
 def response(status, body, closes):
     close = "Connection: close\r\n" if closes else ""
-    return f"HTTP/1.1 {status} {REASONS[status]}\r\nContent-Type: application/json\r\nContent-Length: {len(body)}\r\n{close}\r\n{body}".encode()
+    return f"HTTP/1.1 {status} {REASONS[status]}\r\nContent-Type: application/json\r\nContent-Length: {len(body.encode())}\r\n{close}\r\n{body}".encode()
 
 
 def any_text(some):
     return " ".join(some.choice(["cat", "Dog", "Straße", "STRASSE", "owl", "bee", "émile", "猫", "ox"]) for _ in range(some.randrange(4)))
 
 
-def any_document(some):
-    """A body, and the document that it is."""
-    number, text = some.choice([some.randrange(200), some.randrange(200), MOST - 1]), any_text(some)
-    members = [("id", number), ("text", text)]
+def any_number(some):
+    return some.choice([some.randrange(200), some.randrange(200), MOST - 1])
+
+
+def any_object(some, members):
+    """A body of these members."""
     some.shuffle(members)
-    body = json.dumps(dict(members), ensure_ascii=some.random() < 0.5, indent=some.choice([None, 1]))
-    return body.encode(), (number, text)
+    return json.dumps(dict(members), ensure_ascii=some.random() < 0.5, indent=some.choice([None, 1])).encode()
+
+
+def any_target(some, number):
+    return "/documents/" + some.choice([f"{number}", f"{number:020}"])
 
 
 def any_wrong_document(some):
-    right, _ = any_document(some)
+    right = any_object(some, [("id", any_number(some)), ("text", any_text(some))])
     return some.choice([
         b"",
         b"{}",
@@ -151,47 +264,87 @@ def any_wrong_document(some):
     ])
 
 
-def any_query(some):
-    """The end of a target, and the query that it stands for."""
-    text = any_text(some)
-    if some.random() < 0.1:
-        return "", ""
-    return "?q=" + some.choice([quote(text), quote(text).replace("%20", "+"), "".join(f"%{byte:02X}" for byte in text.encode())]), text
+def any_value(some, text):
+    """A value that stands for the text."""
+    return some.choice([quote(text), quote(text).replace("%20", "+"), "".join(f"%{byte:02X}" for byte in text.encode())])
+
+
+def any_keys(some, *keys):
+    """A query string of those of the keys that are there, in any order."""
+    there = [f"{name}={value}" for name, value in keys if value is not None]
+    some.shuffle(there)
+    return "?" + "&".join(there) if there else ""
+
+
+def any_search(some):
+    """A target that searches, and what it is answered by the model."""
+    has, lacks = any_text(some), some.choice(["", "", "owl", "dog bee"])
+    amount, most = some.choice([("all", 0), ("newest", some.choice([0, 1, 5, MOST - 1])), ("oldest", some.choice([0, 1, 5, MOST - 1]))])
+    more = (amount, None if amount == "all" else most)
+    kind = some.choice(["find", "find", "query", "count"])
+    if kind == "find":
+        value = None if some.random() < 0.1 else any_value(some, has)
+        return "/find" + any_keys(some, ("q", value), more), lambda model: model.found("" if value is None else has, "", (amount, most))
+    text = " ".join([*has.split(), *(f"-{word}" for word in lacks.split())])
+    syntax = 400, '{"error":"syntax","at":0}'
+    if kind == "count":
+        value = None if some.random() < 0.2 else any_value(some, text)
+        told = ("count", 0)
+        target = "/count" + any_keys(some, ("q", value))
+        return target, lambda model: model.found("", "", told) if value is None else model.found(has, lacks, told) if text else syntax
+    value = None if some.random() < 0.1 else any_value(some, text)
+    return "/query" + any_keys(some, ("q", value), more), lambda model: model.found(has, lacks, (amount, most)) if text and value else syntax
 
 
 def any_call(some):
-    """A method, a target, a body, and what it asks for; or no call where there is no route."""
-    kind = some.randrange(12)
-    if kind < 4:
-        body, asked = any_document(some)
-        return "POST", "/documents", body, asked
-    if kind < 6:
-        number = some.randrange(200)
-        target = some.choice([f"{number}", f"{number:020}", f"{MOST - 1}"])
-        return "DELETE", f"/documents/{target}", b"", int(target)
-    if kind < 8:
-        end, asked = any_query(some)
-        return "GET", "/find" + end, b"", asked
-    if kind == 8:
-        return "GET", "/place", some.choice([b"", b"left aside"]), True
-    if kind == 9:
-        return "POST", "/documents", any_wrong_document(some), None
+    """A method, a target, a body, and what it is answered by the model."""
+    kind, number, text = some.randrange(14), any_number(some), any_text(some)
+    if kind < 3:
+        return "POST", "/documents", any_object(some, [("id", number), ("text", text)]), lambda model: model.add(number, text)
+    if kind < 5:
+        return "PUT", any_target(some, number), any_object(some, [("text", text)]), lambda model: model.put(number, text)
+    if kind < 7:
+        return "DELETE", any_target(some, number), b"", lambda model: model.delete(number)
+    if kind == 7:
+        return "GET", any_target(some, number), b"", lambda model: model.get(number)
+    if kind < 10:
+        target, told = any_search(some)
+        return "GET", target, b"", told
     if kind == 10:
-        return "GET", "/find?q=" + some.choice(["%zz", "a%", "%4", "%+1", "%ff", "%c3%28"]), b"", None
+        return "GET", "/place", some.choice([b"", b"left aside"]), lambda model: (200, f'{{"place":{model.place}}}')
+    if kind == 11:
+        method, target = some.choice([("POST", "/documents"), ("PUT", f"/documents/{number}")])
+        return method, target, any_wrong_document(some), lambda model: (400, '{"error":"body"}')
+    if kind == 12:
+        value = some.choice(["%zz", "a%", "%4", "%+1", "%ff", "%c3%28"])
+        return "GET", some.choice(["/find?q=", "/query?q=", "/count?q="]) + value, b"", lambda model: (400, '{"error":"query"}')
     method, target = some.choice([
         ("GET", "/"),
         ("PUT", "/documents"),
+        ("PUT", "/documents/"),
         ("POST", "/documents/7"),
         ("DELETE", "/documents/"),
         ("DELETE", "/documents/x"),
         ("DELETE", "/documents/18446744073709551616"),
+        ("GET", "/documents/7?q=a"),
         ("GET", "/find?x=1"),
         ("GET", "/find?"),
         ("GET", "/find?q=a&b"),
+        ("GET", "/find?q=a&q=a"),
+        ("GET", "/find?newest=1&newest=1"),
+        ("GET", "/find?newest=1&oldest=1"),
+        ("GET", "/find?newest=-1"),
+        ("GET", "/query?q=a&oldest="),
+        ("GET", "/count?q=a&newest=1"),
+        ("GET", "/journal"),
+        ("GET", "/journal?from=a"),
+        ("GET", "/journal?from=0&q=a"),
+        ("GET", "/stats?"),
+        ("GET", "/recycle"),
         ("POST", "/place"),
         ("get", "/place"),
     ])
-    return method, target, b"", "no route"
+    return method, target, b"", lambda model: (404, '{"error":"route"}')
 
 
 def any_closing(some):
@@ -214,7 +367,7 @@ def any_closing(some):
 
 def any_request(some, model):
     """The bytes of a request, its response, and whether that closes the connection."""
-    method, target, body, asked = any_call(some)
+    method, target, body, told = any_call(some)
     fields = [some.choice(["Host: a", "host:b", "Accept: */*", "X-Empty:"]) for _ in range(some.randrange(3))]
     minor, refusal = 1, None
     if body or some.random() < 0.1:
@@ -242,9 +395,7 @@ def any_request(some, model):
     data = end.join([f"{method} {target} HTTP/1.{minor}", *fields, "", ""]).encode() + body
     if refusal:
         return data, response(refusal[0], f'{{"error":"{refusal[1]}"}}', True), True
-    if asked == "no route":
-        return data, response(404, '{"error":"route"}', closes), closes
-    return data, response(*model.call(method, target, body, asked), closes), closes
+    return data, response(*told(model), closes), closes
 
 
 def send_cut(client, data, some):
@@ -285,16 +436,36 @@ def ask_at_random(port, count, seed):
     return answered
 
 
-port = free_port()
-words = [sys.argv[1], "serve", "--port", str(port), "--workers", "1", "--http"]
-with subprocess.Popen(words, stdin=subprocess.DEVNULL) as program:
-    connect(port).close()
-    for line in type_commands(port):
-        print(line)
-    for line in hold_a_connection(port):
-        print(line)
-    print("at one go:", pipeline(port))
-    program.terminate()
-with subprocess.Popen(words, stdin=subprocess.DEVNULL) as program:
-    print("random requests:", ask_at_random(port, int(sys.argv[2]), 1))
-    program.terminate()
+def serve(ask):
+    """What comes of asking a new serve at a port."""
+    port = free_port()
+    words = [sys.argv[1], "serve", "--port", str(port), "--workers", "1", "--http"]
+    with subprocess.Popen(words, stdin=subprocess.DEVNULL) as program:
+        try:
+            connect(port).close()
+            return ask(port)
+        finally:
+            program.terminate()
+
+
+def path_by_path(port):
+    client = http.client.HTTPConnection("127.0.0.1", port)
+    tried = try_paths(partial(by_client, client))
+    return tried, read_metrics(client)
+
+
+with open("funnel.json", encoding="utf-8") as file:
+    configured = file.read()
+with open("funnel.json", "w", encoding="utf-8") as file:
+    file.write('{"commits":3}')
+# Without curl the paths are tried once more by the client.
+if shutil.which("curl"):
+    print("paths by curl:", serve(lambda port: try_paths(partial(by_curl, port))))
+else:
+    print("paths by curl:", serve(path_by_path)[0])
+print("paths by http.client, and the metrics:", *serve(path_by_path))
+with open("funnel.json", "w", encoding="utf-8") as file:
+    file.write(configured)
+for line in serve(lambda port: [*hold_a_connection(port), f"at one go: {pipeline(port)}"]):
+    print(line)
+print("random requests:", serve(lambda port: ask_at_random(port, int(sys.argv[2]), 1)))

@@ -5,7 +5,8 @@ from history import LONGEST_LINE, TUNINGS
 LINES = 300
 WORDS = ["ant", "Bee", "cat", "DOG", "elk"]
 SHARED = range(1, 31)
-NO_REQUESTS = [b"", b"add", b"Add 1 ant", b"add  1 ant", b"del 7 ", b"finder", b"query", b"tune", b"place 1", b"journal", b"find \xff"]
+NO_REQUESTS = [b"", b"add", b"Add 1 ant", b"add  1 ant", b"put", b"put x ant", b"del 7 ", b"get", b"get 7 ", b"finder", b"query", b"counts"]
+NO_REQUESTS += [b"newest", b"newest ant", b"oldest  1", b"stats ", b"tune", b"place 1", b"journal", b"find \xff"]
 
 
 def own(number):
@@ -43,13 +44,23 @@ class Script:
         tokens = self.chance.choices([*WORDS, "|", "-", "(", ")"], [3, 3, 3, 3, 3, 3, 3, 1, 1], k=self.chance.randint(0, 6))
         return self.chance.choice([" ", " ", "  "]).join(tokens)
 
+    def expression(self):
+        """A space and a query, or nothing."""
+        return f" {self.query()}" if self.chance.random() < 0.8 else ""
+
     def line(self):
-        kinds = ["add", "del", "find", "query", "place", "journal", "recycle", "tune", "none", "long"]
-        kind = self.chance.choices(kinds, [30, 26, 20, 10, 3, 2, 2, 2, 6, 0.2 if self.may_be_long else 0])[0]
-        if kind == "add" and (document := next(self.adds, None)):
-            return f"add {document} {self.text(5)}".encode()
+        kinds = ["add", "put", "del", "get", "find", "query", "count", "some", "place", "stats", "journal", "recycle", "tune", "none", "long"]
+        kind = self.chance.choices(kinds, [20, 14, 26, 6, 16, 8, 3, 5, 3, 2, 2, 2, 2, 6, 0.2 if self.may_be_long else 0])[0]
+        if kind in ("add", "put") and (document := next(self.adds, None)):
+            return f"{kind} {document} {self.text(5)}".encode()
         if kind == "del" and (document := next(self.deletes, None)):
             return f"del {document}".encode()
+        if kind == "get":
+            return f"get {self.chance.choice(SHARED)}".encode()
+        if kind == "count":
+            return f"count{self.expression()}".encode()
+        if kind == "some":
+            return f"{self.chance.choice(['newest', 'oldest'])} {self.chance.choice([0, 1, 3, 10, 2**64 - 1])}{self.expression()}".encode()
         if kind == "find":
             return f"find {self.text(3)}".encode()
         if kind == "query":
@@ -62,9 +73,9 @@ class Script:
             return self.chance.choice(NO_REQUESTS)
         if kind == "long":
             return b"find " + b"a" * LONGEST_LINE
-        return b"recycle" if kind == "recycle" else b"place"
+        return kind.encode() if kind in ("recycle", "stats") else b"place"
 
     def cut(self):
         """Ends the lines inside one of the last adds, between two bytes of it."""
-        last = self.chance.choice([at for at, line in enumerate(self.lines) if line.startswith(b"add ")][-5:])
+        last = self.chance.choice([at for at, line in enumerate(self.lines) if line.startswith((b"add ", b"put "))][-5:])
         self.lines[last:] = [self.lines[last][: self.chance.randrange(1, len(self.lines[last]) - 2)]]

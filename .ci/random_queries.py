@@ -1,4 +1,4 @@
-"""Asks a serve so many random queries while two writers add, delete, tune and recycle: random_queries.py PROGRAM COUNT [SEED].
+"""Asks a serve so many random queries, counts, newest and oldest while two writers add, put, delete, tune and recycle: random_queries.py PROGRAM COUNT [SEED].
 
 The words are exact ones, listed ones that share rows, and others that share rows or that hardly a document has; shared rows are so few
 that most documents have bits of words that they lack. Writers fill slices and empty them again, and statistics change meanwhile. Each
@@ -63,7 +63,8 @@ class Writer(Client):
             if turn % 100 == 0:
                 self.say(f"tune {json.dumps(COMMON | self.chance.choice(STATISTICS))}", ("tuned",))
             adds = TIDES[turn // TIDE % len(TIDES)]
-            self.commit("add" if self.chance.random() < adds else "del", self.chance.choice(NUMBERS))
+            command = self.chance.choice(["add", "put"]) if self.chance.random() < adds else "del"
+            self.commit(command, self.chance.choice(NUMBERS))
 
     def say(self, line, words):
         reply = self.ask(line)
@@ -71,7 +72,7 @@ class Writer(Client):
             self.fault = f"{line!r} was answered {reply!r}"
 
     def commit(self, command, number):
-        text = " ".join(self.chance.choices(WORDS, COMMONNESS, k=self.chance.randrange(5))) if command == "add" else ""
+        text = " ".join(self.chance.choices(WORDS, COMMONNESS, k=self.chance.randrange(5))) if command != "del" else ""
         self.begun += 1
         reply = self.ask(f"{command} {number} {text}".rstrip())
         if made := commit_told((command, number), reply):
@@ -99,8 +100,16 @@ def factor(chance, depth):
     return "-".join(words) or "!"
 
 
+def search(chance):
+    """A random request that searches, and its line."""
+    kind, query, most = chance.choice(["query", "query", "count", "newest", "oldest"]), expression(chance, 2), chance.choice([0, 1, 4, 1000])
+    if kind in ("newest", "oldest"):
+        return (kind, most, query), f"{kind} {most} {query}"
+    return (kind, query), f"{kind} {query}"
+
+
 def talk(program, seed, count):
-    """Returns the answers, each a query with its reply, the most commits told before it and the most that were begun by its end, and
+    """Returns the answers, each a request with its reply, the most commits told before it and the most that were begun by its end, and
     the history of all commits."""
     port = free_port()
     served = subprocess.Popen([program, "serve", "--port", str(port), "--workers", "3", "--one-port"], stdin=subprocess.DEVNULL)
@@ -111,12 +120,12 @@ def talk(program, seed, count):
             thread.start()
         answers = []
         for _ in range(count):
-            query = expression(asker.chance, 2)
+            request, line = search(asker.chance)
             for writer in writers:
                 writer.turns.release()
             least = max(writer.told for writer in writers)
-            reply = asker.ask(f"query {query}")
-            answers.append((query, reply, least, sum(writer.begun for writer in writers)))
+            reply = asker.ask(line)
+            answers.append((request, reply, least, sum(writer.begun for writer in writers)))
         for writer, thread in zip(writers, threads):
             thread.join(60)
             if writer.fault or thread.is_alive():
@@ -128,11 +137,11 @@ def talk(program, seed, count):
 
 
 def check(answers, history):
-    """Raises where an answer is that of no time between its query's begin and its end."""
-    for query, reply, least, most in answers:
-        count = history.count_after(("query", query), reply, least)
+    """Raises where an answer is that of no time between its request's begin and its end."""
+    for request, reply, least, most in answers:
+        count = history.count_after(request, reply, least)
         if count is None or count > most:
-            raise ValueError(f"{query!r} was answered {reply!r}, which it isn't after {least} to {most} commits")
+            raise ValueError(f"{request!r} was answered {reply!r}, which it isn't after {least} to {most} commits")
 
 
 def main(program, count, seed=1):

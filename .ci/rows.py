@@ -92,6 +92,22 @@ def slice_rows():
     yield Row("a slice of deleted documents is recycled", [*emptied, *recycled], one_slice)
 
 
+def put_rows():
+    """Rows of puts, each of which takes a column."""
+    told = [("add 1  a  b \\x0d", "added 1"), ("get 1", "text 1  a  b "), ("put 1", "replaced 2"), ("get 1", "text 2 "), ("get 001", "text 2 ")]
+    yield Row("a text is told with its spaces, and an empty one is too", [*told, ("find a", "found 0")])
+    again = [("put 1 a", "added 1"), *(("put 1 a", f"replaced {place}") for place in range(2, 65))]
+    full = ("put 1 b", "refused full")
+    yield Row("a slice keeps the one live document", [*again, full, full, ("find a", "found 1 1"), ("get 1", "text 64 a")], ['{"slices":1}'])
+    more = [("put 1 a", f"replaced {place}") for place in range(65, 130)]
+    yield Row("a slice that a put emptied is used again", [*again, *more, ("find a", "found 1 1"), ("count", "count 1")])
+    numbers_in_turn = [*range(2, 111, 2), *range(1, 111, 2)]
+    new = [(f"put {number} x", f"added {number}") for number in range(1, 111)]
+    old = [(f"put {number} y", f"replaced {place}") for place, number in enumerate(numbers_in_turn, 111)]
+    found = " ".join(["found 110", *map(str, numbers_in_turn)])
+    yield Row("puts move documents as adds do", [*new, *old, ("find y", found), ("find x", "found 0")], ['{"slices":3,"reserve":64}'])
+
+
 def tune_rows():
     """Rows of two slices of 64 columns, the first of which is treated by new statistics once it is cleared."""
     deletes = [(f"del {number}", f"deleted {number + 65}") for number in range(1, 65)]
@@ -213,7 +229,7 @@ def text_rows():
 
 def main(program):
     with open(os.path.join(os.path.dirname(__file__), "rows.txt"), encoding="utf-8") as file:
-        rows = [*rows_of(file.read()), *odd_values(), *odd_words(), *text_rows(), *slice_rows(), *tune_rows(), *reserve_rows(), *fit_rows(), *long_rows()]
+        rows = [*rows_of(file.read()), *odd_values(), *odd_words(), *text_rows(), *slice_rows(), *put_rows(), *tune_rows(), *reserve_rows(), *fit_rows(), *long_rows()]
     failed = sum(row.fails(program) for row in rows)
     print(f"{failed} of {len(rows)} rows failed" if failed else "each row has its replies")
     return 1 if failed else 0

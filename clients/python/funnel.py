@@ -40,6 +40,10 @@ class Full(Refused):
     """No column is left for the document."""
 
 
+class HasNewline(Refused):
+    """The text of the document has a newline, so that no line can tell it. It came over HTTP, which tells it."""
+
+
 class Trimmed(Refused):
     """The journal no longer keeps the first so many commits, one of which was asked for."""
 
@@ -88,6 +92,7 @@ REFUSALS: dict[str, type[Refused]] = {
     "refused present": Present,
     "refused absent": Absent,
     "refused full": Full,
+    "refused text": HasNewline,
     "refused trimmed": Trimmed,
     "refused query": BadQuery,
     "refused deep": Deep,
@@ -108,21 +113,54 @@ class Commit(NamedTuple):
     id: int
 
 
+class Placed(NamedTuple):
+    """What a put did: the place of its add, and whether a document with the number was live."""
+
+    place: int
+    replaced: bool
+
+
+class Document(NamedTuple):
+    """A live document: the place of its add, and its text."""
+
+    place: int
+    text: str
+
+
+class Some(NamedTuple):
+    """How many documents were found, and the numbers of some of them."""
+
+    count: int
+    ids: list[int]
+
+
+class Stats(NamedTuple):
+    """How full the server is: live documents, commits, those that the journal no longer keeps, columns, unclaimed ones, slices that
+    are retired, and finds that are running."""
+
+    documents: int
+    place: int
+    base: int
+    columns: int
+    free: int
+    retired: int
+    finds: int
+
+
 Reader = Callable[[Sequence[str]], object]
 
 
 class Call(NamedTuple):
-    """A line, the word with which the reply begins where the call was done, and what the words after it are read as."""
+    """A line, and by the word with which the reply begins where the call was done, what the words after it are read as."""
 
     line: bytes
-    word: str
-    read: Reader
+    readers: dict[str, Reader]
 
     def answer(self, reply: str) -> object:
         """What the reply gives, or the refusal that it is."""
         word, *rest = reply.split(" ")
-        if word == self.word:
-            return self.read(rest)
+        if word in self.readers:
+            return self.readers[word](rest)
         if word == "guarded":
             return Guarded(reply)
         refusal = REFUSALS.get(" ".join([word, *rest[:1]]))
@@ -139,14 +177,39 @@ def numbers(words: Sequence[str]) -> list[int]:
     return [int(word) for word in words[1:]]
 
 
+def added(words: Sequence[str]) -> Placed:
+    return Placed(int(words[0]), False)
+
+
+def replaced(words: Sequence[str]) -> Placed:
+    return Placed(int(words[0]), True)
+
+
+def document(words: Sequence[str]) -> Document:
+    return Document(int(words[0]), " ".join(words[1:]))
+
+
+def some(words: Sequence[str]) -> Some:
+    return Some(int(words[0]), numbers(words))
+
+
+def stats(words: Sequence[str]) -> Stats:
+    return Stats(**{name: int(told) for name, told in zip(words[::2], words[1::2], strict=True)})
+
+
 def commits(words: Sequence[str]) -> list[Commit]:
     return [Commit(word[0] == "+", int(word[1:])) for word in words[1:]]
 
 
-def call(line: str, word: str, read: Reader) -> Call:
+def call(line: str, **readers: Reader) -> Call:
     if "\n" in line:
         raise ValueError("a newline would end the line")
-    return Call(line.encode() + b"\n", word, read)
+    return Call(line.encode() + b"\n", readers)
+
+
+def behind(line: str, expression: str | None) -> str:
+    """The line with an expression, or without one, by which every document counts."""
+    return line if expression is None else f"{line} {expression}"
 
 
 class Calls:
@@ -157,35 +220,59 @@ class Calls:
 
     def add(self, id: int, text: str) -> int:
         """Adds a document, and gives the place of the add."""
-        return self.send(call(f"add {id:d} {text}", "added", number))
+        return self.send(call(f"add {id:d} {text}", added=number))
+
+    def put(self, id: int, text: str) -> Placed:
+        """Adds a document, in the place of the live one with its number if there is one. No find misses it meanwhile."""
+        return self.send(call(f"put {id:d} {text}", added=added, replaced=replaced))
 
     def delete(self, id: int) -> int:
         """Deletes the document, and gives the place of the delete."""
-        return self.send(call(f"del {id:d}", "deleted", number))
+        return self.send(call(f"del {id:d}", deleted=number))
+
+    def get(self, id: int) -> Document:
+        """The text of the document, and the place of its add."""
+        return self.send(call(f"get {id:d}", text=document))
 
     def find(self, words: str = "") -> list[int]:
         """The numbers of the documents that have all these words, in the order of their adds."""
-        return self.send(call(f"find {words}", "found", numbers))
+        return self.send(call(f"find {words}", found=numbers))
 
     def query(self, expression: str) -> list[int]:
         """The numbers of the documents that the boolean query keeps, in the order of their adds."""
-        return self.send(call(f"query {expression}", "found", numbers))
+        return self.send(call(f"query {expression}", found=numbers))
+
+    def count(self, expression: str | None = None) -> int:
+        """How many documents the boolean query keeps; without one, how many there are."""
+        return self.send(call(behind("count", expression), count=number))
+
+    def newest(self, most: int, expression: str | None = None) -> Some:
+        """How many documents the boolean query keeps, and at most so many of those that were added last, the newest first."""
+        return self.send(call(behind(f"newest {most:d}", expression), found=some))
+
+    def oldest(self, most: int, expression: str | None = None) -> Some:
+        """How many documents the boolean query keeps, and at most so many of those that were added first, the oldest first."""
+        return self.send(call(behind(f"oldest {most:d}", expression), found=some))
 
     def place(self) -> int:
         """How many commits there were."""
-        return self.send(call("place", "place", number))
+        return self.send(call("place", place=number))
 
     def journal(self, after: int = 0) -> list[Commit]:
-        """The commits after the first so many."""
-        return self.send(call(f"journal {after:d}", "commits", commits))
+        """The commits after the first so many. An add of a number that is live replaces its document."""
+        return self.send(call(f"journal {after:d}", commits=commits))
+
+    def stats(self) -> Stats:
+        """How full the server is."""
+        return self.send(call("stats", stats=stats))
 
     def recycle(self) -> int:
         """Empties a slice that has no live document, and gives its number."""
-        return self.send(call("recycle", "recycled", number))
+        return self.send(call("recycle", recycled=number))
 
     def tune(self, statistics: dict) -> int:
         """Gives new statistics, and tells how many tunings there were."""
-        return self.send(call(f"tune {json.dumps(statistics, ensure_ascii=False)}", "tuned", number))
+        return self.send(call(f"tune {json.dumps(statistics, ensure_ascii=False)}", tuned=number))
 
 
 class Client(Calls):
@@ -328,22 +415,35 @@ class Shards:
         """Adds the document to its server, and gives the place of the add there."""
         return self.of(id).add(id, text)
 
+    def put(self, id: int, text: str) -> Placed:
+        """Puts the document to its server, and tells what was done there."""
+        return self.of(id).put(id, text)
+
+    def get(self, id: int) -> Document:
+        """The text of the document, and the place of its add on its server."""
+        return self.of(id).get(id)
+
     def delete(self, id: int) -> int:
         """Deletes the document from its server, and gives the place of the delete there."""
         return self.of(id).delete(id)
 
     def find(self, words: str = "") -> list[int]:
         """What the servers find, one after the other; each is asked beside the others."""
-        return self.ask_all(lambda client: client.find(words))
+        return [id for ids in self.ask_all(lambda client: client.find(words)) for id in ids]
 
     def query(self, expression: str) -> list[int]:
         """What the servers find by the boolean query, one after the other; each is asked beside the others."""
-        return self.ask_all(lambda client: client.query(expression))
+        return [id for ids in self.ask_all(lambda client: client.query(expression)) for id in ids]
 
-    def ask_all(self, ask: Callable[[Client], list[int]]) -> list[int]:
+    def count(self, expression: str | None = None) -> int:
+        """How many documents of all servers the boolean query keeps; without one, how many there are."""
+        return sum(self.ask_all(lambda client: client.count(expression)))
+
+    def ask_all(self, ask: Callable[[Client], Any]) -> list:
+        """What each server answers, in their order."""
         asked = [self.threads.submit(ask, client) for client in self.clients]
         wait(asked)  # also where one is refused: no client may still be in use by a thread
-        return [id for it in asked for id in it.result()]
+        return [it.result() for it in asked]
 
     def close(self) -> None:
         """Ends all connections."""

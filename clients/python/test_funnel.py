@@ -64,6 +64,23 @@ class Answers(unittest.TestCase):
             ask()
         self.assertEqual(caught.exception.numbers, numbers)
 
+    def test_documents_are_replaced_read_and_counted(self):
+        with Server() as server, Client(port=server.port) as client:
+            self.assertEqual([client.put(7, "a"), client.put(7, "b  c ")], [funnel.Placed(1, False), funnel.Placed(2, True)])
+            self.assertEqual([client.find("a"), client.find("b")], [[], [7]])
+            self.assertEqual(client.get(7), funnel.Document(2, "b  c "))
+            self.refused(funnel.Absent, [], lambda: client.get(8))
+            self.refused(funnel.Present, [2], lambda: client.add(7, "d"))
+            self.assertEqual(client.put(8, ""), (3, False))
+            self.assertEqual(client.get(8), (3, ""))
+            self.assertEqual([client.count(), client.count("b"), client.count("-b")], [2, 1, 1])
+            self.assertEqual([client.newest(1), client.oldest(1), client.newest(5, "b | -b")], [(2, [8]), (2, [7]), (2, [8, 7])])
+            self.assertEqual([client.newest(0), client.oldest(3, "zebra")], [(2, []), (0, [])])
+            self.refused(funnel.BadQuery, [0], lambda: client.count("|"))
+            self.refused(funnel.BadQuery, [0], lambda: client.newest(1, ""))
+            self.assertEqual(client.journal(), [Commit(True, 7), Commit(True, 7), Commit(True, 8)])
+            self.assertEqual(client.stats(), funnel.Stats(documents=2, place=3, base=0, columns=128, free=125, retired=0, finds=0))
+
     def test_each_call_is_answered(self):
         with Server() as server, Client(port=server.port) as client:
             self.assertEqual([client.add(7, "The cat sat"), client.add(9, "a black cat")], [1, 2])
@@ -172,6 +189,7 @@ class Answers(unittest.TestCase):
                 with self.assertRaises(funnel.BadQuery):
                     shards.query("(")
                 self.assertEqual(shards.find("w2"), [2])
+                self.assertEqual([shards.count(), shards.count("w2"), shards.put(2, "dog").replaced, shards.get(2).text], [4, 1, True, "dog"])
 
 
 if __name__ == "__main__":

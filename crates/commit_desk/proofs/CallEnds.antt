@@ -12,6 +12,7 @@ use Rattle.funnel_model.specs.declared.event.Event.{Event}
 use Rattle.funnel_model.specs.declared.event.Event.TheVariants as event
 use Rattle.funnel_model.specs.declared.bit_list.Bit.{Bit}
 use Rattle.funnel_model.specs.declared.config.Config.{Config}
+use Rattle.funnel_model.specs.declared.stats.Stats.{Stats}
 use Rattle.funnel_model.specs.Events.{leaves_open, pass_of}
 use Rattle.funnel_model.specs.History.{last_by}
 use Rattle.funnel_model.specs.Legal.{IsIdle, IsLegal}
@@ -25,7 +26,7 @@ use Rattle.slice_rule.specs.Pools.{PoolId}
 use Rattle.row_layout.specs.Layouts.{LayoutId}
 use Rattle.row_layout.specs.Owners.{IsOwnedOnlyAt, OwnsIn}
 use Rattle.slice_rule.specs.Seats.{HasNoneOutstanding, HoldsToken, IsSeated, KeepsToColumn, PassState}
-use Rattle.commit_desk.specs.Answers.{AnswersClear, AnswersTake, events_of_clear, events_of_commit, events_of_delete, events_of_find, events_of_journal, events_of_place, events_of_take, events_of_tune}
+use Rattle.commit_desk.specs.Answers.{AnswersClear, AnswersTake, call_asked, events_of_clear, events_of_commit, events_of_delete, events_of_find, events_of_journal, events_of_place, events_of_stats, events_of_take, events_of_text, events_of_tune}
 use Rattle.commit_desk.specs.declared.answers.AddFault.TheVariants as add
 use Rattle.commit_desk.specs.declared.answers.ClearRefusal.{ClearRefusal}
 use Rattle.commit_desk.specs.declared.answers.ClearRefusal.TheVariants as clear
@@ -40,6 +41,8 @@ use Rattle.commit_desk.specs.declared.answers.NotTaken.{NotTaken}
 use Rattle.commit_desk.specs.declared.answers.Taken.{Taken}
 use Rattle.commit_desk.specs.declared.answers.Taken.TheVariants as taken
 use Rattle.commit_desk.specs.declared.answers.TakenMove.{TakenMove}
+use Rattle.commit_desk.specs.declared.answers.TextRead.{TextRead}
+use Rattle.commit_desk.specs.declared.answers.TextRead.TheVariants as read
 use Rattle.commit_desk.specs.declared.answers.ToClear.{ToClear}
 use Rattle.commit_desk.specs.declared.look.Look.{Look}
 use Rattle.commit_desk.specs.Desks.{DeskState, IsFresh, IsPrepared, IsReused, Makes}
@@ -80,6 +83,9 @@ module _ (pool : PoolId) (before after : DeskState) (seat next : PassState) (her
   rests_commit id text claim bits (Ok place) made = rests_one (event.Add seat.number id text claim.slice claim.column bits) refl refl made
   rests_commit id text claim bits (Err fault) made = rests_one (event.Drop seat.number id text claim.slice claim.column) refl refl made
 
+  pub rests_put : (id : ℕ) (text : List ℕ) (claim : Claim) (bits : List Bit) → Makes (event.Add seat.number id text claim.slice claim.column bits ∷ []) before after seat next → IsResting pool next
+  rests_put id text claim bits made = rests_one (event.Add seat.number id text claim.slice claim.column bits) refl refl made
+
   pub rests_moved : (look : Look) (claim : Claim) (bits : List Bit) (moved : Bool) → Makes (event_of_move seat.number look claim bits moved ∷ []) before after seat next → IsResting pool next
   rests_moved look claim bits true made = rests_one (event.Move seat.number look.doc.id claim.slice claim.column bits) refl refl made
   rests_moved look claim bits false made = rests_one (event.Void seat.number claim.slice claim.column) refl refl made
@@ -94,6 +100,16 @@ module _ (pool : PoolId) (before after : DeskState) (seat next : PassState) (her
     rests_journal from (Err (journal.Trimmed n)) made = rests_one (event.Read seat.number (call.Journal from)) refl refl made
     rests_journal from (Err (journal.Spent events)) made = rests_none idle made
     rests_journal from (Err journal.Memory) made = rests_none idle made
+
+    pub rests_text : (id : ℕ) (answer : TextRead) → Makes (events_of_text seat.number id answer) before after seat next → IsResting pool next
+    rests_text id (read.Read place) made = rests_one (event.Read seat.number (call.Get id)) refl refl made
+    rests_text id read.Absent made = rests_one (event.Read seat.number (call.Get id)) refl refl made
+    rests_text id (read.Short bytes) made = rests_none idle made
+    rests_text id (read.Spent events) made = rests_none idle made
+
+    pub rests_stats : (answer : Result Stats Spent) → Makes (events_of_stats seat.number answer) before after seat next → IsResting pool next
+    rests_stats (Ok stats) made = rests_one (event.Read seat.number call.Stats) refl refl made
+    rests_stats (Err spent) made = rests_none idle made
 
     pub rests_delete : (id : ℕ) (answer : Result ℕ DeleteFault) → Makes (events_of_delete seat.number id answer) before after seat next → IsResting pool next
     rests_delete id (Ok place) made = rests_one (event.Del seat.number id) refl refl made
@@ -160,19 +176,19 @@ module _ (pool : PoolId) (before after : DeskState) (seat next : PassState) (her
           to_write (e ∷ []) claim.slice claim.column layout in' (taken_within claim.slice claim.column made)
           (last_made before after seat next e refl made ∙ ap (λ n. Some (event.Take n claim.slice claim.column)) (sym made.number)) fresh made
 
-      pub is_to_do : (id : ℕ) (text : List ℕ) (answer : Taken) → AnswersTake most before.pool.limits before.history seat.number id answer → IsPrepared answer next →
-          Makes (events_of_take seat.number id text answer) before after seat next → IsToDo pool answer next
-      is_to_do id text (taken.Claim claim layout) may fresh made = claims claim layout may.1.in_range fresh made
-      is_to_do id text (taken.Clear work layout) may laid made = (
+      pub is_to_do : (replaces : Bool) (id : ℕ) (text : List ℕ) (answer : Taken) → AnswersTake most before.pool.limits before.history seat.number replaces id answer → IsPrepared answer next →
+          Makes (events_of_take seat.number replaces id text answer) before after seat next → IsToDo pool answer next
+      is_to_do replaces id text (taken.Claim claim layout) may fresh made = claims claim layout may.1.in_range fresh made
+      is_to_do replaces id text (taken.Clear work layout) may laid made = (
         to_clear work.job.slice may.2.in_range made,
         old_slots work may.3,
         subst (λ (p : PoolId). IsLayoutOf p.config work.job.slice next.front layout) (made.same ∙ here) laid,
       )
-      is_to_do id text (taken.Wait slice) may nothing made = rests_none idle made
-      is_to_do id text (taken.Refused (add.Spent events)) may nothing made = rests_none idle made
-      is_to_do id text (taken.Refused (add.Present added)) may nothing made = rests_one (event.No seat.number (call.Add id text)) refl refl made
-      is_to_do id text (taken.Refused (add.Full blocks)) may nothing made = rests_one (event.No seat.number (call.Add id text)) refl refl made
-      is_to_do id text (taken.Refused add.Memory) may nothing made = rests_none idle made
+      is_to_do replaces id text (taken.Wait slice) may nothing made = rests_none idle made
+      is_to_do replaces id text (taken.Refused (add.Spent events)) may nothing made = rests_none idle made
+      is_to_do replaces id text (taken.Refused (add.Present added)) may nothing made = rests_one (event.No seat.number (call_asked replaces id text)) refl refl made
+      is_to_do replaces id text (taken.Refused (add.Full blocks)) may nothing made = rests_one (event.No seat.number (call_asked replaces id text)) refl refl made
+      is_to_do replaces id text (taken.Refused add.Memory) may nothing made = rests_none idle made
 
       pub writes_or_rests : (look : Look) (answer : Result TakenMove NotTaken) → AnswersTakeMove most before.pool.limits before.history seat.number look answer →
           IfOk answer (λ taken. IsFresh taken.claim taken.layout next) → Makes (events_of_take_move seat.number answer) before after seat next → WritesOrRests pool answer next

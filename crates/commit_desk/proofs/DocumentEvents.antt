@@ -1,7 +1,6 @@
 -- What the desk keeps, when a document is added, dropped and deleted.
-use Rattle.std.proofs.Common.{◌≡◌, ℕ, ◌+◌, ◌<◌, true, false, List, [], ◌∷◌, ◌++◌, cond, length, All, Option, Some, None, sym, refl, ap, ◌∙◌, subst, arith}
+use Rattle.std.proofs.Common.{◌≡◌, ℕ, ◌+◌, ◌-◌, ◌<◌, true, false, List, [], ◌∷◌, ◌++◌, cond, length, All, Option, Some, None, sym, refl, ap, ◌∙◌, subst, arith}
 use Rattle.std.proofs.lemmas.Bool.{false≢true}
-use Rattle.std.specs.List.{list_any}
 use Rattle.std.proofs.lemmas.List.{length-append, length-set}
 use Rattle.std.specs.Prelude.{◌==◌}
 use Rattle.document_store.specs.Documents.{Parts}
@@ -14,15 +13,14 @@ use Rattle.funnel_model.specs.declared.bit_list.Bit.{Bit}
 use Rattle.funnel_model.specs.declared.config.Config.{Config}
 use Rattle.funnel_model.specs.declared.event.Event.{Event}
 use Rattle.funnel_model.specs.declared.event.Event.TheVariants as event
-use Rattle.funnel_model.specs.Events.{clears, deletes_or_drops, finds_or_ends, moves, next_after, tuning_of}
-use Rattle.funnel_model.specs.History.{last_by, place}
+use Rattle.funnel_model.specs.Events.{clears, finds_or_ends, moves, next_after, tuning_of}
+use Rattle.funnel_model.specs.History.{has_cause, is_live, last_by, place}
 use Rattle.funnel_model.specs.Legal.{IsAllowed, Limits}
 use Rattle.funnel_model.specs.Sizes.{words_of_slice}
 use Rattle.funnel_model.specs.Tunings.{treat}
 use Rattle.funnel_model.specs.Words.{AreWordsOf, words}
 use Rattle.funnel_model.proofs.CausedMoves.{caused-push}
 use Rattle.funnel_model.proofs.Histories.{legal-push}
-use Rattle.funnel_model.proofs.LiveLemmas.{commits-silent}
 use Rattle.funnel_model.proofs.NextEvents.{awaited-push}
 use Rattle.row_layout.proofs.BitLemmas.{rows-of_part}
 use Rattle.row_layout.proofs.SoundHistories.{sound-push}
@@ -37,6 +35,7 @@ use Rattle.commit_desk.specs.Layouts.{AreLayoutsOf}
 use Rattle.commit_desk.specs.Records.{AreListed, AreRecorded, IsLiveIn}
 use Rattle.commit_desk.proofs.Few.{few-next, few-start}
 use Rattle.commit_desk.proofs.Journals.{journal-push, journal-silent}
+use Rattle.commit_desk.proofs.LiveCounts.{count-added, count-deletes}
 use Rattle.commit_desk.proofs.LayoutEvents.{layouts-quiet}
 use Rattle.commit_desk.proofs.ListedKept.{listed-add, listed-delete, listed-one}
 use Rattle.commit_desk.proofs.RecordFacts.{is_column, no_entry, none_live_in_pending}
@@ -111,7 +110,7 @@ module _ (pool : PoolId) (most : ℕ) (history : List Event) (books : Books) (is
       (retired_before pool.limits history books.table kept.legal kept.recorded books.stages kept.staged.each kept.staged.count)
 
   -- what is kept with one more event, part by part
-  pub desk-with : (e : Event) (next : Books) → IsAllowed pool.limits history e → HasItsBits pool.config history e → tuning_of e ≡ None → (moves e ≡ true → list_any deletes_or_drops history ≡ true) → HasFew most pool.limits.passes (history ++ e ∷ []) → next_after e ≡ None →
+  pub desk-with : (e : Event) (next : Books) → IsAllowed pool.limits history e → HasItsBits pool.config history e → tuning_of e ≡ None → (moves e ≡ true → has_cause history ≡ true) → HasFew most pool.limits.passes (history ++ e ∷ []) → next_after e ≡ None →
       ((pass : ℕ) → finds_or_ends pass e ≡ false) → ((slice : ℕ) → clears slice e ≡ false) → next.slices ≡ books.slices → next.columns ≡ books.columns → next.tokens ≡ books.tokens → next.events ≡ length history + 1 →
       next.layouts ≡ books.layouts → IsJournalOf pool.limits.commits (history ++ e ∷ []) next.journal → AreRecorded pool.limits (history ++ e ∷ []) next.table → AreListed next.table next.live →
       AreStages pool.limits (history ++ e ∷ []) next.table books.tokens next.stages → IsDesk pool most (history ++ e ∷ []) next
@@ -147,31 +146,33 @@ module _ (pool : PoolId) (most : ℕ) (history : List Event) (books : Books) (is
       subst (λ n. AreDocumentBitsIn n config (words text) s c bits) (ap (λ (l : Limits). l.slice_words) is.sizes)
       (bits_of_text pool.limits.slice_words config set text s c bits of_text are)
 
-  -- a document is added on the column that its pass took
-  pub desk-add : (pass s c : ℕ) (doc : Parts) (bits : List Bit) (next : Entries) → IsAllowed pool.limits history (event.Add pass doc.id doc.text s c bits) → AreWordsOf doc.words doc.text →
+  -- a document whose number is not live is added on the column that its pass took
+  pub desk-add : (pass s c : ℕ) (doc : Parts) (bits : List Bit) (next : Entries) → IsAllowed pool.limits history (event.Add pass doc.id doc.text s c bits) → is_live doc.id history ≡ false →
+      AreWordsOf doc.words doc.text →
       AreDocumentBitsIn pool.limits.slice_words (treat pool.config s history) doc.words s c bits → ((other : ℕ) → entry_of next other ≡ cond (other == doc.id) (Some (s, c)) (entry_of books.live other)) →
       next.slices ≡ books.live.slices → next.columns ≡ books.live.columns →
       IsDesk pool most (history ++ event.Add pass doc.id doc.text s c bits ∷ []) (record books {
         events = length history + 1;
-        journal = with_commit books.journal (record { add = true; id = doc.id });
+        journal = with_commit books.journal (record { add = true; id = doc.id }) (books.journal.documents + 1);
         table = with_slot books.table s c (record { column = became.Live (place history + 1) (length history + 1); doc = Some doc });
         live = next;
       })
-  desk-add pass s c doc bits next allowed of_text bits_are entries slices columns =
+  desk-add pass s c doc bits next allowed absent of_text bits_are entries slices columns =
       let e = event.Add pass doc.id doc.text s c bits in
       let kept = is.kept in
       let rule = allowed.rule in
       let here = taken_column pass s c rule.taken in
       let y : Slot = record { column = became.Live (place history + 1) (length history + 1); doc = Some doc } in
       let table = with_slot books.table s c y in
-      desk-with e (record books { events = length history + 1; journal = with_commit books.journal (record { add = true; id = doc.id }); table = table; live = next }) allowed
+      desk-with e (record books { events = length history + 1; journal = with_commit books.journal (record { add = true; id = doc.id }) (books.journal.documents + 1); table = table; live = next }) allowed
       (own_bits (treat pool.config s history) doc.words doc.text s c bits of_text bits_are) refl (λ is. absurd (false≢true is))
       (few-next most pool.limits.passes history e (event.Take pass s c) kept.few allowed.pass rule.taken (omega arith)) refl (λ other. refl) (λ slice. refl) refl refl refl refl refl
-      (journal-push pool.limits.commits history e (record { add = true; id = doc.id }) books.journal kept.journal_is refl)
-      (recorded-add pool.limits history books.table kept.legal kept.recorded pass s c doc bits allowed of_text here)
+      (journal-push pool.limits.commits history e (record { add = true; id = doc.id }) (books.journal.documents + 1) books.journal kept.journal_is refl
+      (ap (λ n. n + 1) kept.journal_is.documents_are ∙ sym (count-added history pass doc.id doc.text s c bits absent)))
+      (recorded-add pool.limits history books.table kept.legal kept.recorded pass s c doc bits allowed absent of_text here)
       (listed-add books.table books.live kept.recorded.size kept.listed s c (place history + 1) (length history + 1) doc next here
       (none_live_in_pending pool.limits history books.table kept.legal kept.recorded pass s c rule.taken here)
-      (no_entry pool.limits history books.table kept.legal kept.recorded books.live kept.listed doc.id rule.absent) entries slices columns)
+      (no_entry pool.limits history books.table kept.legal kept.recorded books.live kept.listed doc.id absent) entries slices columns)
       (staged_by pool.limits history e books.table table books.tokens books.stages books.stages kept.staged refl refl refl
       (stages-add pool.limits history books.table books.stages kept.legal kept.recorded kept.staged.count kept.staged.each pass doc.id doc.text s c bits y refl allowed))
 
@@ -193,7 +194,7 @@ module _ (pool : PoolId) (most : ℕ) (history : List Event) (books : Books) (is
       let recorded = recorded-drop pool.limits history books.table kept.legal kept.recorded pass id text s c allowed here in
       desk-with e (record books { events = length history + 1; table = table; stages = with_stage books.stages s ended }) allowed tt refl (λ is. absurd (false≢true is))
       (few-next most pool.limits.passes history e (event.Take pass s c) kept.few allowed.pass rule.taken (omega arith)) refl (λ other. refl) (λ slice. refl) refl refl refl refl refl
-      (journal-silent pool.limits.commits history (history ++ e ∷ []) books.journal (commits-silent history e refl) kept.journal_is) recorded
+      (journal-silent pool.limits.commits history e books.journal refl kept.journal_is) recorded
       (listed-one books.table books.live kept.recorded.size kept.listed s c y here (λ doc l. cc l.column)
       (none_live_in_pending pool.limits history books.table kept.legal kept.recorded pass s c rule.taken here))
       (staged_by pool.limits history e books.table table books.tokens books.stages (with_stage books.stages s ended) kept.staged (length-set books.stages.stages s ended) refl refl
@@ -205,7 +206,7 @@ module _ (pool : PoolId) (most : ℕ) (history : List Event) (books : Books) (is
       stage_of books.stages s ≡ stage.InUse first over →
       IsDesk pool most (history ++ event.Del pass doc.id ∷ []) (record books {
         events = length history + 1;
-        journal = with_commit books.journal (record { add = false; id = doc.id });
+        journal = with_commit books.journal (record { add = false; id = doc.id }) (books.journal.documents - 1);
         table = with_slot books.table s c (record { column = became.Over l.added l.since (length history + 1); doc = Some doc });
         live = next;
         stages = with_stage books.stages s (after_end pool.limits.columns (length history + 1) first over);
@@ -217,9 +218,10 @@ module _ (pool : PoolId) (most : ℕ) (history : List Event) (books : Books) (is
       let table = with_slot books.table s c y in
       let ended = after_end pool.limits.columns (length history + 1) first over in
       let recorded = recorded-delete pool.limits history books.table kept.legal kept.recorded pass s c doc l allowed here in
-      desk-with e (record books { events = length history + 1; journal = with_commit books.journal (record { add = false; id = doc.id }); table = table; live = next; stages = with_stage books.stages s ended }) allowed tt refl (λ is. absurd (false≢true is))
+      desk-with e (record books { events = length history + 1; journal = with_commit books.journal (record { add = false; id = doc.id }) (books.journal.documents - 1); table = table; live = next; stages = with_stage books.stages s ended }) allowed tt refl (λ is. absurd (false≢true is))
       (few-start most pool.limits.passes history e below) refl (λ other. refl) (λ slice. refl) refl refl refl refl refl
-      (journal-push pool.limits.commits history e (record { add = false; id = doc.id }) books.journal kept.journal_is refl) recorded
+      (journal-push pool.limits.commits history e (record { add = false; id = doc.id }) (books.journal.documents - 1) books.journal kept.journal_is refl
+      (let fewer = count-deletes history pass doc.id allowed.rule.present in omega (arith, fewer, kept.journal_is.documents_are))) recorded
       (listed-delete books.table books.live kept.recorded.size kept.listed s c (length history + 1) doc l next here entries slices columns)
       (staged_by pool.limits history e books.table table books.tokens books.stages (with_stage books.stages s ended) kept.staged (length-set books.stages.stages s ended) refl refl
       (stages-delete pool.limits history books.table books.stages kept.legal kept.recorded kept.staged.count kept.staged.each pass s c first over doc y here l refl allowed recorded at_stage))

@@ -33,12 +33,12 @@ use Rattle.commit_desk.proofs.StageReadings.{none_left, not_over_by_state}
 
 -- ---- sums
 
-sum-map : {X : Type 0} → (f : X → ℕ) (xs : List X) → sum (map f xs) ≡ sum_by f xs
+pub sum-map : {X : Type 0} → (f : X → ℕ) (xs : List X) → sum (map f xs) ≡ sum_by f xs
 sum-map f [] = refl
 sum-map f (x ∷ xs) = sum_by-cons (λ (n : ℕ). n) (f x) (map f xs) ∙ ap (λ n. f x + n) (sum-map f xs) ∙ sym (sum_by-cons f x xs)
 
 -- the columns past the first ones, which are claimed
-unclaimed_past : (slice first : ℕ) (history : List Event) → claimed slice history ≡ range_with_len 0 first → (n : ℕ) → unclaimed_in n slice history ≡ n - first
+pub unclaimed_past : (slice first : ℕ) (history : List Event) → claimed slice history ≡ range_with_len 0 first → (n : ℕ) → unclaimed_in n slice history ≡ n - first
 unclaimed_past slice first history claims zero = omega arith
 unclaimed_past slice first history claims (suc n) =
     let before = unclaimed_past slice first history claims n in
@@ -148,7 +148,7 @@ module _ (limits : Limits) (history : List Event) (table : Table) (tokens : List
       let slots = slots_of table slice in
       let long : length slots ≡ limits.columns = length-slots_of table slice (let h = recorded.slices_are in omega arith) recorded.size ∙ recorded.columns_are in
       record {
-        is_held = λ column. not (is_over (get_or slots column free_slot));
+        test = λ column. not (is_over (get_or slots column free_slot));
         tells = λ column below.
             let at' = in_table limits history table legal recorded slice column in' below in
             let at : IsColumn table slice column = record { slice_in_range = at'.slice_in_range; column_in_range = at'.column_in_range } in
@@ -212,7 +212,7 @@ module _ (limits : Limits) (history : List Event) (table : Table) (tokens : List
       let uncleared = used.not_clearing in
       let long : length slots ≡ limits.columns = length-slots_of table slice (let h = recorded.slices_are in omega arith) recorded.size ∙ recorded.columns_are in
       record {
-        is_held = λ column. is_claimed slice column history && not (is_over (get_or slots column free_slot));
+        test = λ column. is_claimed slice column history && not (is_over (get_or slots column free_slot));
         tells = λ column below.
             let at' = in_table limits history table legal recorded slice column in' below in
             let at : IsColumn table slice column = record { slice_in_range = at'.slice_in_range; column_in_range = at'.column_in_range } in
@@ -254,7 +254,7 @@ module _ (limits : Limits) (history : List Event) (table : Table) (tokens : List
   -- none is held where none can be
   none_held_in : (slice : ℕ) → ((column : ℕ) → column < limits.columns → (x : ColumnState) → IsInState history slice column x → IsHeld x → ⊥) → HoldsColumns limits.columns history slice 0
   none_held_in slice none = record {
-    is_held = λ column. false;
+    test = λ column. false;
     tells = λ column below. (λ no. absurd (both_ways false refl no), λ held. absurd (none column below held.0 held.1 held.2));
     count = sym (none_counted (λ column. false) limits.columns (λ k below. refl));
   }
@@ -296,7 +296,7 @@ module _ (limits : Limits) (history : List Event) (table : Table) (tokens : List
       }
 
   -- all columns of a slice that is retired or being cleared are over
-  all_over_by : (slice : ℕ) → slice < limits.slices → (s : Stage) → IsAtStage limits.columns history table slice s → (IsUsed s → ⊥) → AllOver limits.columns slice history
+  pub all_over_by : (slice : ℕ) → slice < limits.slices → (s : Stage) → IsAtStage limits.columns history table slice s → (IsUsed s → ⊥) → AllOver limits.columns slice history
   all_over_by slice in' (stage.InUse first over) at unused = absurd (unused tt)
   all_over_by slice in' (stage.Retired number) at unused = (retired_since limits.columns slice number history at).over
   all_over_by slice in' (stage.Clearing pass) at unused = λ column below.
@@ -310,9 +310,9 @@ module _ (limits : Limits) (history : List Event) (table : Table) (tokens : List
     one uncleared =
         one_held_count limits.columns history slice held (limits.columns - count_by is_over (slots_of table slice)) partly.holds (holds_others slice in' uncleared partly.filled)
 
-    none_held : AllOver limits.columns slice history → (column : ℕ) → column < limits.columns → partly.holds.is_held column ≡ false
+    none_held : AllOver limits.columns slice history → (column : ℕ) → column < limits.columns → partly.holds.test column ≡ false
     none_held over column below =
-        false_from_ne_true (partly.holds.is_held column)
+        false_from_ne_true (partly.holds.test column)
         (λ held_there.
         let state = (partly.holds.tells column below).0 held_there in
         let was = over column below in
@@ -320,7 +320,7 @@ module _ (limits : Limits) (history : List Event) (table : Table) (tokens : List
 
     by_over : AllOver limits.columns slice history → ⊥
     by_over over =
-        let none = none_counted partly.holds.is_held limits.columns (none_held over) in
+        let none = none_counted partly.holds.test limits.columns (none_held over) in
         let count = partly.holds.count in
         let some = partly.some in
         omega (arith, none, count, some)

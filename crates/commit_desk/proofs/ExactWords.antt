@@ -1,5 +1,5 @@
 -- What a read bit tells of an exact word: a document that was live in the column as the find began has it.
-use Rattle.std.proofs.Common.{◌≡◌, ℕ, List, sym, subst}
+use Rattle.std.proofs.Common.{sym, subst}
 use Rattle.funnel_model.specs.Sizes.{words_of_slice}
 use Rattle.funnel_model.specs.Tunings.{treat}
 use Rattle.row_layout.proofs.Owners.{exact-owned, owned-tells-documents}

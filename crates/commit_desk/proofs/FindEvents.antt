@@ -16,7 +16,6 @@ use Rattle.funnel_model.proofs.CausedMoves.{caused-still}
 use Rattle.funnel_model.proofs.ColumnStates.{after}
 use Rattle.funnel_model.proofs.Histories.{legal-push}
 use Rattle.funnel_model.proofs.LastEvents.{token_is_last}
-use Rattle.funnel_model.proofs.LiveLemmas.{commits-silent}
 use Rattle.funnel_model.proofs.NextEvents.{awaited-push}
 use Rattle.row_layout.proofs.SoundHistories.{sound-push}
 use Rattle.row_layout.specs.Sound.{HasItsBits}
@@ -83,7 +82,7 @@ module _ (pool : PoolId) (most : ℕ) (history : List Event) (books : Books) (is
           slices_are = kept.slices_are;
           columns_are = kept.columns_are;
           events_are = sym (length-append history (e ∷ []));
-          journal_is = journal-silent pool.limits.commits history (history ++ e ∷ []) books.journal (commits-silent history e silent.commit) kept.journal_is;
+          journal_is = journal-silent pool.limits.commits history e books.journal silent.commit kept.journal_is;
           recorded = recorded-same pool.limits history e kept.legal allowed books.table silent.stays (λ slice. ((silent.leaves slice).opens, (silent.leaves slice).clears)) kept.recorded;
           listed = kept.listed;
           tokens_are = tokens_are;

@@ -1,18 +1,16 @@
 -- What a pass that caught up still holds of its claim and of its look.
-use Rattle.std.proofs.Common.{◌≡◌, ◌↔◌, ℕ, ◌<◌, ◌||◌, All, List, [], ◌++◌, Some, sym, ap, ◌∙◌, subst, append_assoc, append-nil, arith, Contains}
+use Rattle.std.proofs.Common.{◌≡◌, ◌↔◌, ℕ, ◌<◌, All, List, [], ◌++◌, Some, sym, ap, ◌∙◌, subst, append_assoc, append-nil, arith, Contains}
 use Rattle.std.proofs.lemmas.List.Elements.{All-contains_itself, All-weaker}
-use Rattle.std.proofs.lemmas.List.Folds.{list_any-append}
-use Rattle.std.specs.List.{list_any}
 use mathlib.Core.List.{IsPrefix}
 use Rattle.funnel_model.specs.declared.bit_list.Bit.{Bit}
 use Rattle.funnel_model.specs.declared.claim.Claim.{Claim}
 use Rattle.funnel_model.specs.declared.config.Config.{Config}
 use Rattle.funnel_model.specs.declared.event.Event.{Event}
 use Rattle.funnel_model.specs.declared.event.Event.TheVariants as event
-use Rattle.funnel_model.specs.Events.{deletes_or_drops}
-use Rattle.funnel_model.specs.History.{IsFrontOf, last_by}
+use Rattle.funnel_model.specs.History.{IsFrontOf, has_cause, last_by}
 use Rattle.funnel_model.specs.Legal.{IsLegal}
 use Rattle.funnel_model.specs.Tunings.{treat}
+use Rattle.funnel_model.proofs.CausedMoves.{has_cause-grows}
 use Rattle.funnel_model.proofs.Clears.{last_by-front}
 use Rattle.funnel_model.proofs.Columns.{last_is_pending}
 use Rattle.funnel_model.proofs.Histories.{legal_before}
@@ -70,7 +68,7 @@ module _ (seat caught : PassState) (same : IsSamePass seat caught) (goes : IsFro
     seen = (held.seen.0 ++ goes.later, sym (append_assoc held.earlier held.seen.0 goes.later) ∙ ap (λ h. h ++ goes.later) held.seen.1 ∙ sym goes.whole);
     live = held.live;
     of_text = held.of_text;
-    cause = ap (list_any deletes_or_drops) goes.whole ∙ list_any-append deletes_or_drops seat.front goes.later ∙ ap (λ b. b || list_any deletes_or_drops goes.later) held.cause;
+    cause = ap has_cause goes.whole ∙ has_cause-grows seat.front goes.later held.cause;
   }
 
   -- the treatment of the slice in which it has claimed a column
@@ -100,7 +98,7 @@ holds_on seat next look grows held = record {
   seen = prefix_trans held.earlier seat.front next.front held.seen grows;
   live = held.live;
   of_text = held.of_text;
-  cause = ap (list_any deletes_or_drops) (sym grows.1) ∙ list_any-append deletes_or_drops seat.front grows.0 ∙ ap (λ b. b || list_any deletes_or_drops grows.0) held.cause;
+  cause = ap has_cause (sym grows.1) ∙ has_cause-grows seat.front grows.0 held.cause;
 }
 
 -- and while it does something itself

@@ -132,7 +132,7 @@ few_columns config is =
     omega (arith, all)
 
 -- a desk without events
-pub kept-new : (config : Config) (limits : Limits) (most : ℕ) (books : Books) → IsInRange config → 1 ≤ limits.columns → books.slices ≡ limits.slices → books.columns ≡ limits.columns → books.events ≡ 0 → books.journal ≡ record { most = limits.commits; place = 0; kept = [] } →
+pub kept-new : (config : Config) (limits : Limits) (most : ℕ) (books : Books) → IsInRange config → 1 ≤ limits.columns → books.slices ≡ limits.slices → books.columns ≡ limits.columns → books.events ≡ 0 → books.journal ≡ record { most = limits.commits; place = 0; documents = 0; kept = [] } →
     books.table.slices ≡ limits.slices → books.table.columns ≡ limits.columns → books.table.slots ≡ replicate (limits.slices * limits.columns) free_slot → books.table.out ≡ replicate limits.slices false →
     ((id : ℕ) → entry_of books.live id ≡ None) → books.live.slices ≡ limits.slices → books.live.columns ≡ limits.columns → books.tokens ≡ replicate limits.passes None →
     books.stages.columns ≡ limits.columns → books.stages.stages ≡ replicate limits.slices empty_stage → books.stages.mark ≡ 0 →

@@ -24,6 +24,7 @@ pub mod LaterStates
 pub mod LayoutEvents
 pub mod LayoutsKept
 pub mod ListedKept
+pub mod LiveCounts
 pub mod LiveLooks
 pub mod MadeEvents
 pub mod Marks
@@ -35,9 +36,11 @@ pub mod Options
 pub mod PlainEvents
 pub mod RecordFacts
 pub mod RecordsKept
+pub mod ReplaceTurns
 pub mod Refusals
 pub mod Refused
 pub mod SliceEvents
+pub mod StatCounts
 pub mod Slots
 pub mod ScanTexts
 pub mod Sorting

@@ -1,6 +1,5 @@
 -- What a pass knows at the desk when it ends a move.
 use Rattle.std.proofs.Common.{◌≡◌, ⊎_elim, Contains, ℕ, ◌<◌, true, All, List, [], ◌∷◌, ◌++◌, length, Some, sym, refl, ap, ◌∙◌, subst, append_assoc, arith}
-use Rattle.std.specs.List.{list_any}
 use mathlib.Core.List.{IsPrefix}
 use Rattle.document_store.specs.Documents.{Parts}
 use Rattle.document_store.specs.Slots.{IsColumn, Table, slot_at, with_slot}
@@ -10,8 +9,8 @@ use Rattle.funnel_model.specs.declared.bit_list.Bit.{Bit}
 use Rattle.funnel_model.specs.declared.claim.Claim.{Claim}
 use Rattle.funnel_model.specs.declared.event.Event.{Event}
 use Rattle.funnel_model.specs.declared.event.Event.TheVariants as event
-use Rattle.funnel_model.specs.Events.{deletes_or_drops, put_on}
-use Rattle.funnel_model.specs.History.{Document, last_by, live}
+use Rattle.funnel_model.specs.Events.{put_on}
+use Rattle.funnel_model.specs.History.{Document, has_cause, live}
 use Rattle.funnel_model.specs.Legal.{IsAllowed, IsInSlice, IsLegal, Limits}
 use Rattle.funnel_model.specs.Slices.{IsInState, IsLiveOn, Live}
 use Rattle.funnel_model.proofs.Histories.{legal_before}
@@ -114,8 +113,8 @@ module _ (before : DeskState) (home : HomeState) (most : ℕ) (books : Books) (d
   pub stage_now : (first : ℕ) × (over : ℕ) × (stage_of books.stages look.slice ≡ stage.InUse first over)
   stage_now = live_stage home.pool most home.history books desk look.slice look.column from_now.doc from_now.from from_now.lives
 
-  pub cause_now : list_any deletes_or_drops home.history ≡ true
-  cause_now = ap (list_any deletes_or_drops) (sym front_now) ∙ held.cause
+  pub cause_now : has_cause home.history ≡ true
+  cause_now = ap has_cause (sym front_now) ∙ held.cause
 
   -- the claimed column is another one
   pub none_there : (doc : Parts) → IsLiveIn (slot_at books.table claim.slice claim.column) doc → ⊥

@@ -15,12 +15,11 @@ use Rattle.document_store.specs.declared.column.Column.TheVariants as became
 use Rattle.document_store.specs.declared.slots.Slot.{Slot}
 use Rattle.funnel_model.specs.declared.event.Event.{Event}
 use Rattle.funnel_model.specs.declared.event.Event.TheVariants as event
-use Rattle.funnel_model.specs.History.{Document, is_live, last_by, live, live_place}
+use Rattle.funnel_model.specs.History.{Document, document_with, is_live, last_by, live, live_place}
 use Rattle.funnel_model.specs.Legal.{CanClear, IsAllowed, IsLegal, Limits}
 use Rattle.funnel_model.specs.Slices.{ColumnState, Unclaimed, Pending, Live, IsInState, IsOver, is_clearing}
 use Rattle.funnel_model.proofs.Claims.{take_follows, take_is_unclaimed}
 use Rattle.funnel_model.proofs.Clears.{pending_not_clearing}
-use Rattle.funnel_model.proofs.ColumnStates.{document_with}
 use Rattle.funnel_model.proofs.Columns.{cleared_is_over, clearing_is_over, last_is_pending, one_state}
 use Rattle.funnel_model.proofs.LiveColumns.{live_column_is_live, live_has_column, live_number}
 use Rattle.funnel_model.proofs.LiveLemmas.{is_live-from_place, live_once, no_place}
@@ -44,7 +43,7 @@ find_first (x ∷ xs) (suc k) d in' is before = later (x.id == d.id) (ne_eqb x.i
 -- a live document is found by its number
 pub found_live : (limits : Limits) (history : List Event) (d : Document) → IsLegal limits history → Contains (live history) d → document_with d.id history ≡ Some d
 found_live limits history d legal (k, in', is) =
-    find_first (live history) k d in' is (λ j lt same. live_once limits history legal j k d lt in' (same ∙ ap (λ (x : Document). x.id) (sym is)))
+    find_first (live history) k d in' is (λ j lt same. live_once history j k d lt in' (same ∙ ap (λ (x : Document). x.id) (sym is)))
 
 -- the place of the add of a live document
 pub place_of_live : (limits : Limits) (history : List Event) (d : Document) → IsLegal limits history → Contains (live history) d → live_place d.id history ≡ Some d.place
@@ -187,6 +186,19 @@ module _ (limits : Limits) (history : List Event) (table : Table) (legal : IsLeg
           place_is = ap (λ k. live_place k history) (sym r.number) ∙ place_of_live limits history d legal (live_column_is_live history slice column d r.live.since holds);
         }
 
+    -- and its document is the live one with the number
+    pub entry_document : (id slice column added since : ℕ) (doc : Parts) → entry_of live_list id ≡ Some (slice, column) → (slot_at table slice column).column ≡ became.Live added since →
+        (slot_at table slice column).doc ≡ Some doc → document_with id history ≡ Some (record { id = id; text = doc.text; place = added })
+    entry_document id slice column added since doc found lives has =
+        let r = listed.listed id slice column found in
+        let d = document_added_at added doc in
+        let holds : IsInState history slice column (Live d since) =
+        live_recorded slice column doc r.in_table (record { added = added; since = since; column = lives; doc_is = has }) in
+        let same : doc ≡ r.doc = let h = sym has ∙ r.live.doc_is in cc in
+        let number : doc.id ≡ id = ap (λ (p : Parts). p.id) same ∙ r.number in
+        subst (λ n. document_with n history ≡ Some (record { id = n; text = doc.text; place = added })) number
+        (found_live limits history d legal (live_column_is_live history slice column d since holds))
+
     -- a number without an entry is not live
     pub absent_without : (id : ℕ) → entry_of live_list id ≡ None → is_live id history ≡ false
     absent_without id none = decided (is_live id history) refl where
@@ -196,6 +208,12 @@ module _ (limits : Limits) (history : List Event) (table : Table) (legal : IsLeg
 
     pub no_place_without : (id : ℕ) → entry_of live_list id ≡ None → live_place id history ≡ None
     no_place_without id none = no_place id history (absent_without id none)
+
+    pub no_document_without : (id : ℕ) → entry_of live_list id ≡ None → document_with id history ≡ None
+    no_document_without id none = no_document (document_with id history) (no_place_without id none) where
+      no_document : (o : Option Document) → option_map (λ (d : Document). d.place) o ≡ None → o ≡ None
+      no_document None is = refl
+      no_document (Some d) is = cc
 
     -- a number that is not live has no entry
     pub no_entry : (id : ℕ) → is_live id history ≡ false → entry_of live_list id ≡ None

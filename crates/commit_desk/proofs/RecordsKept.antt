@@ -13,7 +13,7 @@ use Rattle.funnel_model.specs.declared.bit_list.Bit.{Bit}
 use Rattle.funnel_model.specs.declared.event.Event.{Event}
 use Rattle.funnel_model.specs.declared.event.Event.TheVariants as event
 use Rattle.funnel_model.specs.Events.{clears, opens}
-use Rattle.funnel_model.specs.History.{Document, last_by, place}
+use Rattle.funnel_model.specs.History.{Document, is_live, last_by, place}
 use Rattle.funnel_model.specs.Legal.{IsAllowed, IsLegal, Limits}
 use Rattle.funnel_model.specs.Slices.{ColumnState, Unclaimed, Pending, Dropped, Live, Deleted, IsInState, is_clearing}
 use Rattle.funnel_model.specs.Words.{AreWordsOf}
@@ -22,7 +22,7 @@ use Rattle.funnel_model.proofs.Clears.{pending_not_clearing}
 use Rattle.funnel_model.proofs.Columns.{in_state-push, last_is_pending, some_state}
 use Rattle.funnel_model.proofs.ColumnStates.{after, after-add, after-drop, after-take, after-void, after_taken_off, this_column}
 use Rattle.funnel_model.proofs.LastEvents.{cleared_now, last_is_clearing, not_clearing_opened}
-use Rattle.funnel_model.proofs.LiveColumns.{live_on_one_column}
+use Rattle.funnel_model.proofs.LiveColumns.{live_column_is_live, live_number, live_on_one_column}
 use Rattle.funnel_model.proofs.Spans.{in_span-push}
 use Rattle.commit_desk.specs.Records.{AreRecorded, IsLiveIn, IsRecorded, document_added_at, state_of}
 use Rattle.commit_desk.proofs.Options.{some_same}
@@ -124,16 +124,28 @@ module _ (limits : Limits) (history : List Event) (table : Table) (legal : IsLeg
   pub taken_is_open : (pass s c : ℕ) → last_by pass history ≡ Some (event.Take pass s c) → is_clearing s history ≡ false
   taken_is_open pass s c last = pending_not_clearing limits history s c pass legal (last_is_pending limits history s c pass legal last)
 
-  -- a document goes live on a column
-  pub recorded-add : (pass s c : ℕ) (doc : Parts) (bits : List Bit) → IsAllowed limits history (event.Add pass doc.id doc.text s c bits) → AreWordsOf doc.words doc.text → IsColumn table s c →
+  -- the document that is recorded as live on a column is
+  recorded_is_live : (slice column : ℕ) (d : Document) (since : ℕ) → IsColumn table slice column → state_of (slot_at table slice column) ≡ Live d since → IsInState history slice column (Live d since)
+  recorded_is_live slice column d since at is =
+      let uncleared = false_from_ne_true (is_clearing slice history)
+      (λ clearing. unclaimed_not_live d since (sym (ap state_of (clearing_is_free limits history table legal are slice column at clearing)) ∙ is)) in
+      subst (IsInState history slice column) is (are.each slice column at uncleared).state
+
+  -- a document whose number is not live goes live on a column
+  pub recorded-add : (pass s c : ℕ) (doc : Parts) (bits : List Bit) → IsAllowed limits history (event.Add pass doc.id doc.text s c bits) → is_live doc.id history ≡ false →
+      AreWordsOf doc.words doc.text → IsColumn table s c →
       AreRecorded limits (history ++ event.Add pass doc.id doc.text s c bits ∷ []) (with_slot table s c (record { column = became.Live (place history + 1) (length history + 1); doc = Some doc }))
-  recorded-add pass s c doc bits allowed of_text here =
+  recorded-add pass s c doc bits allowed absent of_text here =
       let live = Live (document_added_at (place history + 1) doc) (length history + 1) in
       recorded-one limits history (event.Add pass doc.id doc.text s c bits) legal allowed table s c (record { column = became.Live (place history + 1) (length history + 1); doc = Some doc }) are here
       (taken_is_open pass s c allowed.rule.taken) (λ slice. (refl, refl)) (doc, refl)
       (sym (after-add s c history pass doc.id doc.text bits (state_of (slot_at table s c))))
       (λ d same. subst (λ (p : Parts). AreWordsOf p.words p.text) (some_same doc d same) of_text)
-      (λ slice column at apart. cond-false (s == slice && c == column) live (state_of (slot_at table slice column)) apart)
+      (λ slice column at apart.
+      cond-false (s == slice && c == column) live (after_taken_off doc.id (length history + 1) (state_of (slot_at table slice column))) apart
+      ∙ not_taken_off doc.id (length history + 1) (state_of (slot_at table slice column))
+      (λ d since is same. both_ways (is_live doc.id history) absent
+      ((live_number history doc.id).1 (d, live_column_is_live history slice column d since (recorded_is_live slice column d since at is), sym same))))
 
   -- a column is left without a document
   pub recorded-void : (pass s c : ℕ) → IsAllowed limits history (event.Void pass s c) → IsColumn table s c →
@@ -158,9 +170,7 @@ module _ (limits : Limits) (history : List Event) (table : Table) (legal : IsLeg
       state_of (slot_at table slice column) ≡ Live d since → doc.id ≡ d.id → (s == slice && c == column) ≡ true
   live_apart s c slice column doc d since here at l is same =
       let first : IsInState history s c (Live (document_added_at l.added doc) l.since) = subst (IsInState history s c) (state-live (slot_at table s c) doc l) (are.each s c here (live_is_open limits history table legal are s c doc here l)).state in
-      let uncleared = false_from_ne_true (is_clearing slice history)
-      (λ clearing. unclaimed_not_live d since (sym (ap state_of (clearing_is_free limits history table legal are slice column at clearing)) ∙ is)) in
-      let second : IsInState history slice column (Live d since) = subst (IsInState history slice column) is (are.each slice column at uncleared).state in
+      let second = recorded_is_live slice column d since at is in
       let one = live_on_one_column limits history s c slice column l.since since (document_added_at l.added doc) d legal first second same in
       subst (λ k. (s == k && c == column) ≡ true) one.0 (subst (λ k. (s == s && c == k) ≡ true) one.1 (this_column s c))
 

@@ -1,35 +1,29 @@
 -- What a scan for a search tells of the documents that were live in its slices as the find began.
-use Rattle.std.proofs.Common.{◌≡◌, ℕ, ◌+◌, ◌<◌, ◌≤◌, ◌&&◌, Bool, true, false, not, List, [], ◌∷◌, ◌++◌, length, ⊎_elim, refl, sym, ap, ◌∙◌, subst, append_assoc, Contains}
+use Rattle.std.proofs.Common.{◌≡◌, ℕ, ◌<◌, ◌≤◌, ◌&&◌, Bool, true, false, not, List, ◌++◌, ⊎_elim, refl, sym, ap, ◌∙◌, subst, Contains}
 use Rattle.std.proofs.Math.Bool.{and-true}
-use Rattle.std.proofs.lemmas.Bool.{and_from, and_parts, or_from}
+use Rattle.std.proofs.lemmas.Bool.{and_from, and_parts}
 use Rattle.std.proofs.lemmas.List.Elements.{Contains-append_left, Contains-append_right}
-use Rattle.std.proofs.lemmas.List.Folds.{list_any-append}
-use Rattle.std.specs.List.{list_any}
 use Rattle.funnel_model.proofs.LiveColumns.{live_column_is_live, live_has_column, live_on_one_column}
 use Rattle.funnel_model.proofs.WordLemmas.{Contains-has, each-from_list_all, list_all-from_each, one_test}
 use Rattle.funnel_model.specs.Configuration.{IsInRange}
-use Rattle.funnel_model.specs.Events.{clears}
 use Rattle.funnel_model.specs.History.{Document}
 use Rattle.funnel_model.specs.Legal.{IsLegal, Limits}
 use Rattle.funnel_model.specs.RowWords.{IsCommitted}
 use Rattle.funnel_model.specs.Searches.{Searches, AreEachAlike, all_of, has_all, is_kept}
 use Rattle.funnel_model.specs.Sizes.{columns_of_slice, words_of_slice}
-use Rattle.funnel_model.specs.Slices.{IsInUse, IsLiveOn}
-use Rattle.funnel_model.specs.Tokens.{MayRead}
+use Rattle.funnel_model.specs.Slices.{IsLiveOn}
 use Rattle.funnel_model.specs.Tunings.{treat}
 use Rattle.funnel_model.specs.Words.{has_word, words}
 use Rattle.funnel_model.specs.declared.bit_list.Bit.{Bit}
 use Rattle.funnel_model.specs.declared.claim.Token.{Token}
 use Rattle.funnel_model.specs.declared.config.Config.{Config}
 use Rattle.funnel_model.specs.declared.event.Event.{Event}
-use Rattle.funnel_model.specs.declared.event.Event.TheVariants as event
 use Rattle.row_layout.proofs.Lists.{Contains-flat_map, Contains-from_flat_map}
 use Rattle.row_layout.proofs.Owners.{exact-has_row}
 use Rattle.row_layout.proofs.ReadSearches.{read-tells_texts, row-committed, search-read}
-use Rattle.row_layout.proofs.Standing.{stands-later}
 use Rattle.row_layout.specs.AtomReads.{IsOfItsOwner, IsPlanOf, WasReadAs}
 use Rattle.row_layout.specs.DocumentBits.{bit_of_row}
-use Rattle.row_layout.specs.Owners.{Owns, OwnsIn, StandsOn, is_exact}
+use Rattle.row_layout.specs.Owners.{is_exact}
 use Rattle.row_layout.specs.Rows.{row_of_word, rows_of_word}
 use Rattle.row_layout.specs.Sound.{IsSound}
 use Rattle.slice_rule.specs.Seats.{PassState, WasReadUnder}

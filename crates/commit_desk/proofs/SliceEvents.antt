@@ -12,7 +12,6 @@ use Rattle.funnel_model.specs.Legal.{IsAllowed, Limits, awaited}
 use Rattle.funnel_model.proofs.CausedMoves.{caused-still}
 use Rattle.funnel_model.proofs.Claims.{take_follows, take_within}
 use Rattle.funnel_model.proofs.Histories.{legal-push}
-use Rattle.funnel_model.proofs.LiveLemmas.{commits-silent}
 use Rattle.funnel_model.proofs.NextEvents.{awaited-push, clears_in_range}
 use Rattle.row_layout.proofs.SoundHistories.{sound-push}
 use Rattle.row_layout.specs.Sound.{HasItsBits}
@@ -55,7 +54,7 @@ module _ (config : Config) (limits : Limits) (most : ℕ) (history : List Event)
     slices_are = is.slices_are;
     columns_are = is.columns_are;
     events_are = sym (length-append history (e ∷ []));
-    journal_is = journal-silent limits.commits history (history ++ e ∷ []) books.journal (commits-silent history e no_commit) is.journal_is;
+    journal_is = journal-silent limits.commits history e books.journal no_commit is.journal_is;
     recorded = recorded;
     listed = listed;
     tokens_are = tokens-same limits history e books.tokens no_find is.tokens_are;

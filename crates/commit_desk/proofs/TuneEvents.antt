@@ -10,7 +10,6 @@ use Rattle.funnel_model.specs.Sizes.{words_of_slice}
 use Rattle.funnel_model.specs.Tunings.{tunings}
 use Rattle.funnel_model.proofs.CausedMoves.{caused-still}
 use Rattle.funnel_model.proofs.Histories.{legal-push}
-use Rattle.funnel_model.proofs.LiveLemmas.{commits-silent}
 use Rattle.funnel_model.proofs.NextEvents.{awaited-push}
 use Rattle.row_layout.proofs.SoundHistories.{sound-push}
 use Rattle.row_layout.specs.Layouts.{LayoutId}
@@ -68,7 +67,7 @@ module _ (pool : PoolId) (most : ℕ) (history : List Event) (books : Books) (is
           slices_are = kept.slices_are;
           columns_are = kept.columns_are;
           events_are = sym (length-append history (e ∷ []));
-          journal_is = journal-silent pool.limits.commits history (history ++ e ∷ []) books.journal (commits-silent history e refl) kept.journal_is;
+          journal_is = journal-silent pool.limits.commits history e books.journal refl kept.journal_is;
           recorded = recorded-same pool.limits history e kept.legal allowed books.table (λ slice column h x. refl) (λ slice. (refl, refl)) kept.recorded;
           listed = kept.listed;
           tokens_are = tokens-same pool.limits history e books.tokens (λ p. refl) kept.tokens_are;

@@ -1,5 +1,5 @@
 -- What holds of what a desk keeps, whatever the history.
-use Rattle.std.specs.Prelude.{◌≡◌, ℕ, ◌*◌, ◌<◌, ◌≤◌, ◌↔◌, true, false, List, [], ◌∷◌, ◌++◌, length, replicate, sum_by, Contains, Ok, Err, None}
+use Rattle.std.specs.Prelude.{◌≡◌, ℕ, ◌*◌, ◌<◌, ◌≤◌, ◌↔◌, Bool, true, false, List, [], ◌++◌, length, replicate, sum_by, Contains, Ok, Err, None}
 use Rattle.std.specs.List.{slice_range}
 use mathlib.Core.List.{IsPrefix}
 use Rattle.document_store.specs.Documents.{Parts}
@@ -54,7 +54,7 @@ pub record AreNew (config : Config) (limits : Limits) (books : Books) : Type 0 w
   pub slices : books.slices ≡ limits.slices
   pub columns : books.columns ≡ limits.columns
   pub events : books.events ≡ 0
-  pub journal : books.journal ≡ record { most = limits.commits; place = 0; kept = [] }
+  pub journal : books.journal ≡ record { most = limits.commits; place = 0; documents = 0; kept = [] }
   pub table_slices : books.table.slices ≡ limits.slices
   pub table_columns : books.table.columns ≡ limits.columns
   pub free : books.table.slots ≡ replicate (limits.slices * limits.columns) free_slot
@@ -84,10 +84,11 @@ DesksHaveTheirCommits =
 abbrev pub KeepsDocuments : List Event → List Event → Type 0
 KeepsDocuments history events = live (history ++ events) ≡ live history
 
--- after a refused call the live documents are as before its event: an add that is refused at its take or dropped at its commit, a delete
--- and a recycle
+-- after a refused call the live documents are as before its event: an add or a put that is refused at its take, an add that is dropped
+-- at its commit, a delete and a recycle
 pub record RefusedCallsKeepDocuments : Type 0 where
-  pub take : (history : List Event) (pass id : ℕ) (text : List ℕ) (fault : AddFault) → KeepsDocuments history (events_of_take pass id text (taken.Refused fault))
+  pub take : (history : List Event) (pass : ℕ) (replaces : Bool) (id : ℕ) (text : List ℕ) (fault : AddFault) →
+      KeepsDocuments history (events_of_take pass replaces id text (taken.Refused fault))
   pub commit : (history : List Event) (pass id : ℕ) (text : List ℕ) (claim : Claim) (bits : List Bit) (fault : CommitFault) →
       KeepsDocuments history (events_of_commit pass id text claim bits (Err fault))
   pub delete : (history : List Event) (pass id : ℕ) (fault : DeleteFault) → KeepsDocuments history (events_of_delete pass id (Err fault))
@@ -96,9 +97,9 @@ pub record RefusedCallsKeepDocuments : Type 0 where
 -- one document is to be moved next, and it stands in one column, where one event put it
 abbrev pub NextLookIsOne : Type 0
 NextLookIsOne =
-    (reserve most : ℕ) (limits : Limits) (looks : LooksState) (history : List Event) (id slice column other at : ℕ) (document another : Document) (since from : ℕ) →
-    IsLegal limits history → IsNextLook reserve most limits looks history id slice column document since →
-    IsNextLook reserve most limits looks history id other at another from → (slice ≡ other) × (column ≡ at) × (document ≡ another) × (since ≡ from)
+    (reserve most : ℕ) (limits : Limits) (looks : LooksState) (history : List Event) (replaces : Bool) (id slice column other at : ℕ)
+    (document another : Document) (since from : ℕ) → IsLegal limits history → IsNextLook reserve most limits looks history replaces id slice column document since →
+    IsNextLook reserve most limits looks history replaces id other at another from → (slice ≡ other) × (column ≡ at) × (document ≡ another) × (since ≡ from)
 
 -- and one column is taken for it
 abbrev pub TakeOfMoveIsOne : Type 0

@@ -7,8 +7,7 @@ use Rattle.funnel_model.specs.declared.claim.Claim.{Claim}
 use Rattle.funnel_model.specs.declared.event.Event.{Event}
 use Rattle.funnel_model.specs.declared.event.Event.TheVariants as event
 use Rattle.funnel_model.specs.declared.memory.Memory.{Memory}
-use Rattle.funnel_model.specs.Events.{deletes_or_drops}
-use Rattle.funnel_model.specs.History.{Document}
+use Rattle.funnel_model.specs.History.{Document, has_cause}
 use Rattle.funnel_model.specs.Legal.{HasRoom, Limits, MayTake}
 use Rattle.funnel_model.specs.Reserve.{HasReadyColumns, HasSpareColumns, HoldsColumns, IsSource}
 use Rattle.funnel_model.specs.Slices.{IsFilled, IsInState, Live}
@@ -62,11 +61,11 @@ pub record LacksRoomToEmpty (limits : Limits) (history : List Event) (slice : �
   pub are_ready : HasReadyColumns limits history ready
   pub fewer : ready < room_to_empty held
 
--- Documents are to be moved out of the slice, of which so many columns are held, before a document with this number is added: nothing but
--- want of room keeps that one out; fewer columns are spare than are to be kept free; the slice is the next to be emptied; and there is room
+-- Documents are to be moved out of the slice, of which so many columns are held, before a document with this number is added or put: nothing
+-- but want of room keeps that one out; fewer columns are spare than are to be kept free; the slice is the next to be emptied; and there is room
 -- to do so.
-pub record IsToBeEmptied (reserve most : ℕ) (limits : Limits) (history : List Event) (id slice held : ℕ) : Type 0 where
-  pub may : MayEnter most history id
+pub record IsToBeEmptied (reserve most : ℕ) (limits : Limits) (history : List Event) (replaces : Bool) (id slice held : ℕ) : Type 0 where
+  pub may : MayEnter most history replaces id
   pub short : (spare : ℕ) × HasSpareColumns limits history spare × (spare < reserve)
   pub source : IsSource limits history slice held
   pub room : HasRoomToEmpty limits history slice
@@ -113,30 +112,32 @@ pub record IsNextToMove (limits : Limits) (looks : LooksState) (history : List E
   pub next : IsLowestFree limits looks history slice column document since ⊎ IsNamedAgain limits looks history slice column
 
 -- this document is the next to be moved
-pub record IsNextLook (reserve most : ℕ) (limits : Limits) (looks : LooksState) (history : List Event) (id slice column : ℕ) (document : Document) (since : ℕ) : Type 0 where
+pub record IsNextLook (reserve most : ℕ) (limits : Limits) (looks : LooksState) (history : List Event) (replaces : Bool) (id slice column : ℕ)
+    (document : Document) (since : ℕ) : Type 0 where
   pub held : ℕ
-  pub empties : IsToBeEmptied reserve most limits history id slice held
+  pub empties : IsToBeEmptied reserve most limits history replaces id slice held
   pub next : IsNextToMove limits looks history slice column document since
 
 -- documents are to be moved out of some slice
-abbrev pub SomeToBeMoved : ℕ → ℕ → Limits → List Event → ℕ → Type 0
-SomeToBeMoved reserve most limits history id = (slice : ℕ) × (held : ℕ) × IsToBeEmptied reserve most limits history id slice held
+abbrev pub SomeToBeMoved : ℕ → ℕ → Limits → List Event → Bool → ℕ → Type 0
+SomeToBeMoved reserve most limits history replaces id = (slice : ℕ) × (held : ℕ) × IsToBeEmptied reserve most limits history replaces id slice held
 
 -- and out of none
-abbrev pub NoneToMove : ℕ → ℕ → Limits → List Event → ℕ → Type 0
-NoneToMove reserve most limits history id = (slice held : ℕ) → IsToBeEmptied reserve most limits history id slice held → ⊥
+abbrev pub NoneToMove : ℕ → ℕ → Limits → List Event → Bool → ℕ → Type 0
+NoneToMove reserve most limits history replaces id = (slice held : ℕ) → IsToBeEmptied reserve most limits history replaces id slice held → ⊥
 
 -- the look is at the next document to be moved
-abbrev pub IsLookAtNext : ℕ → ℕ → Limits → LooksState → List Event → ℕ → Look → Type 0
-IsLookAtNext reserve most limits looks history id look =
-    IsNextLook reserve most limits looks history id look.slice look.column (document_of look) look.since
+abbrev pub IsLookAtNext : ℕ → ℕ → Limits → LooksState → List Event → Bool → ℕ → Look → Type 0
+IsLookAtNext reserve most limits looks history replaces id look =
+    IsNextLook reserve most limits looks history replaces id look.slice look.column (document_of look) look.since
 
--- a pass looks at the next document to be moved before it adds one with this number; want of memory is answered only where there is such
+-- a pass looks at the next document to be moved before it adds or puts one with this number; want of memory is answered only where there is such
 -- a document
-abbrev pub AnswersLook : ℕ → ℕ → Limits → LooksState → List Event → ℕ → ℕ → Result (Option Look) Memory → Type 0
-AnswersLook reserve most limits looks history pass id (Ok (Some look)) = IsLookAtNext reserve most limits looks history id look × (look.opened ≡ pass)
-AnswersLook reserve most limits looks history pass id (Ok None) = NoneToMove reserve most limits history id
-AnswersLook reserve most limits looks history pass id (Err memory) = SomeToBeMoved reserve most limits history id
+abbrev pub AnswersLook : ℕ → ℕ → Limits → LooksState → List Event → ℕ → Bool → ℕ → Result (Option Look) Memory → Type 0
+AnswersLook reserve most limits looks history pass replaces id (Ok (Some look)) =
+    IsLookAtNext reserve most limits looks history replaces id look × (look.opened ≡ pass)
+AnswersLook reserve most limits looks history pass replaces id (Ok None) = NoneToMove reserve most limits history replaces id
+AnswersLook reserve most limits looks history pass replaces id (Err memory) = SomeToBeMoved reserve most limits history replaces id
 
 -- the looks after it: that of the pass names the column that is looked at
 abbrev pub looks_after : LooksState → Result (Option Look) Memory → LooksState
@@ -150,7 +151,7 @@ pub record HoldsLook (seat : PassState) (look : Look) : Type 0 where
   pub seen : IsPrefix earlier seat.front
   pub live : IsInState earlier look.slice look.column (Live (document_of look) look.since)
   pub of_text : AreWordsOf look.doc.words look.doc.text
-  pub cause : list_any deletes_or_drops seat.front ≡ true
+  pub cause : has_cause seat.front ≡ true
 
 -- the document is live still in the column that was looked at, by the very event that put it there then
 abbrev pub IsThereStill : List Event → Look → Type 0

@@ -1,18 +1,17 @@
 ghost use Rattle.std.specs.Prelude.{◌≡◌, ℕ, ◌+◌, ◌<◌, ◌≤◌, true, [], ◌∷◌, length, vec_capacity};
 ghost use Rattle.std.specs.Prelude.{All, Err, IfOk, MatchOption, MatchResult, Ok};
-ghost use Rattle.funnel_model.specs.declared.call.Call.TheVariants as call;
 ghost use Rattle.funnel_model.specs.declared.event.Event.TheVariants as event;
 ghost use Rattle.funnel_model.specs.History.{is_live, place};
 ghost use Rattle.funnel_model.specs.Legal.{IsIdle, IsRefused, MayClear, MayTake};
 ghost use Rattle.funnel_model.specs.Slices.{claimed};
 ghost use Rattle.slice_rule.specs.Seats.{HasNoneOutstanding, HoldsClaim, IsSeated};
-ghost use Rattle.commit_desk.specs.Answers.{AnswersCommit, AnswersLastTake, IsClearWork, MayAdd, MayMakeRoom, TakesCalls};
-ghost use Rattle.commit_desk.specs.Answers.{events_of_commit, events_of_opened_take, events_of_take};
+ghost use Rattle.commit_desk.specs.Answers.{AnswersCommit, AnswersLastTake, AnswersPut, IsClearWork, MayAdd, MayMakeRoom, TakesCalls};
+ghost use Rattle.commit_desk.specs.Answers.{call_asked, events_of_commit, events_of_opened_take, events_of_take};
 ghost use Rattle.commit_desk.specs.Desks.{HandsOver, IsCaughtUp, IsFresh, IsReused, IsUnwritten, Makes};
 ghost use Rattle.commit_desk.specs.Layouts.{IsCurrentLayout, IsLayoutOf};
 ghost use Rattle.commit_desk.specs.Passes.{HasWritten, HoldsCleared};
 
-use crate::answers::{AddFault, CommitFault, Taken, ToClear};
+use crate::answers::{AddFault, CommitFault, Put, Taken, ToClear};
 use crate::desk::Desk;
 use crate::entries::{Adds, Drops, Refuses};
 use crate::shared_layout::SharedLayout;
@@ -22,16 +21,17 @@ use row_layout::Bits;
 use slice_rule::{PassSeat, Pool};
 
 impl Desk {
-    /// Claims a column for a document, or begins to clear a slice for it, or says why the document can't be added. With a column or a
-    /// slice comes the layout by which the document's bits are to be set; where it can't be shared, no event is made. Where the engine is
-    /// full but another pass is clearing a slice, it makes no event either, unless this is the `last` look of the add. `room` is an empty
-    /// list with room for a block of each slice, for the answer `Full`, which alone takes it: else it stays the caller's, who drops it
-    /// where the desk is free.
+    /// Claims a column for a document that is added, or put where it `replaces`, or begins to clear a slice for it, or says why there is
+    /// none for it. With a column or a slice comes the layout by which the document's bits are to be set; where it can't be shared, no
+    /// event is made. Where the engine is full but another pass is clearing a slice, it makes no event either, unless this is the `last`
+    /// look of the call. `room` is an empty list with room for a block of each slice, for the answer `Full`, which alone takes it: else it
+    /// stays the caller's, who drops it where the desk is free.
     pub fn take(
         &mut self,
         pool: &Pool,
         seat: &mut PassSeat,
         doc: &Doc,
+        replaces: bool,
         room: &mut Option<Vec<Block>>,
         last: bool,
     ) -> Taken
@@ -39,8 +39,8 @@ impl Desk {
         requires seat { IsSeated self.old.pool seat.old }
         requires idle { IsIdle seat.old.number seat.old.front }
         requires room { MatchOption room.old ⊥ (λ empty. (empty.items ≡ []) × (self.old.pool.limits.slices ≤ vec_capacity empty)) }
-        ensures answer { AnswersLastTake self.old.events_limit self.old.pool.limits self.old.history seat.old.number doc.now.id last result }
-        ensures events { Makes (events_of_take seat.old.number doc.now.id doc.now.text result) self.old self.new seat.old seat.new }
+        ensures answer { AnswersLastTake self.old.events_limit self.old.pool.limits self.old.history seat.old.number replaces doc.now.id last result }
+        ensures events { Makes (events_of_take seat.old.number replaces doc.now.id doc.now.text result) self.old self.new seat.old seat.new }
         ensures none_outstanding { HasNoneOutstanding seat.new }
         ensures handed { HandsOver self.old result seat.new room.old room.new }
     {
@@ -48,11 +48,11 @@ impl Desk {
         if self.is_spent() {
             return Taken::Refused(AddFault::Spent(self.events));
         }
-        if let Some(place) = self.place_of(doc.id()) {
-            self.refuse_add(pool, seat, doc);
+        if let Some(place) = self.in_the_way(replaces, doc.id()) {
+            self.refuse_add(pool, seat, doc, replaces);
             return Taken::Refused(AddFault::Present(place));
         }
-        self.take_room(pool, seat, doc, room, last)
+        self.take_room(pool, seat, doc, replaces, room, last)
     }
 
     /// Opens the slice that the pass cleared for an add, and claims its first column. Its slots, which the pass has emptied,
@@ -118,6 +118,29 @@ impl Desk {
         }
     }
 
+    /// Adds the document to its column, all of whose bits the pass has set, in the place of the live document with its number where
+    /// there is one, whose column is over then. It takes no memory, and its document is never dropped.
+    pub fn put(
+        &mut self,
+        pool: &Pool,
+        seat: &mut PassSeat,
+        claim: Claim,
+        doc: Doc,
+        bits: &Bits,
+    ) -> Put
+        requires pool { pool.now ≡ self.old.pool }
+        requires written { HasWritten self.old.pool claim doc.words bits.now.bits seat.old }
+        ensures answer { AnswersPut self.old.history doc.id result }
+        ensures events { Makes (event.Add seat.old.number doc.id doc.text claim.slice claim.column bits.now.bits ∷ []) self.old self.new seat.old seat.new }
+        ensures none_outstanding { HasNoneOutstanding seat.new }
+    {
+        pool.catch_up(&mut self.home, seat);
+        if self.place_of(doc.id()).is_some() {
+            return Put::Replaced(self.make_replace(pool, seat, claim, doc, bits));
+        }
+        Put::Added(self.make_add(pool, seat, claim, doc, bits))
+    }
+
     // Whether a document with this number can be added, or why not.
     fn check_commit(&self, id: u64) -> Result<(), CommitFault>
         ensures { MatchResult result (λ _. AnswersCommit self.now.history id (Ok (place self.now.history + 1)))
@@ -135,15 +158,16 @@ impl Desk {
         pool: &Pool,
         seat: &mut PassSeat,
         doc: &Doc,
+        replaces: bool,
         room: &mut Option<Vec<Block>>,
         last: bool,
     ) -> Taken
         requires pool { pool.now ≡ self.old.pool }
         requires caught_up { IsCaughtUp self.old seat.old }
-        requires may { MayAdd self.old.events_limit self.old.history seat.old.number doc.now.id }
+        requires may { MayAdd self.old.events_limit self.old.history seat.old.number replaces doc.now.id }
         requires room { MatchOption room.old ⊥ (λ empty. (empty.items ≡ []) × (self.old.pool.limits.slices ≤ vec_capacity empty)) }
-        ensures answer { AnswersLastTake self.old.events_limit self.old.pool.limits self.old.history seat.old.number doc.now.id last result }
-        ensures events { Makes (events_of_take seat.old.number doc.now.id doc.now.text result) self.old self.new seat.old seat.new }
+        ensures answer { AnswersLastTake self.old.events_limit self.old.pool.limits self.old.history seat.old.number replaces doc.now.id last result }
+        ensures events { Makes (events_of_take seat.old.number replaces doc.now.id doc.now.text result) self.old self.new seat.old seat.new }
         ensures none_outstanding { HasNoneOutstanding seat.new }
         ensures handed { HandsOver self.old result seat.new room.old room.new }
     {
@@ -153,7 +177,7 @@ impl Desk {
                 Err(Memory) => Taken::Refused(AddFault::Memory),
             };
         }
-        self.make_room(pool, seat, doc, room, last)
+        self.make_room(pool, seat, doc, replaces, room, last)
     }
 
     // Begins to clear a slice, where none has room, or waits for one that is being cleared, or refuses the document for want of a slice or
@@ -163,15 +187,16 @@ impl Desk {
         pool: &Pool,
         seat: &mut PassSeat,
         doc: &Doc,
+        replaces: bool,
         room: &mut Option<Vec<Block>>,
         last: bool,
     ) -> Taken
         requires pool { pool.now ≡ self.old.pool }
         requires caught_up { IsCaughtUp self.old seat.old }
-        requires may { MayMakeRoom self.old.events_limit self.old.pool.limits self.old.history seat.old.number doc.now.id }
+        requires may { MayMakeRoom self.old.events_limit self.old.pool.limits self.old.history seat.old.number replaces doc.now.id }
         requires room { MatchOption room.old ⊥ (λ empty. (empty.items ≡ []) × (self.old.pool.limits.slices ≤ vec_capacity empty)) }
-        ensures answer { AnswersLastTake self.old.events_limit self.old.pool.limits self.old.history seat.old.number doc.now.id last result }
-        ensures events { Makes (events_of_take seat.old.number doc.now.id doc.now.text result) self.old self.new seat.old seat.new }
+        ensures answer { AnswersLastTake self.old.events_limit self.old.pool.limits self.old.history seat.old.number replaces doc.now.id last result }
+        ensures events { Makes (events_of_take seat.old.number replaces doc.now.id doc.now.text result) self.old self.new seat.old seat.new }
         ensures none_outstanding { HasNoneOutstanding seat.new }
         ensures handed { HandsOver self.old result seat.new room.old room.new }
     {
@@ -191,7 +216,7 @@ impl Desk {
             unreachable!()
         };
         let blocks = self.blocks(room);
-        self.refuse_add(pool, seat, doc);
+        self.refuse_add(pool, seat, doc, replaces);
         Taken::Refused(AddFault::Full(blocks))
     }
 
@@ -288,18 +313,26 @@ impl Desk {
         Claim { slice, column }
     }
 
-    // Makes the event of a refused add.
-    fn refuse_add(&mut self, pool: &Pool, seat: &mut PassSeat, doc: &Doc)
+    // Makes the event of a refused add, or put where it replaces.
+    fn refuse_add(&mut self, pool: &Pool, seat: &mut PassSeat, doc: &Doc, replaces: bool)
         requires pool { pool.now ≡ self.old.pool }
         requires caught_up { IsCaughtUp self.old seat.old }
         requires idle { IsIdle seat.old.number self.old.history }
-        requires refused { IsRefused self.old.pool.limits self.old.history (call.Add doc.now.id doc.now.text) }
+        requires refused { IsRefused self.old.pool.limits self.old.history (call_asked replaces doc.now.id doc.now.text) }
         requires takes_calls { TakesCalls self.old.events_limit self.old.history }
-        ensures made { Makes (event.No seat.old.number (call.Add doc.now.id doc.now.text) ∷ []) self.old self.new seat.old seat.new }
+        ensures made { Makes (event.No seat.old.number (call_asked replaces doc.now.id doc.now.text) ∷ []) self.old self.new seat.old seat.new }
         ensures none_outstanding { HasNoneOutstanding seat.new }
     {
         let pass = seat.number();
-        self.make_plain(pool, seat, &Refuses { pass, doc });
+        self.make_plain(
+            pool,
+            seat,
+            &Refuses {
+                pass,
+                replaces,
+                doc,
+            },
+        );
     }
 
     // Makes the add of the document, and gives its place.
@@ -321,6 +354,7 @@ impl Desk {
         ensures none_outstanding { HasNoneOutstanding seat.new }
     {
         let place = self.journal.place() + 1;
+        let documents = self.journal.documents() + 1;
         let pass = seat.number();
         let id = doc.id();
         let _ = doc.words();
@@ -334,7 +368,50 @@ impl Desk {
         let Claim { slice, column } = claim;
         self.records.live(slice, column, doc, place, number);
         self.live.add(id, slice, column);
-        self.journal.push(Commit { add: true, id });
+        self.journal.push(Commit { add: true, id }, documents);
+        self.events = number;
+        place
+    }
+
+    // Makes the add of the document in the place of the live one with its number, and gives its place.
+    fn make_replace(
+        &mut self,
+        pool: &Pool,
+        seat: &mut PassSeat,
+        claim: Claim,
+        doc: Doc,
+        bits: &Bits,
+    ) -> u64
+        requires pool { pool.now ≡ self.old.pool }
+        requires caught_up { IsCaughtUp self.old seat.old }
+        requires written { HasWritten self.old.pool claim doc.words bits.now.bits seat.old }
+        requires of_words { All (λ b. b.bit < 64) bits.now.bits }
+        requires present { is_live doc.id self.old.history ≡ true }
+        ensures place { result ≡ place self.old.history + 1 }
+        ensures made { Makes (event.Add seat.old.number doc.id doc.text claim.slice claim.column bits.now.bits ∷ []) self.old self.new seat.old seat.new }
+        ensures none_outstanding { HasNoneOutstanding seat.new }
+    {
+        let place = self.journal.place() + 1;
+        let documents = self.journal.documents();
+        let pass = seat.number();
+        let id = doc.id();
+        let _ = doc.words();
+        let entry = Adds {
+            pass,
+            doc: &doc,
+            claim: &claim,
+            bits,
+        };
+        let number = pool.make_event(&mut self.home, seat, &entry);
+        let Some((from, left)) = self.live.remove(id) else {
+            unreachable!()
+        };
+        let Claim { slice, column } = claim;
+        self.records.delete(from, left, number);
+        self.records.live(slice, column, doc, place, number);
+        self.live.add(id, slice, column);
+        self.stages.end_column(from, number);
+        self.journal.push(Commit { add: true, id }, documents);
         self.events = number;
         place
     }

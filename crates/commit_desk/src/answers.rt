@@ -73,6 +73,15 @@ pub enum CommitFault {
     Present(u64),
 }
 
+/// What a put did.
+#[derive(Clone, Copy, Debug, PartialEq, Eq)]
+pub enum Put {
+    /// The document was added, at this place; its number was not live.
+    Added(u64),
+    /// It took the place of the live document with its number, and was added at this place.
+    Replaced(u64),
+}
+
 /// Why no document was deleted.
 #[derive(Clone, Copy, Debug, PartialEq, Eq)]
 pub enum DeleteFault {
@@ -105,6 +114,19 @@ pub enum FindFault {
     Spent(u64),
     /// There was no memory: before the find began, or after, and then it was ended.
     Memory,
+}
+
+/// What a look for the text of a live document came to.
+#[derive(Clone, Copy, Debug, PartialEq, Eq)]
+pub enum TextRead {
+    /// The text was copied. The place of the document's add.
+    Read(u64),
+    /// The number is not live.
+    Absent,
+    /// There is no room for the text, which has this many bytes: the get is to be made again.
+    Short(usize),
+    /// The history has this many events, and no call is taken any more.
+    Spent(u64),
 }
 
 /// Why the journal was not read.

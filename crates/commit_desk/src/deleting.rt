@@ -74,6 +74,7 @@ impl Desk {
         ensures none_outstanding { HasNoneOutstanding seat.new }
     {
         let place = self.journal.place() + 1;
+        let documents = self.journal.documents() - 1;
         let pass = seat.number();
         let number = pool.make_event(&mut self.home, seat, &Event::Del { pass, id });
         let Some((slice, column)) = self.live.remove(id) else {
@@ -81,7 +82,7 @@ impl Desk {
         };
         self.records.delete(slice, column, number);
         self.stages.end_column(slice, number);
-        self.journal.push(Commit { add: false, id });
+        self.journal.push(Commit { add: false, id }, documents);
         self.events = number;
         place
     }

@@ -6,6 +6,7 @@ ghost use Rattle.funnel_model.specs.Sizes.{words_of_slice};
 ghost use Rattle.row_layout.specs.Layouts.{own_layout};
 ghost use Rattle.row_layout.specs.Sound.{IsSound};
 ghost use Rattle.slice_rule.specs.Pools.{limits_of};
+ghost use Rattle.commit_desk.specs.Answers.{in_the_way};
 
 use crate::journal::Journal;
 use crate::look::Looks;
@@ -125,6 +126,16 @@ impl Desk {
     {
         let _ = &self.home;
         self.events_limit <= self.events
+    }
+
+    // The place of the live document that keeps one with this number out. What replaces it isn't kept out.
+    pub(crate) fn in_the_way(&self, replaces: bool, id: u64) -> Option<u64>
+        ensures { result ≡ in_the_way replaces id self.now.history }
+    {
+        if replaces {
+            return None;
+        }
+        self.place_of(id)
     }
 
     // The place of the add of the live document with this number.

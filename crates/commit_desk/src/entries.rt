@@ -1,5 +1,5 @@
 //! Names of events that borrow what they tell, so that an event costs no copy of a text.
-ghost use Rattle.funnel_model.specs.declared.call.Call.TheVariants as call;
+ghost use Rattle.commit_desk.specs.Answers.{call_asked};
 ghost use Rattle.funnel_model.specs.declared.event.Event.TheVariants as event;
 
 use document_store::Doc;
@@ -45,15 +45,16 @@ impl<'a> Entry for Moves<'a> {
     ghost event = { λ e. event.Move e.pass e.id e.claim.now.slice e.claim.now.column e.bits.now.bits };
 }
 
-/// An add of a document is refused.
+/// An add of a document is refused, or a put, which replaces.
 #[derive(Drop)]
 pub struct Refuses<'a> {
     pub pass: u32,
+    pub replaces: bool,
     pub doc: &'a Doc,
 }
 
 impl<'a> Entry for Refuses<'a> {
-    ghost event = { λ e. event.No e.pass (call.Add e.doc.now.id e.doc.now.text) };
+    ghost event = { λ e. event.No e.pass (call_asked e.replaces e.doc.now.id e.doc.now.text) };
 }
 
 /// An engine is tuned.

@@ -1,4 +1,4 @@
-//! The last commits of a history.
+//! The last commits of a history, and how many documents are live.
 ghost use Rattle.std.specs.Prelude.{◌≡◌, ◌+◌, ◌-◌, ◌^◌, ◌<◌, ◌≤◌, [], ◌++◌, IfOk, drop, length, vec_capacity};
 ghost use Rattle.commit_desk.specs.Journals.{base_of, with_commit};
 
@@ -7,11 +7,12 @@ use funnel_model::{Commit, Commits, Memory};
 use std::alloc::Global;
 use std::marker::Model;
 
-/// How many commits there were, and the last ones, as many as are kept. A new commit takes the place of the oldest one.
-/// Only `new` and `read` take memory.
+/// How many commits there were, how many documents are live after them, and the last commits, as many as are kept. A new commit takes the
+/// place of the oldest one. Only `new` and `read` take memory.
 #[derive(Drop)]
 pub struct Journal {
     place: u64,
+    documents: u64,
     kept: HeapCircularBuffer<Commit>,
     room: Vec<Commit>,
 }
@@ -22,18 +23,20 @@ impl Model for Journal {
 
     ghost Value = { JournalState };
 
-    ghost view = { λ j. record { most = j.kept.capacity; place = j.place; kept = j.kept.items } };
+    ghost view = { λ j. record { most = j.kept.capacity; place = j.place; documents = j.documents; kept = j.kept.items } };
 
-    ghost invariant = { λ j. HasJournalRoom (record { most = j.kept.capacity; place = j.place; kept = j.kept.items }) j.room.items (vec_capacity j.room) };
+    ghost invariant = { λ j. HasJournalRoom (record { most = j.kept.capacity; place = j.place; documents = j.documents; kept = j.kept.items })
+        j.room.items (vec_capacity j.room) };
 }
 
 impl Journal {
     /// No commit, with room for so many.
     pub(crate) fn new(alloc: Global, most: u64) -> Result<Journal, Memory>
-        ensures { IfOk result (λ journal. journal ≡ record { most = most; place = 0; kept = [] }) }
+        ensures { IfOk result (λ journal. journal ≡ record { most = most; place = 0; documents = 0; kept = [] }) }
     {
         Ok(Journal {
             place: 0,
+            documents: 0,
             kept: HeapCircularBuffer::with_capacity(alloc, most as usize)?,
             room: Vec::with_capacity(alloc, most as usize)?,
         })
@@ -46,6 +49,13 @@ impl Journal {
         self.place
     }
 
+    /// How many documents are live after them.
+    pub(crate) fn documents(&self) -> u64
+        ensures { result ≡ self.now.documents }
+    {
+        self.documents
+    }
+
     /// How many there were before those that are kept.
     pub(crate) fn base(&self) -> u64
         ensures { result ≡ base_of self.now }
@@ -53,13 +63,14 @@ impl Journal {
         self.place - self.kept.len() as u64
     }
 
-    /// One more commit.
-    pub(crate) fn push(&mut self, commit: Commit)
+    /// One more commit, after which so many documents are live.
+    pub(crate) fn push(&mut self, commit: Commit, documents: u64)
         requires { self.old.place < 2 ^ 63 - 1 }
-        ensures { self.new ≡ with_commit self.old commit }
+        ensures { self.new ≡ with_commit self.old commit documents }
     {
         self.kept.push_back(commit);
         self.place += 1;
+        self.documents = documents;
     }
 
     /// The commits after the first so many, all of which are kept.

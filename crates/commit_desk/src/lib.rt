@@ -29,8 +29,8 @@ mod slice_layouts;
 mod tuning;
 
 pub use answers::{
-    AddFault, ClearRefusal, CommitFault, DeleteFault, FindFault, JournalFault, NotTaken, Spent,
-    Taken, TakenMove, ToClear,
+    AddFault, ClearRefusal, CommitFault, DeleteFault, FindFault, JournalFault, NotTaken, Put,
+    Spent, Taken, TakenMove, TextRead, ToClear,
 };
 pub use desk::Desk;
 pub use find_layouts::{FindLayout, FindLayouts};

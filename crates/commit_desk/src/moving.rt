@@ -1,13 +1,11 @@
 //! Moves: documents go from the slice that holds the fewest to others, so that it retires.
 ghost use Rattle.std.specs.Prelude.{◌≡◌, ◌↔◌, ℕ, ◌<◌, [], ◌∷◌, All, IfOk, IfSome, IsTrue, None, cond, length, true, MatchOption};
-ghost use Rattle.funnel_model.specs.History.{Document};
+ghost use Rattle.funnel_model.specs.History.{Document, has_cause};
 ghost use Rattle.funnel_model.specs.Legal.{IsIdle};
 ghost use Rattle.funnel_model.specs.declared.event.Event.TheVariants as event;
-ghost use Rattle.funnel_model.specs.Events.{deletes_or_drops};
 ghost use Rattle.funnel_model.specs.Reserve.{HasReadyColumns, HasSpareColumns, HoldsColumns, IsSource};
 ghost use Rattle.funnel_model.specs.Slices.{IsInState, Live, claimed};
 ghost use Rattle.funnel_model.specs.Words.{AreWordsOf};
-ghost use Rattle.std.specs.List.{list_any};
 ghost use Rattle.std.specs.Option.{is_none};
 ghost use Rattle.slice_rule.specs.Seats.{HasNoneOutstanding, HoldsClaim, IsSeated};
 ghost use Rattle.commit_desk.specs.Desks.{IsCaughtUp, IsFresh, Makes};
@@ -29,9 +27,9 @@ use slice_stages::Stage;
 use std::alloc::Global;
 
 impl Desk {
-    /// Looks at the next document that is to be moved before one with this number is added, where there is one. The look is
-    /// handed on to `take_move` and then to `end_move`, or spent by `Looks::end`. Its document is a copy, for which memory is taken. What the
-    /// pass itself may have named before counts no more.
+    /// Looks at the next document that is to be moved before one with this number is added, or put where it `replaces`, where there is
+    /// one. The look is handed on to `take_move` and then to `end_move`, or spent by `Looks::end`. Its document is a copy, for which
+    /// memory is taken. What the pass itself may have named before counts no more.
     pub fn look(
         &mut self,
         alloc: Global,
@@ -39,13 +37,14 @@ impl Desk {
         seat: &mut PassSeat,
         looks: &mut Looks,
         reserve: u32,
+        replaces: bool,
         id: u64,
     ) -> Result<Option<Look>, Memory>
         requires pool { pool.now ≡ self.old.pool }
         requires seat { IsSeated self.old.pool seat.old }
         requires idle { IsIdle seat.old.number seat.old.front }
         ensures answer { AnswersLook reserve self.old.events_limit self.old.pool.limits (with_look looks.old seat.old.number None) self.old.history
-            seat.old.number id result }
+            seat.old.number replaces id result }
         ensures events { Makes [] self.old self.new seat.old seat.new }
         ensures looks { looks.new ≡ looks_after (with_look looks.old seat.old.number None) result }
         ensures look { IfOk result (λ found. IfSome found (HoldsLook seat.new)) }
@@ -54,7 +53,7 @@ impl Desk {
         pool.catch_up(&mut self.home, seat);
         let pass = seat.number();
         looks.forget(pass);
-        let Some(slice) = self.to_be_emptied(reserve, id) else {
+        let Some(slice) = self.to_be_emptied(reserve, replaces, id) else {
             return Ok(None);
         };
         let column = self.next_to_move(looks, slice);
@@ -127,14 +126,17 @@ impl Desk {
         Some(doc)
     }
 
-    // The slice out of which documents are to be moved before one with this number is added, where there is one.
-    fn to_be_emptied(&mut self, reserve: u32, id: u64) -> Option<u32>
+    // The slice out of which documents are to be moved before one with this number is added or put, where there is one.
+    fn to_be_emptied(&mut self, reserve: u32, replaces: bool, id: u64) -> Option<u32>
         ensures answer { MatchOption result
-            ((slice held : ℕ) → IsToBeEmptied reserve self.old.events_limit self.old.pool.limits self.old.history id slice held → ⊥)
-            (λ slice. (held : ℕ) × IsToBeEmptied reserve self.old.events_limit self.old.pool.limits self.old.history id slice held) }
+            ((slice held : ℕ) → IsToBeEmptied reserve self.old.events_limit self.old.pool.limits self.old.history replaces id slice held → ⊥)
+            (λ slice. (held : ℕ) × IsToBeEmptied reserve self.old.events_limit self.old.pool.limits self.old.history replaces id slice held) }
         ensures same { self.new ≡ self.old }
     {
-        if self.is_spent() || self.place_of(id).is_some() || reserve as u64 <= self.spare() {
+        if self.is_spent()
+            || self.in_the_way(replaces, id).is_some()
+            || reserve as u64 <= self.spare()
+        {
             return None;
         }
         let Some((slice, held)) = self.source() else {
@@ -398,7 +400,7 @@ impl Desk {
         requires pool { pool.now ≡ self.old.pool }
         requires caught_up { IsCaughtUp self.old seat.old }
         requires claim { HoldsClaim seat.old claim }
-        requires cause { list_any deletes_or_drops self.old.history ≡ true }
+        requires cause { has_cause self.old.history ≡ true }
         ensures made { Makes (event.Void seat.old.number claim.slice claim.column ∷ []) self.old self.new seat.old seat.new }
         ensures none_outstanding { HasNoneOutstanding seat.new }
     {

@@ -1,8 +1,7 @@
 -- What a pass of a setting has done between the calls of an add or of a clear.
-use Rattle.std.proofs.Common.{◌≡◌, ◌*◌, ◌<◌, ◌≤◌, ◌⊎◌, ◌↔◌, ◌∙◌, ℕ, List, refl, sym, ap, subst, inr, ⊎_elim, arith}
+use Rattle.std.proofs.Common.{◌≡◌, ◌*◌, ◌<◌, ◌≤◌, ◌↔◌, ◌∙◌, ℕ, List, sym, ap, subst}
 use Rattle.std.specs.List.{All, Contains}
-use Rattle.std.proofs.lemmas.List.Elements.{All-contains}
-use Rattle.column_writer.specs.Written.{CanWrite, IsBitOf, SetsBits}
+use Rattle.column_writer.specs.Written.{CanWrite, SetsBits}
 use Rattle.commit_desk.specs.Passes.{HasCleared, HasWritten, IsToClear, IsToWrite}
 use Rattle.commit_desk.proofs.CallEnds.{keep_to_column, seated_still}
 use Rattle.commit_desk_tests.specs.Tested.{IsSetting}
@@ -20,11 +19,10 @@ use Rattle.row_layout.specs.Layouts.{LayoutId}
 use Rattle.row_layout.specs.Owners.{IsOwnedOnlyAt}
 use Rattle.slice_recycler.proofs.Recycles.{can_clear, has_cleared}
 use Rattle.slice_recycler.specs.Cleared.{CanClearSlice, ClearsSlice}
-use Rattle.slice_rule.specs.declared.view.Fact.{Fact}
 use Rattle.slice_rule.specs.declared.view.Fact.TheVariants as fact
 use Rattle.slice_rule.specs.Numbers.{last_number}
 use Rattle.slice_rule.specs.Pools.{PoolId, limits_of}
-use Rattle.slice_rule.specs.Seats.{HoldsClaim, PassState, number_under}
+use Rattle.slice_rule.specs.Seats.{HoldsClaim, PassState}
 use Rattle.column_writer.proofs.Writing.{has_set}
 
 module _ (name : PoolId) (layout : LayoutId) (pool desk : PoolId) (base : Config) (is : IsSetting name layout pool desk base) where

@@ -18,7 +18,7 @@ pub(crate) type Both = (
 );
 
 impl<N: PoolName> Written<N> {
-    fn at(&self) -> (u32, u32) {
+    pub fn at(&self) -> (u32, u32) {
         (self.claim.slice, self.claim.column)
     }
 }

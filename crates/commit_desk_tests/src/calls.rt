@@ -1,5 +1,5 @@
 //! The calls of the desk, each by a pass that may make it.
-ghost use Rattle.std.specs.Prelude.{◌≡◌};
+ghost use Rattle.std.specs.Prelude.{◌≡◌, [], string_bytes};
 ghost use Rattle.commit_desk.specs.Passes.{HasWritten, IsToWrite};
 ghost use Rattle.commit_desk_tests.specs.Tested.{IsDraft};
 
@@ -8,10 +8,10 @@ use crate::draft::Draft;
 use crate::setting::Setting;
 use column_writer::write_column;
 use commit_desk::{
-    AddFault, ClearRefusal, CommitFault, DeleteFault, FindFault, FindLayouts, JournalFault,
-    SharedLayout, Spent, Taken, ToClear,
+    AddFault, ClearRefusal, CommitFault, DeleteFault, FindFault, FindLayouts, JournalFault, Put,
+    SharedLayout, Spent, Taken, TextRead, ToClear,
 };
-use funnel_model::{Claim, Commits, WordSet};
+use funnel_model::{Claim, Commits, Stats, WordSet};
 use row_layout::{Bits, fill_bits};
 use slice_recycler::clear_slice;
 use slice_rule::{PassSeat, PoolName};
@@ -23,6 +23,17 @@ impl<N: PoolName> Setting<N> {
 
     pub fn place(&mut self, caller: &mut Caller<N>) -> Result<u64, Spent> {
         self.desk.read_place(&self.pool, &mut caller.seat)
+    }
+
+    /// Copies the text of the live document with this number into the room.
+    pub fn read_text(&mut self, caller: &mut Caller<N>, id: u64, room: &mut String) -> TextRead
+        requires { string_bytes room.old ≡ [] }
+    {
+        self.desk.read_text(&self.pool, &mut caller.seat, id, room)
+    }
+
+    pub fn stats(&mut self, caller: &mut Caller<N>) -> Result<Stats, Spent> {
+        self.desk.read_stats(&self.pool, &mut caller.seat)
     }
 
     /// The commits so far.
@@ -38,7 +49,7 @@ impl<N: PoolName> Setting<N> {
         commits
     }
 
-    /// Claims a column for a document with this number. A slice that is to be cleared for it is cleared and opened first.
+    /// Claims a column for a document with this number that is added. A slice that is to be cleared for it is cleared and opened first.
     pub fn claim(
         &mut self,
         caller: Caller<N>,
@@ -47,16 +58,23 @@ impl<N: PoolName> Setting<N> {
         let Ok(draft) = self.draft(id) else {
             return Err((caller, AddFault::Memory));
         };
+        self.claim_for(caller, draft, false)
+    }
+
+    /// Claims a column for the document, which is put where it `replaces`.
+    pub fn claim_for(
+        &mut self,
+        caller: Caller<N>,
+        draft: Draft<N>,
+        replaces: bool,
+    ) -> Result<Claiming<N>, (Caller<N>, AddFault)> {
         let Ok(room) = Vec::with_capacity(self.alloc, 2) else {
             return Err((caller, AddFault::Memory));
         };
         let mut room = Some(room);
         let Caller { mut seat, of } = caller;
         let cleared = false;
-        match self
-            .desk
-            .take(&self.pool, &mut seat, &draft.doc, &mut room, true)
-        {
+        match self.desk.take(&self.pool, &mut seat, &draft.doc, replaces, &mut room, true) {
             Taken::Claim(claim, layout) => Ok(Claiming {
                 seat,
                 claim,
@@ -158,6 +176,19 @@ impl<N: PoolName> Setting<N> {
         } = written;
         let answer = self.desk.commit(&self.pool, &mut seat, claim, doc, &bits);
         (Caller { seat, of }, answer)
+    }
+
+    /// Commits the document in the place of the live one with its number, where there is one.
+    pub fn replace(&mut self, written: Written<N>) -> (Caller<N>, Put) {
+        let Written {
+            mut seat,
+            claim,
+            doc,
+            bits,
+            of,
+        } = written;
+        let did = self.desk.put(&self.pool, &mut seat, claim, doc, &bits);
+        (Caller { seat, of }, did)
     }
 
     /// Begins a find of no words.

@@ -40,6 +40,16 @@ impl<N: PoolName> Setting<N> {
     /// A document with this number.
     pub fn draft(&self, id: u64) -> Result<Draft<N>, Memory> {
         let doc = document(self.alloc, id, "cat")?;
+        self.with_bits(doc)
+    }
+
+    /// A document with this number and another text.
+    pub fn draft_put(&self, id: u64) -> Result<Draft<N>, Memory> {
+        let doc = document(self.alloc, id, "dog")?;
+        self.with_bits(doc)
+    }
+
+    fn with_bits(&self, doc: Doc) -> Result<Draft<N>, Memory> {
         let bits = Bits::for_words(self.alloc, doc.words())?;
         let of = PhantomData;
         Ok(Draft { doc, bits, of })

@@ -18,6 +18,8 @@ mod finding;
 #[cfg(test)]
 mod moving;
 #[cfg(test)]
+mod putting;
+#[cfg(test)]
 mod setting;
 #[cfg(test)]
 mod tuning;

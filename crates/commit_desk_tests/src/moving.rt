@@ -32,6 +32,7 @@ impl<N: PoolName> Setting<N> {
             &mut seat,
             &mut self.looks,
             65,
+            false,
             500,
         )
         else {

@@ -11,15 +11,15 @@ use Rattle.engine.proofs.OpenFinds.{begun_last}
 use Rattle.engine.specs.Finds.{IsAnswerWhere, IsBegunAt, IsScanFor}
 use Rattle.engine.specs.Passes.{view_of}
 use Rattle.engine.specs.Replies.{reply_of_query_fault}
-use Rattle.engine.specs.Searches.{is_kept_by}
+use Rattle.engine.specs.Searches.{IsSearchOf, is_kept_by}
 use Rattle.commit_desk.specs.Scans.{keeps_text}
 use Rattle.engine.specs.declared.search.Search.{Search}
 use Rattle.funnel_model.proofs.WordExprLemmas.{each-kept}
-use Rattle.funnel_model.proofs.WordLemmas.{has-same, list_all-same}
+use Rattle.funnel_model.proofs.WordLemmas.{Contains-has, has-same, list_all-same}
 use Rattle.funnel_model.specs.declared.claim.Token.{Token}
 use Rattle.funnel_model.specs.declared.memory.Memory.{Memory}
 use Rattle.funnel_model.specs.declared.word_expr.WordExpr.{WordExpr}
-use Rattle.funnel_model.specs.Expressions.{Tree, keeps}
+use Rattle.funnel_model.specs.Expressions.{Tree, atom, keeps}
 use Rattle.funnel_model.specs.Searches.{all_of, has_all, is_kept}
 use Rattle.funnel_model.specs.WordExprs.{each_keeps, each_searched}
 use Rattle.funnel_model.specs.Words.{AreWordsOf, has_word, meets, words}
@@ -29,6 +29,7 @@ use Rattle.funnel_model.specs.declared.event.Event.{Event}
 use Rattle.funnel_model.specs.declared.expr.Expr.{Expr}
 use Rattle.funnel_model.specs.History.{Document, answer, live}
 use Rattle.funnel_model.specs.Queries.{IsMalformed, IsTooDeep}
+use Rattle.line_proto.specs.Forms.{ByQuery}
 use Rattle.line_proto.specs.Services.{IsUnread}
 
 -- tests that agree give the same answer
@@ -36,11 +37,11 @@ pub answer_same : (one other : List ℕ → Bool) (history : List Event) → ((t
 answer_same one other history same = ap (map (λ (d : Document). d.id)) (filter_agree (λ (d : Document). one d.text) (λ (d : Document). other d.text) (λ d. same d.text) (live history))
 
 -- a text that was refused is told so
-pub unread : (text : List ℕ) (read : Result Expr QueryFault) (told : QueryFault) → read ≡ Err told → IfSyntax read (λ at. IsMalformed text at) → IfDeep read (λ at. IsTooDeep text at) → IsUnread text (reply_of_query_fault told)
+pub unread : (text : List ℕ) (read : Result Expr QueryFault) (told : QueryFault) → read ≡ Err told → IfSyntax read (λ at. IsMalformed text at) → IfDeep read (λ at. IsTooDeep text at) → IsUnread (ByQuery text) (reply_of_query_fault told)
 unread text read told is syntax deep =
     of told (subst (λ r. IfSyntax r (λ at. IsMalformed text at)) is syntax) (subst (λ r. IfDeep r (λ at. IsTooDeep text at)) is deep)
   where
-    of : (f : QueryFault) → IfSyntax {A = Expr} (Err f) (λ at. IsMalformed text at) → IfDeep {A = Expr} (Err f) (λ at. IsTooDeep text at) → IsUnread text (reply_of_query_fault f)
+    of : (f : QueryFault) → IfSyntax {A = Expr} (Err f) (λ at. IsMalformed text at) → IfDeep {A = Expr} (Err f) (λ at. IsTooDeep text at) → IsUnread (ByQuery text) (reply_of_query_fault f)
     of (fault.Syntax at) malformed deep = malformed
     of (fault.Deep at) malformed deep = deep
     of fault.Memory malformed deep = tt
@@ -50,6 +51,15 @@ words_kept : (search : Search) (query text : List ℕ) → AreWordsOf search.wor
 words_kept search query text are none =
     ap (λ (es : List WordExpr). has_all text search.words && is_kept (all_of (each_searched es)) text) none ∙ and-true (has_all text search.words)
     ∙ list_all-same (has_word text) search.words (words query) (has-same search.words (words query) are)
+
+-- it is the search of the atom of the query
+pub search_of_words : (search : Search) (query : List ℕ) (set : List (List ℕ)) → search.words ≡ set → search.residue.items ≡ [] → AreWordsOf set query → IsSearchOf search (atom query)
+search_of_words search query set is none of =
+    let are : AreWordsOf search.words query = subst (λ (ws : List (List ℕ)). AreWordsOf ws query) (sym is) of in
+    record {
+      required = λ word. (λ has. (Contains-has word (words query)).0 ((are word).0 has), λ some. (are word).1 ((Contains-has word (words query)).1 some));
+      kept = λ text. words_kept search query text are none;
+    }
 
 -- so a find of words is answered by its query
 pub found_words : (pool : PoolId) (pass : PassState) (token : Token) (search : Search) (layouts : List FindLayout) → IsScanFor pool pass token search layouts → (ids : List ℕ) →

@@ -6,13 +6,14 @@ use Rattle.funnel_model.specs.declared.commit.Commit.{Commit}
 use Rattle.funnel_model.specs.declared.event.Event.{Event}
 use Rattle.funnel_model.specs.declared.event.Event.TheVariants as event
 use Rattle.funnel_model.specs.declared.reply.Reply.TheVariants as reply
+use Rattle.funnel_model.specs.declared.stats.Stats.{Stats}
 use Rattle.funnel_model.specs.Legal.{IsIdle, IsLegal, Limits}
 use Rattle.funnel_model.specs.Steps.{Step}
 use Rattle.funnel_model.proofs.ReplyLemmas.{journal_read, journal_trimmed}
 use Rattle.funnel_model.proofs.StepLemmas.{call_by-own, step_without_memory}
 use Rattle.slice_rule.specs.Pools.{PoolId}
 use Rattle.slice_rule.specs.Seats.{PassState}
-use Rattle.commit_desk.specs.Answers.{AnswersDelete, AnswersJournal, AnswersPlace, events_of_delete, events_of_journal, events_of_place}
+use Rattle.commit_desk.specs.Answers.{AnswersDelete, AnswersJournal, AnswersPlace, AnswersStats, events_of_delete, events_of_journal, events_of_place, events_of_stats}
 use Rattle.commit_desk.specs.declared.answers.DeleteFault.{DeleteFault}
 use Rattle.commit_desk.specs.declared.answers.DeleteFault.TheVariants as delete
 use Rattle.commit_desk.specs.declared.answers.JournalFault.{JournalFault}
@@ -23,7 +24,7 @@ use Rattle.funnel_model.specs.declared.config.Config.{Config}
 use Rattle.engine.specs.declared.retuning.TuneFault.{TuneFault}
 use Rattle.engine.specs.declared.retuning.TuneFault.TheVariants as tune
 use Rattle.engine.specs.Passes.{PassView}
-use Rattle.engine.specs.Replies.{reply_of_delete, reply_of_journal, reply_of_place}
+use Rattle.engine.specs.Replies.{reply_of_delete, reply_of_journal, reply_of_place, reply_of_stats}
 use Rattle.engine.specs.Turns.{MakesTuneCall, TuneTurn, fault_of_layout}
 use Rattle.funnel_model.specs.Sizes.{words_of_slice}
 use Rattle.row_layout.specs.declared.fault.LayoutFault.{LayoutFault}
@@ -47,19 +48,26 @@ module _ (limits : Limits) (pass : ℕ) (before after : List Event) (idle : IsId
       Step limits pass before after call.Place (reply_of_place answer)
   place_step (Ok count) turn =
       let e = event.Read pass call.Place in
-      step_made_by_turn limits pass before after e call.Place (reply.Place count) idle turn refl (call_by-own pass e refl) refl refl (ap reply.Place turn.answer.1) legal
+      step_made_by_turn limits pass before after e call.Place (reply.Place count) idle turn refl (call_by-own pass e refl) refl refl (ap reply.Place turn.answer.1) refl legal
   place_step (Err spent) turn = step_spent_turn limits pass before after call.Place idle turn turn.answer.many legal
+
+  stats_step : (answer : Result Stats Spent) → IsTurn pass before after (λ history. AnswersStats limits.events limits history answer) (events_of_stats pass answer) →
+      Step limits pass before after call.Stats (reply_of_stats answer)
+  stats_step (Ok stats) turn =
+      let e = event.Read pass call.Stats in
+      step_made_by_turn limits pass before after e call.Stats (reply.Stats stats) idle turn refl (call_by-own pass e refl) refl refl turn.answer.1 refl legal
+  stats_step (Err spent) turn = step_spent_turn limits pass before after call.Stats idle turn turn.answer.many legal
 
   journal_step : (from : ℕ) (answer : Result (List Commit) JournalFault) → IsTurn pass before after (λ history. AnswersJournal limits.events limits history from answer) (events_of_journal pass from answer) →
       Step limits pass before after (call.Journal from) (reply_of_journal answer)
   journal_step from (Ok commits) turn =
       let e = event.Read pass (call.Journal from) in
       step_made_by_turn limits pass before after e (call.Journal from) (reply.Commits commits) idle turn refl (call_by-own pass e refl) refl refl
-      (journal_read limits turn.earlier from commits turn.answer.1 turn.answer.2) legal
+      (journal_read limits turn.earlier from commits turn.answer.1 turn.answer.2) refl legal
   journal_step from (Err (journal.Trimmed n)) turn =
       let e = event.Read pass (call.Journal from) in
       step_made_by_turn limits pass before after e (call.Journal from) (reply.Trimmed n) idle turn refl (call_by-own pass e refl) refl refl
-      (journal_trimmed limits turn.earlier from n turn.answer.1 turn.answer.2) legal
+      (journal_trimmed limits turn.earlier from n turn.answer.1 turn.answer.2) refl legal
   journal_step from (Err (journal.Spent events)) turn = step_spent_turn limits pass before after (call.Journal from) idle turn turn.answer.many legal
   journal_step from (Err journal.Memory) turn =
       step_journal_without_memory limits pass before after idle legal (idle_still pass before after turn idle) (quiet_turn pass before after [] turn refl refl) from
@@ -68,12 +76,12 @@ module _ (limits : Limits) (pass : ℕ) (before after : List Event) (idle : IsId
       Step limits pass before after (call.Delete id) (reply_of_delete answer)
   delete_step id (Ok deleted) turn =
       let e = event.Del pass id in
-      step_made_by_turn limits pass before after e (call.Delete id) (reply.Deleted deleted) idle turn refl (call_by-own pass e refl) refl refl (ap reply.Deleted turn.answer.1) legal
+      step_made_by_turn limits pass before after e (call.Delete id) (reply.Deleted deleted) idle turn refl (call_by-own pass e refl) refl refl (ap reply.Deleted turn.answer.1) refl legal
   delete_step id (Err (delete.Spent events)) turn = step_spent_turn limits pass before after (call.Delete id) idle turn turn.answer.many legal
   delete_step id (Err delete.Absent) turn =
       let e = event.No pass (call.Delete id) in
       step_made_by_turn limits pass before after e (call.Delete id) reply.Absent idle turn refl (call_by-own pass e refl) refl refl
-      refl legal
+      refl refl legal
 
   -- the call of a tuning
   pub tune_call : (number : ℕ) → number ≡ pass → (config : Config) (answer : Result ℕ TuneFault) →
@@ -82,7 +90,7 @@ module _ (limits : Limits) (pass : ℕ) (before after : List Event) (idle : IsId
   tune_call number same config (Ok count) (room, turn) =
       let e = event.Tune pass config in
       record {
-        step = step_made_by_turn limits pass before after e (call.Tune config) (reply.Tuned count) idle turn refl (call_by-own pass e refl) refl refl (ap reply.Tuned turn.answer.1) legal;
+        step = step_made_by_turn limits pass before after e (call.Tune config) (reply.Tuned count) idle turn refl (call_by-own pass e refl) refl refl (ap reply.Tuned turn.answer.1) refl legal;
         number = same;
       }
   tune_call number same config (Err (tune.Spent events)) (room, turn) =
@@ -122,6 +130,13 @@ module _ (pool : PoolId) (before after : DeskState) (seat next : PassState) (of 
       let events = events_of_place seat.number answer in
       place_step pool.limits seat.number seat.front next.front idle (legal_made pool events before after seat next of made) answer
       (turn_made events before after seat next (subst (λ n. AnswersPlace n before.history answer) same_limit may) made)
+
+  pub stats_made : (answer : Result Stats Spent) → AnswersStats before.events_limit before.pool.limits before.history answer → Makes (events_of_stats seat.number answer) before after seat next →
+      Step pool.limits seat.number seat.front next.front call.Stats (reply_of_stats answer)
+  stats_made answer may made =
+      let events = events_of_stats seat.number answer in
+      stats_step pool.limits seat.number seat.front next.front idle (legal_made pool events before after seat next of made) answer
+      (turn_made events before after seat next (subst (λ (p : PoolId). AnswersStats pool.limits.events p.limits before.history answer) of (subst (λ n. AnswersStats n before.pool.limits before.history answer) same_limit may)) made)
 
   pub journal_made : (from : ℕ) (answer : Result (List Commit) JournalFault) → AnswersJournal before.events_limit before.pool.limits before.history from answer →
       Makes (events_of_journal seat.number from answer) before after seat next → Step pool.limits seat.number seat.front next.front (call.Journal from) (reply_of_journal answer)

@@ -112,7 +112,7 @@ module _ (limits : Limits) (pass : ℕ) (query : List ℕ) (before after : List 
         let turns = found.turns in
         let e = event.Find pass query in
         step_made_within limits pass before before turns.middle after e (call.Find query) (reply.Found ids) idle (quiet_none pass before) turns.begun (call_by-own pass e refl) refl
-        (ap (λ (answered : List ℕ). reply.Found answered) found.found) (end_is_quiet pass turns.middle after turns.ended) legal idle_end
+        (ap (λ (answered : List ℕ). reply.Found answered) found.found) refl (end_is_quiet pass turns.middle after turns.ended) legal idle_end
 
     -- that found no memory
     pub dropped_step : EndedTurns limits pass query before after → Step limits pass before after (call.Find query) reply.Memory

@@ -6,14 +6,16 @@ pub mod DeskTurns
 pub mod Ends
 pub mod Finds
 pub mod FindParts
+pub mod GetSteps
 pub mod Looked
 pub mod MovePasses
 pub mod Moves
 pub mod NewPasses
 pub mod NotTaken
 pub mod OpenFinds
+pub mod PutSteps
 pub mod Scans
 pub mod Sizes
-pub mod QueryCalls
+pub mod SearchCalls
 pub mod TuneCalls
 mod Waits

@@ -33,68 +33,68 @@ looks_of_others limits pass looks each = record {
 }
 
 -- what the desk answers a look of a pass, told of the engine's pool
-pub looked_for : (pool : PoolId) (before after : DeskState) (seat next : PassState) (looks : LooksState) (reserve id : ℕ) (answer : Result (Option Look) Memory) → before.pool ≡ pool →
+pub looked_for : (pool : PoolId) (before after : DeskState) (seat next : PassState) (looks : LooksState) (reserve : ℕ) (replaces : Bool) (id : ℕ) (answer : Result (Option Look) Memory) → before.pool ≡ pool →
     before.events_limit ≡ before.pool.limits.events → length looks ≡ before.pool.limits.passes →
-    AnswersLook reserve before.events_limit before.pool.limits (with_look looks seat.number None) before.history seat.number id answer → Makes [] before after seat next →
-    IsTurn seat.number seat.front next.front (IsLookForMove reserve pool.limits seat.number id answer) []
-looked_for pool before after seat next looks reserve id answer of most each answers made =
+    AnswersLook reserve before.events_limit before.pool.limits (with_look looks seat.number None) before.history seat.number replaces id answer → Makes [] before after seat next →
+    IsTurn seat.number seat.front next.front (IsLookForMove reserve pool.limits seat.number replaces id answer) []
+looked_for pool before after seat next looks reserve replaces id answer of most each answers made =
     let limits = before.pool.limits in
     let others = with_look looks seat.number None in
-    subst (λ (p : PoolId). IsTurn seat.number seat.front next.front (IsLookForMove reserve p.limits seat.number id answer) []) of
+    subst (λ (p : PoolId). IsTurn seat.number seat.front next.front (IsLookForMove reserve p.limits seat.number replaces id answer) []) of
     (record {
       earlier = before.history;
       seen = made.seen;
       answer = record {
         looks = others;
         of_others = looks_of_others limits seat.number looks each;
-        answers = subst (λ n. AnswersLook reserve n limits others before.history seat.number id answer) most answers;
+        answers = subst (λ n. AnswersLook reserve n limits others before.history seat.number replaces id answer) most answers;
       };
       made = made.front ∙ made.history;
     })
 
 -- the document that the desk names is to be moved, in the turn in which it was looked at
-turn_of_look : (reserve : ℕ) (limits : Limits) (pass id : ℕ) (look : Look) (before after : List Event) → IsTurn pass before after (IsLookForMove reserve limits pass id (Ok (Some look))) [] →
-    IsTurn pass before after (λ history. IsToBeMoved reserve limits history pass id look) []
-turn_of_look reserve limits pass id look before after =
+turn_of_look : (reserve : ℕ) (limits : Limits) (pass : ℕ) (replaces : Bool) (id : ℕ) (look : Look) (before after : List Event) → IsTurn pass before after (IsLookForMove reserve limits pass replaces id (Ok (Some look))) [] →
+    IsTurn pass before after (λ history. IsToBeMoved reserve limits history pass replaces id look) []
+turn_of_look reserve limits pass replaces id look before after =
     turn_as pass before after [] (λ history looked. record { looks = looked.looks; of_others = looked.of_others; at_next = looked.answers.0 })
 
 -- so some document is
-turn_of_one : (reserve : ℕ) (limits : Limits) (pass id : ℕ) (look : Look) (before after : List Event) → IsTurn pass before after (IsLookForMove reserve limits pass id (Ok (Some look))) [] →
-    IsTurn pass before after (λ history. SomeToBeMoved reserve limits.events limits history id) []
-turn_of_one reserve limits pass id look before after =
+turn_of_one : (reserve : ℕ) (limits : Limits) (pass : ℕ) (replaces : Bool) (id : ℕ) (look : Look) (before after : List Event) → IsTurn pass before after (IsLookForMove reserve limits pass replaces id (Ok (Some look))) [] →
+    IsTurn pass before after (λ history. SomeToBeMoved reserve limits.events limits history replaces id) []
+turn_of_one reserve limits pass replaces id look before after =
     turn_as pass before after [] (λ history looked. let next = looked.answers.0 in (look.slice, next.held, next.empties))
 
-module _ (config : Config) (limits : Limits) (pass id : ℕ) (before : List Event) where
+module _ (config : Config) (limits : Limits) (pass : ℕ) (replaces : Bool) (id : ℕ) (before : List Event) where
   -- a look for which there was no memory ends the moves
-  pub lacks_memory : (after : List Event) (memory : Memory) → IsTurn pass before after (IsLookForMove config.reserve limits pass id (Err memory)) [] → LacksMemory config limits pass id before after
+  pub lacks_memory : (after : List Event) (memory : Memory) → IsTurn pass before after (IsLookForMove config.reserve limits pass replaces id (Err memory)) [] → LacksMemory config limits pass replaces id before after
   lacks_memory after memory turn = record {
     seen = after;
     looked = turn_as pass before after [] (λ history looked. looked.answers) turn;
     later = front_refl pass after;
   }
 
-  module _ (seen : List Event) (look : Look) (looked : IsTurn pass before seen (IsLookForMove config.reserve limits pass id (Ok (Some look))) []) where
+  module _ (seen : List Event) (look : Look) (looked : IsTurn pass before seen (IsLookForMove config.reserve limits pass replaces id (Ok (Some look))) []) where
     -- so does one for whose document there was none later
-    pub lacks_later : (after : List Event) → IsFrontOf pass seen after → LacksMemory config limits pass id before after
-    lacks_later after later = record { seen = seen; looked = turn_of_one config.reserve limits pass id look before seen looked; later = later }
+    pub lacks_later : (after : List Event) → IsFrontOf pass seen after → LacksMemory config limits pass replaces id before after
+    lacks_later after later = record { seen = seen; looked = turn_of_one config.reserve limits pass replaces id look before seen looked; later = later }
 
     -- and one for which no column was claimed
     pub looks_in_vain : (after : List Event) (doc : Parts) → IsTurn pass seen after (λ history. AnswersTakeMove limits.events limits history pass look (Err (untaken.NoColumn doc))) [] →
-        LooksInVain config limits pass id before after
+        LooksInVain config limits pass replaces id before after
     looks_in_vain after doc turn = record {
       look = look;
       seen = seen;
-      looked = turn_of_look config.reserve limits pass id look before seen looked;
+      looked = turn_of_look config.reserve limits pass replaces id look before seen looked;
       none = turn_as pass seen after [] (λ history none. none.0) turn;
     }
 
 -- The turns of a move whose pass wrote the bits before the last one.
-module _ (config : Config) (limits : Limits) (pass id : ℕ) (before after : List Event) (look : Look) (taken : TakenMove) (bits : List Bit) (moved : Bool) (seen took wrote : PassState) where
-  pub move_turns : IsTurn pass before seen.front (IsLookForMove config.reserve limits pass id (Ok (Some look))) [] → seen.number ≡ pass →
+module _ (config : Config) (limits : Limits) (pass : ℕ) (replaces : Bool) (id : ℕ) (before after : List Event) (look : Look) (taken : TakenMove) (bits : List Bit) (moved : Bool) (seen took wrote : PassState) where
+  pub move_turns : IsTurn pass before seen.front (IsLookForMove config.reserve limits pass replaces id (Ok (Some look))) [] → seen.number ≡ pass →
       IsTurn seen.number seen.front took.front (λ history. AnswersTakeMove limits.events limits history seen.number look (Ok taken)) (event.Take seen.number taken.claim.slice taken.claim.column ∷ []) →
       taken.look ≡ look → took.number ≡ seen.number → wrote ≡ record took { own = wrote.own } → AreBitsAt config limits wrote.front look.doc.text taken.claim bits →
       IsTurn wrote.number wrote.front after (λ history. IsTrue moved ↔ IsThereStill history taken.look) (event_of_move wrote.number taken.look taken.claim bits moved ∷ []) →
-      MoveTurns config limits pass id before after
+      MoveTurns config limits pass replaces id before after
   move_turns looked number takes same next is of_text ended = record {
     look = look;
     claim = taken.claim;
@@ -102,7 +102,7 @@ module _ (config : Config) (limits : Limits) (pass id : ℕ) (before after : Lis
     moved = moved;
     seen = seen.front;
     middle = took.front;
-    looked = turn_of_look config.reserve limits pass id look before seen.front looked;
+    looked = turn_of_look config.reserve limits pass replaces id look before seen.front looked;
     took =
         subst (λ (n : ℕ). IsTurn n seen.front took.front (λ history. MayTakeFor limits.events limits history n look taken.claim.slice taken.claim.column) (event.Take n taken.claim.slice taken.claim.column ∷ [])) number
         (turn_as seen.number seen.front took.front (event.Take seen.number taken.claim.slice taken.claim.column ∷ []) (λ history answer. answer.0) takes);

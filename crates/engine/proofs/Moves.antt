@@ -60,8 +60,8 @@ moved_once pass e = omega (arith, moved_by-push pass [] e, at_most_one (pass_of 
   at_most_one true = omega arith
   at_most_one false = omega arith
 
-module _ (config : Config) (limits : Limits) (pass id : ℕ) where
-  move_from : (before middle after : List Event) → IsFrontOf pass before middle → MoveTurns config limits pass id middle after → MoveTurns config limits pass id before after
+module _ (config : Config) (limits : Limits) (pass : ℕ) (replaces : Bool) (id : ℕ) where
+  move_from : (before middle after : List Event) → IsFrontOf pass before middle → MoveTurns config limits pass replaces id middle after → MoveTurns config limits pass replaces id before after
   move_from before middle after seen move = record {
     look = move.look;
     claim = move.claim;
@@ -75,34 +75,34 @@ module _ (config : Config) (limits : Limits) (pass id : ℕ) where
     ended = move.ended;
   }
 
-  next_move : (moves : ℕ) (before middle after : List Event) → SomeMoves config limits pass id before middle moves → MoveTurns config limits pass id middle after →
-      SomeMoves config limits pass id before after (suc moves)
+  next_move : (moves : ℕ) (before middle after : List Event) → SomeMoves config limits pass replaces id before middle moves → MoveTurns config limits pass replaces id middle after →
+      SomeMoves config limits pass replaces id before after (suc moves)
   next_move zero before middle after seen move = (after, move_from before middle after seen move, front_refl pass after)
   next_move (suc moves) before middle after some move = (some.0, some.1, next_move moves some.0 middle after some.2 move)
 
   -- one more move
-  pub one_more : (moves : ℕ) (before middle after : List Event) → SomeMoves config limits pass id before middle moves → MoveTurns config limits pass id middle after →
-      SomeMoves config limits pass id before after (moves + 1)
+  pub one_more : (moves : ℕ) (before middle after : List Event) → SomeMoves config limits pass replaces id before middle moves → MoveTurns config limits pass replaces id middle after →
+      SomeMoves config limits pass replaces id before after (moves + 1)
   one_more moves before middle after some move =
       let next : suc moves ≡ moves + 1 = omega arith in
-      subst (SomeMoves config limits pass id before after) next (next_move moves before middle after some move)
+      subst (SomeMoves config limits pass replaces id before after) next (next_move moves before middle after some move)
 
   -- after the last one the history may go on
 
-  pub moves_go_on : (moves : ℕ) (before middle after : List Event) → SomeMoves config limits pass id before middle moves → IsFrontOf pass middle after →
-      SomeMoves config limits pass id before after moves
+  pub moves_go_on : (moves : ℕ) (before middle after : List Event) → SomeMoves config limits pass replaces id before middle moves → IsFrontOf pass middle after →
+      SomeMoves config limits pass replaces id before after moves
   moves_go_on zero before middle after seen more = front_goes_on pass before middle after seen more
   moves_go_on (suc moves) before middle after some more = (some.0, some.1, moves_go_on moves some.0 middle after some.2 more)
 
   -- what keeps a pass from one move more makes no event
-  none_goes_on : (before after : List Event) → MovesNone config limits pass id before after → IsFrontOf pass before after
+  none_goes_on : (before after : List Event) → MovesNone config limits pass replaces id before after → IsFrontOf pass before after
   none_goes_on before after none = ⊎_elim
       (λ looked. silent_turn pass before after looked)
       (λ vain. front_goes_on pass before vain.seen after (silent_turn pass before vain.seen vain.looked) (silent_turn pass vain.seen after vain.none))
       none
 
   -- the moves of an add
-  pub all_moved : (before after : List Event) (all : MovesAll config limits pass id before after) → SomeMoves config limits pass id before after all.moves
+  pub all_moved : (before after : List Event) (all : MovesAll config limits pass replaces id before after) → SomeMoves config limits pass replaces id before after all.moves
   all_moved before after all =
       moves_go_on all.moves before all.last after all.moved (⊎_elim (λ most. most.1)
       (λ rest. ⊎_elim (λ none. none_goes_on all.last after none)
@@ -122,7 +122,7 @@ module _ (config : Config) (limits : Limits) (pass id : ℕ) where
       unanswered true = own-unanswered pass (event_of_move pass look claim bits true ∷ []) refl
       unanswered false = own-unanswered pass (event_of_move pass look claim bits false ∷ []) refl
 
-  move_is_quiet : (before after : List Event) → MoveTurns config limits pass id before after → IsQuiet pass 1 before after
+  move_is_quiet : (before after : List Event) → MoveTurns config limits pass replaces id before after → IsQuiet pass 1 before after
   move_is_quiet before after move =
       let takes = event.Take pass move.claim.slice move.claim.column ∷ [] in
       quiet_trans pass 0 1 before move.seen after (quiet_turn pass before move.seen [] move.looked refl refl)
@@ -130,14 +130,14 @@ module _ (config : Config) (limits : Limits) (pass id : ℕ) where
       (ended_quietly move.middle after move.look move.claim move.bits move.moved move.ended))
 
   -- moves answer no call
-  pub moves_are_quiet : (moves : ℕ) (before after : List Event) → SomeMoves config limits pass id before after moves → IsQuiet pass moves before after
+  pub moves_are_quiet : (moves : ℕ) (before after : List Event) → SomeMoves config limits pass replaces id before after moves → IsQuiet pass moves before after
   moves_are_quiet zero before after seen = quiet_front pass before after seen
   moves_are_quiet (suc moves) before after some =
       quiet_weaker pass (1 + moves) (suc moves) before after (omega arith)
       (quiet_trans pass 1 moves before some.0 after (move_is_quiet before some.0 some.1) (moves_are_quiet moves some.0 after some.2))
 
   -- nothing is moved where no call is taken any more
-  pub none_moved_late : (moves : ℕ) (before after : List Event) → limits.events ≤ length before → SomeMoves config limits pass id before after moves → IsFrontOf pass before after
+  pub none_moved_late : (moves : ℕ) (before after : List Event) → limits.events ≤ length before → SomeMoves config limits pass replaces id before after moves → IsFrontOf pass before after
   none_moved_late zero before after many seen = seen
   none_moved_late (suc moves) before after many some =
       let looked = some.1.looked in
@@ -146,7 +146,7 @@ module _ (config : Config) (limits : Limits) (pass id : ℕ) where
       absurd (omega (arith, many, few, grows))
 
   -- nor where no column is to be kept free
-  pub none_moved_without_reserve : (moves : ℕ) (before after : List Event) → config.reserve ≡ 0 → SomeMoves config limits pass id before after moves → IsFrontOf pass before after
+  pub none_moved_without_reserve : (moves : ℕ) (before after : List Event) → config.reserve ≡ 0 → SomeMoves config limits pass replaces id before after moves → IsFrontOf pass before after
   none_moved_without_reserve zero before after none seen = seen
   none_moved_without_reserve (suc moves) before after none some =
       let short = some.1.looked.answer.at_next.empties.short in

@@ -110,7 +110,7 @@ module _ (opening : Config) (limits : Limits) (before after : PassView) (config 
     pub given_text : (answer : Result ℕ TuneFault) → MakesTuneCall limits config answer before after → TuneTurn limits config answer before after →
         AnswersTuned (caller_of opening limits before) before.front after.front (tuned opening text) (reply_of_tune answer)
     given_text (Ok count) made (fits, turn) =
-        answered (Ok count) fits made (λ many. absurd (taken_late limits before.number 0 [] before.front after.front _ turn many turn.answer.0))
+        answered (Ok count) fits made (λ many. absurd (taken_late limits before.number before.front after.front _ turn many turn.answer.0))
     given_text (Err (tune.Spent events)) made (fits, turn) =
         answered (Err (tune.Spent events)) fits made
         (λ many.

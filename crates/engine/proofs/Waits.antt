@@ -29,9 +29,9 @@ module _ (pool : PoolId) (pass : ℕ) where
   abbrev pub WaitedBefore : List Event → List Event → Option ℕ → ℕ → Type 0
   WaitedBefore before seen awaited waits = (opened : List Event) → IsFrontOf pass seen opened → IsOpenAgain opened awaited → HasWaited limits pass before opened waits
 
-  module _ (id : ℕ) (waits : ℕ) (before seen after : List Event) (awaited : Option ℕ) (waited : WaitedBefore before seen awaited waits) where
+  module _ (replaces : Bool) (id : ℕ) (waits : ℕ) (before seen after : List Event) (awaited : Option ℕ) (waited : WaitedBefore before seen awaited waits) where
     -- it waited once more where it is to wait
-    pub waited_more : (last : Bool) (slice : ℕ) → IsTurn pass seen after (IsLookForRoom pool pass id awaited last (taken.Wait slice)) [] →
+    pub waited_more : (last : Bool) (slice : ℕ) → IsTurn pass seen after (IsLookForRoom pool pass replaces id awaited last (taken.Wait slice)) [] →
         (opened : List Event) → IsFrontOf pass after opened → is_clearing slice opened ≡ false → HasWaited limits pass before opened (waits + 1)
     waited_more last slice turn opened later is_open =
         let next : suc waits ≡ waits + 1 = omega arith in
@@ -42,14 +42,14 @@ module _ (pool : PoolId) (pass : ℕ) where
 
     -- and any other answer is that of the add
     pub take_turns : (text : List ℕ) (last : Bool) (answer : Taken) → IsFrontOf pass before seen → (last ≡ true → waits ≡ limits.passes) →
-        ((slice : ℕ) → answer ≡ taken.Wait slice → last ≡ false → ⊥) → IsTurn pass seen after (IsLookForRoom pool pass id awaited last answer) (events_of_take pass id text answer) →
-        TakeTurns limits pass id text before after answer
+        ((slice : ℕ) → answer ≡ taken.Wait slice → last ≡ false → ⊥) → IsTurn pass seen after (IsLookForRoom pool pass replaces id awaited last answer) (events_of_take pass replaces id text answer) →
+        TakeTurns limits pass replaces id text before after answer
     take_turns text last answer grows enough not_wait turn = of answer not_wait turn where
-      took : (answer : Taken) → IsTurn pass seen after (IsLookForRoom pool pass id awaited last answer) (events_of_take pass id text answer) → TurnOfTake limits pass id text before after answer
+      took : (answer : Taken) → IsTurn pass seen after (IsLookForRoom pool pass replaces id awaited last answer) (events_of_take pass replaces id text answer) → TurnOfTake limits pass replaces id text before after answer
       took answer turn = record { earlier = turn.earlier; seen = front_goes_on pass before seen turn.earlier grows turn.seen; answer = turn.answer.look.answers; made = turn.made }
 
       of : (answer : Taken) → ((slice : ℕ) → answer ≡ taken.Wait slice → last ≡ false → ⊥) →
-          IsTurn pass seen after (IsLookForRoom pool pass id awaited last answer) (events_of_take pass id text answer) → TakeTurns limits pass id text before after answer
+          IsTurn pass seen after (IsLookForRoom pool pass replaces id awaited last answer) (events_of_take pass replaces id text answer) → TakeTurns limits pass replaces id text before after answer
       of (taken.Claim claim layout) not_wait turn = took (taken.Claim claim layout) turn
       of (taken.Clear work layout) not_wait turn = took (taken.Clear work layout) turn
       of (taken.Wait slice) not_wait turn = not_wait slice refl turn.answer.look.waits

@@ -1,5 +1,5 @@
 -- What the turns of an add say of the history, and what is left of an engine.
-use Rattle.std.specs.Prelude.{◌≡◌, ℕ, ◌≤◌, List, Contains, length, Ok, Err}
+use Rattle.std.specs.Prelude.{◌≡◌, ℕ, ◌≤◌, Bool, false, List, Contains, length, Ok, Err}
 use mathlib.Core.List.{IsPrefix}
 use Rattle.funnel_model.specs.declared.bit_list.Bit.{Bit}
 use Rattle.funnel_model.specs.declared.call.Call.TheVariants as call
@@ -21,7 +21,7 @@ use Rattle.engine.specs.Passes.{BeginsCall, MakesCall, MakesNoCall, PassView}
 -- an add that found no memory did nothing but move a few documents
 abbrev pub AddsWithoutMemoryAddNothing : Type 0
 AddsWithoutMemoryAddNothing = (config : Config) (limits : Limits) (pass id : ℕ) (text : List ℕ) (before after : List Event) →
-    AddTurns config limits pass id text before after (Err add.Memory) → (moves : ℕ) × (moves ≤ MOST_MOVES) × SomeMoves config limits pass id before after moves
+    AddTurns config limits pass id text before after (Err add.Memory) → (moves : ℕ) × (moves ≤ MOST_MOVES) × SomeMoves config limits pass false id before after moves
 
 -- the history has the add of this document to some column, with exactly the bits of its text there, by the treatment that the slice had when
 -- the pass had claimed the column
@@ -38,10 +38,10 @@ abbrev pub AddsAreMadeWithTheirBits : Type 0
 AddsAreMadeWithTheirBits = (config : Config) (limits : Limits) (pass id place : ℕ) (text : List ℕ) (before after : List Event) →
     AddTurns config limits pass id text before after (Ok place) → HasAdd config limits after pass id text
 
--- an add that cleared a slice took the column that it claims, which is the first
+-- an add or a put that cleared a slice took the column that it claims, which is the first
 abbrev pub ClearedSlicesAreFilledFromTheFirst : Type 0
-ClearedSlicesAreFilledFromTheFirst = (limits : Limits) (pass id : ℕ) (text : List ℕ) (before after : List Event) (claim : Claim) →
-    ClearsFirst limits pass id text before after claim → Contains after (event.Take pass claim.slice claim.column) × (claim.column ≡ 0)
+ClearedSlicesAreFilledFromTheFirst = (limits : Limits) (pass : ℕ) (replaces : Bool) (id : ℕ) (text : List ℕ) (before after : List Event) (claim : Claim) →
+    ClearsFirst limits pass replaces id text before after claim → Contains after (event.Take pass claim.slice claim.column) × (claim.column ≡ 0)
 
 -- what is left of an engine tells how many events its history has
 abbrev pub ClosedEnginesCountTheirEvents : Type 0

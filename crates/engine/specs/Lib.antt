@@ -3,9 +3,11 @@ pub mod Clients
 pub mod Engines
 pub mod Faults
 pub mod Finds
+pub mod Gets
 pub mod Looks
 pub mod Moves
 pub mod Passes
+pub mod Puts
 pub mod Replies
 pub mod Scans
 pub mod Searches

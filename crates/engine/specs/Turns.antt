@@ -4,10 +4,11 @@ use Rattle.funnel_model.specs.declared.call.Call.TheVariants as call
 use Rattle.funnel_model.specs.declared.commit.Commit.{Commit}
 use Rattle.funnel_model.specs.declared.config.Config.{Config}
 use Rattle.funnel_model.specs.declared.event.Event.{Event}
+use Rattle.funnel_model.specs.declared.stats.Stats.{Stats}
 use Rattle.funnel_model.specs.declared.event.Event.TheVariants as event
 use Rattle.funnel_model.specs.Legal.{Limits}
 use Rattle.funnel_model.specs.Sizes.{words_of_slice}
-use Rattle.commit_desk.specs.Answers.{AnswersDelete, AnswersJournal, AnswersPlace, AnswersTune, IsSpentAt, events_of_delete, events_of_journal, events_of_place}
+use Rattle.commit_desk.specs.Answers.{AnswersDelete, AnswersJournal, AnswersPlace, AnswersStats, AnswersTune, IsSpentAt, events_of_delete, events_of_journal, events_of_place, events_of_stats}
 use Rattle.commit_desk.specs.Layouts.{HandsBackUnused}
 use Rattle.commit_desk.specs.declared.answers.DeleteFault.{DeleteFault}
 use Rattle.commit_desk.specs.declared.answers.JournalFault.{JournalFault}
@@ -31,6 +32,11 @@ DeleteTurn limits id answer before after =
 abbrev pub PlaceTurn : Limits → Result ℕ Spent → PassView → PassView → Type 0
 PlaceTurn limits answer before after =
     IsTurn before.number before.front after.front (λ history. AnswersPlace limits.events history answer) (events_of_place before.number answer)
+
+-- to a question for its numbers
+abbrev pub StatsTurn : Limits → Result Stats Spent → PassView → PassView → Type 0
+StatsTurn limits answer before after =
+    IsTurn before.number before.front after.front (λ history. AnswersStats limits.events limits history answer) (events_of_stats before.number answer)
 
 -- and to a journal
 abbrev pub JournalTurn : Limits → ℕ → Result (List Commit) JournalFault → PassView → PassView → Type 0

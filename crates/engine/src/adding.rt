@@ -69,7 +69,7 @@ impl<N: PoolName> Engine<N> {
         match self.prepare(alloc, id, text) {
             Ok(prepared) => {
                 let (doc, bits, room) = prepared;
-                self.move_some(rt, alloc, &mut pass.seat, id, work);
+                self.move_some(rt, alloc, &mut pass.seat, false, id, work);
                 self.add_prepared(rt, &mut pass.seat, doc, bits, room, work)
             }
             Err(Memory) => Err(AddFault::Memory),
@@ -95,7 +95,7 @@ impl<N: PoolName> Engine<N> {
         ensures rests { IsResting N.pool pass.new }
         ensures number { pass.new.number ≡ pass.old.number }
     {
-        let claimed = self.claim(rt, pass, &doc, room, work)?;
+        let claimed = self.claim(rt, pass, &doc, false, room, work)?;
         let (claim, layout) = claimed;
         self.write(pass, &claim, &layout, doc.words(), &mut bits, work);
         match self.commit(rt, pass, claim, doc, &bits) {
@@ -105,7 +105,12 @@ impl<N: PoolName> Engine<N> {
     }
 
     // The document, room for its bits, and room for what the answer `Full` tells.
-    fn prepare(&self, alloc: Global, id: u64, text: &str) -> Result<(Doc, Bits, Vec<Block>), Memory>
+    pub(crate) fn prepare(
+        &self,
+        alloc: Global,
+        id: u64,
+        text: &str,
+    ) -> Result<(Doc, Bits, Vec<Block>), Memory>
         ensures id { IfOk result (λ prepared. prepared.0.id ≡ id) }
         ensures text { IfOk result (λ prepared. prepared.0.text ≡ text.now) }
         ensures prepared { IfOk result (λ prepared. IsToBeAdded prepared.0 prepared.1) }
@@ -121,25 +126,27 @@ impl<N: PoolName> Engine<N> {
         Ok((Doc::new(id, text, words), bits, room))
     }
 
-    // Claims a column, after it cleared a slice where there is need to, and gives the layout of its slice.
-    fn claim<R: Wait, W: Work>(
+    // Claims a column for a document that is added, or put where it replaces, after it cleared a slice where there is need to, and gives the
+    // layout of its slice.
+    pub(crate) fn claim<R: Wait, W: Work>(
         &self,
         rt: &R,
         pass: &mut PassSeat,
         doc: &Doc,
+        replaces: bool,
         room: Vec<Block>,
         work: &mut W,
     ) -> Result<(Claim, SharedLayout), AddFault>
         requires rests { IsResting N.pool pass.old }
         requires empty { room.items ≡ [] }
         requires enough { N.pool.limits.slices ≤ vec_capacity room }
-        ensures turns { MatchResult result (λ claimed. ClaimTurns N.pool.limits pass.old.number doc.now.id doc.now.text pass.old.front pass.new.front claimed.0)
-            (λ fault. RefusedTurn N.pool.limits pass.old.number doc.now.id doc.now.text pass.old.front pass.new.front fault) }
+        ensures turns { MatchResult result (λ claimed. ClaimTurns N.pool.limits pass.old.number replaces doc.now.id doc.now.text pass.old.front pass.new.front
+            claimed.0) (λ fault. RefusedTurn N.pool.limits pass.old.number replaces doc.now.id doc.now.text pass.old.front pass.new.front fault) }
         ensures next { MatchResult result (λ claimed. IsToWrite N.pool claimed.0 claimed.1 pass.new) (λ _. IsResting N.pool pass.new) }
         ensures legal { IsLegal N.pool.limits pass.new.front }
         ensures number { pass.new.number ≡ pass.old.number }
     {
-        match self.take(rt, pass, doc, room) {
+        match self.take(rt, pass, doc, replaces, room) {
             Taken::Claim(claim, layout) => Ok((claim, layout)),
             Taken::Clear(to_clear, layout) => {
                 let ToClear {

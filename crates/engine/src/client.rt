@@ -2,20 +2,25 @@
 ghost use Rattle.std.specs.Prelude.{◌≡◌};
 ghost use Rattle.funnel_model.specs.declared.call.Call.TheVariants as call;
 ghost use Rattle.engine.specs.Clients.{caller_of};
-ghost use Rattle.engine.specs.Replies.{reply_of_add, reply_of_delete, reply_of_find, reply_of_journal, reply_of_place, reply_of_query};
-ghost use Rattle.engine.specs.Replies.{reply_of_tune, reply_of_tuning_fault};
+ghost use Rattle.engine.specs.Replies.{reply_of_add, reply_of_count, reply_of_delete, reply_of_find, reply_of_get, reply_of_journal, reply_of_place, reply_of_put};
+ghost use Rattle.engine.specs.Replies.{reply_of_query, reply_of_search_fault, reply_of_some, reply_of_stats, reply_of_tune, reply_of_tuning_fault};
 ghost use Rattle.funnel_stats.specs.Tunings.{tuned};
-ghost use Rattle.line_proto.specs.Services.{AnswersCall, AnswersQuery, AnswersTuned};
+ghost use Rattle.line_proto.specs.Forms as forms;
+ghost use Rattle.line_proto.specs.Forms.{Amount, ByQuery, First, Last};
+ghost use Rattle.line_proto.specs.Requests.{sought};
+ghost use Rattle.line_proto.specs.Services.{AnswersCall, AnswersSearch, AnswersTuned};
 ghost use Rattle.slice_recycler.specs.Recycles.{reply_of_recycle};
 
 use crate::engine::Engine;
+use crate::getting::GetFault;
 use crate::pass::Pass;
-use crate::querying::SearchFault;
+use crate::putting::PutFault;
+use crate::querying::{SearchFault, SomeFound};
 use crate::retuning::TuneFault;
-use commit_desk::{AddFault, DeleteFault, FindFault, JournalFault, Spent};
-use funnel_model::{Commits, Ids, Reply};
+use commit_desk::{AddFault, DeleteFault, FindFault, JournalFault, Put, Spent};
+use funnel_model::{Commits, Ids, Reply, Stats, Text};
 use funnel_stats::ConfigFault;
-use line_proto::{Request, Service};
+use line_proto::{Request, Search, Service};
 use slice_recycler::Recycled;
 use slice_rule::PoolName;
 use std::alloc::Global;
@@ -54,11 +59,17 @@ impl<'a, N: PoolName, R: Wait> Service for Client<'a, N, R> {
     fn call(&mut self, request: &Request<'_>) -> Reply {
         match request {
             Request::Add { id, text } => self.add(*id, text),
+            Request::Put { id, text } => self.put(*id, text),
             Request::Delete { id } => self.delete(*id),
+            Request::Get { id } => self.get(*id),
             Request::Find { query } => self.find(query),
             Request::Query { text } => self.query(text),
+            Request::Count { kept } => self.count(*kept),
+            Request::Newest { most, kept } => self.newest(*most, *kept),
+            Request::Oldest { most, kept } => self.oldest(*most, *kept),
             Request::Place => self.place(),
             Request::Journal { from } => self.journal(*from),
+            Request::Stats => self.stats(),
             Request::Recycle => self.recycle(),
             Request::Tune { text } => self.tune(text),
         }
@@ -74,6 +85,23 @@ impl<'a, N: PoolName, R: Wait> Client<'a, N, R> {
             self.engine
                 .add(self.rt, self.alloc, &mut self.pass, id, text),
         )
+    }
+
+    fn put(&mut self, id: u64, text: &str) -> Reply
+        ensures caller { caller_of N.pool.config N.pool.limits self.new ≡ caller_of N.pool.config N.pool.limits self.old }
+        ensures answers { AnswersCall (caller_of N.pool.config N.pool.limits self.old) self.old.front self.new.front (call.Put id text.now) result }
+    {
+        reply_to_put(
+            self.engine
+                .put(self.rt, self.alloc, &mut self.pass, id, text),
+        )
+    }
+
+    fn get(&mut self, id: u64) -> Reply
+        ensures caller { caller_of N.pool.config N.pool.limits self.new ≡ caller_of N.pool.config N.pool.limits self.old }
+        ensures answers { AnswersCall (caller_of N.pool.config N.pool.limits self.old) self.old.front self.new.front (call.Get id) result }
+    {
+        reply_to_get(self.engine.get(self.rt, self.alloc, &mut self.pass, id))
     }
 
     fn delete(&mut self, id: u64) -> Reply
@@ -93,9 +121,44 @@ impl<'a, N: PoolName, R: Wait> Client<'a, N, R> {
     // A text that is no query is refused, and no call is made.
     fn query(&mut self, text: &str) -> Reply
         ensures caller { caller_of N.pool.config N.pool.limits self.new ≡ caller_of N.pool.config N.pool.limits self.old }
-        ensures answers { AnswersQuery (caller_of N.pool.config N.pool.limits self.old) self.old.front self.new.front text.now result }
+        ensures answers { AnswersSearch (caller_of N.pool.config N.pool.limits self.old) self.old.front self.new.front forms.Ids (ByQuery text.now) result }
     {
         reply_to_query(self.engine.query(self.rt, self.alloc, &mut self.pass, text))
+    }
+
+    // So it is with these three.
+    fn count(&mut self, kept: Search<'_>) -> Reply
+        ensures caller { caller_of N.pool.config N.pool.limits self.new ≡ caller_of N.pool.config N.pool.limits self.old }
+        ensures answers { AnswersSearch (caller_of N.pool.config N.pool.limits self.old) self.old.front self.new.front Amount (sought kept.entry) result }
+    {
+        reply_to_count(self.engine.count(self.rt, self.alloc, &mut self.pass, kept))
+    }
+
+    fn newest(&mut self, most: u64, kept: Search<'_>) -> Reply
+        ensures caller { caller_of N.pool.config N.pool.limits self.new ≡ caller_of N.pool.config N.pool.limits self.old }
+        ensures answers { AnswersSearch (caller_of N.pool.config N.pool.limits self.old) self.old.front self.new.front (Last most) (sought kept.entry) result }
+    {
+        reply_to_some(
+            self.engine
+                .newest(self.rt, self.alloc, &mut self.pass, most, kept),
+        )
+    }
+
+    fn oldest(&mut self, most: u64, kept: Search<'_>) -> Reply
+        ensures caller { caller_of N.pool.config N.pool.limits self.new ≡ caller_of N.pool.config N.pool.limits self.old }
+        ensures answers { AnswersSearch (caller_of N.pool.config N.pool.limits self.old) self.old.front self.new.front (First most) (sought kept.entry) result }
+    {
+        reply_to_some(
+            self.engine
+                .oldest(self.rt, self.alloc, &mut self.pass, most, kept),
+        )
+    }
+
+    fn stats(&mut self) -> Reply
+        ensures caller { caller_of N.pool.config N.pool.limits self.new ≡ caller_of N.pool.config N.pool.limits self.old }
+        ensures answers { AnswersCall (caller_of N.pool.config N.pool.limits self.old) self.old.front self.new.front call.Stats result }
+    {
+        reply_to_stats(self.engine.stats(self.rt, &mut self.pass))
     }
 
     fn place(&mut self) -> Reply
@@ -151,6 +214,29 @@ fn reply_to_add(answer: Result<u64, AddFault>) -> Reply
     }
 }
 
+fn reply_to_put(answer: Result<Put, PutFault>) -> Reply
+    ensures { result ≡ reply_of_put answer }
+{
+    match answer {
+        Ok(Put::Added(place)) => Reply::Added(place),
+        Ok(Put::Replaced(place)) => Reply::Replaced(place),
+        Err(PutFault::Full(_)) => Reply::Full,
+        Err(PutFault::Spent(_)) => Reply::Spent,
+        Err(PutFault::Memory) => Reply::Memory,
+    }
+}
+
+fn reply_to_get(answer: Result<(u64, Text), GetFault>) -> Reply
+    ensures { result ≡ reply_of_get answer }
+{
+    match answer {
+        Ok((place, text)) => Reply::Text { place, text },
+        Err(GetFault::Absent) => Reply::Absent,
+        Err(GetFault::Spent(_)) => Reply::Spent,
+        Err(GetFault::Memory) => Reply::Memory,
+    }
+}
+
 fn reply_to_delete(answer: Result<u64, DeleteFault>) -> Reply
     ensures { result ≡ reply_of_delete answer }
 {
@@ -176,10 +262,45 @@ fn reply_to_query(answer: Result<Ids, SearchFault>) -> Reply
 {
     match answer {
         Ok(ids) => Reply::Found(ids),
-        Err(SearchFault::Syntax(at)) => Reply::Query(at),
-        Err(SearchFault::Deep(at)) => Reply::Deep(at),
-        Err(SearchFault::Spent(_)) => Reply::Spent,
-        Err(SearchFault::Memory) => Reply::Memory,
+        Err(fault) => reply_to_search_fault(fault),
+    }
+}
+
+fn reply_to_count(answer: Result<u64, SearchFault>) -> Reply
+    ensures { result ≡ reply_of_count answer }
+{
+    match answer {
+        Ok(count) => Reply::Count(count),
+        Err(fault) => reply_to_search_fault(fault),
+    }
+}
+
+fn reply_to_some(answer: Result<SomeFound, SearchFault>) -> Reply
+    ensures { result ≡ reply_of_some answer }
+{
+    match answer {
+        Ok(SomeFound { count, ids }) => Reply::FoundSome { count, ids },
+        Err(fault) => reply_to_search_fault(fault),
+    }
+}
+
+fn reply_to_search_fault(fault: SearchFault) -> Reply
+    ensures { result ≡ reply_of_search_fault fault }
+{
+    match fault {
+        SearchFault::Syntax(at) => Reply::Query(at),
+        SearchFault::Deep(at) => Reply::Deep(at),
+        SearchFault::Spent(_) => Reply::Spent,
+        SearchFault::Memory => Reply::Memory,
+    }
+}
+
+fn reply_to_stats(answer: Result<Stats, Spent>) -> Reply
+    ensures { result ≡ reply_of_stats answer }
+{
+    match answer {
+        Ok(stats) => Reply::Stats(stats),
+        Err(_) => Reply::Spent,
     }
 }
 

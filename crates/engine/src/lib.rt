@@ -16,8 +16,8 @@
 //!
 //! ```text
 //! use engine::{
-//!     ConfigFault, Engine, Pass, PoolName, ShareEngine, UseEngine, parse_config, share_engine,
-//!     use_engine,
+//!     ConfigFault, Engine, Pass, PoolName, Search, ShareEngine, UseEngine, parse_config,
+//!     share_engine, use_engine,
 //! };
 //! use std::alloc::Global;
 //! use std::sync::Wait;
@@ -26,16 +26,16 @@
 //! /// Uses an engine that is its own, and then one that two threads share. Their other sizes are the defaults.
 //! fn run<R: Threads + Wait + Sync>(rt: &R, alloc: Global) -> Result<bool, ConfigFault> {
 //!     let config = parse_config(alloc, b"{\"passes\": 2}")?;
-//!     let alone = use_engine(rt, alloc, &config, AddAndFind)?;
-//!     let (closed, found) = share_engine(rt, alloc, &config, &AddAndFind)?;
+//!     let alone = use_engine(rt, alloc, &config, PutAndFind)?;
+//!     let (closed, found) = share_engine(rt, alloc, &config, &PutAndFind)?;
 //!     Ok(alone && found.as_slice() == [true, true].as_slice() && closed.commits.len() == 2)
 //! }
 //!
-//! /// Adds a document, and finds it.
+//! /// Puts a document, and finds it.
 //! #[derive(Drop)]
-//! struct AddAndFind;
+//! struct PutAndFind;
 //!
-//! impl<R: Wait> UseEngine<R> for AddAndFind {
+//! impl<R: Wait> UseEngine<R> for PutAndFind {
 //!     /// Whether it was found.
 //!     type Output = bool;
 //!
@@ -46,11 +46,11 @@
 //!         engine: Engine<N>,
 //!         mut passes: Vec<Pass<N>>,
 //!     ) -> bool {
-//!         add_and_find(rt, alloc, &engine, &mut passes[0], 7)
+//!         put_and_find(rt, alloc, &engine, &mut passes[0], 7)
 //!     }
 //! }
 //!
-//! impl<R: Wait> ShareEngine<R> for AddAndFind {
+//! impl<R: Wait> ShareEngine<R> for PutAndFind {
 //!     type Output = bool;
 //!
 //!     fn work<N: PoolName>(
@@ -61,21 +61,26 @@
 //!         pass: &mut Pass<N>,
 //!     ) -> bool {
 //!         let id = u64::from(pass.number());
-//!         add_and_find(rt, alloc, engine, pass, id)
+//!         put_and_find(rt, alloc, engine, pass, id)
 //!     }
 //! }
 //!
 //! /// Other passes may add and delete beside it.
-//! fn add_and_find<N: PoolName, R: Wait>(
+//! fn put_and_find<N: PoolName, R: Wait>(
 //!     rt: &R,
 //!     alloc: Global,
 //!     engine: &Engine<N>,
 //!     pass: &mut Pass<N>,
 //!     id: u64,
 //! ) -> bool {
-//!     let added = engine.add(rt, alloc, pass, id, "The cat sat").is_ok();
-//!     match engine.find(rt, alloc, pass, "CAT") {
-//!         Ok(ids) => added && ids.as_slice().contains(&id),
+//!     let put = engine.put(rt, alloc, pass, id, "The cat sat").is_ok();
+//!     let found = match engine.query(rt, alloc, pass, "CAT -dog") {
+//!         Ok(ids) => ids.as_slice().contains(&id),
+//!         Err(_) => false,
+//!     };
+//!     // Of the documents that have the word, the ten that were added last.
+//!     match engine.newest(rt, alloc, pass, 10, Search::Words("cat")) {
+//!         Ok(newest) => put && found && newest.ids.as_slice().contains(&id),
 //!         Err(_) => false,
 //!     }
 //! }
@@ -94,13 +99,15 @@
 //!   afterwards. What else is done there takes the longer the more there is of it: a journal copies its commits, an add that is
 //!   refused as full looks through the slices, and one that moves a document copies it. `Blank::new`, `open`, `read_tuning`, `note`,
 //!   `meet` and `close` wait for nobody.
-//! - `use_engine`, `share_engine`, `Blank::new`, `open`, `add`, `find` and `query` (and their `.._by`), `begin_find`, `finish_find`,
-//!   `journal`, `read_tuning` and `retune` take memory, and answer so where there is none; the others take none.
+//! - `use_engine`, `share_engine`, `Blank::new`, `open`, `add`, `put`, `find` and `query` (and their `.._by`), `get`, `count`, `newest`,
+//!   `oldest`, `begin_find`, `finish_find`, `journal`, `read_tuning` and `retune` take memory, and answer so where there is none; the others take none.
 //! - A deleted document keeps its column until all columns of its slice are done with, and the slice is cleared. So one live
 //!   document keeps its whole slice, unless the configuration has a `reserve`, for which adds move documents.
 //! - `AddFault::Full` tells what keeps documents out of each slice. It may pass without a delete: where another pass writes a column or
 //!   has a find open, an add that is made again later may find room. Where one clears a slice, an add waits for it before it is refused,
 //!   as often as there are passes.
+//! - A put of a live number replaces its document by one event, so no find misses it. The journal tells it as an add of a number that is
+//!   live: who follows a journal replaces.
 //! - The journal keeps the last `commits` of the configuration. A reader that comes later is told how many are no longer kept.
 #![tactic(auto)]
 
@@ -111,10 +118,12 @@ mod closed;
 mod doubt;
 mod engine;
 mod finding;
+mod getting;
 pub mod laws;
 mod moving;
 mod open_find;
 mod pass;
+mod putting;
 mod querying;
 mod reading;
 mod retuning;
@@ -128,16 +137,19 @@ pub use blank::Blank;
 pub use client::Client;
 pub use closed::Closed;
 pub use column_writer::write_column;
-pub use commit_desk::{AddFault, DeleteFault, FindFault, JournalFault, Spent};
+pub use commit_desk::{AddFault, DeleteFault, FindFault, JournalFault, Put, Spent};
 pub use engine::Engine;
 pub use funnel_model::{
     Block, Blocked, Candidates, Claim, ClearJob, Commit, Commits, Config, Ids, Listed, Memory,
-    WordSet,
+    Stats, Text, WordSet,
 };
 pub use funnel_stats::{ConfigFault, parse_config};
+pub use getting::GetFault;
+pub use line_proto::Search;
 pub use open_find::OpenFind;
 pub use pass::{Note, Pass};
-pub use querying::SearchFault;
+pub use putting::PutFault;
+pub use querying::{SearchFault, SomeFound};
 pub use rank_matcher::{Hits, scan_search};
 pub use retuning::TuneFault;
 pub use row_layout::{Bits, Layout, Plan, SearchPlan};

@@ -1,4 +1,4 @@
-//! Moves: an add first moves documents out of the slice that is to be emptied. Each call of the desk is a turn of its own.
+//! Moves: an add or a put first moves documents out of the slice that is to be emptied. Each call of the desk is a turn of its own.
 ghost use Rattle.std.specs.Prelude.{◌≡◌, ◌↔◌, [], ◌∷◌, IfOk, IfSome, IsTrue};
 ghost use Rattle.std.specs.Option.{is_none};
 ghost use Rattle.commit_desk.specs.Moving.{AnswersTakeMove, HoldsLook, IsThereStill, event_of_move, events_of_take_move};
@@ -17,17 +17,18 @@ use std::alloc::Global;
 use std::sync::Wait;
 
 impl<N: PoolName> Engine<N> {
-    // Moves documents before one with this number is added, until none is to be moved, or `MOST_MOVES` were.
+    // Moves documents before one with this number is added, or put where it replaces, until none is to be moved, or `MOST_MOVES` were.
     pub(crate) fn move_some<R: Wait, W: Work>(
         &self,
         rt: &R,
         alloc: Global,
         pass: &mut PassSeat,
+        replaces: bool,
         id: u64,
         work: &mut W,
     )
         requires rests { IsResting N.pool pass.old }
-        ensures moves { MovesAll N.pool.config N.pool.limits pass.old.number id pass.old.front pass.new.front }
+        ensures moves { MovesAll N.pool.config N.pool.limits pass.old.number replaces id pass.old.front pass.new.front }
         ensures rests { IsResting N.pool pass.new }
         ensures number { pass.new.number ≡ pass.old.number }
     {
@@ -35,7 +36,7 @@ impl<N: PoolName> Engine<N> {
             return;
         }
         for _ in 0..MOST_MOVES {
-            match self.move_one(rt, alloc, pass, id, work) {
+            match self.move_one(rt, alloc, pass, replaces, id, work) {
                 Ok(true) => {}
                 Ok(false) => return,
                 Err(Memory) => return,
@@ -49,15 +50,16 @@ impl<N: PoolName> Engine<N> {
         rt: &R,
         alloc: Global,
         pass: &mut PassSeat,
+        replaces: bool,
         id: u64,
         work: &mut W,
     ) -> Result<bool, Memory>
         requires rests { IsResting N.pool pass.old }
-        ensures moved { EndsMove N.pool.config N.pool.limits pass.old.number id pass.old.front pass.new.front result }
+        ensures moved { EndsMove N.pool.config N.pool.limits pass.old.number replaces id pass.old.front pass.new.front result }
         ensures rests { IsResting N.pool pass.new }
         ensures number { pass.new.number ≡ pass.old.number }
     {
-        let look = match self.look(rt, alloc, pass, id) {
+        let look = match self.look(rt, alloc, pass, replaces, id) {
             Ok(Some(look)) => look,
             Ok(None) => return Ok(false),
             Err(Memory) => return Err(Memory),
@@ -93,11 +95,12 @@ impl<N: PoolName> Engine<N> {
         rt: &R,
         alloc: Global,
         pass: &mut PassSeat,
+        replaces: bool,
         id: u64,
     ) -> Result<Option<Look>, Memory>
         requires rests { IsResting N.pool pass.old }
         ensures turn { IsTurn pass.old.number pass.old.front pass.new.front
-            (IsLookForMove N.pool.config.reserve N.pool.limits pass.old.number id result) [] }
+            (IsLookForMove N.pool.config.reserve N.pool.limits pass.old.number replaces id result) [] }
         ensures look { IfOk result (λ found. IfSome found (HoldsLook pass.new)) }
         ensures rests { IsResting N.pool pass.new }
         ensures number { pass.new.number ≡ pass.old.number }
@@ -105,7 +108,15 @@ impl<N: PoolName> Engine<N> {
         let _ = &self.pool;
         let mut named = self.desk.lock(rt);
         let named = &mut *named;
-        named.desk.look(alloc, &self.pool, pass, &mut named.looks, self.reserve, id)
+        named.desk.look(
+            alloc,
+            &self.pool,
+            pass,
+            &mut named.looks,
+            self.reserve,
+            replaces,
+            id,
+        )
     }
 
     // The turn of a move that found no memory for its bits. It gives the document back, to be dropped when the lock is free again: none is

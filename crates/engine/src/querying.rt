@@ -1,23 +1,34 @@
-//! Boolean queries.
-ghost use Rattle.std.specs.Prelude.{◌≡◌};
+//! Searches by boolean queries, or by words: for the numbers of what they keep, for how many these are, or for some of them.
+ghost use Rattle.std.specs.Prelude.{◌≡◌, length};
 ghost use Rattle.engine.specs.Faults.{of_find, of_text};
-ghost use Rattle.engine.specs.Searches.{MakesQuery, QueryTurns};
+ghost use Rattle.engine.specs.Searches.{MakesQuery, MakesSearch, MakesTold, QueryTurns, SearchTurns, ToldTurns, first_of, last_of, reply_to_some};
+ghost use Rattle.funnel_model.specs.declared.reply.Reply.TheVariants as reply;
+ghost use Rattle.line_proto.specs.Forms.{Amount, First, Last, Told};
+ghost use Rattle.line_proto.specs.Requests.{sought};
 
 use crate::engine::Engine;
 use crate::open_find::Begun;
 use crate::pass::Pass;
-use crate::search::read_search;
+use crate::search::read_sought;
 use crate::work::{Direct, Work};
 use bool_query::QueryFault;
 use commit_desk::FindFault;
 use funnel_model::Ids;
+use line_proto::Search as Sought;
 use slice_rule::PoolName;
 use std::alloc::Global;
 use std::error::Error;
 use std::fmt;
 use std::sync::Wait;
 
-/// Why a query is not answered. Places are bytes of its text.
+/// How many documents a search keeps, and the numbers of those that were asked for.
+#[derive(Debug, Drop)]
+pub struct SomeFound {
+    pub count: u64,
+    pub ids: Ids,
+}
+
+/// Why a search is not answered. Places are bytes of its text.
 #[derive(Clone, Copy, Debug, PartialEq, Eq)]
 pub enum SearchFault {
     /// A token starts here that can't stand where it does, and it is the first; or the text, which ends here, ends too early.
@@ -96,13 +107,111 @@ impl<N: PoolName> Engine<N> {
         ensures call { MakesQuery N.pool.limits text.now result pass.old pass.new }
         ensures turns { QueryTurns N.pool.limits pass.old.number text.now pass.old.front pass.new.front result }
     {
+        self.search(rt, alloc, pass, Sought::Query(text), work)
+    }
+
+    /// How many documents are live when the search begins that it keeps: by a boolean query, or by words, as each document has each word of
+    /// no text. It is refused, waits and takes memory as a query does.
+    pub fn count<R: Wait>(
+        &self,
+        rt: &R,
+        alloc: Global,
+        pass: &mut Pass<N>,
+        kept: Sought<'_>,
+    ) -> Result<u64, SearchFault>
+        ensures call { MakesTold Amount reply.Count N.pool.limits (sought kept.entry) result pass.old pass.new }
+        ensures turns { ToldTurns length N.pool.limits pass.old.number (sought kept.entry) pass.old.front pass.new.front result }
+    {
+        match self.search(rt, alloc, pass, kept, &mut Direct) {
+            Ok(ids) => Ok(ids.len() as u64),
+            Err(fault) => Err(fault),
+        }
+    }
+
+    /// How many documents the search keeps, and the numbers of at most so many of them, of those that were added last, the newest first. It
+    /// is refused, waits and takes memory as a query does.
+    pub fn newest<R: Wait>(
+        &self,
+        rt: &R,
+        alloc: Global,
+        pass: &mut Pass<N>,
+        most: u64,
+        kept: Sought<'_>,
+    ) -> Result<SomeFound, SearchFault>
+        ensures call { MakesTold (Last most) reply_to_some N.pool.limits (sought kept.entry) result pass.old pass.new }
+        ensures turns { ToldTurns (last_of most) N.pool.limits pass.old.number (sought kept.entry) pass.old.front pass.new.front result }
+    {
+        match self.search(rt, alloc, pass, kept, &mut Direct) {
+            Ok(ids) => Ok(last_of(ids, most)),
+            Err(fault) => Err(fault),
+        }
+    }
+
+    /// How many documents the search keeps, and the numbers of at most so many of them, of those that were added first, the oldest first. It
+    /// is refused, waits and takes memory as a query does.
+    pub fn oldest<R: Wait>(
+        &self,
+        rt: &R,
+        alloc: Global,
+        pass: &mut Pass<N>,
+        most: u64,
+        kept: Sought<'_>,
+    ) -> Result<SomeFound, SearchFault>
+        ensures call { MakesTold (First most) reply_to_some N.pool.limits (sought kept.entry) result pass.old pass.new }
+        ensures turns { ToldTurns (first_of most) N.pool.limits pass.old.number (sought kept.entry) pass.old.front pass.new.front result }
+    {
+        match self.search(rt, alloc, pass, kept, &mut Direct) {
+            Ok(ids) => Ok(first_of(ids, most)),
+            Err(fault) => Err(fault),
+        }
+    }
+
+    // The numbers of what a search keeps. Whatever is told of them, it is the call that tells so.
+    fn search<R: Wait, W: Work>(
+        &self,
+        rt: &R,
+        alloc: Global,
+        pass: &mut Pass<N>,
+        kept: Sought<'_>,
+        work: &mut W,
+    ) -> Result<Ids, SearchFault>
+        ensures call { (told : Told) → MakesSearch told N.pool.limits (sought kept.entry) result pass.old pass.new }
+        ensures turns { SearchTurns N.pool.limits pass.old.number (sought kept.entry) pass.old.front pass.new.front result }
+    {
         let _ = pass.number();
-        let search = read_search(alloc, text)?;
+        let search = read_sought(alloc, kept)?;
         let token = self.begin(rt, &mut pass.seat, "", &mut pass.layouts)?;
         let begun = Begun { token, search };
         let Ok(ids) = self.finish(rt, &mut pass.seat, begun, &mut pass.layouts, work) else {
             return Err(SearchFault::Memory);
         };
         Ok(ids)
+    }
+}
+
+// The last so many, the newest first. The list is cut and turned in its place.
+fn last_of(ids: Ids, most: u64) -> SomeFound
+    ensures { result ≡ last_of most ids }
+{
+    let mut ids = ids.into_inner();
+    let count = ids.len() as u64;
+    ids.reverse();
+    ids.truncate(most as usize);
+    SomeFound {
+        count,
+        ids: Ids::new(ids),
+    }
+}
+
+// The first so many.
+fn first_of(ids: Ids, most: u64) -> SomeFound
+    ensures { result ≡ first_of most ids }
+{
+    let mut ids = ids.into_inner();
+    let count = ids.len() as u64;
+    ids.truncate(most as usize);
+    SomeFound {
+        count,
+        ids: Ids::new(ids),
     }
 }

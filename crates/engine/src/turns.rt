@@ -1,10 +1,10 @@
-//! The turns of adds, finds and tunings at the desk. Each holds the lock for one call of the desk that makes events, and the last of a
-//! find for its end too. An add may wait before such a call, with the lock given up.
-ghost use Rattle.std.specs.Prelude.{◌≡◌, ◌<◌, ◌≤◌, true, [], ◌∷◌, false, IfOk, IfSome, MatchOption, MatchResult, None, vec_capacity};
+//! The turns of adds, puts, finds and tunings at the desk. Each holds the lock for one call of the desk that makes events, and the last of a
+//! find for its end too. An add or a put may wait before such a call, with the lock given up.
+ghost use Rattle.std.specs.Prelude.{◌≡◌, ◌<◌, ◌≤◌, true, [], ◌∷◌, false, IfOk, IfSome, MatchOption, MatchResult, None, string_bytes, string_capacity, vec_capacity};
 ghost use Rattle.funnel_model.specs.declared.event.Event.TheVariants as event;
 ghost use Rattle.funnel_model.specs.Legal.{IsLegal};
 ghost use Rattle.funnel_model.specs.Tokens.{HasToken};
-ghost use Rattle.commit_desk.specs.Answers.{AnswersCommit, AnswersFind, events_of_commit, events_of_find, events_of_opened_take, events_of_tune};
+ghost use Rattle.commit_desk.specs.Answers.{AnswersCommit, AnswersFind, AnswersPut, AnswersText, events_of_commit, events_of_find, events_of_opened_take, events_of_text, events_of_tune};
 ghost use Rattle.commit_desk.specs.FindLayouts.{AreFindLayouts};
 ghost use Rattle.commit_desk.specs.Layouts.{IsLayoutOf, TunesWith};
 ghost use Rattle.commit_desk.specs.Passes.{HasCleared, HasWritten, IsFinding, IsResting, IsToDo, IsToWrite};
@@ -20,7 +20,9 @@ ghost use Rattle.row_layout.specs.Sound.{IsSound};
 ghost use Rattle.slice_recycler.specs.Turns.{IsTurn};
 
 use crate::engine::Engine;
-use commit_desk::{CommitFault, FindFault, FindLayouts, Named, Part, SharedLayout, Spent, Taken};
+use commit_desk::{
+    CommitFault, FindFault, FindLayouts, Named, Part, Put, SharedLayout, Spent, Taken, TextRead,
+};
 use document_store::{Doc, Found, FreeSlots, Judge};
 use funnel_model::{Block, Claim, ClearJob, Config, Token};
 use row_layout::Bits;
@@ -28,20 +30,21 @@ use slice_rule::{PassSeat, PoolName};
 use std::sync::{MutexGuard, Wait};
 
 impl<N: PoolName> Engine<N> {
-    // The looks of an add for a column, up to the one that claims it, or a slice for it, or is refused. Where the engine is full but a slice
-    // is being cleared, it looks again once that slice is open, as often as there are passes. Room that it doesn't need is dropped when
-    // the lock is free again.
+    // The looks of an add, or of a put, which replaces, for a column, up to the one that claims it, or a slice for it, or is refused. Where the
+    // engine is full but a slice is being cleared, it looks again once that slice is open, as often as there are passes. Room that it doesn't
+    // need is dropped when the lock is free again.
     pub(crate) fn take<R: Wait>(
         &self,
         rt: &R,
         pass: &mut PassSeat,
         doc: &Doc,
+        replaces: bool,
         room: Vec<Block>,
     ) -> Taken
         requires rests { IsResting N.pool pass.old }
         requires empty { room.items ≡ [] }
         requires enough { N.pool.limits.slices ≤ vec_capacity room }
-        ensures turns { TakeTurns N.pool.limits pass.old.number doc.now.id doc.now.text pass.old.front pass.new.front result }
+        ensures turns { TakeTurns N.pool.limits pass.old.number replaces doc.now.id doc.now.text pass.old.front pass.new.front result }
         ensures next { IsToDo N.pool result pass.new }
         ensures number { pass.new.number ≡ pass.old.number }
         ensures legal { IsLegal N.pool.limits pass.new.front }
@@ -49,12 +52,12 @@ impl<N: PoolName> Engine<N> {
         let mut room = Some(room);
         let mut awaited = None;
         for _ in 0..self.base.passes {
-            match self.look_for_room(rt, pass, doc, &mut room, awaited, false) {
+            match self.look_for_room(rt, pass, doc, replaces, &mut room, awaited, false) {
                 Taken::Wait(slice) => awaited = Some(slice),
                 taken => return taken,
             }
         }
-        self.look_for_room(rt, pass, doc, &mut room, awaited, true)
+        self.look_for_room(rt, pass, doc, replaces, &mut room, awaited, true)
     }
 
     // A look of an add for a column, which may be its last. It waits first while the slice is being cleared that the look before it named.
@@ -63,6 +66,7 @@ impl<N: PoolName> Engine<N> {
         rt: &R,
         pass: &mut PassSeat,
         doc: &Doc,
+        replaces: bool,
         room: &mut Option<Vec<Block>>,
         awaited: Option<u32>,
         last: bool,
@@ -70,8 +74,8 @@ impl<N: PoolName> Engine<N> {
         requires rests { IsResting N.pool pass.old }
         requires room { MatchOption room.old ⊥ (λ empty. (empty.items ≡ []) × (N.pool.limits.slices ≤ vec_capacity empty)) }
         requires awaited { IfSome awaited (λ slice. slice < N.pool.limits.slices) }
-        ensures turn { IsTurn pass.old.number pass.old.front pass.new.front (IsLookForRoom N.pool pass.old.number doc.now.id awaited last result)
-            (events_of_take pass.old.number doc.now.id doc.now.text result) }
+        ensures turn { IsTurn pass.old.number pass.old.front pass.new.front (IsLookForRoom N.pool pass.old.number replaces doc.now.id awaited last result)
+            (events_of_take pass.old.number replaces doc.now.id doc.now.text result) }
         ensures room { LeavesRoom result room.old room.new }
         ensures next { IsToDo N.pool result pass.new }
         ensures number { pass.new.number ≡ pass.old.number }
@@ -79,7 +83,7 @@ impl<N: PoolName> Engine<N> {
     {
         let _ = &self.pool;
         let mut named = self.lock_once_open(rt, awaited);
-        named.desk.take(&self.pool, pass, doc, room, last)
+        named.desk.take(&self.pool, pass, doc, replaces, room, last)
     }
 
     // Takes the lock, and waits without it while the slice is being cleared, where one is named.
@@ -148,6 +152,53 @@ impl<N: PoolName> Engine<N> {
             .lock(rt)
             .desk
             .commit(&self.pool, pass, claim, doc, bits)
+    }
+
+    // The last turn of a put.
+    pub(crate) fn put_last<R: Wait>(
+        &self,
+        rt: &R,
+        pass: &mut PassSeat,
+        claim: Claim,
+        doc: Doc,
+        bits: &Bits,
+    ) -> Put
+        requires written { HasWritten N.pool claim doc.words bits.now.bits pass.old }
+        ensures turn { IsTurn pass.old.number pass.old.front pass.new.front (λ history. AnswersPut history doc.id result)
+            (event.Add pass.old.number doc.id doc.text claim.slice claim.column bits.now.bits ∷ []) }
+        ensures rests { IsResting N.pool pass.new }
+        ensures number { pass.new.number ≡ pass.old.number }
+        ensures legal { IsLegal N.pool.limits pass.new.front }
+    {
+        let _ = &self.pool;
+        self.desk
+            .lock(rt)
+            .desk
+            .put(&self.pool, pass, claim, doc, bits)
+    }
+
+    // A turn of a get. It makes no event where the text has no room yet, which is empty.
+    pub(crate) fn look_for_text<R: Wait>(
+        &self,
+        rt: &R,
+        pass: &mut PassSeat,
+        id: u64,
+        room: &mut String,
+    ) -> TextRead
+        requires rests { IsResting N.pool pass.old }
+        requires empty { string_bytes room.old ≡ [] }
+        ensures turn { IsTurn pass.old.number pass.old.front pass.new.front
+            (λ history. AnswersText N.pool.limits.events history id (string_capacity room.old) (string_bytes room.new) result)
+            (events_of_text pass.old.number id result) }
+        ensures rests { IsResting N.pool pass.new }
+        ensures number { pass.new.number ≡ pass.old.number }
+        ensures legal { IsLegal N.pool.limits pass.new.front }
+    {
+        let _ = &self.pool;
+        self.desk
+            .lock(rt)
+            .desk
+            .read_text(&self.pool, pass, id, room)
     }
 
     // The first turn of a find. It tells by which layouts the find reads its slices. A refused one may leave some of them.

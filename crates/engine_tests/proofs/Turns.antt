@@ -1,5 +1,5 @@
 -- The events of a call, from its turns.
-use Rattle.std.proofs.Common.{◌≡◌, ℕ, List, [], ◌∷◌, Result, Ok, Err, ⊎_elim, sym, ◌∙◌, append-nil}
+use Rattle.std.proofs.Common.{◌≡◌, ℕ, false, List, [], ◌∷◌, Result, Ok, Err, ⊎_elim, sym, ◌∙◌, append-nil}
 use Rattle.std.specs.Prelude.{IfOk}
 use Rattle.commit_desk.specs.declared.answers.AddFault.{AddFault}
 use Rattle.commit_desk.specs.declared.answers.AddFault.TheVariants as add
@@ -36,7 +36,7 @@ module _ (config : Config) (limits : Limits) (pass id : ℕ) (text : List ℕ) (
   pub refuses_at_once : config.reserve ≡ 0 → Makes pass before after (event.No pass (call.Add id text) ∷ [])
   refuses_at_once none =
       let refusal = event.No pass (call.Add id text) ∷ [] in
-      let turn = turn_from pass before turns.middle after refusal (none_moved_without_reserve config limits pass id turns.moves.moves before turns.middle none (all_moved config limits pass id before turns.middle turns.moves)) turns.own.turn in
+      let turn = turn_from pass before turns.middle after refusal (none_moved_without_reserve config limits pass false id turns.moves.moves before turns.middle none (all_moved config limits pass false id before turns.middle turns.moves)) turns.own.turn in
       record { earlier = turn.earlier; others = turn.seen; whole = turn.made }
 
 -- an add that found no memory makes no event, where no column is to be kept free
@@ -45,7 +45,7 @@ pub makes_none : (config : Config) (limits : Limits) (pass id : ℕ) (text : Lis
 makes_none config limits pass id text before after none turns =
     ⊎_elim (λ (same : before ≡ after). record { earlier = before; others = front_refl pass before; whole = sym same ∙ sym (append-nil before) })
     (λ (moved : MovesFirst config limits pass id text before after (Err add.Memory)).
-    let turn = turn_from pass before moved.middle after [] (none_moved_without_reserve config limits pass id moved.moves.moves before moved.middle none (all_moved config limits pass id before moved.middle moved.moves)) moved.own in
+    let turn = turn_from pass before moved.middle after [] (none_moved_without_reserve config limits pass false id moved.moves.moves before moved.middle none (all_moved config limits pass false id before moved.middle moved.moves)) moved.own in
     record { earlier = turn.earlier; others = turn.seen; whole = turn.made }) turns
 
 pub finds_between : (limits : Limits) (pass : ℕ) (query : List ℕ) (before after : List Event) (answer : Result (List ℕ) FindFault) →

@@ -1,8 +1,8 @@
 //! The program at the head of the crate `engine`, which docs/library.md shows whole. All that it needs comes from that crate.
 
 use engine::{
-    ConfigFault, Engine, Pass, PoolName, ShareEngine, UseEngine, parse_config, share_engine,
-    use_engine,
+    ConfigFault, Engine, Pass, PoolName, Search, ShareEngine, UseEngine, parse_config,
+    share_engine, use_engine,
 };
 use std::alloc::Global;
 use std::sync::Wait;
@@ -12,16 +12,16 @@ use std::thread::Threads;
 /// Uses an engine that is its own, and then one that two threads share. Their other sizes are the defaults.
 fn run<R: Threads + Wait + Sync>(rt: &R, alloc: Global) -> Result<bool, ConfigFault> {
     let config = parse_config(alloc, b"{\"passes\": 2}")?;
-    let alone = use_engine(rt, alloc, &config, AddAndFind)?;
-    let (closed, found) = share_engine(rt, alloc, &config, &AddAndFind)?;
+    let alone = use_engine(rt, alloc, &config, PutAndFind)?;
+    let (closed, found) = share_engine(rt, alloc, &config, &PutAndFind)?;
     Ok(alone && found.as_slice() == [true, true].as_slice() && closed.commits.len() == 2)
 }
 
-/// Adds a document, and finds it.
+/// Puts a document, and finds it.
 #[derive(Drop)]
-struct AddAndFind;
+struct PutAndFind;
 
-impl<R: Wait> UseEngine<R> for AddAndFind {
+impl<R: Wait> UseEngine<R> for PutAndFind {
     /// Whether it was found.
     type Output = bool;
 
@@ -32,11 +32,11 @@ impl<R: Wait> UseEngine<R> for AddAndFind {
         engine: Engine<N>,
         mut passes: Vec<Pass<N>>,
     ) -> bool {
-        add_and_find(rt, alloc, &engine, &mut passes[0], 7)
+        put_and_find(rt, alloc, &engine, &mut passes[0], 7)
     }
 }
 
-impl<R: Wait> ShareEngine<R> for AddAndFind {
+impl<R: Wait> ShareEngine<R> for PutAndFind {
     type Output = bool;
 
     fn work<N: PoolName>(
@@ -47,21 +47,26 @@ impl<R: Wait> ShareEngine<R> for AddAndFind {
         pass: &mut Pass<N>,
     ) -> bool {
         let id = u64::from(pass.number());
-        add_and_find(rt, alloc, engine, pass, id)
+        put_and_find(rt, alloc, engine, pass, id)
     }
 }
 
 /// Other passes may add and delete beside it.
-fn add_and_find<N: PoolName, R: Wait>(
+fn put_and_find<N: PoolName, R: Wait>(
     rt: &R,
     alloc: Global,
     engine: &Engine<N>,
     pass: &mut Pass<N>,
     id: u64,
 ) -> bool {
-    let added = engine.add(rt, alloc, pass, id, "The cat sat").is_ok();
-    match engine.find(rt, alloc, pass, "CAT") {
-        Ok(ids) => added && ids.as_slice().contains(&id),
+    let put = engine.put(rt, alloc, pass, id, "The cat sat").is_ok();
+    let found = match engine.query(rt, alloc, pass, "CAT -dog") {
+        Ok(ids) => ids.as_slice().contains(&id),
+        Err(_) => false,
+    };
+    // Of the documents that have the word, the ten that were added last.
+    match engine.newest(rt, alloc, pass, 10, Search::Words("cat")) {
+        Ok(newest) => put && found && newest.ids.as_slice().contains(&id),
         Err(_) => false,
     }
 }

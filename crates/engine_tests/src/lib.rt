@@ -26,6 +26,8 @@ mod many_hits;
 #[cfg(test)]
 mod moving;
 #[cfg(test)]
+mod puts;
+#[cfg(test)]
 mod queries;
 #[cfg(test)]
 mod replacing;

@@ -19,8 +19,8 @@ use Rattle.funnel_model.specs.Steps.{FindsNoMemory, Step}
 use Rattle.funnel_model.proofs.StepCauses.{memory_cause, spent_cause}
 use Rattle.funnel_model.proofs.StepLemmas.{linear-grows}
 use Rattle.funnel_stats.specs.Tunings.{Tuned, Gives, Faulty, Wide, tuned}
-use Rattle.line_proto.specs.Forms.{Item, Asks, Malformed, TooLong, Calls, Queries, Tunes, item_of, items}
-use Rattle.line_proto.specs.Services.{AnswersTuned, Caller, IsUnread}
+use Rattle.line_proto.specs.Forms.{Item, Asks, Malformed, TooLong, Calls, Searches, Tunes, item_of, items}
+use Rattle.line_proto.specs.Services.{AnswersTuned, Caller, IsUnread, searched}
 use Rattle.load_laws.proofs.EventCounts.{few_events_of_calls}
 use Rattle.load_laws.specs.LonePass.{IsAlone}
 use Rattle.session.proofs.SessionLaws.{calls_few, runs_calls}
@@ -69,8 +69,13 @@ items_few bytes ended = omega (
 
 takes_memory : (pass : ℕ) (before after : List Event) (asked : Call) → FindsNoMemory pass before after asked → CallTakesMemory asked
 takes_memory pass before after (call.Add id text) found = tt
+takes_memory pass before after (call.Put id text) found = tt
+takes_memory pass before after (call.Get id) found = tt
 takes_memory pass before after (call.Find query) found = tt
 takes_memory pass before after (call.Query expr) found = tt
+takes_memory pass before after (call.Count expr) found = tt
+takes_memory pass before after (call.Newest expr most) found = tt
+takes_memory pass before after (call.Oldest expr most) found = tt
 takes_memory pass before after (call.Journal from) found = tt
 takes_memory pass before after (call.Tune config) found = tt
 takes_memory pass before after _ none = absurd none
@@ -102,11 +107,11 @@ due_tuned caller before after text (Wide needed room) given answers few =
 due_item : (caller : Caller) (before after : List Event) (item : Item) (given : Reply) → AnswersItem caller before item given after →
     length after < caller.limits.events → IsDue item given
 due_item caller before after (Asks (Calls asked)) given answers few = due_call caller.limits caller.pass before after asked given answers.step few
-due_item caller before after (Asks (Queries text)) given (inl read) few =
-    let due = due_call caller.limits caller.pass before after (call.Query read.expr) given read.answers.step few in
+due_item caller before after (Asks (Searches told sought)) given (inl read) few =
+    let due = due_call caller.limits caller.pass before after (searched told read.expr) given read.answers.step few in
     record { unspent = due.unspent; memory = λ is. tt }
-due_item caller before after (Asks (Queries text)) given (inr unread) few =
-    record { unspent = λ is. subst (IsUnread text) is unread.1; memory = λ is. tt }
+due_item caller before after (Asks (Searches told sought)) given (inr unread) few =
+    record { unspent = λ is. subst (IsUnread sought) is unread.1; memory = λ is. tt }
 due_item caller before after (Asks (Tunes text)) given answers few = due_tuned caller before after text (tuned caller.opening text) given answers few
 due_item caller before after Malformed given answers few =
     record { unspent = λ is. let other = sym answers.0 ∙ is in cc; memory = λ is. let other = sym answers.0 ∙ is in cc }

@@ -5,7 +5,7 @@ use Rattle.std.proofs.lemmas.List.Elements.{All-tail}
 use Rattle.std.proofs.lemmas.Bool.{or_parts}
 use Rattle.std.specs.List.{All, list_any}
 use mathlib.Core.List.{IsPrefix}
-use Rattle.funnel_model.proofs.StepCauses.{is_query, only_queries_are_judged}
+use Rattle.funnel_model.proofs.StepCauses.{is_put, is_query, made_outcome}
 use Rattle.funnel_model.proofs.StepLemmas.{linear-answered, linear-grows, prefix_trans}
 use Rattle.funnel_model.specs.declared.call.Call.{Call}
 use Rattle.funnel_model.specs.declared.config.Config.{Config}
@@ -15,7 +15,7 @@ use Rattle.funnel_model.specs.declared.reply.Reply.TheVariants as reply
 use Rattle.funnel_model.specs.Events.{pass_of}
 use Rattle.funnel_model.specs.History.{IsFrontOf, MovesAreCaused, moved_by, own}
 use Rattle.funnel_model.specs.Legal.{IsIdle, IsLegal, Limits}
-use Rattle.funnel_model.specs.Steps.{IsJudged, IsMade, IsSpent, LacksMemory, Linear}
+use Rattle.funnel_model.specs.Steps.{IsMade, IsSpent, LacksMemory, Linear}
 use Rattle.funnel_server.proofs.AskedShares.{asks_share}
 use Rattle.funnel_server.specs.Laws.{AsksShare}
 use Rattle.funnel_server.specs.Loads.{ComesToQueries, IsPut, worker_of}
@@ -24,7 +24,7 @@ use Rattle.load_gen.specs.Jobs.{adds_of, calls_of_share, deletes_of, jobs, queri
 use Rattle.load_gen.specs.Summary.{results_of}
 use Rattle.load_laws.proofs.EventCounts.{ends}
 use Rattle.load_laws.proofs.FrontLemmas.{calls_in_front, front_trans, idle_from_front, moved_in_front}
-use Rattle.load_laws.proofs.JobCounts.{adds_are_no_queries, deletes_are_no_queries, finds_are_no_queries}
+use Rattle.load_laws.proofs.JobCounts.{adds_keep_names, deletes_keep_names, finds_keep_names, is_renamed}
 use Rattle.load_laws.proofs.Meetings.{parts_of_met}
 use Rattle.load_laws.proofs.Unmoved.{deletes_still, queries_still}
 use Rattle.load_laws.proofs.WorkerEvents.{load_is_unspent, own_of_load}
@@ -34,24 +34,26 @@ use Rattle.load_laws.specs.Workers.{AreAnswered, Fronts, HasAsked, HasRoomFor, H
 
 -- ---- the calls that a pass made
 
--- calls that are no queries and find memory, in a history that isn't spent, are the pass's own, each once
+-- calls that keep their names and find memory, in a history that isn't spent, are the pass's own, each once
 own_calls : (limits : Limits) (pass : ℕ) (before after history : List Event) (calls : List Call) (replies : List Reply) →
-    Linear limits pass before after calls replies → IsPrefix after history → length history < limits.events → All (λ r. r ≢ reply.Memory) replies → list_any is_query calls ≡ false →
+    Linear limits pass before after calls replies → IsPrefix after history → length history < limits.events → All (λ r. r ≢ reply.Memory) replies → list_any is_renamed calls ≡ false →
     own pass after ≡ own pass before ++ calls
 own_calls limits pass before after history [] [] run goes few memory none = ap (own pass) (sym run) ∙ sym (append-nil (own pass before))
 own_calls limits pass before after history (asked ∷ calls) (given ∷ replies) run goes few memory none =
-    let others = or_parts (is_query asked) (list_any is_query calls) none in
+    let others = or_parts (is_renamed asked) (list_any is_renamed calls) none in
+    let names = or_parts (is_query asked) (is_put asked) others.0 in
     let later = own_calls limits pass run.0 after history calls replies run.2 goes few (All-tail (λ r. r ≢ reply.Memory) given replies memory) others.1 in
     let from_here = prefix_trans run.0 after history (linear-grows limits pass run.0 after calls replies run.2) goes in
     let count : length history ≡ length run.0 + length from_here.0 = ap length (sym from_here.1) ∙ length-append run.0 from_here.0 in
-    later ∙ ap (λ xs. xs ++ calls) (made others.0 run.1.outcome (omega (arith, few, count))) ∙ append_assoc (own pass before) (asked ∷ []) calls where
-      made : is_query asked ≡ false → IsMade limits pass before run.0 asked given ⊎ LacksMemory pass before run.0 asked given ⊎ IsSpent limits pass before run.0 given
-          ⊎ IsJudged pass before run.0 asked given → length run.0 < limits.events →
-          own pass run.0 ≡ own pass before ++ asked ∷ []
-      made no_query (inl is_made) short = is_made.call
-      made no_query (inr (inl lacks)) short = absurd (memory 0 given (omega arith) lacks.reply)
-      made no_query (inr (inr (inl spent))) short = absurd (omega (arith, short, spent.many))
-      made no_query (inr (inr (inr judged))) short = absurd (only_queries_are_judged pass before run.0 asked given no_query judged)
+    later
+    ∙ ap (λ xs. xs ++ calls) (made (made_outcome limits pass before run.0 asked given names.0 names.1 run.1) (omega (arith, few, count)))
+    ∙ append_assoc (own pass before) (asked ∷ []) calls
+  where
+    made : IsMade limits pass before run.0 asked given ⊎ LacksMemory pass before run.0 asked given ⊎ IsSpent limits pass before run.0 given →
+        length run.0 < limits.events → own pass run.0 ≡ own pass before ++ asked ∷ []
+    made (inl is_made) short = is_made.call
+    made (inr (inl lacks)) short = absurd (memory 0 given (omega arith) lacks.reply)
+    made (inr (inr spent)) short = absurd (omega (arith, short, spent.many))
 own_calls limits pass before after history [] (given ∷ replies) run goes few memory none = absurd run
 own_calls limits pass before after history (asked ∷ calls) [] run goes few memory none = absurd run
 
@@ -156,19 +158,19 @@ module _ (opening : Config) (limits : Limits) (docs words seed workers : ℕ) (a
     by_added : own worker (fronts worker).added ≡ adds_of texts workers worker
     by_added =
         own_calls limits worker [] (fronts worker).added history (adds_of texts workers worker) (put.courses worker).to_adds comes.adds.run before_added few comes.adds.memory
-        (adds_are_no_queries texts workers worker)
+        (adds_keep_names texts workers worker)
 
     by_deleted : own worker (fronts worker).deleted ≡ adds_of texts workers worker ++ deletes_of texts workers worker
     by_deleted =
         own_calls limits worker (fronts worker).met_added (fronts worker).deleted history (deletes_of texts workers worker) (put.courses worker).to_deletes
-        comes.deletes.run before_deleted few comes.deletes.memory (deletes_are_no_queries texts workers worker)
+        comes.deletes.run before_deleted few comes.deletes.memory (deletes_keep_names texts workers worker)
         ∙ ap (λ cs. cs ++ deletes_of texts workers worker)
         (calls_in_front worker (fronts worker).added (fronts worker).met_added comes.meets_adds ∙ by_added)
 
     by_queried : own worker (fronts worker).queried ≡ calls_of_share texts workers worker
     by_queried =
         own_calls limits worker (fronts worker).met_deleted (fronts worker).queried history (queries_of workers worker) (put.to_queries worker)
-        (put.asked worker below).run before_queried few (put.asked worker below).memory (finds_are_no_queries workers worker)
+        (put.asked worker below).run before_queried few (put.asked worker below).memory (finds_keep_names workers worker)
         ∙ ap (λ cs. cs ++ queries_of workers worker)
         (calls_in_front worker (fronts worker).deleted (fronts worker).met_deleted comes.meets_deletes ∙ by_deleted)
 

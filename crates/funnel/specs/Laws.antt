@@ -25,7 +25,7 @@ use Rattle.funnel_server.specs.Gates.{GateState, Sides}
 use Rattle.funnel_server.specs.Laws.{FitsKept, HasCause, HasFewBytes, HasSeen, MakesCalls}
 use Rattle.funnel_server.specs.Workers.{Visit, WorkerState}
 use Rattle.funnel_stats.specs.Configurations.{configuration}
-use Rattle.line_proto.specs.Forms.{Item, Asks, Calls, Queries, Tunes, items}
+use Rattle.line_proto.specs.Forms.{Item, Asks, Calls, Searches, Tunes, items}
 use Rattle.line_proto.specs.Services.{Caller}
 use Rattle.line_proto.specs.Texts.{texts}
 use Rattle.load_gen.specs.Summary.{summary}
@@ -75,16 +75,21 @@ pub record TellsFew (input : Incoming) (bytes : List ℕ) : Type 0 where
 -- a call that takes memory, so that it may find none
 abbrev pub CallTakesMemory : Call → Type 0
 CallTakesMemory (call.Add id text) = ⊤
+CallTakesMemory (call.Put id text) = ⊤
+CallTakesMemory (call.Get id) = ⊤
 CallTakesMemory (call.Find query) = ⊤
 CallTakesMemory (call.Query expr) = ⊤
+CallTakesMemory (call.Count expr) = ⊤
+CallTakesMemory (call.Newest expr most) = ⊤
+CallTakesMemory (call.Oldest expr most) = ⊤
 CallTakesMemory (call.Journal from) = ⊤
 CallTakesMemory (call.Tune config) = ⊤
 CallTakesMemory _ = ⊥
 
--- an item that takes memory: one that asks for such a call, and each with a text to be read, whether it is a query or a tuning, or not
+-- an item that takes memory: one that asks for such a call, and each search and tuning, whether its text can be read or not
 abbrev pub TakesMemory : Item → Type 0
 TakesMemory (Asks (Calls asked)) = CallTakesMemory asked
-TakesMemory (Asks (Queries text)) = ⊤
+TakesMemory (Asks (Searches told sought)) = ⊤
 TakesMemory (Asks (Tunes text)) = ⊤
 TakesMemory _ = ⊥
 

@@ -50,9 +50,9 @@ pub fn programs_without_a_fault_end_well()
         TellsFew before.input bytes → CompletesFit fit.documents bytes before.output after.output why }
 {}
 
-/// No reply of a run is that the history is spent, since a run can't take so many bytes. Only the lines that ask for an add, a
-/// find, a query, a journal or a tuning can be refused for want of memory; every other reply is the one of its event in the history,
-/// what a query's expression keeps of the documents live at its find, or that of a line which is no call.
+/// No reply of a run is that the history is spent, since a run can't take so many bytes. Only the lines that ask for an add, a put, a
+/// text, a search, a journal or a tuning can be refused for want of memory; every other reply is the one of its event in the history,
+/// what an expression keeps of the documents live at its find, or that of a line which is no call.
 pub fn runs_take_every_call()
     ensures any { (config : Config) (incoming later_incoming : Incoming) (outgoing later_outgoing : Outgoing) (why : Why) (closed : ClosedState)
         (ran : Ran config incoming later_incoming outgoing later_outgoing why closed) →

@@ -47,7 +47,7 @@ Keys of funnel.json, a file with one JSON object in the folder where the program
   slices     1 to 1024, default 2: slices of 64 * 2^max_rank * blocks columns; a document takes a column
   blocks     1 to 64, default 1: words of 64 bits of a row of the highest rank in a slice
   max_rank   0 to 6, default 0: the highest rank of a row
-  commits    1 to 16777216, default 1024: adds and deletes that the journal keeps
+  commits    1 to 16777216, default 1024: adds, puts and deletes that the journal keeps
   reserve    0 to 4194304, default 0: columns to be kept free
   one_in     2 to 20, default 10: one bit in so many is set in a shared row
   snr        1 to 1000, default 10: wanted ratio of documents with a word to others that its rows let pass
@@ -55,6 +55,15 @@ Keys of funnel.json, a file with one JSON object in the folder where the program
   tail       0 to 100000, default 10: words of a document that are not listed
   max_rows   1 to 1048576, default 65536: shared rows of one rank at most
   words      at most 65536 words, default {}: the listed words, each with the documents that have it
+
+Lines of run and serve, each with a reply:
+  add N TEXT, put N TEXT       adds the document N; put also in the place of the live one
+  del N, get N                 deletes it, tells its text
+  find WORDS, query Q          the numbers of the documents
+  count [Q]                    how many; without Q, of all documents
+  newest M [Q], oldest M [Q]   that, and the numbers of at most M
+  place, journal N, stats      commits, those after N, how full the index is
+  recycle, tune JSON           empties a slice, gives statistics
 
 Examples:
   printf 'add 7 The cat sat\\nfind CAT\\n' | funnel run

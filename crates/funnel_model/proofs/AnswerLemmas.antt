@@ -88,4 +88,4 @@ AllPairs-map R f (z ∷ zs) pairs = λ i j d lt in'.
 pub answer_once : (limits : Limits) (history : List Event) (query : List ℕ) → IsLegal limits history → AllPairs (λ i j. i ≢ j) (answer history query)
 answer_once limits history query legal =
     AllPairs-map (λ i j. i ≢ j) (λ (d : Document). d.id) (filter (λ d. meets d.text query) (live history))
-    (AllPairs-filter (λ (d e : Document). d.id ≢ e.id) (λ d. meets d.text query) (live history) (live_once limits history legal))
+    (AllPairs-filter (λ (d e : Document). d.id ≢ e.id) (λ d. meets d.text query) (live history) (live_once history))

@@ -3,14 +3,14 @@ use Rattle.std.proofs.Common.{◌≡◌, ℕ, ◌+◌, ⊎_elim, Bool, true, fal
 use Rattle.std.proofs.lemmas.Bool.{and_from, and_parts, and_right, both_ways, eq-eqb, eqb-true, or_cases, or_from, or_parts, or_left}
 use Rattle.std.proofs.lemmas.List.{append-nil, length-append}
 use Rattle.std.proofs.lemmas.List.Elements.{Contains-append_right}
-use Rattle.std.specs.List.{Contains, find, list_any}
+use Rattle.std.specs.List.{Contains, list_any}
 use Rattle.std.specs.Option.{is_some}
 use Rattle.std.specs.Prelude.{◌==◌, ◌&&◌, ◌⊎◌, if◌then◌else◌}
 use Rattle.funnel_model.specs.declared.bit_list.Bit.{Bit}
 use Rattle.funnel_model.specs.declared.event.Event.{Event}
 use Rattle.funnel_model.specs.declared.event.Event.TheVariants as event
 use Rattle.funnel_model.specs.Events.{drops_on, opens, pass_of, put_on, takes, takes_off}
-use Rattle.funnel_model.specs.History.{Document, last_by, live, place}
+use Rattle.funnel_model.specs.History.{Document, document_with, last_by, live, place}
 use Rattle.funnel_model.specs.Legal.{Limits, IsAllowed}
 use Rattle.funnel_model.specs.Slices.{ColumnState, Unclaimed, Pending, Dropped, Live, Deleted, IsDeletedOn, IsInState, IsLiveOn, IsOver, IsPutOn, is_claimed, span}
 use Rattle.funnel_model.proofs.AnswerLemmas.{contains_first}
@@ -23,10 +23,6 @@ abbrev pub after_taken_off : ℕ → ℕ → ColumnState → ColumnState
 after_taken_off id until (Live d since) = if id == d.id then Deleted d since until else Live d since
 after_taken_off id until x = x
 
--- the live document with this number
-abbrev pub document_with : ℕ → List Event → Option Document
-document_with id history = find (λ d. d.id == id) (live history)
-
 -- a column after a document is moved to it, by the event with the number `since`
 abbrev pub after_moved : Option Document → ℕ → ColumnState → ColumnState
 after_moved (Some d) since x = Live d since
@@ -36,7 +32,8 @@ after_moved None since x = x
 abbrev pub after : (slice column : ℕ) → List Event → ColumnState → Event → ColumnState
 after slice column history x (event.Take pass taken at) = if taken == slice && at == column then Pending pass else x
 after slice column history x (event.Add pass id text added at bits) =
-    if added == slice && at == column then Live (record { id = id; text = text; place = place history + 1 }) (length history + 1) else x
+    if added == slice && at == column then Live (record { id = id; text = text; place = place history + 1 }) (length history + 1)
+    else after_taken_off id (length history + 1) x
 after slice column history x (event.Drop pass id text dropped at) = if dropped == slice && at == column then Dropped else x
 after slice column history x (event.Del pass id) = after_taken_off id (length history + 1) x
 after slice column history x (event.Move pass id moved at bits) =
@@ -167,7 +164,7 @@ touch_add slice column pass id text added at bits true is = PutBy id (record {
         subst (λ (ds : List Document). Contains ds d) (sym (live-push history add))
             (Contains-append_right (filter (survives add) (live history)) (added_at (place history) add) d (contains_first d [])),
         refl,
-        λ x. ap (λ b. cond b (Live d (length history + 1)) x) is,
+        λ x. ap (λ b. cond b (Live d (length history + 1)) (after_taken_off id (length history + 1) x)) is,
       );
 })
 touch_add slice column pass id text added at bits false is = Silent (record {
@@ -177,8 +174,8 @@ touch_add slice column pass id text added at bits false is = Silent (record {
   not_put = ap (λ b. cond b (Some id) None) is;
   not_dropped = refl;
   leaves = λ h x.
-      ap (λ b. cond b (Live (record { id = id; text = text; place = place h + 1 }) (length h + 1)) x) is
-      ∙ sym (unless_taken_off-silent (length h + 1) (event.Add pass id text added at bits) x (λ i. refl));
+      ap (λ b. cond b (Live (record { id = id; text = text; place = place h + 1 }) (length h + 1)) (after_taken_off id (length h + 1) x)) is
+      ∙ unless_taken_off-off (length h + 1) id (event.Add pass id text added at bits) x (λ other. refl);
 })
 
 -- how a move concerns a column
@@ -588,7 +585,8 @@ pub after-add : (slice column : ℕ) (history : List Event) (pass id : ℕ) (tex
     after slice column history x (event.Add pass id text slice column bits)
     ≡ Live (record { id = id; text = text; place = place history + 1 }) (length history + 1)
 after-add slice column history pass id text bits x =
-    ap (λ b. cond b (Live (record { id = id; text = text; place = place history + 1 }) (length history + 1)) x) (this_column slice column)
+    ap (λ b. cond b (Live (record { id = id; text = text; place = place history + 1 }) (length history + 1)) (after_taken_off id (length history + 1) x))
+    (this_column slice column)
 
 -- a move of a live document to a column makes it live
 pub after-move : (slice column : ℕ) (history : List Event) (pass : ℕ) (d : Document) (bits : List Bit) (x : ColumnState) → document_with d.id history ≡ Some d →

@@ -22,9 +22,11 @@ pub mod MoveFacts
 pub mod Moved
 pub mod NextEvents
 pub mod NothingMoved
+pub mod NumberLemmas
 pub mod OpenTokens
 pub mod PairLemmas
 pub mod Progress
+pub mod PutFacts
 pub mod QueryLemmas
 pub mod Ranges
 pub mod ReadingEnds

@@ -7,7 +7,7 @@ use Rattle.std.specs.List.{Contains, list_any}
 use Rattle.std.specs.Prelude.{◌==◌, ◌&&◌, ◌↔◌}
 use Rattle.funnel_model.specs.declared.event.Event.{Event}
 use Rattle.funnel_model.specs.declared.event.Event.TheVariants as event
-use Rattle.funnel_model.specs.Events.{deletes, pass_of, put_on, takes_off}
+use Rattle.funnel_model.specs.Events.{deletes_or_replaces, pass_of, put_on, takes_off}
 use Rattle.funnel_model.specs.History.{Document, is_live, live, place}
 use Rattle.funnel_model.specs.Legal.{Limits, IsAllowed, IsLegal}
 use Rattle.funnel_model.specs.Slices.{Unclaimed, Live, Deleted, IsHome, IsInState, IsLiveOn, IsOver, is_claimed}
@@ -18,7 +18,7 @@ use Rattle.funnel_model.proofs.ColumnsKept.{kept, take_from}
 use Rattle.funnel_model.proofs.Histories.{allowed_within, holds_of_legal, legal-push}
 use Rattle.funnel_model.proofs.LastEvents.{last_is_clearing}
 use Rattle.funnel_model.proofs.LiveLemmas.{added_at, live-push, survives}
-use Rattle.funnel_model.proofs.LivesOn.{lives-later, none_deletes, one_live}
+use Rattle.funnel_model.proofs.LivesOn.{lives-later, none_ends, one_live}
 use Rattle.funnel_model.proofs.Retirement.{same_split, split_front}
 
 -- a number is live exactly where a live document has it
@@ -33,7 +33,7 @@ pub live_column_is_live : (history : List Event) (slice column : ℕ) (d : Docum
 live_column_is_live history slice column d since is =
     let put = is.put in
     subst (λ h. Contains (live h) d) (append_assoc put.earlier (put.event ∷ []) is.later ∙ sym put.whole)
-    (lives-later (put.earlier ++ put.event ∷ []) is.later d put.lives (none_deletes d.id is.later is.not_taken_off))
+    (lives-later (put.earlier ++ put.event ∷ []) is.later d put.lives (none_ends d.id is.later is.not_taken_off))
 
 -- a live column stays live with an event that doesn't take its document off
 live_by_touch : (limits : Limits) (history : List Event) (e : Event) (slice column : ℕ) (d : Document) (since : ℕ) → IsLegal limits history →
@@ -65,14 +65,15 @@ record PutSomewhere (e : Event) (id : ℕ) : Type 0 where
   column : ℕ
   puts : put_on slice column e ≡ Some id
 
--- an event that takes a document off and doesn't delete it puts it somewhere
-moves_to : (id : ℕ) (e : Event) → takes_off id e ≡ true → deletes id e ≡ false → PutSomewhere e id
+-- an event that takes a document off and neither deletes nor replaces it puts it somewhere
+moves_to : (id : ℕ) (e : Event) → takes_off id e ≡ true → deletes_or_replaces id e ≡ false → PutSomewhere e id
 moves_to id (event.Move pass moved slice column bits) off stays = record {
   slice = slice;
   column = column;
   puts = ap (λ b. cond b (Some moved) None) (this_column slice column) ∙ ap Some (eqb-true moved id off);
 }
 moves_to id (event.Del pass deleted) off stays = absurd (both_ways (deleted == id) stays off)
+moves_to id (event.Add pass added text slice column bits) off stays = absurd (both_ways (added == id) stays off)
 moves_to id _ off stays = absurd (false≢true off)
 
 -- and so does one that adds it
@@ -110,11 +111,11 @@ columns-push limits history e legal allowed before d contained =
     ⊎_elim
     (λ was.
     let both = Contains-filtered (survives e) (live history) d was in
-    by_off both.0 (not-true (deletes d.id e) both.1) (takes_off d.id e) refl)
+    by_off both.0 (not-true (deletes_or_replaces d.id e) both.1) (takes_off d.id e) refl)
     (λ now. let to = adds_to (place history) e d now in put_has_column limits history e d legal allowed contained to (touch to.slice to.column e))
     (Contains-append_cases (filter (survives e) (live history)) (added_at (place history) e) d
     (subst (λ (ds : List Document). Contains ds d) (live-push history e) contained)) where
-      by_off : Contains (live history) d → deletes d.id e ≡ false → (b : Bool) → takes_off d.id e ≡ b →
+      by_off : Contains (live history) d → deletes_or_replaces d.id e ≡ false → (b : Bool) → takes_off d.id e ≡ b →
           (slice : ℕ) × (column : ℕ) × (since : ℕ) × (state_of slice column (history ++ e ∷ []) ≡ Live d since)
       by_off was stays true off =
           let to = moves_to d.id e off stays in put_has_column limits history e d legal allowed contained to (touch to.slice to.column e)
@@ -163,12 +164,11 @@ one_column slice column other at (event.Add pass id text s c bits) a b is_a is_b
 one_column slice column other at (event.Move pass id s c bits) a b is_a is_b = same_place s c id slice column other at a b is_a is_b
 one_column slice column other at _ a b is_a is_b = cc
 
--- an event that puts a live document, which no event took off since, doesn't come
+-- an event that puts the number of a live document on a column takes the document off its own
 not_put_again : (limits : Limits) (history : List Event) (e : Event) (d : Document) (slice column : ℕ) → IsAllowed limits history e →
     Contains (live history) d → put_on slice column e ≡ Some d.id → takes_off d.id e ≡ true
 not_put_again limits history (event.Add pass id text s c bits) d slice column allowed lives puts =
-    absurd (both_ways (is_live id history) allowed.rule.absent
-    ((live_number history id).1 (d, lives, sym (put_number (s == slice && c == column) id d.id puts))))
+    eq-eqb id d.id (put_number (s == slice && c == column) id d.id puts)
 not_put_again limits history (event.Move pass id s c bits) d slice column allowed lives puts =
     eq-eqb id d.id (put_number (s == slice && c == column) id d.id puts)
 not_put_again limits history _ d slice column allowed lives puts = cc
@@ -184,7 +184,7 @@ not_later limits history slice column other at since after d e legal is also sam
     let parts = or_parts (list_any (takes_off d.id) between) (list_any (takes_off d.id) (second.event ∷ also.later))
     (sym (list_any-append (takes_off d.id) between (second.event ∷ also.later)) ∙ ap (list_any (takes_off d.id)) (sym split.2) ∙ is.not_taken_off) in
     let lives : Contains (live second.earlier) d =
-    subst (λ h. Contains (live h) d) (sym split.1) (lives-later (first.earlier ++ first.event ∷ []) between d first.lives (none_deletes d.id between parts.0)) in
+    subst (λ h. Contains (live h) d) (sym split.1) (lives-later (first.earlier ++ first.event ∷ []) between d first.lives (none_ends d.id between parts.0)) in
     let allowed = allowed_within limits history second.earlier second.event also.later legal second.whole in
     both_ways (takes_off d.id second.event) (or_parts (takes_off d.id second.event) (list_any (takes_off d.id) also.later) parts.1).0
     (not_put_again limits second.earlier second.event d other at allowed lives (second.puts ∙ ap Some (sym same)))
@@ -213,7 +213,7 @@ not_put_since limits history slice column other at since d before e rest legal i
     (sym (list_any-append (takes_off d.id) before (e ∷ rest)) ∙ ap (list_any (takes_off d.id)) (sym split) ∙ is.not_taken_off) in
     let lives : Contains (live front) d =
     subst (λ h. Contains (live h) d) (append_assoc put.earlier (put.event ∷ []) before)
-    (lives-later (put.earlier ++ put.event ∷ []) before d put.lives (none_deletes d.id before parts.0)) in
+    (lives-later (put.earlier ++ put.event ∷ []) before d put.lives (none_ends d.id before parts.0)) in
     let whole : history ≡ front ++ e ∷ rest =
     put.whole ∙ ap (λ xs. put.earlier ++ put.event ∷ xs) split ∙ sym (append_assoc put.earlier (put.event ∷ before) (e ∷ rest)) in
     both_ways (takes_off d.id e) (or_parts (takes_off d.id e) (list_any (takes_off d.id) rest) parts.1).0

@@ -1,22 +1,21 @@
 -- The live documents after one more event.
 use Rattle.std.proofs.Common.{◌≡◌, ◌≢◌, ℕ, ◌+◌, ◌<◌, ◌≤◌, Bool, true, false, not, cond, ◌||◌, List, [], ◌∷◌, ◌++◌, length, map, filter, Option, Some, None, ⊎_elim, sym, refl, ap, ◌∙◌, subst, append_assoc, arith}
 use Rattle.std.proofs.lemmas.List.{append-nil, length-append}
-use Rattle.std.proofs.lemmas.List.Elements.{filter_map-append, filter-append, All-append, All-weaker, All-nil, All-cons, All-filter}
+use Rattle.std.proofs.lemmas.List.Elements.{filter_map-append, filter-append, filter_passes, All-append, All-weaker, All-nil, All-cons, All-filter}
 use Rattle.std.proofs.lemmas.List.Folds.{list_any-append}
 use Rattle.std.proofs.lemmas.List.Kept.{AllPairs-filter}
 use Rattle.std.proofs.lemmas.List.Quantifiers.{all_pairs_push}
 use Rattle.std.specs.List.{cons_option, find, list_any, All, AllPairs}
 use Rattle.std.specs.Prelude.{option_to_list}
 use Rattle.std.specs.Option.{option_map, option_map_or, is_some}
+use Rattle.funnel_model.specs.declared.bit_list.Bit.{Bit}
 use Rattle.funnel_model.specs.declared.event.Event.{Event}
 use Rattle.funnel_model.specs.declared.event.Event.TheVariants as event
-use Rattle.funnel_model.specs.Events.{commit_of, added_by, deletes}
+use Rattle.funnel_model.specs.Events.{commit_of, added_by, deletes_or_replaces}
 use Rattle.std.proofs.Math.Bool.{or-false}
-use Rattle.std.proofs.lemmas.Bool.{or_parts, eqb-false, eqb-true, eq-eqb}
+use Rattle.std.proofs.lemmas.Bool.{both_ways, not-true, or_parts, eqb-false, eqb-true, eq-eqb}
 use Rattle.std.proofs.lemmas.Bool.Decides.{eqb_tells}
 use Rattle.std.specs.Prelude.{◌==◌}
-use Rattle.funnel_model.proofs.Histories.{holds_of_legal}
-use Rattle.funnel_model.specs.Legal.{Limits, IsAllowed, IsLegal}
 use Rattle.funnel_model.specs.History.{Document, commits, place, document_at, live_from, live, is_live, live_place, answer}
 use Rattle.funnel_model.specs.Words.{meets}
 
@@ -29,7 +28,7 @@ place-append xs ys = ap length (commits-append xs ys) ∙ length-append (commits
 
 -- whether a document stays live with an event
 abbrev pub survives : Event → Document → Bool
-survives e d = not (deletes d.id e)
+survives e d = not (deletes_or_replaces d.id e)
 
 -- the document that an event at this place adds
 abbrev pub added_at : ℕ → Event → List Document
@@ -41,17 +40,17 @@ kept_unless p x true more is = refl
 kept_unless p x false true is = sym (ap (λ b. cond b (x ∷ []) []) is)
 kept_unless p x false false is = sym (ap (λ b. cond b (x ∷ []) []) is)
 
--- whether a later event deletes a document, for one more event
-survives_or : (id : ℕ) (e : Event) → not (deletes id e) ≡ not (list_any (deletes id) (e ∷ []))
-survives_or id e = ap not (sym (or-false (deletes id e)))
+-- whether a later event deletes or replaces a document, for one more event
+survives_or : (id : ℕ) (e : Event) → not (deletes_or_replaces id e) ≡ not (list_any (deletes_or_replaces id) (e ∷ []))
+survives_or id e = ap not (sym (or-false (deletes_or_replaces id e)))
 
 document_at-push : (before : ℕ) (added : Option (ℕ × List ℕ)) (later : List Event) (e : Event) →
     option_to_list (document_at before added (later ++ e ∷ [])) ≡ filter (survives e) (option_to_list (document_at before added later))
 document_at-push before None later e = refl
 document_at-push before (Some added) later e =
     let d : Document = record { id = added.0; text = added.1; place = before + 1 } in
-    ap (λ b. option_to_list (cond b None (Some d))) (list_any-append (deletes added.0) later (e ∷ []))
-    ∙ kept_unless (survives e) d (list_any (deletes added.0) later) (list_any (deletes added.0) (e ∷ [])) (survives_or added.0 e)
+    ap (λ b. option_to_list (cond b None (Some d))) (list_any-append (deletes_or_replaces added.0) later (e ∷ []))
+    ∙ kept_unless (survives e) d (list_any (deletes_or_replaces added.0) later) (list_any (deletes_or_replaces added.0) (e ∷ [])) (survives_or added.0 e)
 
 pub live_from-push : (before : ℕ) (history : List Event) (e : Event) →
     live_from before (history ++ e ∷ []) ≡ filter (survives e) (live_from before history) ++ added_at (before + place history) e
@@ -66,7 +65,7 @@ live_from-push before (x ∷ xs) e =
     ∙ ap (λ ds. ds ++ added_at (before + place (x ∷ []) + place xs) e) (sym (filter-append (survives e) first rest))
     ∙ ap (λ n. filter (survives e) (first ++ rest) ++ added_at n e) at
 
--- one more event takes away the document that it deletes, and puts the one that it adds to the end
+-- one more event takes away the document that it deletes or replaces, and puts the one that it adds to the end
 pub live-push : (history : List Event) (e : Event) → live (history ++ e ∷ []) ≡ filter (survives e) (live history) ++ added_at (place history) e
 live-push history e = live_from-push 0 history e ∙ ap (λ n. filter (survives e) (live history) ++ added_at n e) (let h : 0 + place history ≡ place history = omega arith in h)
 
@@ -136,32 +135,44 @@ none_with_id id (d ∷ ds) none =
     let parts = or_parts (d.id == id) (list_any (λ d. d.id == id) ds) none in
     All-cons (λ (d : Document). d.id ≢ id) d ds (eqb-false d.id id parts.0) (none_with_id id ds parts.1)
 
--- an add that is allowed has a number that is not live
-added_is_new : (limits : Limits) (history : List Event) (e : Event) → IsAllowed limits history e → (before : ℕ) (d : Document) → document_at before (added_by e) [] ≡ Some d → is_live d.id history ≡ false
-added_is_new limits history (event.Add pass id text slice column bits) allowed before d is =
-    ap (λ o. is_live (option_map_or (λ (x : Document). x.id) o 0) history) (sym is) ∙ allowed.rule.absent
-added_is_new limits history e allowed before d is = cc
+-- a document that an event adds has another number than those that stay live with it
+survives_apart : (e : Event) (before : ℕ) (d x : Document) → document_at before (added_by e) [] ≡ Some d → survives e x ≡ true → x.id ≢ d.id
+survives_apart (event.Add pass id text slice column bits) before d x is kept =
+    λ same.
+    let added : id ≡ d.id = ap (λ o. option_map_or (λ (y : Document). y.id) o id) is in
+    both_ways (id == x.id) (not-true (id == x.id) kept) (eq-eqb id x.id (added ∙ sym same))
+survives_apart e before d x is kept = cc
 
--- in a legal history each number is live at most once
-pub live_once : (limits : Limits) (history : List Event) → IsLegal limits history → AllPairs (λ (d e : Document). d.id ≢ e.id) (live history)
-live_once limits = holds_of_legal limits (λ h. AllPairs (λ (d e : Document). d.id ≢ e.id) (live h)) (λ i j d lt in'. absurd (omega arith))
-    (λ h e legal once allowed. live_pairs-push (λ (d e : Document). d.id ≢ e.id) h e once
-    (λ d is. none_with_id d.id (live h) (added_is_new limits h e allowed (place h) d is)))
+-- each number is live at most once
+pub live_once : (history : List Event) → AllPairs (λ (d e : Document). d.id ≢ e.id) (live history)
+live_once =
+    by_push (λ h. AllPairs (λ (d e : Document). d.id ≢ e.id) (live h)) (λ i j d lt in'. absurd (omega arith))
+    (λ h e once. subst (AllPairs (λ (d e : Document). d.id ≢ e.id)) (sym (live-push h e))
+    (pairs_with (λ (d e : Document). d.id ≢ e.id) (filter (survives e) (live h)) (document_at (place h) (added_by e) [])
+    (AllPairs-filter (λ (d e : Document). d.id ≢ e.id) (survives e) (live h) once)
+    (λ d is. All-weaker (λ (x : Document). survives e x ≡ true) (λ (x : Document). x.id ≢ d.id)
+    (λ x kept. survives_apart e (place h) d x is kept) (filter (survives e) (live h)) (filter_passes (survives e) (live h)))))
 
 -- a test that always passes keeps the list
 filter_all : {A : Type 0} (p : A → Bool) (xs : List A) → ((x : A) → p x ≡ true) → filter p xs ≡ xs
 filter_all p [] all = refl
 filter_all p (x ∷ xs) all = ap (λ b. cond b (x ∷ filter p xs) (filter p xs)) (all x) ∙ ap (λ ys. x ∷ ys) (filter_all p xs all)
 
--- an event that deletes nothing puts the document that it adds to the end
-pub live-adds : (history : List Event) (e : Event) → ((id : ℕ) → deletes id e ≡ false) → live (history ++ e ∷ []) ≡ live history ++ added_at (place history) e
+-- an event that deletes and replaces nothing puts the document that it adds to the end
+live-adds : (history : List Event) (e : Event) → ((id : ℕ) → deletes_or_replaces id e ≡ false) → live (history ++ e ∷ []) ≡ live history ++ added_at (place history) e
 live-adds history e none =
     live-push history e ∙ ap (λ ds. ds ++ added_at (place history) e) (filter_all (survives e) (live history) (λ d. ap not (none d.id)))
 
--- an event that deletes and adds nothing leaves the live documents
-pub live-silent : (history : List Event) (e : Event) → ((id : ℕ) → deletes id e ≡ false) → added_by e ≡ None → live (history ++ e ∷ []) ≡ live history
+-- an event that deletes, replaces and adds nothing leaves the live documents
+pub live-silent : (history : List Event) (e : Event) → ((id : ℕ) → deletes_or_replaces id e ≡ false) → added_by e ≡ None → live (history ++ e ∷ []) ≡ live history
 live-silent history e none adds =
     live-adds history e none ∙ ap (λ o. live history ++ option_to_list (document_at (place history) o [])) adds ∙ append-nil (live history)
+
+-- nor does any event that is no commit
+pub live-uncommitted : (history : List Event) (e : Event) → commit_of e ≡ None → live (history ++ e ∷ []) ≡ live history
+live-uncommitted history (event.Add pass id text slice column bits) none = cc
+live-uncommitted history (event.Del pass id) none = cc
+live-uncommitted history e none = live-silent history e (λ i. refl) refl
 
 pub commits-silent : (history : List Event) (e : Event) → commit_of e ≡ None → commits (history ++ e ∷ []) ≡ commits history
 commits-silent history e none = commits-append history (e ∷ []) ∙ ap (λ o. commits history ++ cons_option o []) none ∙ append-nil (commits history)
@@ -206,8 +217,8 @@ no_place id history absent = none (live_place id history) (sym (is_live-from_pla
   none None is = refl
   none (Some n) is = cc
 
--- an answer, for one more event that deletes and adds nothing
-pub answer-silent : (history : List Event) (e : Event) (query : List ℕ) → ((id : ℕ) → deletes id e ≡ false) → added_by e ≡ None → answer (history ++ e ∷ []) query ≡ answer history query
+-- an answer, for one more event that deletes, replaces and adds nothing
+pub answer-silent : (history : List Event) (e : Event) (query : List ℕ) → ((id : ℕ) → deletes_or_replaces id e ≡ false) → added_by e ≡ None → answer (history ++ e ∷ []) query ≡ answer history query
 answer-silent history e query none adds = ap (λ ds. map (λ (d : Document). d.id) (filter (λ (d : Document). meets d.text query) ds)) (live-silent history e none adds)
 
 -- two tests that agree keep the same elements
@@ -225,6 +236,30 @@ pub live-deletes : (history : List Event) (pass id : ℕ) → live (history ++ e
 live-deletes history pass id =
     live-push history (event.Del pass id) ∙ append-nil (filter (survives (event.Del pass id)) (live history))
     ∙ filter_same (survives (event.Del pass id)) (λ d. not (d.id == id)) (live history) (λ d. ap not (equal_either id d.id))
+
+-- an add puts its document to the end, and takes away the one with its number
+pub live-add : (history : List Event) (pass id : ℕ) (text : List ℕ) (slice column : ℕ) (bits : List Bit) →
+    live (history ++ event.Add pass id text slice column bits ∷ [])
+    ≡ filter (λ d. not (d.id == id)) (live history) ++ record { id = id; text = text; place = place history + 1 } ∷ []
+live-add history pass id text slice column bits =
+    let add = event.Add pass id text slice column bits in
+    live-push history add
+    ∙ ap (λ ds. ds ++ added_at (place history) add) (filter_same (survives add) (λ d. not (d.id == id)) (live history) (λ d. ap not (equal_either id d.id)))
+
+-- where no document has the number, all others are left
+others_left : (id : ℕ) (ds : List Document) → list_any (λ d. d.id == id) ds ≡ false → filter (λ d. not (d.id == id)) ds ≡ ds
+others_left id [] none = refl
+others_left id (d ∷ ds) none =
+    let parts = or_parts (d.id == id) (list_any (λ x. x.id == id) ds) none in
+    ap (λ b. cond (not b) (d ∷ filter (λ x. not (x.id == id)) ds) (filter (λ x. not (x.id == id)) ds)) parts.0
+    ∙ ap (λ xs. d ∷ xs) (others_left id ds parts.1)
+
+-- so an add of a number that is not live leaves all others
+pub live-added : (history : List Event) (pass id : ℕ) (text : List ℕ) (slice column : ℕ) (bits : List Bit) → is_live id history ≡ false →
+    live (history ++ event.Add pass id text slice column bits ∷ []) ≡ live history ++ record { id = id; text = text; place = place history + 1 } ∷ []
+live-added history pass id text slice column bits absent =
+    let new : Document = record { id = id; text = text; place = place history + 1 } in
+    live-add history pass id text slice column bits ∙ ap (λ ds. ds ++ new ∷ []) (others_left id (live history) absent)
 
 -- the document with a number, where those with another number are left
 find-without : (id other : ℕ) (documents : List Document) →

@@ -7,7 +7,7 @@ use Rattle.std.specs.List.{AllPairs, Contains, find, list_any}
 use Rattle.std.specs.Prelude.{◌==◌}
 use Rattle.funnel_model.specs.declared.event.Event.{Event}
 use Rattle.funnel_model.specs.declared.event.Event.TheVariants as event
-use Rattle.funnel_model.specs.Events.{deletes, takes_off}
+use Rattle.funnel_model.specs.Events.{deletes_or_replaces, takes_off}
 use Rattle.funnel_model.specs.History.{Document, live, place}
 use Rattle.funnel_model.specs.Legal.{Limits, IsLegal}
 use Rattle.funnel_model.proofs.AnswerLemmas.{Contains-cons, Contains-filter, contains_first}
@@ -26,30 +26,31 @@ find_live id (d ∷ ds) some = by_first (d.id == id) refl (λ later. find_live i
       let found = rest (⊎_elim (λ here. absurd (both_ways (d.id == id) is here)) (λ later. later) (or_cases (d.id == id) (list_any (λ x. x.id == id) ds) some)) in
       (found.0, found.1, Contains-cons d ds found.0 found.2, found.3)
 
--- an event that deletes a document takes it off its column
-pub deletes_off : (id : ℕ) (e : Event) → takes_off id e ≡ false → deletes id e ≡ false
-deletes_off id (event.Del pass deleted) not_off = not_off
-deletes_off id _ not_off = refl
+-- an event that deletes or replaces a document takes it off its column
+ends_off : (id : ℕ) (e : Event) → takes_off id e ≡ false → deletes_or_replaces id e ≡ false
+ends_off id (event.Del pass deleted) not_off = not_off
+ends_off id (event.Add pass added text slice column bits) not_off = not_off
+ends_off id _ not_off = refl
 
-pub none_deletes : (id : ℕ) (events : List Event) → list_any (takes_off id) events ≡ false → list_any (deletes id) events ≡ false
-none_deletes id [] none = refl
-none_deletes id (e ∷ later) none =
+pub none_ends : (id : ℕ) (events : List Event) → list_any (takes_off id) events ≡ false → list_any (deletes_or_replaces id) events ≡ false
+none_ends id [] none = refl
+none_ends id (e ∷ later) none =
     let parts = or_parts (takes_off id e) (list_any (takes_off id) later) none in
-    or_from (deletes id e) (list_any (deletes id) later) (deletes_off id e parts.0) (none_deletes id later parts.1)
+    or_from (deletes_or_replaces id e) (list_any (deletes_or_replaces id) later) (ends_off id e parts.0) (none_ends id later parts.1)
 
--- a live document stays so with an event that doesn't delete it
-pub lives-push : (history : List Event) (e : Event) (d : Document) → Contains (live history) d → deletes d.id e ≡ false → Contains (live (history ++ e ∷ [])) d
+-- a live document stays so with an event that neither deletes nor replaces it
+pub lives-push : (history : List Event) (e : Event) (d : Document) → Contains (live history) d → deletes_or_replaces d.id e ≡ false → Contains (live (history ++ e ∷ [])) d
 lives-push history e d contained kept =
     subst (λ (ds : List Document). Contains ds d) (sym (live-push history e))
     (Contains-append_left (filter (survives e) (live history)) (added_at (place history) e) d
     (Contains-filter (survives e) (live history) d contained (ap not kept)))
 
 -- and with any number of them
-pub lives-later : (history later : List Event) (d : Document) → Contains (live history) d → list_any (deletes d.id) later ≡ false →
+pub lives-later : (history later : List Event) (d : Document) → Contains (live history) d → list_any (deletes_or_replaces d.id) later ≡ false →
     Contains (live (history ++ later)) d
 lives-later history [] d contained kept = subst (λ h. Contains (live h) d) (sym (append-nil history)) contained
 lives-later history (e ∷ later) d contained kept =
-    let parts = or_parts (deletes d.id e) (list_any (deletes d.id) later) kept in
+    let parts = or_parts (deletes_or_replaces d.id e) (list_any (deletes_or_replaces d.id) later) kept in
     subst (λ h. Contains (live h) d) (append_assoc history (e ∷ []) later)
     (lives-later (history ++ e ∷ []) later d (lives-push history e d contained parts.0) parts.1)
 
@@ -70,4 +71,4 @@ one_of_pairs ds d e apart in_d in_e same =
 -- in a legal history a number has one live document
 pub one_live : (limits : Limits) (history : List Event) (d e : Document) → IsLegal limits history → Contains (live history) d → Contains (live history) e →
     d.id ≡ e.id → d ≡ e
-one_live limits history d e legal in_d in_e same = one_of_pairs (live history) d e (live_once limits history legal) in_d in_e same
+one_live limits history d e legal in_d in_e same = one_of_pairs (live history) d e (live_once history) in_d in_e same

@@ -21,7 +21,7 @@ pub moved_is_legal : IsLegal paired moved
 moved_is_legal = (
   record { pass = omega arith; at_once = tt; rule = inl (record { idle = tt; in_range = omega arith; room = room_by 1 0 0 _ (omega arith) refl refl refl refl; lowest = λ lower in'. absurd (omega arith); next = refl }) },
   (
-    record { pass = omega arith; at_once = tt; rule = record { taken = refl; absent = refl; inside = one_bit 0 low_bit (record { from = omega arith; to = omega arith }); in_word = one_narrow low_bit (omega arith) } },
+    record { pass = omega arith; at_once = tt; rule = record { taken = refl; inside = one_bit 0 low_bit (record { from = omega arith; to = omega arith }); in_word = one_narrow low_bit (omega arith) } },
     (
       record { pass = omega arith; at_once = tt; rule = tt },
       (
@@ -154,7 +154,7 @@ pub added_again_is_legal : IsLegal paired added_again
 added_again_is_legal = goes_on_join paired [] recycled_twice (event.Take 0 0 0 ∷ event.Add 0 9 [] 0 0 [] ∷ []) recycled_twice_is_legal (
   takes_first recycled_twice recycled_twice_is_legal refl refl refl refl refl,
   (
-    record { pass = omega arith; at_once = tt; rule = record { taken = refl; absent = refl; inside = no_bits; in_word = none_wide } },
+    record { pass = omega arith; at_once = tt; rule = record { taken = refl; inside = no_bits; in_word = none_wide } },
     tt,
   ),
 )

@@ -47,20 +47,20 @@ moved_by-others pass (e ∷ later) silent =
 pub moved_by-push : (pass : ℕ) (history : List Event) (e : Event) → moved_by pass (history ++ e ∷ []) ≡ moved_by pass history + cond (pass_of e == pass && moves e) 1 0
 moved_by-push pass history e = sum_by_push (λ x. cond (pass_of x == pass && moves x) 1 0) history e
 
--- an add moves few, and another call none
+-- an add and a put move few, and another call none
 pub adds_move_few : (limits : Limits) (pass : ℕ) (before after : List Event) (id : ℕ) (text : List ℕ) (given : Reply) → Step limits pass before after (call.Add id text) given →
     moved_by pass after ≤ moved_by pass before + 16
 adds_move_few limits pass before after id text given step = let few = step.few_moves in omega (arith, few)
 
-pub others_move_none : (limits : Limits) (pass : ℕ) (before after : List Event) (asked : Call) (given : Reply) → ((id : ℕ) (text : List ℕ) → asked ≡ call.Add id text → ⊥) →
+pub puts_move_few : (limits : Limits) (pass : ℕ) (before after : List Event) (id : ℕ) (text : List ℕ) (given : Reply) → Step limits pass before after (call.Put id text) given →
+    moved_by pass after ≤ moved_by pass before + 16
+puts_move_few limits pass before after id text given step = let few = step.few_moves in omega (arith, few)
+
+pub others_move_none : (limits : Limits) (pass : ℕ) (before after : List Event) (asked : Call) (given : Reply) →
+    ((id : ℕ) (text : List ℕ) → (asked ≡ call.Add id text → ⊥) × (asked ≡ call.Put id text → ⊥)) →
     Step limits pass before after asked given → moved_by pass after ≤ moved_by pass before
-others_move_none limits pass before after asked given no_add step = let few = step.few_moves in let none = none_for asked no_add in omega (arith, few, none) where
-  none_for : (other : Call) → ((id : ℕ) (text : List ℕ) → other ≡ call.Add id text → ⊥) → most_moves other ≡ 0
-  none_for (call.Add id text) other = absurd (other id text refl)
-  none_for (call.Delete id) other = refl
-  none_for (call.Find query) other = refl
-  none_for (call.Query expr) other = refl
-  none_for call.Place other = refl
-  none_for (call.Journal from) other = refl
-  none_for call.Recycle other = refl
-  none_for (call.Tune config) other = refl
+others_move_none limits pass before after asked given neither step = let few = step.few_moves in let none = none_for asked neither in omega (arith, few, none) where
+  none_for : (other : Call) → ((id : ℕ) (text : List ℕ) → (other ≡ call.Add id text → ⊥) × (other ≡ call.Put id text → ⊥)) → most_moves other ≡ 0
+  none_for (call.Add id text) neither = absurd ((neither id text).0 refl)
+  none_for (call.Put id text) neither = absurd ((neither id text).1 refl)
+  none_for _ neither = refl

@@ -16,7 +16,7 @@ use Rattle.funnel_model.specs.Tokens.{Guards, IsGuarded}
 use Rattle.funnel_model.proofs.Blocks.{guards_or_not, least_below}
 use Rattle.funnel_model.proofs.Claims.{claimed_by_count, unclaimed_by_count}
 use Rattle.funnel_model.proofs.Histories.{allowed_within}
-use Rattle.funnel_model.proofs.ReplyLemmas.{retired_cases}
+use Rattle.funnel_model.proofs.NumberLemmas.{retired_cases}
 use Rattle.funnel_model.proofs.Retirement.{retired_at_some}
 
 -- a column of the slice is unclaimed or all are claimed
@@ -122,12 +122,12 @@ pub allowed_by : (limits : Limits) (history : List Event) (e : Event) → pass_o
 allowed_by limits history e in' none rule = record { pass = in'; at_once = subst (λ o. IfSome o (λ next. e ≡ next)) (sym none) tt; rule = rule }
 
 module _ (limits : Limits) (history : List Event) (pass : ℕ) (legal : IsLegal limits history) (in' : pass < limits.passes) (none : awaited history ≡ None) where
-  -- an idle pass's add takes a column, clears a slice or is refused
-  pub add_begins : (id : ℕ) (text : List ℕ) → IsIdle pass history →
+  -- an idle pass takes a column or clears a slice, or the engine is full
+  takes_or_clears : IsIdle pass history →
       ((slice : ℕ) × (column : ℕ) × IsAllowed limits history (event.Take pass slice column))
       ⊎ ((slice : ℕ) × IsAllowed limits history (event.Clear pass slice))
-      ⊎ IsAllowed limits history (event.No pass (call.Add id text))
-  add_begins id text idle =
+      ⊎ IsFull limits history
+  takes_or_clears idle =
       ⊎_elim
       (λ found. inl (
         found.0,
@@ -140,10 +140,36 @@ module _ (limits : Limits) (history : List Event) (pass : ℕ) (legal : IsLegal 
         found.0,
         allowed_by limits history (event.Clear pass found.0) in' none (record { idle = idle; in_range = found.1; can_clear = found.2; lowest = found.3 }),
       )))
-      (λ none_can. inr (inr (allowed_by limits history (event.No pass (call.Add id text)) in' none
-      (record { idle = idle; refused = inr (full_by limits history legal no_room none_can) }))))
+      (λ none_can. inr (inr (full_by limits history legal no_room none_can)))
       (clear_or_guarded limits history legal))
       (least_below (HasRoom limits.columns history) (room_cases limits history legal) limits.slices)
+
+  -- so its add and its put take a column, clear a slice or are refused
+  pub add_begins : (id : ℕ) (text : List ℕ) → IsIdle pass history →
+      ((slice : ℕ) × (column : ℕ) × IsAllowed limits history (event.Take pass slice column))
+      ⊎ ((slice : ℕ) × IsAllowed limits history (event.Clear pass slice))
+      ⊎ IsAllowed limits history (event.No pass (call.Add id text))
+  add_begins id text idle =
+      ⊎_elim
+      (λ takes. inl takes)
+      (λ rest. ⊎_elim
+      (λ clears. inr (inl clears))
+      (λ full. inr (inr (allowed_by limits history (event.No pass (call.Add id text)) in' none (record { idle = idle; refused = inr full }))))
+      rest)
+      (takes_or_clears idle)
+
+  pub put_begins : (id : ℕ) (text : List ℕ) → IsIdle pass history →
+      ((slice : ℕ) × (column : ℕ) × IsAllowed limits history (event.Take pass slice column))
+      ⊎ ((slice : ℕ) × IsAllowed limits history (event.Clear pass slice))
+      ⊎ IsAllowed limits history (event.No pass (call.Put id text))
+  put_begins id text idle =
+      ⊎_elim
+      (λ takes. inl takes)
+      (λ rest. ⊎_elim
+      (λ clears. inr (inl clears))
+      (λ full. inr (inr (allowed_by limits history (event.No pass (call.Put id text)) in' none (record { idle = idle; refused = full }))))
+      rest)
+      (takes_or_clears idle)
 
   -- its delete commits or is refused
   pub delete_begins : (id : ℕ) → IsIdle pass history →
@@ -165,14 +191,9 @@ module _ (limits : Limits) (history : List Event) (pass : ℕ) (legal : IsLegal 
       (λ none_can. inr (allowed_by limits history (event.No pass call.Recycle) in' none (record { idle = idle; refused = none_can })))
       (clear_or_guarded limits history legal)
 
-  -- and a pass that took a column adds a document there or drops it
+  -- and a pass that took a column adds a document there
   pub take_ends : (slice column id : ℕ) (text : List ℕ) (bits : List Bit) → last_by pass history ≡ Some (event.Take pass slice column) →
       All (λ b. IsInSlice limits.slice_words slice b.word) bits → All (λ (b : Bit). b.bit < 64) bits →
-      IsAllowed limits history (event.Add pass id text slice column bits) ⊎ IsAllowed limits history (event.Drop pass id text slice column)
-  take_ends slice column id text bits taken inside in_word = by_live (is_live id history) refl where
-    by_live : (b : Bool) → is_live id history ≡ b →
-        IsAllowed limits history (event.Add pass id text slice column bits) ⊎ IsAllowed limits history (event.Drop pass id text slice column)
-    by_live true present = inr (allowed_by limits history (event.Drop pass id text slice column) in' none (record { taken = taken; present = present }))
-    by_live false absent =
-        inl (allowed_by limits history (event.Add pass id text slice column bits) in' none
-        (record { taken = taken; absent = absent; inside = inside; in_word = in_word }))
+      IsAllowed limits history (event.Add pass id text slice column bits)
+  take_ends slice column id text bits taken inside in_word =
+      allowed_by limits history (event.Add pass id text slice column bits) in' none (record { taken = taken; inside = inside; in_word = in_word })

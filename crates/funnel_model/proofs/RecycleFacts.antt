@@ -25,11 +25,11 @@ filled_goes_on = (
   (
     record { pass = omega arith; at_once = tt; rule = inl (record { idle = refl; in_range = omega arith; room = room_by 1 0 0 _ (omega arith) refl refl refl refl; lowest = λ lower in'. absurd (omega arith); next = refl }) },
     (
-      record { pass = omega arith; at_once = tt; rule = record { taken = refl; absent = refl; inside = one_bit 0 low_bit (record { from = omega arith; to = omega arith }); in_word = one_narrow low_bit (omega arith) } },
+      record { pass = omega arith; at_once = tt; rule = record { taken = refl; inside = one_bit 0 low_bit (record { from = omega arith; to = omega arith }); in_word = one_narrow low_bit (omega arith) } },
       (
         record { pass = omega arith; at_once = tt; rule = inl (record { idle = refl; in_range = omega arith; room = room_by 1 1 0 _ (omega arith) refl refl refl refl; lowest = one_slice _ (no_room _ 0 refl); next = refl }) },
         (
-          record { pass = omega arith; at_once = tt; rule = record { taken = refl; absent = refl; inside = one_bit 1 high_bit (record { from = omega arith; to = omega arith }); in_word = one_narrow high_bit (omega arith) } },
+          record { pass = omega arith; at_once = tt; rule = record { taken = refl; inside = one_bit 1 high_bit (record { from = omega arith; to = omega arith }); in_word = one_narrow high_bit (omega arith) } },
           tt,
         ),
       ),
@@ -161,7 +161,7 @@ together_is_legal = goes_on_join paired [] clearing (event.Take 0 0 0 ∷ event.
   (
     record { pass = omega arith; at_once = tt; rule = record { cleared = refl } },
     (
-      record { pass = omega arith; at_once = tt; rule = record { taken = refl; absent = refl; inside = no_bits; in_word = none_wide } },
+      record { pass = omega arith; at_once = tt; rule = record { taken = refl; inside = no_bits; in_word = none_wide } },
       tt,
     ),
   ),

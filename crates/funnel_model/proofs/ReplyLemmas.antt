@@ -15,26 +15,15 @@ use Rattle.funnel_model.specs.declared.reply.Reply.TheVariants as reply
 use Rattle.funnel_model.specs.Blocks.{IsLowestGuard}
 use Rattle.funnel_model.specs.declared.config.Config.{Config}
 use Rattle.funnel_model.specs.Events.{call_of, tuning_of}
-use Rattle.funnel_model.specs.History.{answer, base, commits_after, is_live, live, live_place, place}
+use Rattle.funnel_model.specs.declared.stats.Stats.{Stats}
+use Rattle.funnel_model.specs.History.{Document, answer, base, commits_after, document_with, is_live, live, live_place, place}
 use Rattle.funnel_model.specs.Legal.{Limits, IsAllowed, IsFull, IsLegal, IsRefused, NoneCanClear}
-use Rattle.funnel_model.specs.Slices.{IsRetired, is_clearing}
-use Rattle.funnel_model.specs.Steps.{IsLowestGuarded, IsReply, IsReplyToRead, IsReplyToRecycle, IsReplyToRefused, NoneRetired}
+use Rattle.funnel_model.specs.Slices.{IsRetired}
+use Rattle.funnel_model.specs.Steps.{IsLowestGuarded, IsReply, IsReplyToRead, IsReplyToRecycle, IsReplyToRefused, IsReplyToStats, NoneRetired, place_told, text_told}
 use Rattle.funnel_model.specs.Tunings.{tunings}
 use Rattle.funnel_model.proofs.Blocks.{least_below, lowest_guard, one_guard, one_lowest}
 use Rattle.funnel_model.proofs.LiveLemmas.{is_live-from_place}
-use Rattle.funnel_model.proofs.Retirement.{all_over_cases}
-
--- whether a slice is retired in a legal history
-pub retired_cases : (limits : Limits) (history : List Event) → IsLegal limits history → (slice : ℕ) →
-    IsRetired limits.columns slice history ⊎ (IsRetired limits.columns slice history → ⊥)
-retired_cases limits history legal slice = by_clearing (is_clearing slice history) refl where
-  by_clearing : (b : Bool) → is_clearing slice history ≡ b → IsRetired limits.columns slice history ⊎ (IsRetired limits.columns slice history → ⊥)
-  by_clearing true clearing = inr (λ retired. both_ways (is_clearing slice history) retired.not_clearing clearing)
-  by_clearing false open' =
-      ⊎_elim
-      (λ over. inl (record { over = over; not_clearing = open' }))
-      (λ not_over. inr (λ retired. not_over retired.over))
-      (all_over_cases limits slice history legal limits.columns)
+use Rattle.funnel_model.proofs.NumberLemmas.{one_stats, retired_cases, some_stats}
 
 -- a recycle that may be refused has a reply
 recycle_reply : (limits : Limits) (history : List Event) → IsLegal limits history → NoneCanClear limits history →
@@ -55,6 +44,7 @@ refused_reply : (limits : Limits) (history : List Event) (asked : Call) → IsLe
     (given : Reply) × IsReplyToRefused limits history asked given
 refused_reply limits history (call.Add id text) legal refused =
     (option_map_or reply.Present (live_place id history) reply.Full, refl)
+refused_reply limits history (call.Put id text) legal refused = (reply.Full, refl)
 refused_reply limits history (call.Delete id) legal refused = (reply.Absent, refl)
 refused_reply limits history call.Recycle legal refused = recycle_reply limits history legal refused
 refused_reply limits history asked legal refused = absurd refused
@@ -77,7 +67,8 @@ dropped_at None given is = cc
 -- each event that is allowed and answers a call has a reply
 pub has_reply : (limits : Limits) (history : List Event) (e : Event) (asked : Call) → IsLegal limits history → IsAllowed limits history e →
     call_of e ≡ Some asked → (given : Reply) × IsReply limits history e given
-has_reply limits history (event.Add pass id text slice column bits) asked legal allowed is = (reply.Added (place history + 1), refl)
+has_reply limits history (event.Add pass id text slice column bits) asked legal allowed is =
+    (place_told (is_live id history) (place history + 1), refl)
 has_reply limits history (event.Drop pass id text slice column) asked legal allowed is =
     dropped_reply id history (live_place id history) refl allowed.rule.present
 has_reply limits history (event.Del pass id) asked legal allowed is = (reply.Deleted (place history + 1), refl)
@@ -91,6 +82,9 @@ has_reply limits history (event.Read pass (call.Journal from)) asked legal allow
   cond (nat_lt from (base limits.commits history)) (reply.Trimmed (base limits.commits history)) (reply.Commits (commits_after history from)),
   refl,
 )
+has_reply limits history (event.Read pass (call.Get id)) asked legal allowed is = (text_told (document_with id history), refl)
+has_reply limits history (event.Read pass call.Stats) asked legal allowed is =
+    let some = some_stats limits history legal in (reply.Stats some.0, some.1)
 has_reply limits history (event.Read pass _) asked legal allowed is = absurd allowed.rule.reads
 has_reply limits history _ asked legal allowed is = cc
 
@@ -121,9 +115,16 @@ one_recycle_reply limits history given other is also = absurd is
 one_refused_reply : (limits : Limits) (history : List Event) (asked : Call) (given other : Reply) → IsReplyToRefused limits history asked given →
     IsReplyToRefused limits history asked other → given ≡ other
 one_refused_reply limits history (call.Add id text) given other is also = is ∙ sym also
+one_refused_reply limits history (call.Put id text) given other is also = is ∙ sym also
 one_refused_reply limits history (call.Delete id) given other is also = is ∙ sym also
 one_refused_reply limits history call.Recycle given other is also = one_recycle_reply limits history given other is also
 one_refused_reply limits history asked given other is also = absurd is
+
+-- the numbers of the engine are told in one way
+one_stats_reply : (limits : Limits) (history : List Event) (given other : Reply) → IsReplyToStats limits history given → IsReplyToStats limits history other → given ≡ other
+one_stats_reply limits history (reply.Stats stats) (reply.Stats others) is also = ap reply.Stats (one_stats limits history stats others is also)
+one_stats_reply limits history (reply.Stats stats) other is also = absurd also
+one_stats_reply limits history given other is also = absurd is
 
 -- an event has one reply
 pub one_reply : (limits : Limits) (history : List Event) (e : Event) (given other : Reply) → IsReply limits history e given → IsReply limits history e other → given ≡ other
@@ -136,6 +137,8 @@ one_reply limits history (event.No pass asked) given other is also = one_refused
 one_reply limits history (event.Tune pass config) given other is also = is ∙ sym also
 one_reply limits history (event.Read pass call.Place) given other is also = is ∙ sym also
 one_reply limits history (event.Read pass (call.Journal from)) given other is also = is ∙ sym also
+one_reply limits history (event.Read pass (call.Get id)) given other is also = is ∙ sym also
+one_reply limits history (event.Read pass call.Stats) given other is also = one_stats_reply limits history given other is also
 one_reply limits history (event.Read pass _) given other is also = absurd is
 one_reply limits history _ given other is also = absurd is
 
@@ -165,6 +168,24 @@ full_of : (o : Option ℕ) → reply.Full ≡ option_map_or reply.Present o repl
 full_of (Some m) is = cc
 full_of None is = refl
 
+-- what no reply to an add that is done, to a get or to stats is, no such event tells
+not_placed : (test : Reply → Bool) (history : List Event) (id : ℕ) (given : Reply) → test given ≡ true →
+    ((n : ℕ) → (test (reply.Added n) ≡ false) × (test (reply.Replaced n) ≡ false)) → given ≡ place_told (is_live id history) (place history + 1) → ⊥
+not_placed test history id given so none is = both_ways (test given) (ap test is ∙ by (is_live id history) (place history + 1)) so where
+  by : (b : Bool) (n : ℕ) → test (place_told b n) ≡ false
+  by true n = (none n).1
+  by false n = (none n).0
+
+not_text : (test : Reply → Bool) (o : Option Document) (given : Reply) → test given ≡ true →
+    ((n : ℕ) (text : List ℕ) → test (reply.Text n text) ≡ false) → test reply.Absent ≡ false → given ≡ text_told o → ⊥
+not_text test (Some d) given so no_text not_absent is = both_ways (test given) (ap test is ∙ no_text d.place d.text) so
+not_text test None given so no_text not_absent is = both_ways (test given) (ap test is ∙ not_absent) so
+
+not_stats : (test : Reply → Bool) (limits : Limits) (history : List Event) (given : Reply) → test given ≡ true →
+    ((stats : Stats) → test (reply.Stats stats) ≡ false) → IsReplyToStats limits history given → ⊥
+not_stats test limits history (reply.Stats stats) so none is = both_ways (test (reply.Stats stats)) (none stats) so
+not_stats test limits history given so none is = absurd is
+
 -- whether a reply is one to a journal
 abbrev pub answers_journal : Reply → Bool
 answers_journal (reply.Trimmed n) = true
@@ -181,6 +202,23 @@ not_journal limits history from given other is =
       told true n commits = refl
       told false n commits = refl
 
+-- whether a reply is one of these
+abbrev is_trimmed : Reply → Bool
+is_trimmed (reply.Trimmed n) = true
+is_trimmed _ = false
+
+abbrev is_full : Reply → Bool
+is_full reply.Full = true
+is_full _ = false
+
+abbrev is_absent : Reply → Bool
+is_absent reply.Absent = true
+is_absent _ = false
+
+abbrev is_tuned : Reply → Bool
+is_tuned (reply.Tuned n) = true
+is_tuned _ = false
+
 -- Present tells the place of the live document's add
 pub present_cause : (limits : Limits) (history : List Event) (e : Event) (n : ℕ) → IsReply limits history e (reply.Present n) →
     (id : ℕ) × (text : List ℕ) × (call_of e ≡ Some (call.Add id text)) × (live_place id history ≡ Some n)
@@ -188,14 +226,17 @@ present_cause limits history (event.Drop pass id text slice column) n is =
     let at = dropped_at (live_place id history) (reply.Present n) is in
     let same : at.0 ≡ n = let told = at.2 in cc in (id, text, refl, at.1 ∙ ap Some same)
 present_cause limits history (event.No pass (call.Add id text)) n is = (id, text, refl, present_of (live_place id history) reply.Full n refl is)
+present_cause limits history (event.No pass (call.Put id text)) n is = cc
 present_cause limits history (event.No pass (call.Delete id)) n is = cc
 present_cause limits history (event.No pass _) n is = absurd is
 present_cause limits history (event.Opened pass slice alone) n is = let same = is.1 in cc
 present_cause limits history (event.Tune pass config) n is = cc
 present_cause limits history (event.Read pass call.Place) n is = cc
 present_cause limits history (event.Read pass (call.Journal from)) n is = absurd (not_journal limits history from (reply.Present n) refl is)
+present_cause limits history (event.Read pass (call.Get id)) n is = absurd (not_text is_present (document_with id history) (reply.Present n) refl (λ k text. refl) refl is)
+present_cause limits history (event.Read pass call.Stats) n is = absurd (not_stats is_present limits history (reply.Present n) refl (λ stats. refl) is)
 present_cause limits history (event.Read pass _) n is = absurd is
-present_cause limits history (event.Add pass id text slice column bits) n is = cc
+present_cause limits history (event.Add pass id text slice column bits) n is = absurd (not_placed is_present history id (reply.Present n) refl (λ k. (refl, refl)) is)
 present_cause limits history (event.Del pass id) n is = cc
 present_cause limits history (event.Find pass query) n is = cc
 present_cause limits history _ n is = absurd is
@@ -213,18 +254,21 @@ trimmed_cause limits history (event.Read pass (call.Journal from)) n is =
           (subst (λ m. from < m) (sym kept) (ltb-true from (base limits.commits history) below), kept)
       told false below same = cc
 trimmed_cause limits history (event.Read pass call.Place) n is = cc
+trimmed_cause limits history (event.Read pass (call.Get id)) n is = absurd (not_text is_trimmed (document_with id history) (reply.Trimmed n) refl (λ k text. refl) refl is)
+trimmed_cause limits history (event.Read pass call.Stats) n is = absurd (not_stats is_trimmed limits history (reply.Trimmed n) refl (λ stats. refl) is)
 trimmed_cause limits history (event.Read pass _) n is = absurd is
 trimmed_cause limits history (event.No pass (call.Add id text)) n is = absurd (not_add (live_place id history) is) where
   not_add : (o : Option ℕ) → reply.Trimmed n ≡ option_map_or reply.Present o reply.Full → ⊥
   not_add (Some m) same = cc
   not_add None same = cc
+trimmed_cause limits history (event.No pass (call.Put id text)) n is = cc
 trimmed_cause limits history (event.No pass (call.Delete id)) n is = cc
 trimmed_cause limits history (event.No pass call.Recycle) n is = absurd is
 trimmed_cause limits history (event.No pass _) n is = absurd is
 trimmed_cause limits history (event.Drop pass id text slice column) n is = let other = (dropped_at (live_place id history) (reply.Trimmed n) is).2 in cc
 trimmed_cause limits history (event.Opened pass slice alone) n is = let same = is.1 in cc
 trimmed_cause limits history (event.Tune pass config) n is = cc
-trimmed_cause limits history (event.Add pass id text slice column bits) n is = cc
+trimmed_cause limits history (event.Add pass id text slice column bits) n is = absurd (not_placed is_trimmed history id (reply.Trimmed n) refl (λ k. (refl, refl)) is)
 trimmed_cause limits history (event.Del pass id) n is = cc
 trimmed_cause limits history (event.Find pass query) n is = cc
 trimmed_cause limits history _ n is = absurd is
@@ -234,6 +278,7 @@ pub full_cause : (limits : Limits) (history : List Event) (e : Event) → IsAllo
 full_cause limits history (event.No pass (call.Add id text)) allowed is =
     let none = full_of (live_place id history) is in
     ⊎_elim (λ live'. absurd (both_ways (is_live id history) (live_by id history None none) live')) (λ full. full) allowed.rule.refused
+full_cause limits history (event.No pass (call.Put id text)) allowed is = allowed.rule.refused
 full_cause limits history (event.No pass (call.Delete id)) allowed is = cc
 full_cause limits history (event.No pass _) allowed is = absurd is
 full_cause limits history (event.Drop pass id text slice column) allowed is = let other = (dropped_at (live_place id history) reply.Full is).2 in cc
@@ -241,16 +286,24 @@ full_cause limits history (event.Opened pass slice alone) allowed is = let same 
 full_cause limits history (event.Tune pass config) allowed is = cc
 full_cause limits history (event.Read pass call.Place) allowed is = cc
 full_cause limits history (event.Read pass (call.Journal from)) allowed is = absurd (not_journal limits history from reply.Full refl is)
+full_cause limits history (event.Read pass (call.Get id)) allowed is = absurd (not_text is_full (document_with id history) reply.Full refl (λ k text. refl) refl is)
+full_cause limits history (event.Read pass call.Stats) allowed is = absurd (not_stats is_full limits history reply.Full refl (λ stats. refl) is)
 full_cause limits history (event.Read pass _) allowed is = absurd is
-full_cause limits history (event.Add pass id text slice column bits) allowed is = cc
+full_cause limits history (event.Add pass id text slice column bits) allowed is = absurd (not_placed is_full history id reply.Full refl (λ k. (refl, refl)) is)
 full_cause limits history (event.Del pass id) allowed is = cc
 full_cause limits history (event.Find pass query) allowed is = cc
 full_cause limits history _ allowed is = absurd is
 
--- Absent tells that a delete's number isn't live
+-- a number whose document isn't found is not live
+absent_of : (id : ℕ) (history : List Event) (o : Option Document) → document_with id history ≡ o → reply.Absent ≡ text_told o → is_live id history ≡ false
+absent_of id history (Some d) found is = cc
+absent_of id history None found is = live_by id history None (ap (option_map (λ (d : Document). d.place)) found)
+
+-- Absent tells that the number of a delete or a get isn't live
 pub absent_cause : (limits : Limits) (history : List Event) (e : Event) → IsAllowed limits history e → IsReply limits history e reply.Absent →
-    (pass : ℕ) × (id : ℕ) × (e ≡ event.No pass (call.Delete id)) × (is_live id history ≡ false)
-absent_cause limits history (event.No pass (call.Delete id)) allowed is = (pass, id, refl, allowed.rule.refused)
+    (pass : ℕ) × (id : ℕ) × ((e ≡ event.No pass (call.Delete id)) ⊎ (e ≡ event.Read pass (call.Get id))) × (is_live id history ≡ false)
+absent_cause limits history (event.No pass (call.Put id text)) allowed is = cc
+absent_cause limits history (event.No pass (call.Delete id)) allowed is = (pass, id, inl refl, allowed.rule.refused)
 absent_cause limits history (event.No pass (call.Add id text)) allowed is = absurd (not_add (live_place id history) is) where
   not_add : (o : Option ℕ) → reply.Absent ≡ option_map_or reply.Present o reply.Full → ⊥
   not_add (Some m) same = cc
@@ -261,8 +314,10 @@ absent_cause limits history (event.Opened pass slice alone) allowed is = let sam
 absent_cause limits history (event.Tune pass config) allowed is = cc
 absent_cause limits history (event.Read pass call.Place) allowed is = cc
 absent_cause limits history (event.Read pass (call.Journal from)) allowed is = absurd (not_journal limits history from reply.Absent refl is)
+absent_cause limits history (event.Read pass (call.Get id)) allowed is = (pass, id, inr refl, absent_of id history (document_with id history) refl is)
+absent_cause limits history (event.Read pass call.Stats) allowed is = absurd (not_stats is_absent limits history reply.Absent refl (λ stats. refl) is)
 absent_cause limits history (event.Read pass _) allowed is = absurd is
-absent_cause limits history (event.Add pass id text slice column bits) allowed is = cc
+absent_cause limits history (event.Add pass id text slice column bits) allowed is = absurd (not_placed is_absent history id reply.Absent refl (λ k. (refl, refl)) is)
 absent_cause limits history (event.Del pass id) allowed is = cc
 absent_cause limits history (event.Find pass query) allowed is = cc
 absent_cause limits history _ allowed is = absurd is
@@ -282,6 +337,7 @@ recycle_cause limits history (event.No pass (call.Add id text)) given refuses is
       not_add : (o : Option ℕ) → refuses_recycle (option_map_or reply.Present o reply.Full) ≡ false
       not_add (Some m) = refl
       not_add None = refl
+recycle_cause limits history (event.No pass (call.Put id text)) given refuses is = absurd (both_ways (refuses_recycle given) (ap refuses_recycle is) refuses)
 recycle_cause limits history (event.No pass (call.Delete id)) given refuses is = absurd (both_ways (refuses_recycle given) (ap refuses_recycle is) refuses)
 recycle_cause limits history (event.No pass _) given refuses is = absurd is
 recycle_cause limits history (event.Drop pass id text slice column) given refuses is =
@@ -295,8 +351,12 @@ recycle_cause limits history (event.Read pass (call.Journal from)) given refuses
       other reply.NothingRetired is' = refl
       other (reply.Guarded slice pass) is' = refl
       other _ is' = cc
+recycle_cause limits history (event.Read pass (call.Get id)) given refuses is =
+    absurd (not_text refuses_recycle (document_with id history) given refuses (λ k text. refl) refl is)
+recycle_cause limits history (event.Read pass call.Stats) given refuses is = absurd (not_stats refuses_recycle limits history given refuses (λ stats. refl) is)
 recycle_cause limits history (event.Read pass _) given refuses is = absurd is
-recycle_cause limits history (event.Add pass id text slice column bits) given refuses is = absurd (both_ways (refuses_recycle given) (ap refuses_recycle is) refuses)
+recycle_cause limits history (event.Add pass id text slice column bits) given refuses is =
+    absurd (not_placed refuses_recycle history id given refuses (λ k. (refl, refl)) is)
 recycle_cause limits history (event.Del pass id) given refuses is = absurd (both_ways (refuses_recycle given) (ap refuses_recycle is) refuses)
 recycle_cause limits history (event.Find pass query) given refuses is = absurd (both_ways (refuses_recycle given) (ap refuses_recycle is) refuses)
 recycle_cause limits history _ given refuses is = absurd is
@@ -334,17 +394,20 @@ tuned_cause limits history (event.Tune pass config) n is =
     (pass, config, refl, same ∙ sym (ap length (filter_map-append tuning_of history (event.Tune pass config ∷ [])) ∙ length-append (tunings history) (config ∷ [])))
 tuned_cause limits history (event.Read pass (call.Journal from)) n is = absurd (not_journal limits history from (reply.Tuned n) refl is)
 tuned_cause limits history (event.Read pass call.Place) n is = cc
+tuned_cause limits history (event.Read pass (call.Get id)) n is = absurd (not_text is_tuned (document_with id history) (reply.Tuned n) refl (λ k text. refl) refl is)
+tuned_cause limits history (event.Read pass call.Stats) n is = absurd (not_stats is_tuned limits history (reply.Tuned n) refl (λ stats. refl) is)
 tuned_cause limits history (event.Read pass _) n is = absurd is
 tuned_cause limits history (event.No pass (call.Add id text)) n is = absurd (not_add (live_place id history) is) where
   not_add : (o : Option ℕ) → reply.Tuned n ≡ option_map_or reply.Present o reply.Full → ⊥
   not_add (Some m) same = cc
   not_add None same = cc
+tuned_cause limits history (event.No pass (call.Put id text)) n is = cc
 tuned_cause limits history (event.No pass (call.Delete id)) n is = cc
 tuned_cause limits history (event.No pass call.Recycle) n is = absurd is
 tuned_cause limits history (event.No pass _) n is = absurd is
 tuned_cause limits history (event.Drop pass id text slice column) n is = let other = (dropped_at (live_place id history) (reply.Tuned n) is).2 in cc
 tuned_cause limits history (event.Opened pass slice alone) n is = let same = is.1 in cc
-tuned_cause limits history (event.Add pass id text slice column bits) n is = cc
+tuned_cause limits history (event.Add pass id text slice column bits) n is = absurd (not_placed is_tuned history id (reply.Tuned n) refl (λ k. (refl, refl)) is)
 tuned_cause limits history (event.Del pass id) n is = cc
 tuned_cause limits history (event.Find pass query) n is = cc
 tuned_cause limits history _ n is = absurd is

@@ -1,7 +1,6 @@
 -- How many columns of an engine are spare and ready, and that it is full where none is ready.
 use Rattle.std.proofs.Common.{◌≡◌, ℕ, zero, suc, ◌+◌, ◌<◌, ◌≤◌, ⊎_elim, Bool, true, false, cond, not, List, [], ◌∷◌, length, map, slice_index, sym, refl, ap, ◌∙◌, subst, arith, inl, inr}
 use Rattle.std.proofs.lemmas.Bool.{both_ways, cases_lt, cases_order, true_from_ne_false}
-use Rattle.std.proofs.lemmas.Bool.Decides.{same_from_decides}
 use Rattle.std.proofs.lemmas.List.FromFn.{get_or-map-range_with_len, length-map-range_with_len}
 use Rattle.std.proofs.lemmas.List.Sums.{sum_by-cons}
 use Rattle.std.specs.List.{count_by, range_with_len, sum}
@@ -16,9 +15,9 @@ use Rattle.funnel_model.specs.Tokens.{IsGuarded}
 use Rattle.funnel_model.proofs.ColumnStates.{state_of}
 use Rattle.funnel_model.proofs.ColumnsKept.{kept}
 use Rattle.funnel_model.proofs.Blocks.{least_below}
+use Rattle.funnel_model.proofs.NumberLemmas.{one_count, retired_cases}
 use Rattle.funnel_model.proofs.Progress.{guarded_cases, unclaimed_cases}
 use Rattle.funnel_model.proofs.Ranges.{counted_more, none_counted}
-use Rattle.funnel_model.proofs.ReplyLemmas.{retired_cases}
 
 last_fails : (m : ℕ) (b : Bool) → m + cond b 1 0 ≡ 0 → (m ≡ 0) × (b ≡ false)
 last_fails m true is = absurd (omega arith)
@@ -250,25 +249,15 @@ emptied_holds columns history slice held can =
     let passes = (holds.tells live_one.0 live_one.3).1 (Live live_one.1 live_one.2, live_one.4, tt) in
     let count = holds.count in
     ⊎_elim
-    (λ (none : held < 1). absurd (both_ways (holds.is_held live_one.0)
-    (none_by_count holds.is_held columns (omega arith) live_one.0 live_one.3) passes))
+    (λ (none : held < 1). absurd (both_ways (holds.test live_one.0)
+    (none_by_count holds.test columns (omega arith) live_one.0 live_one.3) passes))
     (λ (some : 1 ≤ held). some)
     (cases_lt held 1)
 
--- tests that agree count the same
-same_count : (p q : ℕ → Bool) (n : ℕ) → ((k : ℕ) → k < n → p k ≡ q k) → count_by p (range_with_len 0 n) ≡ count_by q (range_with_len 0 n)
-same_count p q zero same = refl
-same_count p q (suc n) same =
-    let before = same_count p q n (λ k below. same k (omega arith)) in
-    let last : cond {A = ℕ} (p n) 1 0 ≡ cond (q n) 1 0 = ap (λ b. cond {A = ℕ} b 1 0) (same n (omega arith)) in
-    omega (arith, counted_more p n, counted_more q n, before, last)
-
 -- a slice holds one number of columns
 pub one_held_count : (columns : ℕ) (history : List Event) (slice m n : ℕ) → HoldsColumns columns history slice m → HoldsColumns columns history slice n → m ≡ n
-one_held_count columns history slice m n is also =
-    is.count
-    ∙ same_count is.is_held also.is_held columns (λ k below. same_from_decides (is.is_held k) (also.is_held k) (is.tells k below) (also.tells k below))
-    ∙ sym also.count
+one_held_count columns history slice m n =
+    one_count columns (λ column. (state : ColumnState) × IsInState history slice column state × IsHeld state) m n
 
 -- so the slice out of which documents are moved next has one number of held columns
 pub one_source_held : (limits : Limits) (history : List Event) (slice other held also : ℕ) → IsSource limits history slice held →
@@ -307,7 +296,7 @@ pub holds_by_states : (limits : Limits) (history : List Event) (slice : ℕ) →
 holds_by_states limits history slice legal =
     let all = kept limits history legal in
     record {
-      is_held = λ column. is_held_state (state_of slice column history);
+      test = λ column. is_held_state (state_of slice column history);
       tells = λ column in'. (
         λ is. (state_of slice column history, all.holds slice column, held_by_test (state_of slice column history) is),
         λ held. test_by_held (state_of slice column history) (subst IsHeld (all.only slice column held.0 held.1) held.2),

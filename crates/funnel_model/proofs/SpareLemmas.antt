@@ -21,22 +21,31 @@ any_right p xs ys some = list_any-append p xs ys ∙ ap (λ b. list_any p xs || 
 any_head : {A : Type 0} (p : A → Bool) (x : A) (xs : List A) → p x ≡ true → list_any p (x ∷ xs) ≡ true
 any_head p x xs passes = ap (λ b. b || list_any p xs) passes
 
--- whether a document that was put on the column is taken off one somewhere in the history
-abbrev pub deleted_somewhere : ℕ → ℕ → List Event → Bool
-deleted_somewhere slice column history = list_any (λ e. option_map_or (λ id. list_any (takes_off id) history) (put_on slice column e) false) history
+-- whether the later events take the document off its column that the event put on this one
+abbrev taken_off_after : ℕ → ℕ → Event → List Event → Bool
+taken_off_after slice column e later = option_map_or (λ id. list_any (takes_off id) later) (put_on slice column e) false
 
--- it is where the column is deleted
+-- whether a document that was put on the column is taken off one later in the history
+abbrev pub deleted_somewhere : ℕ → ℕ → List Event → Bool
+deleted_somewhere slice column [] = false
+deleted_somewhere slice column (e ∷ later) = taken_off_after slice column e later || deleted_somewhere slice column later
+
+-- it is where that is so of one event
+somewhere_after : (slice column : ℕ) (earlier : List Event) (e : Event) (later : List Event) → taken_off_after slice column e later ≡ true →
+    deleted_somewhere slice column (earlier ++ e ∷ later) ≡ true
+somewhere_after slice column [] e later gone = ap (λ b. b || deleted_somewhere slice column later) gone
+somewhere_after slice column (x ∷ earlier) e later gone =
+    ap (λ b. taken_off_after slice column x (earlier ++ e ∷ later) || b) (somewhere_after slice column earlier e later gone)
+    ∙ or-true (taken_off_after slice column x (earlier ++ e ∷ later))
+
+-- and so where the column is deleted
 pub deleted_is_somewhere : (history : List Event) (slice column : ℕ) (d : Document) (since until : ℕ) → IsDeletedOn history slice column d since until → deleted_somewhere slice column history ≡ true
 deleted_is_somewhere history slice column d since until is =
-    let later = is.event ∷ is.later in
-    let found = λ (e : Event). option_map_or (λ id. list_any (takes_off id) history) (put_on slice column e) false in
-    let gone : list_any (takes_off d.id) history ≡ true =
-    ap (list_any (takes_off d.id)) is.put.whole
-    ∙ any_right (takes_off d.id) is.put.earlier (is.put.event ∷ (is.between ++ later))
-    (any_right (takes_off d.id) (is.put.event ∷ is.between) later (any_head (takes_off d.id) is.event is.later is.takes_it_off)) in
-    ap (list_any found) is.put.whole
-    ∙ any_right found is.put.earlier (is.put.event ∷ (is.between ++ later))
-    (any_head found is.put.event (is.between ++ later) (ap (λ o. option_map_or (λ id. list_any (takes_off id) history) o false) is.put.puts ∙ gone))
+    let later = is.between ++ is.event ∷ is.later in
+    ap (deleted_somewhere slice column) is.put.whole
+    ∙ somewhere_after slice column is.put.earlier is.put.event later
+    (ap (λ o. option_map_or (λ id. list_any (takes_off id) later) o false) is.put.puts
+    ∙ any_right (takes_off d.id) is.between (is.event ∷ is.later) (any_head (takes_off d.id) is.event is.later is.takes_it_off))
 
 -- a state of a column that is over needs a drop or a delete
 over_by : (history : List Event) (slice column : ℕ) (state : ColumnState) → list_any (drops_on slice column) (span slice history) ≡ false →

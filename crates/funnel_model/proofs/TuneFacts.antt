@@ -16,13 +16,13 @@ once_goes_on : (second : Config) → GoesOn paired [] (tuned_once second)
 once_goes_on second = (
   record { pass = omega arith; at_once = tt; rule = inl (record { idle = tt; in_range = omega arith; room = room_by 1 0 0 _ (omega arith) refl refl refl refl; lowest = λ lower in'. absurd (omega arith); next = refl }) },
   (
-    record { pass = omega arith; at_once = tt; rule = record { taken = refl; absent = refl; inside = no_bits; in_word = none_wide } },
+    record { pass = omega arith; at_once = tt; rule = record { taken = refl; inside = no_bits; in_word = none_wide } },
     (
       record { pass = omega arith; at_once = tt; rule = tt },
       (
         record { pass = omega arith; at_once = tt; rule = inl (record { idle = refl; in_range = omega arith; room = room_by 1 1 0 _ (omega arith) refl refl refl refl; lowest = one_slice _ (no_room _ 0 refl); next = refl }) },
         (
-          record { pass = omega arith; at_once = tt; rule = record { taken = refl; absent = refl; inside = no_bits_in 1; in_word = none_wide } },
+          record { pass = omega arith; at_once = tt; rule = record { taken = refl; inside = no_bits_in 1; in_word = none_wide } },
           (
             record { pass = omega arith; at_once = tt; rule = record { idle = refl; present = refl } },
             tt,
@@ -62,7 +62,7 @@ used_is_legal second third =
     goes_on_join paired [] before (event.Take 0 0 0 ∷ event.Add 0 9 [] 0 0 [] ∷ event.Del 0 9 ∷ []) legal (
       takes_first before legal refl refl refl refl refl,
       (
-        record { pass = omega arith; at_once = tt; rule = record { taken = refl; absent = refl; inside = no_bits; in_word = none_wide } },
+        record { pass = omega arith; at_once = tt; rule = record { taken = refl; inside = no_bits; in_word = none_wide } },
         (
           record { pass = omega arith; at_once = tt; rule = record { idle = refl; present = refl } },
           tt,

@@ -35,14 +35,17 @@ abbrev pub added_by : Event → Option (ℕ × List ℕ)
 added_by (event.Add pass id text slice column bits) = Some (id, text)
 added_by _ = None
 
--- whether the event deletes the document with this number
-abbrev pub deletes : ℕ → Event → Bool
-deletes id (event.Del pass deleted) = deleted == id
-deletes id _ = false
+-- whether the event deletes the document with this number, or adds another one in its place
+abbrev pub deletes_or_replaces : ℕ → Event → Bool
+deletes_or_replaces id (event.Del pass deleted) = deleted == id
+deletes_or_replaces id (event.Add pass added text slice column bits) = added == id
+deletes_or_replaces id _ = false
 
--- whether the event takes the document with this number off its column: it deletes the document, or moves it to another column
+-- whether the event takes the document with this number off its column: it deletes the document, adds another one in its place, or moves it
+-- to another column
 abbrev pub takes_off : ℕ → Event → Bool
 takes_off id (event.Del pass deleted) = deleted == id
+takes_off id (event.Add pass added text slice column bits) = added == id
 takes_off id (event.Move pass moved slice column bits) = moved == id
 takes_off id _ = false
 
@@ -52,18 +55,13 @@ moves (event.Move pass id slice column bits) = true
 moves (event.Void pass slice column) = true
 moves _ = false
 
--- whether the event deletes a document, or drops one that was to be added
-abbrev pub deletes_or_drops : Event → Bool
-deletes_or_drops (event.Del pass id) = true
-deletes_or_drops (event.Drop pass id text slice column) = true
-deletes_or_drops _ = false
-
 -- the configuration that the event gives, if it gives one
 abbrev pub tuning_of : Event → Option Config
 tuning_of (event.Tune pass config) = Some config
 tuning_of _ = None
 
--- the client's call that the event answers, a refused one included; the other events of a call answer none
+-- the client's call that the event answers, a refused one included; the other events of a call answer none. A document that a put added
+-- is answered as an add
 abbrev pub call_of : Event → Option Call
 call_of (event.Add pass id text slice column bits) = Some (call.Add id text)
 call_of (event.Drop pass id text slice column) = Some (call.Add id text)

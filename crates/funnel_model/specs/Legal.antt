@@ -61,11 +61,10 @@ pub record MayTakeOpened (limits : Limits) (history : List Event) (pass slice co
   pub first : column ≡ 0
   pub in_range : column < limits.columns
 
--- a pass may add a document to the column that it just took: its number is not live, and its bits are bits of the slice's words of
+-- a pass may add a document to the column that it just took, also where its number is live; its bits are bits of the slice's words of
 -- 64 bits
-pub record MayAdd (limits : Limits) (history : List Event) (pass id slice column : ℕ) (bits : List Bit) : Type 0 where
+pub record MayAdd (limits : Limits) (history : List Event) (pass slice column : ℕ) (bits : List Bit) : Type 0 where
   pub taken : last_by pass history ≡ Some (event.Take pass slice column)
-  pub absent : is_live id history ≡ false
   pub inside : All (λ b. IsInSlice limits.slice_words slice b.word) bits
   pub in_word : All (λ b. b.bit < 64) bits
 
@@ -116,10 +115,11 @@ abbrev pub NoneCanClear : Limits → List Event → Type 0
 NoneCanClear limits history =
     (slice : ℕ) → slice < limits.slices → IsRetired limits.columns slice history → IsGuarded limits.columns history slice
 
--- an add may be refused where its number is live, and where the engine is full; a delete where its number is not live; a recycle
--- where no slice can be cleared; other calls never
+-- an add may be refused where its number is live, and where the engine is full; a put where the engine is full; a delete where its number
+-- is not live; a recycle where no slice can be cleared; other calls never
 abbrev pub IsRefused : Limits → List Event → Call → Type 0
 IsRefused limits history (call.Add id text) = (is_live id history ≡ true) ⊎ IsFull limits history
+IsRefused limits history (call.Put id text) = IsFull limits history
 IsRefused limits history (call.Delete id) = is_live id history ≡ false
 IsRefused limits history call.Recycle = NoneCanClear limits history
 IsRefused limits history _ = ⊥
@@ -133,6 +133,8 @@ pub record MayRefuse (limits : Limits) (history : List Event) (pass : ℕ) (aske
 abbrev pub OnlyReads : Call → Type 0
 OnlyReads call.Place = Unit {0}
 OnlyReads (call.Journal from) = Unit {0}
+OnlyReads (call.Get id) = Unit {0}
+OnlyReads call.Stats = Unit {0}
 OnlyReads _ = ⊥
 
 -- an idle pass may make a call that only reads
@@ -144,7 +146,7 @@ pub record MayReadOff (history : List Event) (pass : ℕ) (asked : Call) : Type 
 abbrev pub MayFollow : Limits → List Event → Event → Type 0
 MayFollow limits history (event.Take pass slice column) =
     MayTake limits history pass slice column ⊎ MayTakeOpened limits history pass slice column
-MayFollow limits history (event.Add pass id text slice column bits) = MayAdd limits history pass id slice column bits
+MayFollow limits history (event.Add pass id text slice column bits) = MayAdd limits history pass slice column bits
 MayFollow limits history (event.Drop pass id text slice column) = MayDrop history pass id slice column
 MayFollow limits history (event.Del pass id) = MayDelete history pass id
 MayFollow limits history (event.Move pass id slice column bits) = MayMove limits history pass id slice column bits

@@ -7,6 +7,8 @@ pub mod History
 pub mod Legal
 pub mod Listed
 pub mod MoveExample
+pub mod Numbers
+pub mod PutExample
 pub mod RecycleExample
 pub mod Queries
 pub mod Readings

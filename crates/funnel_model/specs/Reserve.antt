@@ -41,12 +41,16 @@ HasSpareColumns limits history n = IsTotal limits.slices (HasSpareIn limits.colu
 abbrev pub HasReadyColumns : Limits → List Event → ℕ → Type 0
 HasReadyColumns limits history n = IsTotal limits.slices (HasReadyIn limits.columns history) n
 
--- so many columns of the slice are held, which means live or pending: they are counted by a test that tells of each column whether it is
-pub record HoldsColumns (columns : ℕ) (history : List Event) (slice n : ℕ) : Type 0 where
-  pub is_held : ℕ → Bool
-  pub tells : (column : ℕ) → column < columns →
-      (is_held column ≡ true) ↔ ((state : ColumnState) × IsInState history slice column state × IsHeld state)
-  pub count : n ≡ count_by is_held (range_with_len 0 columns)
+-- so many of the numbers below this one are so: they are counted by a test that tells of each whether it is
+pub record IsCount (below : ℕ) (IsSo : ℕ → Type 0) (n : ℕ) : Type 0 where
+  pub test : ℕ → Bool
+  pub tells : (k : ℕ) → k < below → (test k ≡ true) ↔ IsSo k
+  pub count : n ≡ count_by test (range_with_len 0 below)
+
+-- so many columns of the slice are held, which means live or pending
+abbrev pub HoldsColumns : ℕ → List Event → ℕ → ℕ → Type 0
+HoldsColumns columns history slice n =
+    IsCount columns (λ column. (state : ColumnState) × IsInState history slice column state × IsHeld state) n
 
 -- documents may be moved out of the slice, of which so many columns are held: it is filled, one of its columns is live, and not all of
 -- them are held

@@ -64,7 +64,8 @@ pub record IsDeletedOn (history : List Event) (slice column : ℕ) (document : D
   pub count : until ≡ since + length between + 1
 
 -- The states of a column. It is pending by the pass that claimed it. It is live or deleted with its document and the number of the event
--- that put it there. It is deleted where the document was deleted or moved away since, with the number of the event that took it off
+-- that put it there. It is deleted where the document was deleted, replaced or moved away since, with the number of the event that took it
+-- off
 pub data ColumnState : Type 0 where
   Unclaimed : ColumnState
   Pending : ℕ → ColumnState

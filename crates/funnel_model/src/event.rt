@@ -12,7 +12,8 @@ pub enum Event {
         slice: u32,
         column: u32,
     },
-    /// A commit: the document in the claimed column is live from here on.
+    /// A commit: the document in the claimed column is live from here on. Where its number is live already, it takes the place of
+    /// that document, which is live no more; a find that is running still sees that one.
     Add {
         pass: u32,
         id: u64,
@@ -59,7 +60,7 @@ pub enum Event {
     End {
         pass: u32,
     },
-    /// The pass begins to clear a slice of which each column is over: its document was deleted or moved away, or it got none.
+    /// The pass begins to clear a slice of which each column is over: its document was deleted, replaced or moved away, or it got none.
     Clear {
         pass: u32,
         slice: u32,

@@ -1,11 +1,13 @@
 //! Laws that hold of the definitions alone. Each is the contract of a function that does nothing.
-ghost use Rattle.std.specs.Prelude.{◌≡◌, ◌≢◌, ℕ, ◌+◌, ◌<◌, ◌≤◌, ◌↔◌, true, false, List, [], ◌∷◌, ◌++◌, length, None, Contains};
+ghost use Rattle.std.specs.Prelude.{◌≡◌, ◌≢◌, ◌==◌, ℕ, ◌+◌, ◌<◌, ◌≤◌, ◌↔◌, true, false, not, List, [], ◌∷◌, ◌++◌, length, filter, None, Contains};
 ghost use Rattle.std.specs.List.{AllPairs, list_any};
 ghost use Rattle.funnel_model.specs.Blocks.{IsBlock};
 ghost use Rattle.funnel_model.specs.declared.block.Block.{Block};
+ghost use Rattle.funnel_model.specs.declared.bit_list.Bit.{Bit};
 ghost use Rattle.funnel_model.specs.declared.event.Event.{Event};
-ghost use Rattle.funnel_model.specs.Events.{opens};
-ghost use Rattle.funnel_model.specs.History.{Document, answer, is_live, live};
+ghost use Rattle.funnel_model.specs.declared.event.Event.TheVariants as event;
+ghost use Rattle.funnel_model.specs.Events.{commit_of, opens};
+ghost use Rattle.funnel_model.specs.History.{Document, answer, is_live, live, place};
 ghost use Rattle.funnel_model.specs.Legal.{IsAllowed, IsFull, IsLegal, Limits};
 ghost use Rattle.funnel_model.specs.Slices.{ColumnState, Live, Pending, AllOver, HasUnclaimed, IsInState, IsRetired, IsRetiredAt};
 ghost use Rattle.funnel_model.specs.Words.{meets};
@@ -32,11 +34,17 @@ pub fn legal_prefix()
     ensures { (limits : Limits) (before later : List Event) → IsLegal limits (before ++ later) → IsLegal limits before }
 {}
 
-/// The live documents stand in the order of their adds, and in a legal history each number is live at most once.
+/// The live documents stand in the order of their adds, and each number is live at most once. An add puts its document to the end, and
+/// takes away the live one with its number; a delete takes away the one with its number; and no other event changes them.
 pub fn live_documents()
     ensures in_order { (history : List Event) → AllPairs (λ (d e : Document). d.place < e.place) (live history) }
-    ensures once { (limits : Limits) (history : List Event) → IsLegal limits history →
-        AllPairs (λ (d e : Document). d.id ≢ e.id) (live history) }
+    ensures once { (history : List Event) → AllPairs (λ (d e : Document). d.id ≢ e.id) (live history) }
+    ensures added { (history : List Event) (pass id : ℕ) (text : List ℕ) (slice column : ℕ) (bits : List Bit) →
+        live (history ++ event.Add pass id text slice column bits ∷ [])
+        ≡ filter (λ d. not (d.id == id)) (live history) ++ record { id = id; text = text; place = place history + 1 } ∷ [] }
+    ensures deleted { (history : List Event) (pass id : ℕ) →
+        live (history ++ event.Del pass id ∷ []) ≡ filter (λ d. not (d.id == id)) (live history) }
+    ensures others { (history : List Event) (e : Event) → commit_of e ≡ None → live (history ++ e ∷ []) ≡ live history }
 {}
 
 /// An answer has the number of each live document that meets the query, and of no other; in a legal history it

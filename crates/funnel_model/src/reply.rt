@@ -1,11 +1,15 @@
 use crate::commit::Commits;
 use crate::ids::Ids;
+use crate::stats::Stats;
+use crate::text::Text;
 
 /// What a line is answered.
 #[derive(Debug, Drop)]
 pub enum Reply {
     /// The document was added, at this place.
     Added(u64),
+    /// The document was added at this place, and the live one with its number is live no more.
+    Replaced(u64),
     /// A document with this number is live already; the place of its add.
     Present(u64),
     /// There is no column for another document.
@@ -16,12 +20,20 @@ pub enum Reply {
     Absent,
     /// The numbers of the documents that have every word of the query, or that the boolean query keeps, in the order of their adds.
     Found(Ids),
+    /// How many documents the boolean query keeps.
+    Count(u64),
+    /// How many documents the boolean query keeps, and the numbers of those that were asked for.
+    FoundSome { count: u64, ids: Ids },
+    /// The text of a live document, and the place of its add.
+    Text { place: u64, text: Text },
     /// The number of commits so far.
     Place(u64),
     /// The commits that were asked for, in order.
     Commits(Commits),
     /// The journal no longer keeps the commits that were asked for, but only those after this many.
     Trimmed(u64),
+    /// How full the engine is.
+    Stats(Stats),
     /// This slice was cleared, and its columns are free again.
     Recycled(u32),
     /// No slice can be recycled: none is retired.

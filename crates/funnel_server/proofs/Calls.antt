@@ -1,11 +1,12 @@
 -- The calls that sessions add to those of their pass.
-use Rattle.std.proofs.Common.{◌≡◌, ◌≢◌, List, [], ◌∷◌, ◌++◌, ℕ, Bool, true, false, flat_map, append_assoc, append-nil, sym, refl, ap, ◌∙◌, subst, inl, inr, ⊎_elim}
+use Rattle.std.proofs.Common.{◌≡◌, ◌≢◌, List, [], ◌∷◌, ◌++◌, ℕ, Bool, true, false, cond, flat_map, append_assoc, append-nil, sym, refl, ap, ◌∙◌, subst, inl, inr, ⊎_elim}
 use Rattle.std.specs.List.{All}
+use Rattle.std.proofs.lemmas.Bool.{both_ways}
 use Rattle.std.proofs.lemmas.List.Elements.{All-cons, All-head, All-nil, All-tail}
 use mathlib.Core.List.{IsPrefix}
 use Rattle.funnel_io.specs.declared.end.End.{End}
 use Rattle.funnel_io.specs.declared.end.End.TheVariants as end_of
-use Rattle.funnel_model.proofs.StepCauses.{memory_cause, query_not_made, spent_cause}
+use Rattle.funnel_model.proofs.StepCauses.{is_put, is_query, made_outcome, memory_cause, only_queries_are_judged, put_outcome, query_outcome, spent_cause}
 use Rattle.funnel_model.proofs.StepLemmas.{linear-grows, prefix_refl, prefix_trans}
 use Rattle.funnel_model.specs.declared.call.Call.{Call}
 use Rattle.funnel_model.specs.declared.call.Call.TheVariants as call
@@ -14,7 +15,7 @@ use Rattle.funnel_model.specs.declared.reply.Reply.{Reply}
 use Rattle.funnel_model.specs.declared.reply.Reply.TheVariants as reply
 use Rattle.funnel_model.specs.History.{own}
 use Rattle.funnel_model.specs.Legal.{Limits}
-use Rattle.funnel_model.specs.Steps.{AddsCall, AddsNone, FindsNoMemory, IsMade, Linear, Step}
+use Rattle.funnel_model.specs.Steps.{AddsCall, AddsNone, FindsNoMemory, IsPut, Linear, Step, is_placed}
 use Rattle.line_proto.specs.Services.{Caller}
 use Rattle.session.proofs.SessionLaws.{runs_calls as lines_run_calls}
 use Rattle.session.specs.Ends.{Stand}
@@ -38,35 +39,95 @@ record OneMade (pass : ℕ) (before after : List Event) (asked : Call) (given : 
   is : IsMadeAs given asked made
   adds : Adds pass before after made
 
--- a call that an event answers was made
-made_itself : (limits : Limits) (pass : ℕ) (before after : List Event) (asked : Call) (given : Reply) → IsMade limits pass before after asked given
-    → AddsCall pass before after (made_for asked)
-made_itself limits pass before after (call.Query expr) given made = absurd (query_not_made limits pass before after expr given made)
-made_itself limits pass before after asked given made = made.call
+-- a put that is done made the add of its number and text
+put_done : (limits : Limits) (pass : ℕ) (before after : List Event) (id : ℕ) (text : List ℕ) (given : Reply) → IsPut limits pass before after (call.Put id text) given
+    → AddsCall pass before after (made_for given (call.Put id text))
+put_done limits pass before after id text given put =
+    let same : call.Put id text ≡ call.Put put.id put.text = put.put in
+    let added : call.Add put.id put.text ≡ call.Add id text = cc in
+    subst (λ b. AddsCall pass before after (cond b (call.Add id text) (call.Put id text))) (sym put.placed)
+    (subst (λ (c : Call). AddsCall pass before after c) added put.call)
 
--- and so was a query that is answered by its expression
-made_call : (limits : Limits) (pass : ℕ) (before after : List Event) (asked : Call) (given : Reply) → given ≢ reply.Spent → given ≢ reply.Memory
-    → Step limits pass before after asked given → AddsCall pass before after (made_for asked)
-made_call limits pass before after asked given not_spent not_memory step =
-    ⊎_elim
-    (λ made. made_itself limits pass before after asked given made)
+-- and one that is refused for want of room is the pass's own
+put_full : (limits : Limits) (pass : ℕ) (before after : List Event) (id : ℕ) (text : List ℕ) (given : Reply) → given ≡ reply.Full
+    → Step limits pass before after (call.Put id text) given → AddsCall pass before after (made_for given (call.Put id text))
+put_full limits pass before after id text given full step =
+    subst (λ b. AddsCall pass before after (cond b (call.Add id text) (call.Put id text))) (sym (ap is_placed full))
+    (⊎_elim
+    (λ made. made.call)
     (λ rest. ⊎_elim
-    (λ lacks. absurd (not_memory lacks.reply))
+    (λ lacks. let other = sym full ∙ lacks.reply in absurd (cc))
+    (λ more. ⊎_elim
+    (λ spent. let other = sym full ∙ spent.reply in absurd (cc))
     (λ last. ⊎_elim
-    (λ spent. absurd (not_spent spent.reply))
-    (λ judged. subst (λ (c : Call). AddsCall pass before after (made_for c)) (sym judged.query) judged.call)
+    (λ judged. absurd (only_queries_are_judged pass before after (call.Put id text) given refl judged))
+    (λ put. absurd (both_ways (is_placed given) (ap is_placed full) put.placed))
     last)
+    more)
     rest)
-    step.outcome
+    step.outcome)
+
+put_made : (limits : Limits) (pass : ℕ) (before after : List Event) (id : ℕ) (text : List ℕ) (given : Reply) → given ≢ reply.Spent → given ≢ reply.Memory
+    → Step limits pass before after (call.Put id text) given → AddsCall pass before after (made_for given (call.Put id text))
+put_made limits pass before after id text given not_spent not_memory step =
+    ⊎_elim
+    (λ put. put_done limits pass before after id text given put)
+    (λ rest. ⊎_elim
+    (λ full. put_full limits pass before after id text given full step)
+    (λ last. ⊎_elim (λ memory. absurd (not_memory memory)) (λ spent. absurd (not_spent spent)) last)
+    rest)
+    (put_outcome limits pass before after id text given step)
+
+-- a search by an expression made the find of the empty query
+search_made : (limits : Limits) (pass : ℕ) (before after : List Event) (asked : Call) (given : Reply) → is_query asked ≡ true → given ≢ reply.Spent → given ≢ reply.Memory
+    → Step limits pass before after asked given → AddsCall pass before after (call.Find [])
+search_made limits pass before after asked given searches not_spent not_memory step =
+    ⊎_elim
+    (λ lacks. absurd (not_memory lacks.reply))
+    (λ last. ⊎_elim (λ spent. absurd (not_spent spent.reply)) (λ judged. judged.call) last)
+    (query_outcome limits pass before after asked given searches step)
+
+-- and a call that is neither was made
+itself_made : (limits : Limits) (pass : ℕ) (before after : List Event) (asked : Call) (given : Reply) → is_query asked ≡ false → is_put asked ≡ false
+    → given ≢ reply.Spent → given ≢ reply.Memory → Step limits pass before after asked given → AddsCall pass before after asked
+itself_made limits pass before after asked given no_query no_put not_spent not_memory step =
+    ⊎_elim
+    (λ made. made.call)
+    (λ rest. ⊎_elim (λ lacks. absurd (not_memory lacks.reply)) (λ spent. absurd (not_spent spent.reply)) rest)
+    (made_outcome limits pass before after asked given no_query no_put step)
+
+made_call : (limits : Limits) (pass : ℕ) (before after : List Event) (asked : Call) (given : Reply) → given ≢ reply.Spent → given ≢ reply.Memory
+    → Step limits pass before after asked given → AddsCall pass before after (made_for given asked)
+made_call limits pass before after (call.Query expr) given not_spent not_memory step =
+    search_made limits pass before after (call.Query expr) given refl not_spent not_memory step
+made_call limits pass before after (call.Count expr) given not_spent not_memory step =
+    search_made limits pass before after (call.Count expr) given refl not_spent not_memory step
+made_call limits pass before after (call.Newest expr most) given not_spent not_memory step =
+    search_made limits pass before after (call.Newest expr most) given refl not_spent not_memory step
+made_call limits pass before after (call.Oldest expr most) given not_spent not_memory step =
+    search_made limits pass before after (call.Oldest expr most) given refl not_spent not_memory step
+made_call limits pass before after (call.Put id text) given not_spent not_memory step =
+    put_made limits pass before after id text given not_spent not_memory step
+made_call limits pass before after asked given not_spent not_memory step =
+    itself_made limits pass before after asked given refl refl not_spent not_memory step
 
 -- a call without memory was made or not
 without_memory : (pass : ℕ) (before after : List Event) (asked : Call) → FindsNoMemory pass before after asked → OneMade pass before after asked reply.Memory
 without_memory pass before after (call.Add id text) none = record { made = []; is = refl; adds = adds_nothing pass before after none }
+without_memory pass before after (call.Put id text) none = record { made = []; is = refl; adds = adds_nothing pass before after none }
 without_memory pass before after (call.Tune config) none = record { made = []; is = refl; adds = adds_nothing pass before after none }
 without_memory pass before after (call.Find query) (inl none) = record { made = []; is = inl refl; adds = adds_nothing pass before after none }
 without_memory pass before after (call.Find query) (inr adds) = record { made = call.Find query ∷ []; is = inr refl; adds = adds }
 without_memory pass before after (call.Query expr) (inl none) = record { made = []; is = inl refl; adds = adds_nothing pass before after none }
 without_memory pass before after (call.Query expr) (inr adds) = record { made = call.Find [] ∷ []; is = inr refl; adds = adds }
+without_memory pass before after (call.Count expr) (inl none) = record { made = []; is = inl refl; adds = adds_nothing pass before after none }
+without_memory pass before after (call.Count expr) (inr adds) = record { made = call.Find [] ∷ []; is = inr refl; adds = adds }
+without_memory pass before after (call.Newest expr most) (inl none) = record { made = []; is = inl refl; adds = adds_nothing pass before after none }
+without_memory pass before after (call.Newest expr most) (inr adds) = record { made = call.Find [] ∷ []; is = inr refl; adds = adds }
+without_memory pass before after (call.Oldest expr most) (inl none) = record { made = []; is = inl refl; adds = adds_nothing pass before after none }
+without_memory pass before after (call.Oldest expr most) (inr adds) = record { made = call.Find [] ∷ []; is = inr refl; adds = adds }
+without_memory pass before after (call.Get id) (inl none) = record { made = []; is = inl refl; adds = adds_nothing pass before after none }
+without_memory pass before after (call.Get id) (inr adds) = record { made = call.Get id ∷ []; is = inr refl; adds = adds }
 without_memory pass before after (call.Journal from) (inl none) = record { made = []; is = inl refl; adds = adds_nothing pass before after none }
 without_memory pass before after (call.Journal from) (inr adds) = record { made = call.Journal from ∷ []; is = inr refl; adds = adds }
 without_memory pass before after asked found = absurd found
@@ -76,7 +137,7 @@ one_made limits pass before after asked reply.Spent step =
     record { made = []; is = refl; adds = adds_nothing pass before after (spent_cause limits pass before after asked step).1 }
 one_made limits pass before after asked reply.Memory step = without_memory pass before after asked (memory_cause limits pass before after asked step)
 one_made limits pass before after asked given step =
-    record { made = made_for asked ∷ []; is = refl; adds = made_call limits pass before after asked given (λ is. cc) (λ is. cc) step }
+    record { made = made_for given asked ∷ []; is = refl; adds = made_call limits pass before after asked given (λ is. cc) (λ is. cc) step }
 
 -- what calls make, one after another
 all_made : (limits : Limits) (pass : ℕ) (before after : List Event) (calls : List Call) (replies : List Reply) → Linear limits pass before after calls replies

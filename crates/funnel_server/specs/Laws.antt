@@ -1,5 +1,5 @@
 -- What the laws of workers say.
-use Rattle.std.specs.Prelude.{◌≡◌, ◌<◌, ◌≤◌, ◌+◌, ◌-◌, ◌⊎◌, ⊤, ℕ, Bool, true, false, List, [], ◌∷◌, ◌++◌, length, Some, IfSome}
+use Rattle.std.specs.Prelude.{◌≡◌, ◌<◌, ◌≤◌, ◌+◌, ◌-◌, ◌⊎◌, ⊤, ℕ, Bool, true, false, List, [], ◌∷◌, ◌++◌, length, Some, IfSome, if◌then◌else◌}
 use Rattle.std.specs.List.{All, AllZip, flat_map}
 use mathlib.Core.List.{IsPrefix}
 use Rattle.funnel_io.specs.Served.{Served}
@@ -14,7 +14,7 @@ use Rattle.funnel_model.specs.declared.event.Event.{Event}
 use Rattle.funnel_model.specs.declared.reply.Reply.{Reply}
 use Rattle.funnel_model.specs.declared.reply.Reply.TheVariants as reply
 use Rattle.funnel_model.specs.History.{IsFrontOf, own}
-use Rattle.funnel_model.specs.Steps.{Linear}
+use Rattle.funnel_model.specs.Steps.{Linear, is_placed}
 use Rattle.http_front.specs.Laws.{HaveLastRequest}
 use Rattle.line_proto.specs.Services.{Caller}
 use Rattle.load_gen.specs.Jobs.{calls_of_share}
@@ -24,20 +24,25 @@ use Rattle.funnel_server.specs.Loads.{AreAsked}
 use Rattle.funnel_server.specs.Sessions.{AreItsCalls}
 use Rattle.funnel_server.specs.Workers.{IsVisit, Visit}
 
--- the call that a pass makes for what it is asked: for a query the find of the empty query, and for another call that one
-abbrev pub made_for : Call → Call
-made_for (call.Query expr) = call.Find []
-made_for asked = asked
+-- the call that a pass makes for what it is asked and answered so: for a search by an expression the find of the empty query, for a put that
+-- is done the add of its number and text, and for another call that one
+abbrev pub made_for : Reply → Call → Call
+made_for given (call.Query expr) = call.Find []
+made_for given (call.Count expr) = call.Find []
+made_for given (call.Newest expr most) = call.Find []
+made_for given (call.Oldest expr most) = call.Find []
+made_for given (call.Put id text) = if is_placed given then call.Add id text else call.Put id text
+made_for given asked = asked
 
--- of the calls that a pass made, those that come of a call which was answered so: the call itself; but none where it was refused
--- as spent, or an add or a tuning found no memory; and the call or none where another one found no memory. A query's call is the find
--- of the empty query
+-- of the calls that a pass made, those that come of a call which was answered so: the one that is made for it; but none where it was
+-- refused as spent, or an add, a put or a tuning found no memory; and the one or none where another one found no memory
 abbrev pub IsMadeAs : Reply → Call → List Call → Type 0
 IsMadeAs reply.Spent asked made = made ≡ []
 IsMadeAs reply.Memory (call.Add id text) made = made ≡ []
+IsMadeAs reply.Memory (call.Put id text) made = made ≡ []
 IsMadeAs reply.Memory (call.Tune config) made = made ≡ []
-IsMadeAs reply.Memory asked made = (made ≡ []) ⊎ (made ≡ made_for asked ∷ [])
-IsMadeAs given asked made = made ≡ made_for asked ∷ []
+IsMadeAs reply.Memory asked made = (made ≡ []) ⊎ (made ≡ made_for reply.Memory asked ∷ [])
+IsMadeAs given asked made = made ≡ made_for given asked ∷ []
 
 -- the calls, each as far as its reply says that it was made
 abbrev pub AreMade : List Call → List Reply → List Call → Type 0

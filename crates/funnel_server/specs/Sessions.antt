@@ -47,7 +47,7 @@ exchanges_in caller before after taken written end_of.Memory session = []
 -- these are the calls that were asked by what a connection sent, in order, with their replies
 abbrev pub AreItsCalls : (http : Bool) (caller : Caller) (old new : Stand) (end : End) → IsServed http caller old new end → List Call → List Reply → Type 0
 AreItsCalls true caller old new end served calls replies =
-    AreAsked (exchanges_in caller old.front new.front served.taken served.written end served.session) calls replies
+    AreAsked caller.opening (exchanges_in caller old.front new.front served.taken served.written end served.session) calls replies
 AreItsCalls false caller old new end served calls replies =
     AreCalls caller.opening (answered caller old.front new.front served.taken served.written end served.session)
     (replies_in caller old.front new.front served.taken served.written end served.session) calls replies

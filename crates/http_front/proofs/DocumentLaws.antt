@@ -10,8 +10,8 @@ use Rattle.json.specs.Lex.{tokens}
 use Rattle.json.specs.Tree.{depth, json_tokens}
 use Rattle.json.proofs.Unique.Spelling.{tokens-document}
 use Rattle.json.proofs.Printed.Trees.{value-json_tokens}
-use Rattle.http_front.specs.Documents.{Part, Id, Text, add_of, add_of_parts, add_of_two, document_of, part_of}
-use Rattle.http_front.specs.Tokens.{AsksAdd, AsksNothing, BeginsWithNoPart, BeginsWithPart, part_of_token}
+use Rattle.http_front.specs.Documents.{Part, Id, Text, add_of, add_of_parts, add_of_two, document_of, part_of, text_in, text_of_body, text_of_part}
+use Rattle.http_front.specs.Tokens.{AsksAdd, AsksNothing, BeginsWithNoPart, BeginsWithPart, TellsNoText, TellsText, part_of_token}
 use Rattle.http_front.specs.declared.document.Document.{Document}
 
 -- a value that is a part has one token, and nests nothing
@@ -159,3 +159,73 @@ two_parts (Text text) (Text other) asked is = absurd (cc)
 
 pub asks_of_two : (j : Json) (asked : Call) → add_of j ≡ Some asked → (id : ℕ) × (text : List ℕ) × (asked ≡ Add id text)
 asks_of_two j asked is = let asks = from_json j asked is in two_parts asks.first asks.second asked asks.is
+
+-- ---- the text of a body that is put
+
+-- tokens that tell a text are those of an object that does
+tells_text : (body text : List ℕ) → TellsText (tokens body) text → option_and_then text_in (document body) ≡ Some text
+tells_text body text tells =
+    let one = part_value tells.begins.name tells.begins.value (Text text) tells.begins.is in
+    let j : Json = object (member tells.begins.name one.json no_members) in
+    let flat : depth j ≤ max_depth = omega (arith, one.flat) in
+    let is : tokens body ≡ json_tokens j =
+    tells.tokens_are
+    ∙ ap (λ ts. Token.begin_object ∷ ts)
+    (tells.begins.tokens_are ∙ ap (λ ts. Token.key tells.begins.name ∷ (ts ++ Token.end_object ∷ [])) (sym one.tokens_are)) in
+    ap (option_and_then text_in) (document_by_tokens body j flat is) ∙ ap (option_and_then text_of_part) one.is
+
+-- a part with this text is that text
+text_part : (o : Option Part) (text : List ℕ) → option_and_then text_of_part o ≡ Some text → o ≡ Some (Text text)
+text_part None text is = absurd (cc)
+text_part (Some (Id id)) text is = absurd (cc)
+text_part (Some (Text other)) text is = let same : other ≡ text = cc in ap (λ (t : List ℕ). Some (Text t)) same
+
+-- an object that tells a text has the tokens for it
+text_json : (j : Json) (text : List ℕ) → text_in j ≡ Some text → TellsText (json_tokens j) text
+text_json (object (member name value no_members)) text is =
+    let one = part_token name value (Text text) (text_part (part_of name value) text is) in
+    record {
+      members = Token.key name ∷ (json_tokens value ++ Token.end_object ∷ []);
+      tokens_are = refl;
+      begins = record { name = name; value = one.token; tokens_are = ap (λ ts. Token.key name ∷ (ts ++ Token.end_object ∷ [])) one.tokens_are; is = one.is };
+    }
+text_json (object (member name value (member name' value' ms))) text is = absurd (cc)
+text_json (object no_members) text is = absurd (cc)
+text_json null text is = absurd (cc)
+text_json (boolean b) text is = absurd (cc)
+text_json (number digits) text is = absurd (cc)
+text_json (string told) text is = absurd (cc)
+text_json (array js) text is = absurd (cc)
+
+no_text_in : (body : List ℕ) (j : Json) (o : Option (List ℕ)) → TellsNoText (tokens body) → document body ≡ Some j → text_in j ≡ o → text_in j ≡ None
+no_text_in body j None nothing is told = told
+no_text_in body j (Some text) nothing is told = absurd (nothing text (subst (λ ts. TellsText ts text) (sym (tokens-document body j is)) (text_json j text told)))
+
+tells_nothing : (body : List ℕ) (o : Option Json) → TellsNoText (tokens body) → document body ≡ o → option_and_then text_in (document body) ≡ None
+tells_nothing body None nothing is = ap (option_and_then text_in) is
+tells_nothing body (Some j) nothing is = ap (option_and_then text_in) is ∙ no_text_in body j (text_in j) nothing is refl
+
+-- bytes that are no text tell none
+no_body_text : (body : List ℕ) (b : Bool) → is_utf8 body ≡ b → ¬ (IsUtf8 body) → text_of_body body ≡ None
+unfolding text_of_body
+no_body_text body true is other = absurd (other (IsUtf8-from_is_utf8 body is))
+no_body_text body false is other = rw is refl
+
+pub untold : (body : List ℕ) → ¬ (IsUtf8 body) → text_of_body body ≡ None
+untold body other = no_body_text body (is_utf8 body) refl other
+
+body_text : (body : List ℕ) → IsUtf8 body → text_of_body body ≡ option_and_then text_in (document body)
+unfolding text_of_body
+body_text body text = rw (is_utf8-from_IsUtf8 body text) refl
+
+-- what was read of the tokens is the text, where something was read
+pub read_text : {A : Type 0} (body : List ℕ) (now : A → List ℕ) (r : Option A) → IsUtf8 body
+    → MatchOption r (TellsNoText (tokens body)) (λ t. TellsText (tokens body) (now t)) → MatchOption r (text_of_body body ≡ None) (λ t. text_of_body body ≡ Some (now t))
+read_text body now None utf8 nothing = body_text body utf8 ∙ tells_nothing body (document body) nothing refl
+read_text body now (Some t) utf8 tells = body_text body utf8 ∙ tells_text body (now t) tells
+
+-- tokens of an object without a part tell none
+pub no_part : (old new : List Token) → old ≡ Token.begin_object ∷ new → BeginsWithNoPart new → TellsNoText old
+no_part old new is none text tells =
+    let same : tells.members ≡ new = cc (tells.tokens_are, is) in
+    none (Text text) (Token.end_object ∷ []) (subst (λ (ts : List Token). BeginsWithPart ts (Text text) (Token.end_object ∷ [])) same tells.begins)

@@ -11,24 +11,28 @@ use Rattle.httparse.specs.declared.Status.{Status}
 use Rattle.httparse.specs.declared.spans.RequestSpans.{RequestSpans}
 use Rattle.httparse.specs.Spans.{RequestExceeds}
 use Rattle.httparse.proofs.GrammarLemmas.{print_request-append, request_unique}
-use Rattle.http_front.specs.Entries.{Asks, Entry, HasBadBody, HasNoEntry, ReadsEntry, Refused}
+use Rattle.http_front.specs.Entries.{Entry, HasBadBody, HasNoEntry, IsRefusedAtHead, ReadsEntry}
 use Rattle.http_front.specs.Heads.{HasHead, HasRequest, IsBadHead, fields_of, length_said, lengths}
 use Rattle.http_front.specs.Steps.{IsGoodHead, IsUndecided}
 use Rattle.http_front.specs.declared.cause.Cause.{Cause}
 use Rattle.http_front.specs.declared.cause.Cause.TheVariants as cause
 
--- bytes that hold no head, but can come to, decide nothing
+-- bytes that hold no head, but can come to, are refused for none
+no_refusal : (bytes : List ℕ) → HasNoRequest bytes → MayBecomeRequest bytes → length bytes < 16384 → (why : Cause) → IsRefusedAtHead bytes why → ⊥
+no_refusal bytes none may few cause.Head (inl no_prefix) = no_prefix.never may
+no_refusal bytes none may few cause.Head (inr (inl long)) = omega (arith, long.many)
+no_refusal bytes none may few cause.Head (inr (inr many)) = none _ _ many.reads
+no_refusal bytes none may few cause.Coding refused = none _ _ refused.2.reads
+no_refusal bytes none may few cause.Length refused = none _ _ refused.2.reads
+no_refusal bytes none may few cause.Long refused = none _ _ refused.2.reads
+no_refusal bytes none may few cause.Route refused = refused.3
+no_refusal bytes none may few cause.Body refused = refused.3
+no_refusal bytes none may few cause.Query refused = refused.3
+
+-- and decide nothing
 pub no_entry_without_head : (bytes : List ℕ) → HasNoRequest bytes → MayBecomeRequest bytes → length bytes < 16384 → HasNoEntry bytes
-no_entry_without_head bytes none may few (Asks asked closing) rest reads = none _ _ reads.2.whole.begins.reads
-no_entry_without_head bytes none may few (Refused cause.Route closing) rest reads = none _ _ reads.2.begins.reads
-no_entry_without_head bytes none may few (Refused cause.Body closing) rest reads = none _ _ reads.1.whole.begins.reads
-no_entry_without_head bytes none may few (Refused cause.Query closing) rest reads = none _ _ reads.2.whole.begins.reads
-no_entry_without_head bytes none may few (Refused cause.Head closing) rest (last, inl no_prefix) = no_prefix.never may
-no_entry_without_head bytes none may few (Refused cause.Head closing) rest (last, inr (inl long)) = omega (arith, long.many)
-no_entry_without_head bytes none may few (Refused cause.Head closing) rest (last, inr (inr many)) = none _ _ many.reads
-no_entry_without_head bytes none may few (Refused cause.Coding closing) rest reads = none _ _ reads.1.2.reads
-no_entry_without_head bytes none may few (Refused cause.Length closing) rest reads = none _ _ reads.1.2.reads
-no_entry_without_head bytes none may few (Refused cause.Long closing) rest reads = none _ _ reads.1.2.reads
+no_entry_without_head bytes none may few entry rest (inl whole) = none _ _ whole.whole.begins.reads
+no_entry_without_head bytes none may few entry rest (inr cut) = no_refusal bytes none may few cut.why cut.refused
 
 -- so they wait for one more byte
 pub undecided_without_head : (bytes : List ℕ) → HasNoRequest (take 16384 bytes) → MayBecomeRequest (take 16384 bytes) → length bytes < 16384 → IsUndecided bytes (length bytes + 1)
@@ -86,15 +90,18 @@ no_entry_without_body bytes head after count has good short entry rest reads = g
   at_head : (why : Cause) (head' : RequestHead) (after' : List ℕ) → HasHead bytes head' after' → HasBadBody (fields_of head') why → ⊥
   at_head why head' after' is bad = good_body (fields_of head) count good why (subst (λ (h : RequestHead). HasBadBody (fields_of h) why) (sym (same_head head' after' is)) bad)
 
+  refused : (why : Cause) → IsRefusedAtHead bytes why → ⊥
+  refused cause.Head bad = never_bad bytes head after has bad
+  refused cause.Coding bad = at_head cause.Coding _ _ bad.2 bad.3
+  refused cause.Length bad = at_head cause.Length _ _ bad.2 bad.3
+  refused cause.Long bad = at_head cause.Long _ _ bad.2 bad.3
+  refused cause.Route bad = bad.3
+  refused cause.Body bad = bad.3
+  refused cause.Query bad = bad.3
+
   go : (entry : Entry) → ReadsEntry bytes entry rest → ⊥
-  go (Asks asked closing) reads = other _ _ _ reads.2.whole
-  go (Refused cause.Route closing) reads = other _ _ _ reads.2
-  go (Refused cause.Body closing) reads = other _ _ _ reads.1.whole
-  go (Refused cause.Query closing) reads = other _ _ _ reads.2.whole
-  go (Refused cause.Head closing) reads = never_bad bytes head after has reads.1
-  go (Refused cause.Coding closing) reads = at_head cause.Coding _ _ reads.1.2 reads.1.3
-  go (Refused cause.Length closing) reads = at_head cause.Length _ _ reads.1.2 reads.1.3
-  go (Refused cause.Long closing) reads = at_head cause.Long _ _ reads.1.2 reads.1.3
+  go entry (inl whole) = other _ _ _ whole.whole
+  go entry (inr cut) = refused cut.why cut.refused
 
 -- each field has three bytes at least
 end_room : (end : LineEnd) → 1 ≤ length (print_end end)

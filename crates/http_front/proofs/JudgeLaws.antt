@@ -11,7 +11,7 @@ use Rattle.httparse.specs.declared.spans.Span.{Span}
 use Rattle.httparse.proofs.GrammarLemmas.{ReadsRequest-append, print_request-append}
 use Rattle.http_front.specs.Entries.{IsRefusedAtHead}
 use Rattle.http_front.specs.Heads.{HasHead, closes, connections, closes_by, fields_of}
-use Rattle.http_front.specs.Steps.{HasHeadAt, IsGoodHead, IsHeadAt, IsRefusedByFields, IsUndecided, IsWhole, closes_with}
+use Rattle.http_front.specs.Steps.{HasHeadAt, IsGoodHead, IsHeadAt, IsRefusedByFields, IsRequest, IsUndecided, closes_with}
 use Rattle.http_front.specs.declared.cause.Cause.{Cause}
 use Rattle.http_front.specs.declared.cause.Cause.TheVariants as cause
 use Rattle.http_front.proofs.HeadLaws.{no_entry_without_body}
@@ -109,7 +109,7 @@ module _ (bytes first : List ℕ) (fields : List HeaderSpan) (r : RequestSpans) 
 
     -- the request is whole
     pub judged_whole : r.len + count ≤ length bytes → (closing : Bool) → closing ≡ closes_with r.version (map (header_bytes first) fields)
-        → IsWhole bytes (record { method = r.method; target = r.path; body = record { start = r.len; end = r.len + count }; closes = closing })
+        → IsRequest bytes (record { method = r.method; target = r.path; body = record { start = r.len; end = r.len + count }; closes = closing })
     judged_whole fits closing closes_is =
         let body : List ℕ = slice_range bytes r.len (r.len + count) in
         let size : (r.len + count) - r.len ≡ count = omega arith in

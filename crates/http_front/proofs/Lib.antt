@@ -6,7 +6,6 @@ pub mod QueryLaws
 pub mod TargetLaws
 pub mod Progress
 pub mod DocumentLaws
-pub mod RouteLaws
 pub mod HeadLaws
 pub mod JudgeLaws
 pub mod ResponseLaws
@@ -15,3 +14,6 @@ pub mod ReadLaws
 pub mod TurnLaws
 pub mod RunLaws
 pub mod OnceLaws
+pub mod KeyLaws
+pub mod PieceLaws
+pub mod RouteLaws

@@ -1,58 +1,18 @@
 -- Bytes have one list of requests.
-use Rattle.std.proofs.Common.{◌≡◌, ◌⊎◌, ◌||◌, ℕ, Bool, true, false, List, [], ◌∷◌, ◌++◌, Some, None, codes, get_or, length, take, drop, refl, sym, ap, ap₂, ◌∙◌, subst, inl, inr, arith}
+use Rattle.std.proofs.Common.{◌≡◌, ◌⊎◌, ◌||◌, ℕ, Bool, true, false, List, [], ◌∷◌, ◌++◌, Some, None, length, take, drop, refl, sym, ap, ap₂, ◌∙◌, subst, inl, inr, arith}
 use Rattle.std.specs.List.{list_any}
-use Rattle.std.specs.Option.{option_map_or}
 use Rattle.std.proofs.lemmas.Bool.{true≢false}
 use Rattle.std.proofs.lemmas.List.{length-map}
 use Rattle.std.proofs.Math.Seq.{take-append_seam, drop-append_seam}
-use Rattle.funnel_model.specs.declared.call.Call.{Call}
 use Rattle.httparse.proofs.GrammarLemmas.{request_unique}
 use Rattle.httparse.specs.Grammar.{RequestHead}
 use Rattle.httparse.specs.Spans.{name_and_value}
-use Rattle.line_proto.specs.Forms.{number_of}
 use Rattle.http_front.proofs.HeadLaws.{good_body, never_bad}
-use Rattle.http_front.proofs.RouteLaws.{other_letter}
-use Rattle.http_front.specs.Entries.{AreRequests, Asks, BeginsWith, Entry, HasBadBody, HasNoEntry, IsRefusedAtHead, ReadsEntry, Refused, is_last}
-use Rattle.http_front.specs.Heads.{HasRequest, closes, fields_of, length_said, lengths}
-use Rattle.http_front.specs.Routes.{Document, Documents, EndsFind, Find, HasNoRoute, IsRoute, Place, Route}
-use Rattle.http_front.specs.Steps.{IsGoodHead, cause_of, entry_of}
+use Rattle.http_front.specs.Entries.{AreRequests, BeginsWith, Entry, HasBadBody, HasNoEntry, IsRefusedAtHead, IsWhole, ReadsEntry, Refused, entry_of, is_last}
+use Rattle.http_front.specs.Heads.{HasRequest, fields_of, length_said, lengths}
+use Rattle.http_front.specs.Steps.{IsGoodHead}
 use Rattle.http_front.specs.declared.cause.Cause.{Cause}
 use Rattle.http_front.specs.declared.cause.Cause.TheVariants as cause
-
--- ---- a method and a target have one route
-
-one_value : (end value value' : List ℕ) → EndsFind end value → EndsFind end value' → value ≡ value'
-one_value end value value' (inl a) (inl b) = a.1 ∙ sym b.1
-one_value end value value' (inl a) (inr b) = let both : [] ≡ codes "?q=" ++ value' = sym a.0 ∙ b.0 in cc
-one_value end value value' (inr a) (inl b) = let both : codes "?q=" ++ value ≡ [] = sym a.0 ∙ b.0 in cc
-one_value end value value' (inr a) (inr b) = let both : codes "?q=" ++ value ≡ codes "?q=" ++ value' = sym a.0 ∙ b.0 in cc
-
--- a find is no place
-find_or_place : (target end : List ℕ) → target ≡ codes "/find" ++ end → target ≡ codes "/place" → ⊥
-find_or_place target end f p = other_letter (get_or target 1 0) (ap (λ (t : List ℕ). get_or t 1 0) f) (ap (λ (t : List ℕ). get_or t 1 0) p)
-
-one_route : (method target : List ℕ) (route route' : Route) → IsRoute method target route → IsRoute method target route' → route ≡ route'
-one_route method target Documents Documents a b = refl
-one_route method target Documents (Document id) a b = let both : codes "POST" ≡ codes "DELETE" = sym a.0 ∙ b.0 in cc
-one_route method target Documents (Find value) a b = let both : codes "POST" ≡ codes "GET" = sym a.0 ∙ b.0 in cc
-one_route method target Documents Place a b = let both : codes "POST" ≡ codes "GET" = sym a.0 ∙ b.0 in cc
-one_route method target (Document id) Documents a b = let both : codes "DELETE" ≡ codes "POST" = sym a.0 ∙ b.0 in cc
-one_route method target (Document id) (Document id') a b =
-    let digits : a.1 ≡ b.1 = cc (a.2, b.2) in
-    let both : Some id ≡ Some id' = sym a.3 ∙ ap number_of digits ∙ b.3 in
-    let same : id ≡ id' = cc in ap Document same
-one_route method target (Document id) (Find value) a b = let both : codes "DELETE" ≡ codes "GET" = sym a.0 ∙ b.0 in cc
-one_route method target (Document id) Place a b = let both : codes "DELETE" ≡ codes "GET" = sym a.0 ∙ b.0 in cc
-one_route method target (Find value) Documents a b = let both : codes "GET" ≡ codes "POST" = sym a.0 ∙ b.0 in cc
-one_route method target (Find value) (Document id) a b = let both : codes "GET" ≡ codes "DELETE" = sym a.0 ∙ b.0 in cc
-one_route method target (Find value) (Find value') a b =
-    let end : a.1 ≡ b.1 = cc (a.2, b.2) in
-    ap Find (one_value b.1 value value' (subst (λ (e : List ℕ). EndsFind e value) end a.3) b.3)
-one_route method target (Find value) Place a b = absurd (find_or_place target a.1 a.2 b.1)
-one_route method target Place Documents a b = let both : codes "GET" ≡ codes "POST" = sym a.0 ∙ b.0 in cc
-one_route method target Place (Document id) a b = let both : codes "GET" ≡ codes "DELETE" = sym a.0 ∙ b.0 in cc
-one_route method target Place (Find value) a b = absurd (find_or_place target b.1 b.2 a.1)
-one_route method target Place Place a b = refl
 
 -- ---- a head is refused for one cause
 
@@ -85,61 +45,6 @@ one_refusal bytes why why' a b =
 
 -- ---- bytes begin with one entry
 
--- the entry of a whole request, by its route, or where there is none
-abbrev IsEntryOf : RequestHead → List ℕ → Entry → Type 0
-IsEntryOf head body entry =
-    ((route : Route) × IsRoute head.method head.target route × (entry ≡ entry_of route body (closes head)))
-    ⊎ (HasNoRoute head.method head.target × (entry ≡ Refused cause.Route (closes head)))
-
-record IsWholeEntry (bytes : List ℕ) (entry : Entry) (rest : List ℕ) : Type 0 where
-  head : RequestHead
-  body : List ℕ
-  whole : HasRequest bytes head body rest
-  is : IsEntryOf head body entry
-
-record IsCutEntry (bytes : List ℕ) (entry : Entry) : Type 0 where
-  why : Cause
-  is : entry ≡ Refused why true
-  refused : IsRefusedAtHead bytes why
-
-taken_apart : (bytes : List ℕ) (entry : Entry) (rest : List ℕ) → ReadsEntry bytes entry rest → IsWholeEntry bytes entry rest ⊎ IsCutEntry bytes entry
-taken_apart bytes (Asks asked closing) rest reads = inl (record {
-  head = reads.2.head;
-  body = reads.1;
-  whole = reads.2.whole;
-  is = inl (
-    reads.0,
-    reads.2.matches,
-    ap (λ o. option_map_or (λ (a : Call). Asks a closing) o (Refused (cause_of reads.0) closing)) (sym reads.3) ∙ ap (entry_of reads.0 reads.1) (sym reads.2.last),
-  );
-})
-taken_apart bytes (Refused cause.Route closing) rest reads =
-    inl (record { head = reads.0; body = reads.1; whole = reads.2; is = inr (reads.4, ap (Refused cause.Route) (sym reads.3)) })
-taken_apart bytes (Refused cause.Body closing) rest reads = inl (record {
-  head = reads.1.head;
-  body = reads.0;
-  whole = reads.1.whole;
-  is = inl (
-    Documents,
-    reads.1.matches,
-    ap (λ o. option_map_or (λ (a : Call). Asks a closing) o (Refused cause.Body closing)) (sym reads.2) ∙ ap (entry_of Documents reads.0) (sym reads.1.last),
-  );
-})
-taken_apart bytes (Refused cause.Query closing) rest reads = inl (record {
-  head = reads.2.head;
-  body = reads.1;
-  whole = reads.2.whole;
-  is = inl (
-    Find reads.0,
-    reads.2.matches,
-    ap (λ o. option_map_or (λ (a : Call). Asks a closing) o (Refused cause.Query closing)) (sym reads.3) ∙ ap (entry_of (Find reads.0) reads.1) (sym reads.2.last),
-  );
-})
-taken_apart bytes (Refused cause.Head closing) rest reads = inr (record { why = cause.Head; is = ap (Refused cause.Head) reads.0; refused = reads.1 })
-taken_apart bytes (Refused cause.Coding closing) rest reads = inr (record { why = cause.Coding; is = ap (Refused cause.Coding) reads.0; refused = reads.1 })
-taken_apart bytes (Refused cause.Length closing) rest reads = inr (record { why = cause.Length; is = ap (Refused cause.Length) reads.0; refused = reads.1 })
-taken_apart bytes (Refused cause.Long closing) rest reads = inr (record { why = cause.Long; is = ap (Refused cause.Long) reads.0; refused = reads.1 })
-
 -- a whole request is not refused at its head
 not_cut : (bytes : List ℕ) (head : RequestHead) (body rest : List ℕ) → HasRequest bytes head body rest → (why : Cause) → IsRefusedAtHead bytes why → ⊥
 not_cut bytes head body rest whole cause.Head refused = never_bad bytes head (body ++ rest) whole.begins refused
@@ -154,13 +59,6 @@ not_cut bytes head body rest whole why refused =
     } in
     good_body (fields_of head) (length body) good why (subst (λ (h : RequestHead). HasBadBody (fields_of h) why) (sym same) refused.3)
 
-one_entry_of : (head : RequestHead) (body : List ℕ) (entry entry' : Entry) → IsEntryOf head body entry → IsEntryOf head body entry' → entry ≡ entry'
-one_entry_of head body entry entry' (inl a) (inl b) =
-    a.2 ∙ ap (λ (route : Route). entry_of route body (closes head)) (one_route head.method head.target a.0 b.0 a.1 b.1) ∙ sym b.2
-one_entry_of head body entry entry' (inl a) (inr b) = absurd (b.0 a.0 a.1)
-one_entry_of head body entry entry' (inr a) (inl b) = absurd (a.0 b.0 b.1)
-one_entry_of head body entry entry' (inr a) (inr b) = a.1 ∙ sym b.1
-
 -- lists of one length before others are the same where the whole is
 same_parts : (a b r q : List ℕ) → length a ≡ length b → a ++ r ≡ b ++ q → (a ≡ b) × (r ≡ q)
 same_parts a b r q len is = (
@@ -168,7 +66,7 @@ same_parts a b r q len is = (
   sym (drop-append_seam a r) ∙ ap (drop (length a)) is ∙ ap (λ n. drop n (b ++ q)) len ∙ drop-append_seam b q,
 )
 
-one_whole : (bytes : List ℕ) (entry entry' : Entry) (rest rest' : List ℕ) → IsWholeEntry bytes entry rest → IsWholeEntry bytes entry' rest'
+one_whole : (bytes : List ℕ) (entry entry' : Entry) (rest rest' : List ℕ) → IsWhole bytes entry rest → IsWhole bytes entry' rest'
     → (entry ≡ entry') × (rest ≡ rest')
 one_whole bytes entry entry' rest rest' a b =
     let same = request_unique bytes a.head b.head (a.body ++ rest) (b.body ++ rest') a.whole.begins.reads b.whole.begins.reads in
@@ -176,7 +74,7 @@ one_whole bytes entry entry' rest rest' a b =
     sym a.whole.said ∙ ap (λ (h : RequestHead). length_said (lengths (fields_of h))) same.0 ∙ b.whole.said in
     let len : length a.body ≡ length b.body = cc in
     let parts = same_parts a.body b.body rest rest' len same.1 in (
-      one_entry_of b.head b.body entry entry' (subst (λ (h : RequestHead). IsEntryOf h b.body entry) same.0 (subst (λ (bs : List ℕ). IsEntryOf a.head bs entry) parts.0 a.is)) b.is,
+      a.is ∙ ap (λ (h : RequestHead). entry_of h a.body) same.0 ∙ ap (entry_of b.head) parts.0 ∙ sym b.is,
       parts.1,
     )
 
@@ -186,8 +84,8 @@ record AreOne (entry entry' : Entry) (rest rest' : List ℕ) : Type 0 where
   rest_same : is_last entry ≡ false → rest ≡ rest'
 
 one_entry : (bytes : List ℕ) (entry entry' : Entry) (rest rest' : List ℕ) → ReadsEntry bytes entry rest → ReadsEntry bytes entry' rest' → AreOne entry entry' rest rest'
-one_entry bytes entry entry' rest rest' reads reads' = go (taken_apart bytes entry rest reads) (taken_apart bytes entry' rest' reads') where
-  go : IsWholeEntry bytes entry rest ⊎ IsCutEntry bytes entry → IsWholeEntry bytes entry' rest' ⊎ IsCutEntry bytes entry' → AreOne entry entry' rest rest'
+one_entry bytes entry entry' rest rest' reads reads' = go reads reads' where
+  go : ReadsEntry bytes entry rest → ReadsEntry bytes entry' rest' → AreOne entry entry' rest rest'
   go (inl a) (inl b) = let one = one_whole bytes entry entry' rest rest' a b in record { same = one.0; rest_same = λ open_. one.1 }
   go (inl a) (inr b) = absurd (not_cut bytes a.head a.body rest a.whole b.why b.refused)
   go (inr a) (inl b) = absurd (not_cut bytes b.head b.body rest' b.whole a.why a.refused)

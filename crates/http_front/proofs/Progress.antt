@@ -14,20 +14,20 @@ use Rattle.funnel_model.specs.declared.event.Event.{Event}
 use Rattle.funnel_model.specs.declared.reply.Reply.TheVariants as reply
 use Rattle.httparse.proofs.GrammarLemmas.{ReadsRequest-append}
 use Rattle.httparse.specs.Grammar.{RequestHead}
-use Rattle.line_proto.proofs.Rendering.{without_memory}
+use Rattle.line_proto.proofs.Rendering.{asked_without_memory}
 use Rattle.line_proto.specs.Services.{Caller}
 use Rattle.session.specs.Ends.{Stand, is_read_fault, is_write_fault}
 use Rattle.http_front.specs.Ends.{IsOver, ServesRequests}
-use Rattle.http_front.specs.Entries.{Asks, BeginsWith, Entry, HasNoEntry, IsRouted, ReadsEntry, Refused, is_last}
+use Rattle.http_front.specs.Entries.{Asks, BeginsWith, Entry, HasNoEntry, ReadsEntry, Refused, is_last}
 use Rattle.http_front.specs.Heads.{HasHead, HasRequest}
 use Rattle.http_front.specs.Responses.{is_long, text_of}
-use Rattle.http_front.specs.Routes.{Route}
 use Rattle.http_front.specs.Sessions.{Answers, AnswersAll, AnswersOpen, Exchange, Exchanges, Session, entries_of, response_of, responses}
 use Rattle.http_front.specs.Steps.{AnswersFrame, HasRead, HasServed, IsRendered, StopsUndecided}
 use Rattle.http_front.specs.declared.cause.Cause.{Cause}
-use Rattle.http_front.specs.declared.cause.Cause.TheVariants as cause
 use Rattle.http_front.specs.declared.outcome.Outcome.{Outcome}
 use Rattle.http_front.specs.declared.outcome.Outcome.TheVariants as outcome
+use Rattle.http_front.specs.declared.outcome.Shape.{Shape}
+use Rattle.http_front.specs.declared.outcome.Shape.TheVariants as shape
 use Rattle.funnel_model.proofs.Absence.{neither}
 
 -- further bytes leave a head that begins them as it is
@@ -48,33 +48,15 @@ HasRequest-append bytes head body rest more has = record {
   short = has.short;
 }
 
-IsRouted-append : (bytes : List ℕ) (route : Route) (closing : Bool) (body rest more : List ℕ) → IsRouted bytes route closing body rest
-    → IsRouted (bytes ++ more) route closing body (rest ++ more)
-IsRouted-append bytes route closing body rest more is = record {
-  head = is.head;
-  whole = HasRequest-append bytes is.head body rest more is.whole;
-  matches = is.matches;
-  last = is.last;
-}
-
 both : (b : Bool) → b ≡ true → b ≡ false → ⊥
 both b up down = true≢false (sym up ∙ down)
 
 -- and so an entry that doesn't close
 pub ReadsEntry-append : (bytes : List ℕ) (entry : Entry) (rest more : List ℕ) → is_last entry ≡ false → ReadsEntry bytes entry rest
     → ReadsEntry (bytes ++ more) entry (rest ++ more)
-ReadsEntry-append bytes (Asks asked closing) rest more none reads =
-    (reads.0, reads.1, IsRouted-append bytes reads.0 closing reads.1 rest more reads.2, reads.3)
-ReadsEntry-append bytes (Refused cause.Route closing) rest more none reads =
-    (reads.0, reads.1, HasRequest-append bytes reads.0 reads.1 rest more reads.2, reads.3, reads.4)
-ReadsEntry-append bytes (Refused cause.Body closing) rest more none reads =
-    (reads.0, IsRouted-append bytes _ closing reads.0 rest more reads.1, reads.2)
-ReadsEntry-append bytes (Refused cause.Query closing) rest more none reads =
-    (reads.0, reads.1, IsRouted-append bytes _ closing reads.1 rest more reads.2, reads.3)
-ReadsEntry-append bytes (Refused cause.Head closing) rest more none reads = absurd (both closing reads.0 none)
-ReadsEntry-append bytes (Refused cause.Coding closing) rest more none reads = absurd (both closing reads.0 none)
-ReadsEntry-append bytes (Refused cause.Length closing) rest more none reads = absurd (both closing reads.0 none)
-ReadsEntry-append bytes (Refused cause.Long closing) rest more none reads = absurd (both closing reads.0 none)
+ReadsEntry-append bytes entry rest more none (inl is) =
+    inl (record { head = is.head; body = is.body; whole = HasRequest-append bytes is.head is.body rest more is.whole; is = is.is })
+ReadsEntry-append bytes entry rest more none (inr cut) = absurd (both (is_last entry) (ap is_last cut.is) none)
 
 -- and so entries of which none closes
 pub BeginsWith-append : (bytes : List ℕ) (entries : List Entry) (rest more : List ℕ) → list_any is_last entries ≡ false → BeginsWith bytes entries rest
@@ -122,6 +104,13 @@ pub record IsTold (caller : Caller) (before : List Event) (entry : Entry) (text 
   pub answers : Exchanges caller before (record { entry = entry; told = told }) after
   pub is : text ≡ text_of (is_last entry) told
 
+-- a want of memory is told alike in each shape
+memory_text : (form : Shape) (closing : Bool) → text_of closing (outcome.Replied form reply.Memory) ≡ text_of closing (outcome.Replied shape.Object reply.Memory)
+unfolding text_of
+memory_text shape.Object closing = refl
+memory_text (shape.Document id) closing = refl
+memory_text shape.Metrics closing = refl
+
 -- a refusal isn't long
 short_refusal : (told : Outcome) (why : Cause) → told ≡ outcome.Refused why → is_long told ≡ true → ⊥
 short_refusal told why same long = both (is_long told) long (ap is_long same)
@@ -129,19 +118,12 @@ short_refusal told why same long = both (is_long told) long (ap is_long same)
 pub rendered : (caller : Caller) (before after : List Event) (entry : Entry) (told : Outcome) (text : List ℕ)
     → Exchanges caller before (record { entry = entry; told = told }) after → IsRendered (is_last entry) told text → IsTold caller before entry text after
 rendered caller before after entry told text answers (inl is) = record { told = told; answers = answers; is = is }
-rendered caller before after (Asks asked closing) told text (inl answers) (inr wanting) =
+rendered caller before after (Asks asked form closing) told text (inl answers) (inr wanting) =
     let long = subst (λ (t : Outcome). is_long t ≡ true) answers.1 wanting.0 in
     record {
-      told = outcome.Replied reply.Memory;
-      answers = inl (
-        reply.Memory,
-        refl,
-        record {
-          step = without_memory caller.limits caller.pass before after asked answers.0 long answers.2.step;
-          spent = λ many. record { reply = inr refl; call = (answers.2.spent many).call };
-        },
-      );
-      is = wanting.1;
+      told = outcome.Replied form reply.Memory;
+      answers = inl (reply.Memory, refl, asked_without_memory caller before after asked answers.0 long answers.2);
+      is = wanting.1 ∙ sym (memory_text form closing);
     }
 rendered caller before after (Refused why closing) told text (inl answers) (inr wanting) = absurd (short_refusal told why answers.0 wanting.0)
 rendered caller before after entry told text (inr lacks) (inr wanting) =

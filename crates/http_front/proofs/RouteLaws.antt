@@ -1,15 +1,25 @@
--- Targets without a route.
-use Rattle.std.proofs.Common.{◌≡◌, ℕ, List, ◌++◌, codes, get_or, ap, subst, arith}
-use Rattle.http_front.specs.Routes.{Document, Documents, EndsFind, Find, HasNoRoute, Place}
+-- The route of a target that is text, and of another.
+use Rattle.std.proofs.Common.{◌≡◌, ℕ, List, Bool, true, false, Option, Some, None, MatchOption, refl, sym, ap, ◌∙◌}
+use Rattle.std.specs.Str.{IsUtf8, is_utf8}
+use Rattle.std.proofs.lemmas.Str.{IsUtf8-from_is_utf8, is_utf8-from_IsUtf8}
+use Rattle.http_front.specs.Routes.{route_of, route_of_text, route_seen}
+use Rattle.http_front.specs.declared.routing.Route.{Route as Parsed}
 
-pub other_letter : (n : ℕ) → n ≡ 102 → n ≡ 112 → ⊥
-other_letter n f p = omega arith
+by_test : (method target : List ℕ) (b : Bool) → is_utf8 target ≡ b → ¬ (IsUtf8 target) → route_of method target ≡ None
+unfolding route_of
+by_test method target true is other = absurd (other (IsUtf8-from_is_utf8 target is))
+by_test method target false is other = rw is refl
 
--- a find that doesn't end as one has no route
-pub no_find : (target end : List ℕ) → target ≡ codes "/find" ++ end → ((value : List ℕ) → EndsFind end value → ⊥) → HasNoRoute (codes "GET") target
-no_find target end is none Documents route = cc
-no_find target end is none (Document id) route = cc
-no_find target end is none (Find value) route =
-    let same : route.1 ≡ end = cc (route.2, is) in
-    none value (subst (λ (e : List ℕ). EndsFind e value) same route.3)
-no_find target end is none Place route = other_letter (get_or target 1 0) (ap (λ (t : List ℕ). get_or t 1 0) is) (ap (λ (t : List ℕ). get_or t 1 0) route.1)
+pub no_text : (method target : List ℕ) → ¬ (IsUtf8 target) → route_of method target ≡ None
+no_text method target other = by_test method target (is_utf8 target) refl other
+
+of_text : (method target : List ℕ) → IsUtf8 target → route_of method target ≡ route_of_text method target
+unfolding route_of
+of_text method target text = rw (is_utf8-from_IsUtf8 target text) refl
+
+-- what was parsed of the text is the route
+pub parsed : (method target text : List ℕ) (r : Option Parsed) → text ≡ target → IsUtf8 target
+    → MatchOption r (route_of_text method text ≡ None) (λ route. route_of_text method text ≡ Some (route_seen route))
+    → MatchOption r (route_of method target ≡ None) (λ route. route_of method target ≡ Some (route_seen route))
+parsed method target text None is utf8 none = of_text method target utf8 ∙ ap (route_of_text method) (sym is) ∙ none
+parsed method target text (Some route) is utf8 found = of_text method target utf8 ∙ ap (route_of_text method) (sym is) ∙ found

@@ -1,4 +1,4 @@
--- The document that a body is.
+-- The document that a body is, or its text.
 use Rattle.std.specs.Prelude.{ℕ, List, Option, Some, None, option_map, option_and_then, if◌then◌else◌, codes, bytes_eq}
 use Rattle.std.specs.Str.{is_utf8}
 use Rattle.funnel_model.specs.declared.call.Call.{Call}
@@ -35,3 +35,17 @@ add_of _ = None
 -- the add that a body asks for, which is a JSON text (RFC 8259) in UTF-8
 unfoldable pub document_of : List ℕ → Option Call
 document_of body = if is_utf8 body then option_and_then add_of (document body) else None
+
+-- the text of a part that is one
+abbrev pub text_of_part : Part → Option (List ℕ)
+text_of_part (Id id) = None
+text_of_part (Text text) = Some text
+
+-- the text that an object of exactly this member tells
+abbrev pub text_in : Json → Option (List ℕ)
+text_in (object (member name value no_members)) = option_and_then text_of_part (part_of name value)
+text_in _ = None
+
+-- the text that a body tells, which is a JSON text in UTF-8, too
+unfoldable pub text_of_body : List ℕ → Option (List ℕ)
+text_of_body body = if is_utf8 body then option_and_then text_in (document body) else None

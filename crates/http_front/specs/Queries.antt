@@ -1,9 +1,7 @@
--- The query that a value in a target stands for.
+-- The text that a value in a target stands for.
 use Rattle.std.specs.Prelude.{ℕ, ◌+◌, ◌*◌, ◌==◌, ◌&&◌, List, [], ◌∷◌, Option, Some, None, option_map, option_and_then, if◌then◌else◌}
 use Rattle.std.specs.Char.{digit_value, is_ascii_hexdigit}
 use Rattle.std.specs.Str.{is_utf8}
-use Rattle.funnel_model.specs.declared.call.Call.{Call}
-use Rattle.funnel_model.specs.declared.call.Call.TheVariants as call
 
 -- a byte before the others, where there are others
 abbrev pub put : ℕ → Option (List ℕ) → Option (List ℕ)
@@ -28,10 +26,10 @@ decoded escape (high ∷ []) = None
 decoded escape (high ∷ low ∷ bytes) =
     if is_ascii_hexdigit high && is_ascii_hexdigit low then put (digit_value high * 16 + digit_value low) (decoded plain bytes) else None
 
--- the find by a query that is text
-abbrev pub find_by : List ℕ → Option Call
-find_by query = if is_utf8 query then Some (call.Find query) else None
+-- the bytes, where they are text
+abbrev pub as_text : List ℕ → Option (List ℕ)
+as_text bytes = if is_utf8 bytes then Some bytes else None
 
--- the find that a value asks for
-abbrev pub find_of : List ℕ → Option Call
-find_of value = option_and_then find_by (decoded plain value)
+-- the text that a value stands for, if it stands for one
+abbrev pub text_of_value : List ℕ → Option (List ℕ)
+text_of_value value = option_and_then as_text (decoded plain value)

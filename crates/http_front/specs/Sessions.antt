@@ -7,33 +7,37 @@ use Rattle.funnel_model.specs.declared.call.Call.TheVariants as call
 use Rattle.funnel_model.specs.declared.event.Event.{Event}
 use Rattle.funnel_model.specs.declared.reply.Reply.{Reply}
 use Rattle.funnel_model.specs.declared.reply.Reply.TheVariants as reply
-use Rattle.line_proto.specs.Services.{AnswersCall, Caller}
+use Rattle.line_proto.specs.Forms.{Calls}
+use Rattle.line_proto.specs.Services.{AnswersAsked, Caller}
 use Rattle.http_front.specs.Entries.{AreRequests, BeginsWith, Entry, Asks, Refused, is_last}
 use Rattle.http_front.specs.Responses.{text_of}
 use Rattle.http_front.specs.declared.cause.Cause.TheVariants as cause
 use Rattle.http_front.specs.declared.outcome.Outcome.{Outcome}
 use Rattle.http_front.specs.declared.outcome.Outcome.TheVariants as outcome
+use Rattle.http_front.specs.declared.outcome.Shape.TheVariants as shape
 
 -- an entry, and what its response tells
 pub record Exchange : Type 0 where
   pub entry : Entry
   pub told : Outcome
 
--- the entry is a `POST /documents`, whether its body is a document or not
-abbrev pub IsPost : Entry → Type 0
-IsPost (Asks (call.Add id text) closing) = ⊤
-IsPost (Refused cause.Body closing) = ⊤
-IsPost _ = ⊥
+-- the entry is one whose body is read as JSON, to an add or a put or to neither
+abbrev pub HasBody : Entry → Type 0
+HasBody (Asks (Calls (call.Add id text)) form closing) = ⊤
+HasBody (Asks (Calls (call.Put id text)) form closing) = ⊤
+HasBody (Refused cause.Body closing) = ⊤
+HasBody _ = ⊥
 
--- no memory was found for a `POST /documents` before its call, which isn't made
+-- no memory was found for such a body before its call, which isn't made
 pub record LacksMemory (before after : List Event) (exchange : Exchange) : Type 0 where
-  pub post : IsPost exchange.entry
-  pub told : exchange.told ≡ outcome.Replied reply.Memory
+  pub post : HasBody exchange.entry
+  pub told : exchange.told ≡ outcome.Replied shape.Object reply.Memory
   pub same : before ≡ after
 
--- an entry's call is answered by a step from front to front; a refusal is told, and makes no step
+-- what an entry asks for is answered from front to front; a refusal is told, and makes no step
 abbrev pub AnswersEntry : Caller → List Event → Entry → Outcome → List Event → Type 0
-AnswersEntry caller before (Asks asked closing) told after = (given : Reply) × (told ≡ outcome.Replied given) × AnswersCall caller before after asked given
+AnswersEntry caller before (Asks asked form closing) told after =
+    (given : Reply) × (told ≡ outcome.Replied form given) × AnswersAsked caller before after asked given
 AnswersEntry caller before (Refused why closing) told after = (told ≡ outcome.Refused why) × (before ≡ after)
 
 -- the exchange leads from front to front

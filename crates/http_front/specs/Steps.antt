@@ -3,7 +3,6 @@ use Rattle.std.specs.Prelude.{◌≡◌, ◌+◌, ◌<◌, ◌≤◌, ◌⊎◌,
 use Rattle.std.specs.Io.KnownBytes.{IsAtEnd}
 use Rattle.std.specs.List.{list_any}
 use Rattle.std.specs.Str.{str_eq_ignore_ascii_case}
-use Rattle.std.specs.Option.{option_map_or}
 use Rattle.funnel_io.specs.Counts.{counted}
 use Rattle.funnel_io.specs.Streams.{Incoming, Takes, Writes}
 use Rattle.funnel_io.specs.declared.end.End.{End}
@@ -16,10 +15,10 @@ use Rattle.httparse.specs.declared.spans.HeaderSpan.{HeaderSpan}
 use Rattle.httparse.specs.declared.spans.RequestSpans.{RequestSpans}
 use Rattle.line_proto.specs.Services.{Caller}
 use Rattle.session.specs.Ends.{Stand, is_read_fault}
-use Rattle.http_front.specs.Entries.{Asks, BeginsWith, Entry, HasBadBody, HasNoEntry, IsRefusedAtHead, ReadsEntry, Refused, asked_by, is_last}
+use Rattle.http_front.specs.Entries.{BeginsWith, Entry, HasBadBody, HasNoEntry, IsRefusedAtHead, ReadsEntry, entry_by, is_last}
 use Rattle.http_front.specs.Heads.{HasRequest, closes, closes_by, codings, connections, fields_of, has_close, length_said, lengths}
 use Rattle.http_front.specs.Responses.{is_long, text_of}
-use Rattle.http_front.specs.Routes.{Find, Route}
+use Rattle.http_front.specs.Routes.{Route}
 use Rattle.http_front.specs.Sessions.{Answers, Exchange, Exchanges, entries_of, responses}
 use Rattle.http_front.specs.declared.buffer.TheConstants.{CAPACITY, LONGEST}
 use Rattle.http_front.specs.declared.cause.Cause.{Cause}
@@ -34,6 +33,7 @@ use Rattle.http_front.specs.declared.framing.Seen.{Seen}
 use Rattle.http_front.specs.declared.framing.Seen.TheVariants as seen
 use Rattle.http_front.specs.declared.outcome.Outcome.{Outcome}
 use Rattle.http_front.specs.declared.outcome.Outcome.TheVariants as outcome
+use Rattle.http_front.specs.declared.outcome.Shape.TheVariants as shape
 
 -- the bytes that a buffer holds, and how many more fit behind them
 pub record Held : Type 0 where
@@ -57,7 +57,7 @@ abbrev pub is_closing : List ℕ × List ℕ → Bool
 is_closing field = str_eq_ignore_ascii_case field.0 (codes "connection") && has_close field.1
 
 -- a whole request begins the bytes, and these are its parts
-pub record IsWhole (bytes : List ℕ) (parts : Parts) : Type 0 where
+pub record IsRequest (bytes : List ℕ) (parts : Parts) : Type 0 where
   pub head : RequestHead
   pub body : List ℕ
   pub request : HasRequest bytes head body (drop parts.body.end bytes)
@@ -72,7 +72,7 @@ pub record IsWhole (bytes : List ℕ) (parts : Parts) : Type 0 where
 
 -- what begins the bytes: a whole request, or a head that is refused
 abbrev pub IsFrame : List ℕ → Frame → Type 0
-IsFrame bytes (frame.Request parts) = IsWhole bytes parts
+IsFrame bytes (frame.Request parts) = IsRequest bytes parts
 IsFrame bytes (frame.Refused why) = IsRefusedAtHead bytes why
 
 -- these spans are those of a head that begins the bytes
@@ -119,19 +119,10 @@ abbrev pub IsSeen : List ℕ → Seen → Type 0
 IsSeen bytes (seen.Frame frame) = IsFrame bytes frame
 IsSeen bytes (seen.More least) = IsUndecided bytes least
 
--- the cause for which a request of a route is refused that asks for no call
-abbrev pub cause_of : Route → Cause
-cause_of (Find value) = cause.Query
-cause_of _ = cause.Body
-
--- the entry of a request of a route
-abbrev pub entry_of : Route → List ℕ → Bool → Entry
-entry_of route body closing = option_map_or (λ asked. Asks asked closing) (asked_by route body) (Refused (cause_of route) closing)
-
 -- a request of a route is answered from front to front
 abbrev pub AnswersRoute : Route → List ℕ → Caller → List Event → Outcome → List Event → Type 0
 AnswersRoute route body caller before told after =
-    (closing : Bool) → Exchanges caller before (record { entry = entry_of route body closing; told = told }) after
+    (closing : Bool) → Exchanges caller before (record { entry = entry_by route body closing; told = told }) after
 
 -- an entry begins the bytes, which ends there and closes the connection or not, and is answered from front to front
 pub record AnswersFrame (bytes : List ℕ) (len : ℕ) (closing : Bool) (caller : Caller) (before : List Event) (told : Outcome) (after : List Event) : Type 0 where
@@ -143,7 +134,7 @@ pub record AnswersFrame (bytes : List ℕ) (len : ℕ) (closing : Bool) (caller 
 -- the text is the response, or that of a want of memory for a list
 abbrev pub IsRendered : Bool → Outcome → List ℕ → Type 0
 IsRendered closing told text =
-    (text ≡ text_of closing told) ⊎ ((is_long told ≡ true) × (text ≡ text_of closing (outcome.Replied reply.Memory)))
+    (text ≡ text_of closing told) ⊎ ((is_long told ≡ true) × (text ≡ text_of closing (outcome.Replied shape.Object reply.Memory)))
 
 -- bytes were read, of the number that may be, and stand behind those that were held
 pub record HasRead (before after : Incoming) (old new : List ℕ) (may may' : ℕ) : Type 0 where

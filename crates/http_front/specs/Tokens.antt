@@ -41,3 +41,12 @@ pub record AsksAdd (tokens : List Token) (asked : Call) : Type 0 where
 
 abbrev pub AsksNothing : List Token → Type 0
 AsksNothing tokens = (asked : Call) → AsksAdd tokens asked → ⊥
+
+-- the tokens are those of an object of one member that is this text
+pub record TellsText (tokens : List Token) (text : List ℕ) : Type 0 where
+  pub members : List Token
+  pub tokens_are : tokens ≡ Token.begin_object ∷ members
+  pub begins : BeginsWithPart members (Text text) (Token.end_object ∷ [])
+
+abbrev pub TellsNoText : List Token → Type 0
+TellsNoText tokens = (text : List ℕ) → TellsText tokens text → ⊥

@@ -1,7 +1,7 @@
 ghost use Rattle.std.specs.Prelude.{◌≡◌, Some, None, IfOk, MatchOption};
 ghost use Rattle.funnel_model.specs.declared.call.Call.TheVariants.{Add};
-ghost use Rattle.http_front.specs.Documents.{document_of};
-ghost use Rattle.http_front.specs.Tokens.{AsksAdd, AsksNothing, BeginsWithNoPart, BeginsWithPart, part_seen};
+ghost use Rattle.http_front.specs.Documents.{document_of, text_of_body};
+ghost use Rattle.http_front.specs.Tokens.{AsksAdd, AsksNothing, BeginsWithNoPart, BeginsWithPart, TellsNoText, TellsText, part_seen};
 
 use json::{Reader, Scratch, Token};
 use line_proto::parse_number;
@@ -36,6 +36,42 @@ pub(crate) fn parse_document<'a>(
     };
     let mut reader = Reader::new(text, scratch)?;
     Ok(parse_object(&mut reader))
+}
+
+/// The text that a body is: a JSON object of `text`, a string, alone. Memory is taken as for a document.
+pub(crate) fn parse_text<'a>(
+    body: &'a [u8],
+    scratch: &'a mut Scratch<Global>,
+) -> Result<Option<&'a str>, AllocError>
+    ensures { IfOk result (λ found. MatchOption found (text_of_body body.now ≡ None) (λ text. text_of_body body.now ≡ Some text.now)) }
+{
+    let Ok(text) = str::from_utf8(body) else {
+        return Ok(None);
+    };
+    let mut reader = Reader::new(text, scratch)?;
+    Ok(parse_text_object(&mut reader))
+}
+
+/// The text that the tokens tell.
+fn parse_text_object<'a>(reader: &mut Reader<'a>) -> Option<&'a str>
+    ensures { MatchOption result (TellsNoText reader.old) (λ text. TellsText reader.old text.now) }
+{
+    let Some(Token::BeginObject) = reader.next() else {
+        return None;
+    };
+    let Some(part) = parse_part(reader) else {
+        return None;
+    };
+    let Some(Token::EndObject) = reader.next() else {
+        return None;
+    };
+    if reader.next().is_some() {
+        return None;
+    }
+    match part {
+        Part::Text(text) => Some(text),
+        Part::Id(_) => None,
+    }
 }
 
 /// The document that the tokens are.

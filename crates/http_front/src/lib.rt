@@ -12,13 +12,16 @@ mod document;
 mod fields;
 mod framing;
 mod head_end;
+mod keys;
 mod laws;
+mod measures;
 mod numbers;
 mod outcome;
 mod query;
 mod response;
 mod routing;
 mod serving;
+mod texts;
 
 pub use cause::Cause;
 pub use framing::{MAX_BODY, MAX_FIELDS, MAX_HEAD};
@@ -26,5 +29,5 @@ pub use laws::{
     a_connection_is_one_run_of_calls, bytes_have_one_list_of_requests,
     responses_come_after_their_requests, turns_write_their_responses,
 };
-pub use outcome::Outcome;
+pub use outcome::{Outcome, Shape};
 pub use serving::serve_http;

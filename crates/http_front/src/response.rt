@@ -1,17 +1,20 @@
 ghost use Rattle.std.specs.Prelude.{◌≡◌, ◌+◌, ◌≤◌, ◌<◌, ◌++◌, ◌∷◌, false, length, decimal, map, OnOk, OnErr, IsOk, vec_len, vec_capacity};
 ghost use Rattle.line_proto.specs.Texts.{is_list};
-ghost use Rattle.http_front.specs.Responses.{after_commas, body_of, body_of_reply, end_of_head, error_body, ids_body, is_long, joined};
-ghost use Rattle.http_front.specs.Responses.{place_body, response, start_of_head, status_of, status_of_cause, status_of_reply, text_of, word_of_cause};
+ghost use Rattle.http_front.specs.declared.outcome.Shape.TheVariants.{Document, Metrics};
+ghost use Rattle.http_front.specs.Responses.{after_commas, body_in_shape, body_of, body_of_reply, end_of_head, error_body, fault_body, ids_body, is_long, joined};
+ghost use Rattle.http_front.specs.Responses.{kind_of, kind_of_reply, number_body, response, some_body, start_of_head, status_of, status_of_cause, status_of_reply, text_of, word_of_cause};
 ghost use Rattle.http_front.specs.Steps.{IsRendered};
 
 use crate::cause::Cause;
-use crate::outcome::Outcome;
+use crate::measures::{push_metrics, push_stats};
+use crate::outcome::{Outcome, Shape};
+use crate::texts::{push_commits, push_document, push_plain_text};
 use funnel_model::Reply;
 use itoa::Buffer;
 use std::alloc::AllocError;
 
-/// The room that a response needs, and its body, where it is no list.
-pub(crate) const TEXT_ROOM: usize = 256;
+/// The room that a response needs, and its body, where it is no list and no text.
+pub(crate) const TEXT_ROOM: usize = 2048;
 
 /// Sets `text` to the response, or to that of a want of memory where none is found for a list.
 pub(crate) fn render(told: &Outcome, closing: bool, body: &mut Vec<u8>, text: &mut Vec<u8>)
@@ -24,7 +27,14 @@ pub(crate) fn render(told: &Outcome, closing: bool, body: &mut Vec<u8>, text: &m
     if write_response(told, closing, body, text).is_ok() {
         return;
     }
-    if write_response(&Outcome::Replied(Reply::Memory), closing, body, text).is_err() {
+    if write_response(
+        &Outcome::Replied(Shape::Object, Reply::Memory),
+        closing,
+        body,
+        text,
+    )
+    .is_err()
+    {
         unreachable!()
     }
 }
@@ -44,7 +54,7 @@ fn write_response(
     body.clear();
     push_body(body, told)?;
     text.clear();
-    push_response(text, closing, status(told), body.as_slice())
+    push_response(text, closing, status(told), kind(told), body.as_slice())
 }
 
 /// The status of a response, with its reason.
@@ -53,14 +63,74 @@ fn status(told: &Outcome) -> &'static [u8]
     ensures short { length result.now ≤ 24 }
 {
     match told {
-        Outcome::Replied(Reply::Added(_)) => b"201 Created",
-        Outcome::Replied(Reply::Present(_)) => b"409 Conflict",
-        Outcome::Replied(Reply::Deleted(_) | Reply::Found(_) | Reply::Place(_)) => b"200 OK",
-        Outcome::Replied(Reply::Absent) | Outcome::Refused(Cause::Route) => b"404 Not Found",
-        Outcome::Replied(_) => b"503 Service Unavailable",
+        Outcome::Replied(_, reply) => status_of_reply(reply),
+        Outcome::Refused(Cause::Route) => b"404 Not Found",
         Outcome::Refused(Cause::Coding) => b"501 Not Implemented",
         Outcome::Refused(Cause::Long) => b"413 Content Too Large",
         Outcome::Refused(_) => b"400 Bad Request",
+    }
+}
+
+/// The status of a reply.
+fn status_of_reply(reply: &Reply) -> &'static [u8]
+    ensures value { result.now ≡ status_of_reply reply.now }
+    ensures short { length result.now ≤ 24 }
+{
+    match reply {
+        Reply::Added(_) => b"201 Created",
+        Reply::Absent => b"404 Not Found",
+        Reply::Trimmed(_) => b"410 Gone",
+        Reply::Tuning(_) | Reply::Query(_) | Reply::Deep(_) => b"400 Bad Request",
+        Reply::Present(_) | Reply::NothingRetired | Reply::Guarded { .. } | Reply::Wide { .. } => {
+            b"409 Conflict"
+        }
+        Reply::Full | Reply::Spent | Reply::Memory | Reply::Line | Reply::Long => {
+            b"503 Service Unavailable"
+        }
+        Reply::Replaced(_)
+        | Reply::Deleted(_)
+        | Reply::Found(_)
+        | Reply::Count(_)
+        | Reply::FoundSome { .. }
+        | Reply::Text { .. }
+        | Reply::Place(_)
+        | Reply::Commits(_)
+        | Reply::Stats(_)
+        | Reply::Recycled(_)
+        | Reply::Tuned(_) => b"200 OK",
+    }
+}
+
+/// Of which kind the body of a response is.
+fn kind(told: &Outcome) -> &'static [u8]
+    ensures value { result.now ≡ kind_of told.now }
+    ensures short { length result.now ≤ 25 }
+{
+    match told {
+        Outcome::Replied(shape, reply) => kind_of_reply(*shape, reply),
+        Outcome::Refused(_) => b"application/json",
+    }
+}
+
+/// Of which kind the body of a reply is.
+fn kind_of_reply(shape: Shape, reply: &Reply) -> &'static [u8]
+    ensures value { result.now ≡ kind_of_reply shape reply.now }
+    ensures short { length result.now ≤ 25 }
+{
+    match shape {
+        Shape::Object | Shape::Document(_) => b"application/json",
+        Shape::Metrics => kind_of_metrics(reply),
+    }
+}
+
+/// Of which kind the body of a reply is where metrics are asked for.
+fn kind_of_metrics(reply: &Reply) -> &'static [u8]
+    ensures value { result.now ≡ kind_of_reply Metrics reply.now }
+    ensures short { length result.now ≤ 25 }
+{
+    match reply {
+        Reply::Stats(_) => b"text/plain; version=0.0.4",
+        _ => b"application/json",
     }
 }
 
@@ -69,26 +139,29 @@ fn push_response(
     out: &mut Vec<u8>,
     closing: bool,
     status: &[u8],
+    kind: &[u8],
     body: &[u8],
 ) -> Result<(), AllocError>
-    ensures ok { OnOk result (out.new.items ≡ out.old.items ++ response closing status.now body.now) }
-    ensures full { OnErr result (vec_capacity out.old < vec_len out.old + length (response closing status.now body.now)) }
+    ensures ok { OnOk result (out.new.items ≡ out.old.items ++ response closing status.now kind.now body.now) }
+    ensures full { OnErr result (vec_capacity out.old < vec_len out.old + length (response closing status.now kind.now body.now)) }
     ensures capacity { vec_capacity out.old ≤ vec_capacity out.new }
 {
-    push_start(out, status)?;
+    push_start(out, status, kind)?;
     push_number(out, body.len() as u64)?;
     push_rest(out, closing, body)
 }
 
 /// Appends the status line and the fields up to the number of the body's length.
-fn push_start(out: &mut Vec<u8>, status: &[u8]) -> Result<(), AllocError>
-    ensures ok { OnOk result (out.new.items ≡ out.old.items ++ start_of_head status.now) }
-    ensures full { OnErr result (vec_capacity out.old < vec_len out.old + length (start_of_head status.now)) }
+fn push_start(out: &mut Vec<u8>, status: &[u8], kind: &[u8]) -> Result<(), AllocError>
+    ensures ok { OnOk result (out.new.items ≡ out.old.items ++ start_of_head status.now kind.now) }
+    ensures full { OnErr result (vec_capacity out.old < vec_len out.old + length (start_of_head status.now kind.now)) }
     ensures capacity { vec_capacity out.old ≤ vec_capacity out.new }
 {
     out.extend_from_slice(b"HTTP/1.1 ")?;
     out.extend_from_slice(status)?;
-    out.extend_from_slice(b"\r\nContent-Type: application/json\r\nContent-Length: ")
+    out.extend_from_slice(b"\r\nContent-Type: ")?;
+    out.extend_from_slice(kind)?;
+    out.extend_from_slice(b"\r\nContent-Length: ")
 }
 
 /// Appends what follows that number.
@@ -116,11 +189,11 @@ fn end_of_head(closing: bool) -> &'static [u8]
 fn push_body(out: &mut Vec<u8>, told: &Outcome) -> Result<(), AllocError>
     ensures ok { OnOk result (out.new.items ≡ out.old.items ++ body_of told.now) }
     ensures full { OnErr result (vec_capacity out.old < vec_len out.old + length (body_of told.now)) }
-    ensures short { is_long told.now ≡ false → length (body_of told.now) ≤ 64 }
+    ensures short { is_long told.now ≡ false → length (body_of told.now) ≤ 1024 }
     ensures capacity { vec_capacity out.old ≤ vec_capacity out.new }
 {
     match told {
-        Outcome::Replied(reply) => push_reply(out, reply),
+        Outcome::Replied(shape, reply) => push_in_shape(out, *shape, reply),
         Outcome::Refused(cause) => push_error(out, word(*cause)),
     }
 }
@@ -141,26 +214,105 @@ fn word(cause: Cause) -> &'static [u8]
     }
 }
 
-/// Appends the body that tells a reply. No call of a route is given another reply than those named here.
+/// Appends the body that tells a reply in a shape.
+fn push_in_shape(out: &mut Vec<u8>, shape: Shape, reply: &Reply) -> Result<(), AllocError>
+    ensures short { is_list reply.now ≡ false → length (body_in_shape shape reply.now) ≤ 1024 }
+    ensures ok { OnOk result (out.new.items ≡ out.old.items ++ body_in_shape shape reply.now) }
+    ensures full { OnErr result (vec_capacity out.old < vec_len out.old + length (body_in_shape shape reply.now)) }
+    ensures capacity { vec_capacity out.old ≤ vec_capacity out.new }
+{
+    match shape {
+        Shape::Object => push_reply(out, reply),
+        Shape::Document(id) => push_document_reply(out, id, reply),
+        Shape::Metrics => push_metrics_reply(out, reply),
+    }
+}
+
+/// Appends the body that tells the reply to a get of this number.
+fn push_document_reply(out: &mut Vec<u8>, id: u64, reply: &Reply) -> Result<(), AllocError>
+    ensures short { is_list reply.now ≡ false → length (body_in_shape (Document id) reply.now) ≤ 256 }
+    ensures ok { OnOk result (out.new.items ≡ out.old.items ++ body_in_shape (Document id) reply.now) }
+    ensures full { OnErr result (vec_capacity out.old < vec_len out.old + length (body_in_shape (Document id) reply.now)) }
+    ensures capacity { vec_capacity out.old ≤ vec_capacity out.new }
+{
+    match reply {
+        Reply::Text { place, text } => push_document(out, id, *place, text.as_str()),
+        _ => push_reply(out, reply),
+    }
+}
+
+/// Appends the body that tells the reply where metrics are asked for.
+fn push_metrics_reply(out: &mut Vec<u8>, reply: &Reply) -> Result<(), AllocError>
+    ensures short { is_list reply.now ≡ false → length (body_in_shape Metrics reply.now) ≤ 1024 }
+    ensures ok { OnOk result (out.new.items ≡ out.old.items ++ body_in_shape Metrics reply.now) }
+    ensures full { OnErr result (vec_capacity out.old < vec_len out.old + length (body_in_shape Metrics reply.now)) }
+    ensures capacity { vec_capacity out.old ≤ vec_capacity out.new }
+{
+    match reply {
+        Reply::Stats(stats) => push_metrics(out, stats),
+        _ => push_reply(out, reply),
+    }
+}
+
+/// Appends the object that tells a reply.
 fn push_reply(out: &mut Vec<u8>, reply: &Reply) -> Result<(), AllocError>
-    ensures short { is_list reply.now ≡ false → length (body_of_reply reply.now) ≤ 64 }
+    ensures short { is_list reply.now ≡ false → length (body_of_reply reply.now) ≤ 256 }
     ensures ok { OnOk result (out.new.items ≡ out.old.items ++ body_of_reply reply.now) }
     ensures full { OnErr result (vec_capacity out.old < vec_len out.old + length (body_of_reply reply.now)) }
     ensures capacity { vec_capacity out.old ≤ vec_capacity out.new }
 {
     match reply {
-        Reply::Added(place) | Reply::Deleted(place) | Reply::Place(place) => {
-            push_number_between(out, b"{\"place\":", *place, b"}")
-        }
-        Reply::Present(place) => {
-            push_number_between(out, b"{\"error\":\"present\",\"place\":", *place, b"}")
-        }
+        Reply::Added(place)
+        | Reply::Replaced(place)
+        | Reply::Deleted(place)
+        | Reply::Place(place) => { push_named(out, b"place", *place) }
+        Reply::Present(place) => push_fault(out, b"present", b"place", *place),
         Reply::Full => push_error(out, b"full"),
         Reply::Absent => push_error(out, b"absent"),
         Reply::Found(ids) => push_ids(out, ids.as_slice()),
+        Reply::Count(count) => push_named(out, b"count", *count),
+        Reply::FoundSome { count, ids } => push_some(out, *count, ids.as_slice()),
+        Reply::Text { place, text } => push_plain_text(out, *place, text.as_str()),
+        Reply::Commits(commits) => push_commits(out, commits.as_slice()),
+        Reply::Trimmed(_) => push_error(out, b"trimmed"),
+        Reply::Stats(stats) => push_stats(out, stats),
+        Reply::Recycled(slice) => push_named(out, b"slice", u64::from(*slice)),
+        Reply::NothingRetired => push_error(out, b"nothing"),
+        Reply::Guarded { .. } => push_error(out, b"guarded"),
+        Reply::Tuned(count) => push_named(out, b"tuned", *count),
+        Reply::Tuning(fault) => push_fault(out, b"tuning", b"fault", u64::from(*fault)),
+        Reply::Wide { .. } => push_error(out, b"wide"),
+        Reply::Query(at) => push_fault(out, b"syntax", b"at", *at),
+        Reply::Deep(at) => push_fault(out, b"deep", b"at", *at),
         Reply::Spent => push_error(out, b"spent"),
-        _ => push_error(out, b"memory"),
+        Reply::Memory | Reply::Line | Reply::Long => push_error(out, b"memory"),
     }
+}
+
+/// Appends an object that tells an error and a number of it.
+fn push_fault(out: &mut Vec<u8>, word: &[u8], name: &[u8], number: u64) -> Result<(), AllocError>
+    ensures ok { OnOk result (out.new.items ≡ out.old.items ++ fault_body word.now name.now number) }
+    ensures full { OnErr result (vec_capacity out.old < vec_len out.old + length (fault_body word.now name.now number)) }
+    ensures digits { length (decimal number) ≤ 20 }
+    ensures capacity { vec_capacity out.old ≤ vec_capacity out.new }
+{
+    out.extend_from_slice(b"{\"error\":\"")?;
+    out.extend_from_slice(word)?;
+    out.extend_from_slice(b"\",\"")?;
+    out.extend_from_slice(name)?;
+    push_number_between(out, b"\":", number, b"}")
+}
+
+/// Appends an object that tells a number.
+fn push_named(out: &mut Vec<u8>, name: &[u8], number: u64) -> Result<(), AllocError>
+    ensures ok { OnOk result (out.new.items ≡ out.old.items ++ number_body name.now number) }
+    ensures full { OnErr result (vec_capacity out.old < vec_len out.old + length (number_body name.now number)) }
+    ensures digits { length (decimal number) ≤ 20 }
+    ensures capacity { vec_capacity out.old ≤ vec_capacity out.new }
+{
+    out.extend_from_slice(b"{\"")?;
+    out.extend_from_slice(name)?;
+    push_number_between(out, b"\":", number, b"}")
 }
 
 /// Appends an object that tells an error.
@@ -181,6 +333,17 @@ fn push_ids(out: &mut Vec<u8>, ids: &[u64]) -> Result<(), AllocError>
     ensures capacity { vec_capacity out.old ≤ vec_capacity out.new }
 {
     out.extend_from_slice(b"{\"ids\":[")?;
+    push_joined(out, ids)?;
+    out.extend_from_slice(b"]}")
+}
+
+/// Appends the object of how many documents were found and some of their numbers.
+fn push_some(out: &mut Vec<u8>, count: u64, ids: &[u64]) -> Result<(), AllocError>
+    ensures ok { OnOk result (out.new.items ≡ out.old.items ++ some_body count ids.now) }
+    ensures full { OnErr result (vec_capacity out.old < vec_len out.old + length (some_body count ids.now)) }
+    ensures capacity { vec_capacity out.old ≤ vec_capacity out.new }
+{
+    push_number_between(out, b"{\"count\":", count, b",\"ids\":[")?;
     push_joined(out, ids)?;
     out.extend_from_slice(b"]}")
 }
@@ -220,7 +383,7 @@ fn push_after_comma(out: &mut Vec<u8>, id: u64) -> Result<(), AllocError>
     push_number(out, id)
 }
 
-fn push_number_between(
+pub(crate) fn push_number_between(
     out: &mut Vec<u8>,
     before: &[u8],
     number: u64,
@@ -236,7 +399,7 @@ fn push_number_between(
     out.extend_from_slice(after)
 }
 
-fn push_number(out: &mut Vec<u8>, number: u64) -> Result<(), AllocError>
+pub(crate) fn push_number(out: &mut Vec<u8>, number: u64) -> Result<(), AllocError>
     ensures ok { OnOk result (out.new.items ≡ out.old.items ++ decimal number) }
     ensures full { OnErr result (vec_capacity out.old < vec_len out.old + length (decimal number)) }
     ensures digits { length (decimal number) ≤ 20 }

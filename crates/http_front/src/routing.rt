@@ -1,89 +1,189 @@
-ghost use Rattle.std.specs.Prelude.{◌≡◌, ◌≢◌, MatchOption, List, ℕ, codes};
-ghost use Rattle.http_front.specs.Routes.{EndsFind, HasNoRoute, IsRoute, Place, route_seen};
+ghost use Rattle.std.specs.Prelude.{◌≡◌, Some, None, bytes_eq, option_map, MatchOption};
+ghost use Rattle.http_front.specs.Routes.{count_by, count_of, find_by, journal_by, keys_seen, number_in, query_by, text_or_none};
+ghost use Rattle.http_front.specs.Routes.{route_by_keys, route_of, route_of_get, route_of_post, route_of_text, route_seen};
 
+use crate::keys::{Amounts, Keys, parse_keys, split_target, tells_all};
 use crate::numbers::read_number;
+use std::str;
 
 /// What a method and a target ask for.
 #[derive(Clone, Copy, Debug)]
 pub(crate) enum Route<'a> {
     /// Add the document in the body.
-    Documents,
+    Add,
+    /// Put the text in the body at this number.
+    Put(u64),
+    /// Tell the text of the document of this number.
+    Get(u64),
     /// Delete the document of this number.
-    Document(u64),
-    /// Find by the query that this value stands for.
-    Find(&'a [u8]),
+    Delete(u64),
+    /// Find by the words that this value stands for.
+    Find(Amounts, &'a str),
+    /// Find by the boolean query that this value stands for.
+    Query(Amounts, &'a str),
     /// Tell how many commits there were.
     Place,
+    /// Tell how full the engine is.
+    Stats,
+    /// Tell that in Prometheus' text format.
+    Metrics,
+    /// Tell the commits but the first so many.
+    Journal(u64),
+    /// Clear and open a slice of which each column is over.
+    Recycle,
+    /// Treat each slice that is cleared by the statistics in the body.
+    Tune,
 }
 
 /// The route of a method and a target.
 pub(crate) fn parse_route<'a>(method: &[u8], target: &'a [u8]) -> Option<Route<'a>>
-    ensures { MatchOption result (HasNoRoute method.now target.now)
-        (λ route. IsRoute method.now target.now (route_seen route)) }
+    ensures { MatchOption result (route_of method.now target.now ≡ None) (λ route. route_of method.now target.now ≡ Some (route_seen route)) }
 {
-    match method {
-        b"GET" => parse_get(target),
-        b"POST" => parse_post(target),
-        b"DELETE" => parse_delete(target),
-        _ => None,
+    let Ok(target) = str::from_utf8(target) else {
+        return None;
+    };
+    parse_text(method, target)
+}
+
+/// The route of a target that is text.
+#[tactic(auto, unfolding(crate::specs::Routes::route_of_text))]
+fn parse_text<'a>(method: &[u8], target: &'a str) -> Option<Route<'a>>
+    ensures { MatchOption result (route_of_text method.now target.now ≡ None)
+        (λ route. route_of_text method.now target.now ≡ Some (route_seen route)) }
+{
+    if is_method(method, b"GET") {
+        return parse_get(target);
     }
+    if is_method(method, b"POST") {
+        return parse_post(target);
+    }
+    if is_method(method, b"PUT") {
+        return Some(Route::Put(parse_id(target)?));
+    }
+    if is_method(method, b"DELETE") {
+        return Some(Route::Delete(parse_id(target)?));
+    }
+    None
+}
+
+/// Whether a method has this name.
+fn is_method(method: &[u8], name: &[u8]) -> bool
+    ensures { result ≡ bytes_eq method.now name.now }
+{
+    method == name
 }
 
 /// The route of a target with the method GET.
-fn parse_get(target: &[u8]) -> Option<Route<'_>>
-    ensures { MatchOption result (HasNoRoute (codes "GET") target.now)
-        (λ route. IsRoute (codes "GET") target.now (route_seen route)) }
-{
-    let Some(end) = target.strip_prefix(b"/find") else {
-        return parse_place(target);
-    };
-    let Some(value) = parse_end(end) else {
-        return None;
-    };
-    Some(Route::Find(value))
-}
-
-/// The route of the target of a place.
-fn parse_place(target: &[u8]) -> Option<Route<'_>>
-    ensures { MatchOption result (target.now ≢ codes "/place") (λ route. (target.now ≡ codes "/place") × (route_seen route ≡ Place)) }
+#[tactic(auto, unfolding(crate::specs::Routes::route_of_get))]
+fn parse_get(target: &str) -> Option<Route<'_>>
+    ensures { MatchOption result (route_of_get target.now ≡ None) (λ route. route_of_get target.now ≡ Some (route_seen route)) }
 {
     match target {
-        b"/place" => Some(Route::Place),
-        _ => None,
+        "/place" => Some(Route::Place),
+        "/stats" => Some(Route::Stats),
+        "/metrics" => Some(Route::Metrics),
+        _ => parse_by_keys(target),
     }
 }
 
-/// The value of `q` that ends the target of a find.
-fn parse_end(end: &[u8]) -> Option<&[u8]>
-    ensures { MatchOption result ((value : List ℕ) → EndsFind end.now value → ⊥) (λ value. EndsFind end.now value.now) }
+/// The route of a target that may have keys.
+#[tactic(auto, unfolding(crate::specs::Routes::route_by_keys))]
+fn parse_by_keys(target: &str) -> Option<Route<'_>>
+    ensures { MatchOption result (route_by_keys target.now ≡ None) (λ route. route_by_keys target.now ≡ Some (route_seen route)) }
 {
-    if end.is_empty() {
-        return Some(end);
+    let (path, _) = split_target(target);
+    match path {
+        "/find" => find_by(parse_keys(target)?),
+        "/query" => query_by(parse_keys(target)?),
+        "/count" => count_by(parse_keys(target)?),
+        "/journal" => journal_by(parse_keys(target)?),
+        _ => Some(Route::Get(parse_id(target)?)),
     }
-    let value = end.strip_prefix(b"?q=")?;
-    if value.contains(&b'&') {
-        None
-    } else {
-        Some(value)
+}
+
+/// The route of a find with these keys.
+fn find_by(keys: Keys<'_>) -> Option<Route<'_>>
+    ensures { MatchOption result (find_by (keys_seen keys.entry) ≡ None) (λ route. find_by (keys_seen keys.entry) ≡ Some (route_seen route)) }
+{
+    match keys.from {
+        None => Some(Route::Find(keys.told, text_or_none(keys.text))),
+        Some(_) => None,
+    }
+}
+
+/// The route of a query with these keys.
+fn query_by(keys: Keys<'_>) -> Option<Route<'_>>
+    ensures { MatchOption result (query_by (keys_seen keys.entry) ≡ None) (λ route. query_by (keys_seen keys.entry) ≡ Some (route_seen route)) }
+{
+    match keys.from {
+        None => Some(Route::Query(keys.told, text_or_none(keys.text))),
+        Some(_) => None,
+    }
+}
+
+/// The text that is said, or none.
+fn text_or_none(text: Option<&str>) -> &str
+    ensures { result.now ≡ text_or_none (option_map (λ said. said.now) text.entry) }
+{
+    match text {
+        None => "",
+        Some(text) => text,
+    }
+}
+
+/// The route of a count with these keys.
+fn count_by(keys: Keys<'_>) -> Option<Route<'_>>
+    ensures { MatchOption result (count_by (keys_seen keys.entry) ≡ None) (λ route. count_by (keys_seen keys.entry) ≡ Some (route_seen route)) }
+{
+    if !tells_all(keys.told) {
+        return None;
+    }
+    match keys.from {
+        None => Some(count_of(keys.text)),
+        Some(_) => None,
+    }
+}
+
+/// The count of what a text finds, or of each document.
+fn count_of(text: Option<&str>) -> Route<'_>
+    ensures { route_seen result ≡ count_of (option_map (λ said. said.now) text.entry) }
+{
+    match text {
+        None => Route::Find(Amounts::Count, ""),
+        Some(value) => Route::Query(Amounts::Count, value),
+    }
+}
+
+/// The route of a journal with these keys.
+fn journal_by(keys: Keys<'_>) -> Option<Route<'_>>
+    ensures { MatchOption result (journal_by (keys_seen keys.entry) ≡ None) (λ route. journal_by (keys_seen keys.entry) ≡ Some (route_seen route)) }
+{
+    if !tells_all(keys.told) {
+        return None;
+    }
+    match keys.text {
+        None => Some(Route::Journal(keys.from?)),
+        Some(_) => None,
     }
 }
 
 /// The route of a target with the method POST.
-fn parse_post(target: &[u8]) -> Option<Route<'_>>
-    ensures { MatchOption result (HasNoRoute (codes "POST") target.now)
-        (λ route. IsRoute (codes "POST") target.now (route_seen route)) }
+#[tactic(auto, unfolding(crate::specs::Routes::route_of_post))]
+fn parse_post(target: &str) -> Option<Route<'_>>
+    ensures { MatchOption result (route_of_post target.now ≡ None) (λ route. route_of_post target.now ≡ Some (route_seen route)) }
 {
     match target {
-        b"/documents" => Some(Route::Documents),
+        "/documents" => Some(Route::Add),
+        "/recycle" => Some(Route::Recycle),
+        "/tune" => Some(Route::Tune),
         _ => None,
     }
 }
 
-/// The route of a target with the method DELETE.
-fn parse_delete(target: &[u8]) -> Option<Route<'_>>
-    ensures { MatchOption result (HasNoRoute (codes "DELETE") target.now)
-        (λ route. IsRoute (codes "DELETE") target.now (route_seen route)) }
+/// The document's number in a target.
+fn parse_id(target: &str) -> Option<u64>
+    ensures { result ≡ number_in target.now }
 {
-    let digits = target.strip_prefix(b"/documents/")?;
-    Some(Route::Document(read_number(digits)?))
+    let digits = target.as_bytes().strip_prefix(b"/documents/")?;
+    read_number(digits)
 }

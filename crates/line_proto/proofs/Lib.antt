@@ -5,3 +5,4 @@ pub mod Words
 pub mod Readings
 pub mod Rendering
 pub mod Tunings
+pub mod Lengths

@@ -7,7 +7,7 @@ use Rattle.funnel_io.specs.declared.line_reader.TheConstants.{MAX_LINE_LEN}
 use Rattle.line_proto.specs.Forms.{Asked, without_return, asked_of_text, form_of}
 
 -- a test that isn't true is false
-not_from_test : (b : Bool) → ¬ (b ≡ true) → b ≡ false
+pub not_from_test : (b : Bool) → ¬ (b ≡ true) → b ≡ false
 not_from_test true h = absurd (h refl)
 not_from_test false h = refl
 

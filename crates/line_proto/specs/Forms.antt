@@ -4,7 +4,7 @@ use Rattle.std.specs.List.{before_first, after_first, ends_with}
 use Rattle.std.specs.Str.{all_ascii_digits, is_utf8}
 use Rattle.std.specs.Str.Parse.{digits_value}
 use Rattle.funnel_model.specs.declared.call.Call.{Call}
-use Rattle.funnel_model.specs.declared.call.Call.TheVariants.{Add, Delete, Find, Place, Journal, Recycle}
+use Rattle.funnel_model.specs.declared.call.Call.TheVariants.{Add, Put, Delete, Find, Get, Place, Journal, Stats, Recycle}
 use Rattle.funnel_io.specs.Lines.{lines}
 use Rattle.funnel_io.specs.declared.line_reader.TheConstants.{MAX_LINE_LEN}
 
@@ -32,20 +32,40 @@ is_number word = nat_lt 0 (length word) && nat_le (length word) 20 && all_ascii_
 abbrev pub number_of : List ℕ → Option ℕ
 number_of word = if is_number word then Some (digits_value 10 word) else None
 
--- what a line of a form asks for: a call, what a text finds that is yet to be read as a boolean query, or the tuning by a text that is
--- yet to be read as a configuration
+-- what is told of the documents that a search keeps: their numbers, how many they are, or how many and at most so many numbers, of those
+-- that were added last, the newest first, or of those that were added first, the oldest first
+pub data Told : Type 0 where
+  Ids : Told
+  Amount : Told
+  Last : ℕ → Told
+  First : ℕ → Told
+
+-- what a search keeps: what a text finds that is yet to be read as a boolean query, or the documents that have every word of a text
+pub data Sought : Type 0 where
+  ByQuery : List ℕ → Sought
+  ByWords : List ℕ → Sought
+
+-- what a line of a form asks for: a call, so much of what a search keeps, or the tuning by a text that is yet to be read as a configuration
 pub data Asked : Type 0 where
   Calls : Call → Asked
-  Queries : List ℕ → Asked
+  Searches : Told → Sought → Asked
   Tunes : List ℕ → Asked
 
 -- a number and then, after a space, the document's text
 unfoldable pub add_of : List ℕ → Option Asked
 add_of bytes = option_map (λ id. Calls (Add id (after_space bytes))) (number_of (word_of bytes))
 
+-- so it is with a put
+unfoldable pub put_of : List ℕ → Option Asked
+put_of bytes = option_map (λ id. Calls (Put id (after_space bytes))) (number_of (word_of bytes))
+
 -- a number and nothing else
 unfoldable pub delete_of : List ℕ → Option Asked
 delete_of bytes = option_map (λ id. Calls (Delete id)) (number_of bytes)
+
+-- a number and nothing else
+unfoldable pub get_of : List ℕ → Option Asked
+get_of bytes = option_map (λ id. Calls (Get id)) (number_of bytes)
 
 -- a number and nothing else
 unfoldable pub journal_of : List ℕ → Option Asked
@@ -53,28 +73,56 @@ journal_of bytes = option_map (λ from. Calls (Journal from)) (number_of bytes)
 
 -- a text whose word is `query` asks for what is behind the space; the word alone has no form
 unfoldable pub query_of : List ℕ → Option Asked
-query_of text = if bytes_eq text (codes "query") then None else Some (Queries (after_space text))
+query_of text = if bytes_eq text (codes "query") then None else Some (Searches Ids (ByQuery (after_space text)))
 
 -- so it is with a text whose word is `tune`
 unfoldable pub tune_of : List ℕ → Option Asked
 tune_of text = if bytes_eq text (codes "tune") then None else Some (Tunes (after_space text))
 
+-- behind a word or a number a space and a boolean query may stand; without the space each document is kept, as it has each word of no text
+abbrev pub sought_in : List ℕ → Sought
+sought_in bytes = if bytes_eq (word_of bytes) bytes then ByWords [] else ByQuery (after_space bytes)
+
+-- a number of documents, and what may stand behind it
+unfoldable pub newest_of : List ℕ → Option Asked
+newest_of bytes = option_map (λ most. Searches (Last most) (sought_in bytes)) (number_of (word_of bytes))
+
+-- so it is with the oldest
+unfoldable pub oldest_of : List ℕ → Option Asked
+oldest_of bytes = option_map (λ most. Searches (First most) (sought_in bytes)) (number_of (word_of bytes))
+
 -- what a text asks for that is one word
 unfoldable pub asked_of_word : List ℕ → Option Asked
 asked_of_word text =
     if bytes_eq text (codes "place") then Some (Calls Place)
-    else (if bytes_eq text (codes "recycle") then Some (Calls Recycle) else None)
+    else (if bytes_eq text (codes "stats") then Some (Calls Stats)
+    else (if bytes_eq text (codes "recycle") then Some (Calls Recycle) else None))
 
--- what a text asks for, by its first word; `place` and `recycle` stand alone
+-- what a text asks for by its first word, where that is no word of a document or a search; `place`, `stats` and `recycle` stand alone
+unfoldable pub asked_of_rest : List ℕ → Option Asked
+asked_of_rest text =
+    if bytes_eq (word_of text) (codes "tune") then tune_of text
+    else (if bytes_eq (word_of text) (codes "journal") then journal_of (after_space text)
+    else asked_of_word text)
+
+-- what a text asks for by its first word, where that is no word of a document
+unfoldable pub asked_of_search : List ℕ → Option Asked
+asked_of_search text =
+    if bytes_eq (word_of text) (codes "find") then Some (Calls (Find (after_space text)))
+    else (if bytes_eq (word_of text) (codes "query") then query_of text
+    else (if bytes_eq (word_of text) (codes "count") then Some (Searches Amount (sought_in text))
+    else (if bytes_eq (word_of text) (codes "newest") then newest_of (after_space text)
+    else (if bytes_eq (word_of text) (codes "oldest") then oldest_of (after_space text)
+    else asked_of_rest text))))
+
+-- what a text asks for, by its first word
 unfoldable pub asked_of_text : List ℕ → Option Asked
 asked_of_text text =
     if bytes_eq (word_of text) (codes "add") then add_of (after_space text)
+    else (if bytes_eq (word_of text) (codes "put") then put_of (after_space text)
     else (if bytes_eq (word_of text) (codes "del") then delete_of (after_space text)
-    else (if bytes_eq (word_of text) (codes "find") then Some (Calls (Find (after_space text)))
-    else (if bytes_eq (word_of text) (codes "query") then query_of text
-    else (if bytes_eq (word_of text) (codes "tune") then tune_of text
-    else (if bytes_eq (word_of text) (codes "journal") then journal_of (after_space text)
-    else asked_of_word text)))))
+    else (if bytes_eq (word_of text) (codes "get") then get_of (after_space text)
+    else asked_of_search text)))
 
 -- what a line asks for, or nothing where the line has no form: it is too long, or no text, or of another shape
 unfoldable pub form_of : List ℕ → Option Asked

@@ -7,12 +7,12 @@ use Rattle.funnel_model.specs.declared.event.Event.{Event}
 use Rattle.funnel_model.specs.declared.expr.Expr.{Expr}
 use Rattle.funnel_model.specs.declared.reply.Reply.{Reply}
 use Rattle.funnel_model.specs.declared.reply.Reply.TheVariants as reply
-use Rattle.funnel_model.specs.Expressions.{tree_of}
+use Rattle.funnel_model.specs.Expressions.{Tree, atom, tree_of}
 use Rattle.funnel_model.specs.Legal.{Limits}
 use Rattle.funnel_model.specs.Queries.{IsMalformed, IsQuery, IsTooDeep}
 use Rattle.funnel_model.specs.Steps.{AddsNone, Step}
 use Rattle.funnel_stats.specs.Tunings.{Tuned, Gives, Faulty, Wide, tuned}
-use Rattle.line_proto.specs.Forms.{Asked, Calls, Queries, Tunes}
+use Rattle.line_proto.specs.Forms.{Asked, Calls, Searches, Tunes, Told, Ids, Amount, Last, First, Sought, ByQuery, ByWords}
 
 -- who calls: a pass of an engine with these limits, which was opened with this configuration
 pub record Caller : Type 0 where
@@ -30,22 +30,39 @@ pub record AnswersCall (caller : Caller) (before after : List Event) (asked : Ca
   pub step : Step caller.limits caller.pass before after asked given
   pub spent : caller.limits.events ≤ length before → IsNotTaken caller before after given
 
--- the text is the query of an expression, and the query of that expression is answered as a call
-pub record AnswersExpr (caller : Caller) (before after : List Event) (text : List ℕ) (given : Reply) : Type 0 where
+-- the call that tells so of the documents that an expression keeps
+abbrev pub searched : Told → Expr → Call
+searched Ids expr = call.Query expr
+searched Amount expr = call.Count expr
+searched (Last most) expr = call.Newest expr most
+searched (First most) expr = call.Oldest expr most
+
+-- what is sought is what an expression keeps of this tree: the one that the text is the query of, or the atom of the words
+abbrev pub IsSought : Sought → Tree → Type 0
+IsSought (ByQuery text) tree = IsQuery text tree
+IsSought (ByWords text) tree = tree ≡ atom text
+
+-- what is sought is what an expression keeps, and the search by that expression is answered as a call
+pub record AnswersExpr (caller : Caller) (before after : List Event) (told : Told) (sought : Sought) (given : Reply) : Type 0 where
   pub expr : Expr
-  pub reads : IsQuery text (tree_of expr)
-  pub answers : AnswersCall caller before after (call.Query expr) given
+  pub reads : IsSought sought (tree_of expr)
+  pub answers : AnswersCall caller before after (searched told expr) given
 
--- the text is refused before anything is called: where it is no query with the place at which it fails to be one, and for want of memory
-abbrev pub IsUnread : List ℕ → Reply → Type 0
-IsUnread text (reply.Query at) = IsMalformed text at
-IsUnread text (reply.Deep at) = IsTooDeep text at
-IsUnread text reply.Memory = ⊤
-IsUnread text _ = ⊥
+-- what is sought is what a text finds that is to be read as a boolean query, of which this holds
+abbrev pub OfQuery : Sought → (List ℕ → Type 0) → Type 0
+OfQuery (ByQuery text) Holds = Holds text
+OfQuery (ByWords text) Holds = ⊥
 
--- a text that is to be read as a boolean query is answered as the query of its expression, or it is refused and there is no step
-abbrev pub AnswersQuery : Caller → List Event → List Event → List ℕ → Reply → Type 0
-AnswersQuery caller before after text given = AnswersExpr caller before after text given ⊎ ((before ≡ after) × IsUnread text given)
+-- a search is refused before anything is called: where its text is no query with the place at which it fails to be one, and for want of memory
+abbrev pub IsUnread : Sought → Reply → Type 0
+IsUnread sought (reply.Query at) = OfQuery sought (λ text. IsMalformed text at)
+IsUnread sought (reply.Deep at) = OfQuery sought (λ text. IsTooDeep text at)
+IsUnread sought reply.Memory = ⊤
+IsUnread sought _ = ⊥
+
+-- a search is answered as the call by its expression, or it is refused and there is no step
+abbrev pub AnswersSearch : Caller → List Event → List Event → Told → Sought → Reply → Type 0
+AnswersSearch caller before after told sought given = AnswersExpr caller before after told sought given ⊎ ((before ≡ after) × IsUnread sought given)
 
 -- what comes of a text that gives no configuration, or one whose rows have no room, is refused so, before anything is called: by the number of its fault, or
 -- by the words that it needs in a slice and those for which there is room; or for want of memory
@@ -62,5 +79,5 @@ AnswersTuned caller before after comes given = (before ≡ after) × RefusesTuni
 -- what is asked is answered; what comes of a tuning's text is what the opening configuration makes of it
 abbrev pub AnswersAsked : Caller → List Event → List Event → Asked → Reply → Type 0
 AnswersAsked caller before after (Calls asked) given = AnswersCall caller before after asked given
-AnswersAsked caller before after (Queries text) given = AnswersQuery caller before after text given
+AnswersAsked caller before after (Searches told sought) given = AnswersSearch caller before after told sought given
 AnswersAsked caller before after (Tunes text) given = AnswersTuned caller before after (tuned caller.opening text) given

@@ -11,5 +11,5 @@ mod service;
 pub use laws::{lines_are_read_by_the_grammar, tunings_are_answered_by_their_texts};
 pub use parse::{parse_line, parse_number};
 pub use reply::reply_text;
-pub use request::Request;
+pub use request::{Request, Search};
 pub use service::Service;

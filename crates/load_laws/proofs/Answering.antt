@@ -1,6 +1,6 @@
 -- The event that answers a call of a pass that is alone, and how the history is before and after it.
 use Rattle.std.proofs.Common.{◌≡◌, ℕ, ◌+◌, ◌≤◌, ⊎_elim, false, cond, List, [], ◌∷◌, ◌++◌, length, Some, sym, refl, ap, ◌∙◌, subst, append_assoc, arith}
-use Rattle.std.proofs.lemmas.Bool.{cases_lt}
+use Rattle.std.proofs.lemmas.Bool.{cases_lt, or_parts}
 use Rattle.std.proofs.lemmas.List.{length-append}
 use Rattle.std.proofs.lemmas.List.Elements.{All-head}
 use Rattle.std.specs.List.{cons_option}
@@ -8,7 +8,7 @@ use Rattle.funnel_model.proofs.Histories.{allowed_within, legal_before}
 use Rattle.funnel_model.proofs.LiveLemmas.{place-append}
 use Rattle.funnel_model.proofs.NothingMoved.{moves_nothing-before, moves_nothing-parts}
 use Rattle.funnel_model.proofs.Retirement.{split_front}
-use Rattle.funnel_model.proofs.StepCauses.{is_query, only_queries_are_judged}
+use Rattle.funnel_model.proofs.StepCauses.{is_put, is_query, made_outcome}
 use Rattle.funnel_model.proofs.StepLemmas.{call_by-own, own-append}
 use Rattle.funnel_model.specs.declared.call.Call.{Call}
 use Rattle.funnel_model.specs.declared.event.Event.{Event}
@@ -18,6 +18,7 @@ use Rattle.funnel_model.specs.History.{MovesNothing, own, place}
 use Rattle.funnel_model.specs.Legal.{Limits, IsAllowed, IsLegal}
 use Rattle.funnel_model.specs.Steps.{IsMade, IsReply}
 use Rattle.load_laws.specs.LonePass.{IsAlone, LoneStep, count_of_takes}
+use Rattle.load_laws.proofs.JobCounts.{is_renamed}
 use Rattle.load_laws.proofs.Quiet.{Quiet, alone_front, alone_rest, filled, filled-push, fills_column, quiet_calls}
 use Rattle.load_laws.proofs.Takes.{takes_filled}
 use Rattle.funnel_model.proofs.Absence.{empty_by_length}
@@ -32,20 +33,18 @@ shorter_begins (x ∷ xs) rest (y ∷ ys) later is within =
     let more = shorter_begins xs rest ys later (cc) (omega arith) in
     (more.0, cc (more.1))
 
--- a call that is no query was made, as it found memory and wasn't refused as spent
-is_made : (limits : Limits) (pass : ℕ) (before after : List Event) (asked : Call) (given : Reply) → is_query asked ≡ false → LoneStep limits pass before after asked given →
+-- a call that keeps its name was made, as it found memory and wasn't refused as spent
+is_made : (limits : Limits) (pass : ℕ) (before after : List Event) (asked : Call) (given : Reply) → is_renamed asked ≡ false → LoneStep limits pass before after asked given →
     IsMade limits pass before after asked given
-is_made limits pass before after asked given no_query lone =
+is_made limits pass before after asked given keeps lone =
+    let names = or_parts (is_query asked) (is_put asked) keeps in
     ⊎_elim
     (λ made. made)
     (λ rest. ⊎_elim
     (λ lacks. absurd (lone.memory lacks.reply))
-    (λ last. ⊎_elim
     (λ spent. let many = spent.many in let few = lone.unspent in absurd (omega arith))
-    (λ judged. absurd (only_queries_are_judged pass before after asked given no_query judged))
-    last)
     rest)
-    lone.step.outcome
+    (made_outcome limits pass before after asked given names.0 names.1 lone.step)
 
 -- the event that answers the call, and that nothing changes before it or after it; each take was followed by an add or a drop
 pub record Answered (limits : Limits) (pass : ℕ) (before after : List Event) (asked : Call) (given : Reply) : Type 0 where
@@ -93,10 +92,10 @@ event_is_new pass before after asked earlier e later at =
     (between.0, between.1, empty_by_length (own pass between.0) (omega arith)))
     (cases_lt (length earlier) (length before))
 
-pub answered : (limits : Limits) (pass : ℕ) (before after : List Event) (asked : Call) (given : Reply) → is_query asked ≡ false → LoneStep limits pass before after asked given →
+pub answered : (limits : Limits) (pass : ℕ) (before after : List Event) (asked : Call) (given : Reply) → is_renamed asked ≡ false → LoneStep limits pass before after asked given →
     Answered limits pass before after asked given
-answered limits pass before after asked given no_query lone =
-    let made = is_made limits pass before after asked given no_query lone in
+answered limits pass before after asked given keeps lone =
+    let made = is_made limits pass before after asked given keeps lone in
     let is = made.answered in
     let e = is.event in
     let grows = lone.step.grows in

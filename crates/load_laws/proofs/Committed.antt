@@ -1,5 +1,5 @@
 -- In the history of a load each add is committed, and each delete.
-use Rattle.std.proofs.Common.{◌≡◌, ℕ, ◌+◌, ◌*◌, ◌<◌, ◌≤◌, ◌⊎◌, inl, inr, ⊎_elim, List, [], ◌∷◌, ◌++◌, Option, Some, None, refl, sym, ap, ap₂, ◌∙◌, subst, arith, append_assoc}
+use Rattle.std.proofs.Common.{◌≡◌, ℕ, ◌+◌, ◌*◌, ◌<◌, ◌≤◌, ◌⊎◌, false, inl, inr, ⊎_elim, List, [], ◌∷◌, ◌++◌, Option, Some, None, refl, sym, ap, ap₂, ◌∙◌, subst, arith, append_assoc}
 use Rattle.std.proofs.lemmas.List.Elements.{All-head}
 use Rattle.std.proofs.lemmas.List.Sums.{sum_by-append, sum_by-cons}
 use Rattle.std.specs.List.{All, sum_by}
@@ -13,12 +13,12 @@ use Rattle.funnel_model.specs.declared.event.Event.{Event}
 use Rattle.funnel_model.specs.declared.event.Event.TheVariants as event
 use Rattle.funnel_model.specs.declared.reply.Reply.{Reply}
 use Rattle.funnel_model.specs.Events.{call_of, pass_of}
-use Rattle.funnel_model.specs.History.{MovesNothing}
+use Rattle.funnel_model.specs.History.{MovesNothing, is_live, live}
 use Rattle.funnel_model.specs.Legal.{Limits, IsFull, IsIdle, IsLegal}
 use Rattle.load_gen.specs.Jobs.{jobs}
 use Rattle.load_laws.specs.LonePass.{count_of_takes}
 use Rattle.load_laws.specs.Workers.{HasRoomFor, IsLoaded}
-use Rattle.load_laws.proofs.Balance.{added, added_was_asked, balanced, deleted, deleted_was_asked, event_added_was_asked, event_deleted_was_asked, is_number, live_by_count, no_more, not_live_by_count, number_is}
+use Rattle.load_laws.proofs.Balance.{AddsOnce, added, balanced, by_number, deleted, deleted_was_asked, event_added_was_asked, event_deleted_was_asked, is_number, live_by_count, no_more, none_replaced, not_live_before, number_is}
 use Rattle.load_laws.proofs.CallEvents.{add_event, delete_event}
 use Rattle.load_laws.proofs.JobCounts.{add_weight, delete_weight, over-one}
 use Rattle.load_laws.proofs.JobFacts.{IsOfLoad, at_least_once, at_most_once, deleted_at_most_once, jobs_are_of_load}
@@ -101,21 +101,47 @@ call_of_load limits docs words seed workers history replies loaded earlier e lat
     (subst (All (IsOfLoad docs words seed)) (sym (own_of_load limits docs words seed workers history replies loaded (pass_of e) below))
     (jobs_are_of_load docs words seed workers (pass_of e)))
 
+-- no number was asked to be added twice, up to any event
+pub adds_once : (limits : Limits) (docs words seed workers : ℕ) (history : List Event) (replies : ℕ → List Reply) →
+    IsLoaded limits docs words seed workers history replies → (earlier later : List Event) → history ≡ earlier ++ later → AddsOnce earlier
+adds_once limits docs words seed workers history replies loaded earlier later whole = λ id.
+    omega (
+      arith,
+      adds_asked limits docs words seed workers history replies loaded (is_number id),
+      at_most_once docs id,
+      ap (sum_by (asked (add_weight (is_number id)))) whole ∙ sum_by-append (asked (add_weight (is_number id))) earlier later,
+    )
+
+-- so a number isn't live before its add
+pub add_is_new : (limits : Limits) (docs words seed workers : ℕ) (history : List Event) (replies : ℕ → List Reply) →
+    IsLoaded limits docs words seed workers history replies →
+    (earlier : List Event) (e : Event) (later : List Event) → history ≡ earlier ++ e ∷ later → (id : ℕ) (text : List ℕ) → call_of e ≡ Some (call.Add id text) →
+    is_live id earlier ≡ false
+add_is_new limits docs words seed workers history replies loaded earlier e later whole id text is =
+    not_live_before limits earlier e id (legal_before limits earlier (e ∷ later) (subst (IsLegal limits) whole loaded.legal))
+    (adds_once limits docs words seed workers history replies loaded (earlier ++ e ∷ []) later (whole ∙ sym (append_assoc earlier (e ∷ []) later)))
+    (asked_is (add_weight (is_number id)) e (call.Add id text) is ∙ number_is id)
+
+-- and what was added by any time is what is live and what was deleted
+pub balanced_by_then : (limits : Limits) (docs words seed workers : ℕ) (history : List Event) (replies : ℕ → List Reply) →
+    IsLoaded limits docs words seed workers history replies → (earlier later : List Event) → history ≡ earlier ++ later → (g : ℕ → ℕ) →
+    by_number g (live earlier) + sum_by (deleted g) earlier ≡ sum_by (added g) earlier
+balanced_by_then limits docs words seed workers history replies loaded earlier later whole g =
+    let legal = legal_before limits earlier later (subst (IsLegal limits) whole loaded.legal) in
+    omega (
+      arith,
+      (balanced limits earlier legal).balance g,
+      none_replaced limits earlier legal (adds_once limits docs words seed workers history replies loaded earlier later whole) g,
+    )
+
 -- each add of a load is committed
 pub add_is_committed : (limits : Limits) (docs words seed workers : ℕ) (history : List Event) (replies : ℕ → List Reply) →
     IsLoaded limits docs words seed workers history replies → HasRoomFor limits docs →
     (earlier : List Event) (e : Event) (later : List Event) → history ≡ earlier ++ e ∷ later → (id : ℕ) (text : List ℕ) → call_of e ≡ Some (call.Add id text) →
     (pass : ℕ) × (slice : ℕ) × (column : ℕ) × (bits : List Bit) × (e ≡ event.Add pass id text slice column bits)
 add_is_committed limits docs words seed workers history replies loaded room earlier e later whole id text is =
-    let legal = legal_before limits earlier (e ∷ later) (subst (IsLegal limits) whole loaded.legal) in
-    let adds = adds_asked limits docs words seed workers history replies loaded (is_number id) in
-    let once = at_most_once docs id in
-    let around = sum_around (asked (add_weight (is_number id))) history earlier e later whole in
-    let here = asked_is (add_weight (is_number id)) e (call.Add id text) is ∙ number_is id in
-    let before = added_was_asked (is_number id) earlier in
-    let balance = (balanced limits earlier legal).balance (is_number id) in
     let one = asked_is (add_weight (λ n. 1)) e (call.Add id text) is in
-    add_event limits earlier e id text (not_live_by_count id earlier (omega (arith, adds, once, around, here, before, balance)))
+    add_event limits earlier e id text (add_is_new limits docs words seed workers history replies loaded earlier e later whole id text is)
     (room_in_columns limits docs words seed workers history replies loaded room earlier e later whole one)
     (allowed_within limits history earlier e later loaded.legal whole) is
 
@@ -136,6 +162,8 @@ added_as_asked limits docs words seed workers history replies loaded room earlie
       no_less (call.Add id text) is =
           let by = add_is_committed limits docs words seed workers history replies loaded room earlier e later whole id text is in
           omega (arith, ap (added g) by.4)
+      no_less (call.Put id text) is =
+          absurd (call_of_load limits docs words seed workers history replies loaded earlier e later whole (call.Put id text) is)
       no_less _ is = omega arith
 
 -- two weights that are the same of each event of a stretch of a history are so together
@@ -178,7 +206,6 @@ delete_is_committed limits docs words seed workers history replies loaded room e
     let p = loaded.parts in
     let parts = parts_asked limits docs words seed workers history replies loaded in
     let allowed = allowed_within limits history earlier e later loaded.legal whole in
-    let legal = legal_before limits earlier (e ∷ later) (subst (IsLegal limits) whole loaded.legal) in
     let number = call_of_load limits docs words seed workers history replies loaded earlier e later whole (call.Delete id) is in
     let deletes = deletes_asked limits docs words seed workers history replies loaded (is_number id) in
     let once = deleted_at_most_once docs id in
@@ -194,7 +221,7 @@ delete_is_committed limits docs words seed workers history replies loaded room e
     let all = parts.adds_first (is_number id) in
     let one_add = at_least_once docs id number.0 number.1 in
     let added_by_then = ap (sum_by (added (is_number id))) behind.1 ∙ sum_by-append (added (is_number id)) p.adding behind.0 in
-    let balance = (balanced limits earlier legal).balance (is_number id) in
+    let balance = balanced_by_then limits docs words seed workers history replies loaded earlier (e ∷ later) whole (is_number id) in
     delete_event limits earlier e id
     (live_by_count id earlier (omega (arith, deletes, once, around, here, before, committed, all, one_add, added_by_then, balance)))
     allowed is

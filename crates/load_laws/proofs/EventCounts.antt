@@ -19,7 +19,7 @@ use Rattle.funnel_model.specs.declared.reply.Reply.{Reply}
 use Rattle.funnel_model.specs.Events.{call_of, leaves_open, moves, pass_of}
 use Rattle.funnel_model.specs.History.{last_by, moved_by, own}
 use Rattle.funnel_model.specs.Legal.{Limits, IsAllowed, IsIdle, IsLegal, MayFollow}
-use Rattle.funnel_model.specs.Steps.{FindsNoMemory, Linear, Step, most_moves}
+use Rattle.funnel_model.specs.Steps.{FindsNoMemory, Linear, Step, expression_of, most_moves}
 use Rattle.load_laws.specs.LonePass.{IsAlone}
 use Rattle.load_laws.proofs.PassTotals.{length_is_sum, own-other, weigh_by, weigh_by-alone, weigh_by-other, weigh_by-own}
 
@@ -170,19 +170,38 @@ no_more_calls : (w : Call → ℕ) (pass : ℕ) (before after : List Event) (ask
     sum_by w (own pass after) ≤ sum_by w (own pass before) + w asked
 no_more_calls w pass before after asked is = omega (arith, ap (sum_by w) is)
 
--- a find of no words, which is what a pass makes for a query, weighs no more than the query
-abbrev pub IsLight : (Call → ℕ) → Type 0
-IsLight w = (expr : Expr) → w (call.Find []) ≤ w (call.Query expr)
+-- a call weighs no less than the one that is made for it: a search by an expression than a find of no words, and a put than the add
+pub record IsLight (w : Call → ℕ) : Type 0 where
+  pub finds : (asked : Call) (expr : Expr) → expression_of asked ≡ Some expr → w (call.Find []) ≤ w asked
+  pub adds : (id : ℕ) (text : List ℕ) → w (call.Add id text) ≤ w (call.Put id text)
+
+-- so it is where each call weighs the same
+one_each : IsLight (λ c. 1)
+one_each = record { finds = λ asked expr is. omega arith; adds = λ id text. omega arith }
+
+-- what a search makes weighs no more than it
+search_calls : (w : Call → ℕ) → IsLight w → (pass : ℕ) (before after : List Event) (asked : Call) (expr : Expr) → expression_of asked ≡ Some expr →
+    own pass after ≡ own pass before ++ call.Find [] ∷ [] → sum_by w (own pass after) ≤ sum_by w (own pass before) + w asked
+search_calls w light pass before after asked expr is made =
+    omega (arith, light.finds asked expr is, one_more_call w pass before after (call.Find []) made)
 
 without_memory : (w : Call → ℕ) → IsLight w → (pass : ℕ) (before after : List Event) (asked : Call) → FindsNoMemory pass before after asked →
     sum_by w (own pass after) ≤ sum_by w (own pass before) + w asked
 without_memory w light pass before after (call.Add id text) none = no_more_calls w pass before after (call.Add id text) none
+without_memory w light pass before after (call.Put id text) none = no_more_calls w pass before after (call.Put id text) none
 without_memory w light pass before after (call.Tune config) none = no_more_calls w pass before after (call.Tune config) none
 without_memory w light pass before after (call.Find query) found =
     ⊎_elim (no_more_calls w pass before after (call.Find query)) (one_more_call w pass before after (call.Find query)) found
 without_memory w light pass before after (call.Query expr) found =
-    ⊎_elim (no_more_calls w pass before after (call.Query expr))
-    (λ made. let less = light expr in omega (arith, less, one_more_call w pass before after (call.Find []) made)) found
+    ⊎_elim (no_more_calls w pass before after (call.Query expr)) (search_calls w light pass before after (call.Query expr) expr refl) found
+without_memory w light pass before after (call.Count expr) found =
+    ⊎_elim (no_more_calls w pass before after (call.Count expr)) (search_calls w light pass before after (call.Count expr) expr refl) found
+without_memory w light pass before after (call.Newest expr most) found =
+    ⊎_elim (no_more_calls w pass before after (call.Newest expr most)) (search_calls w light pass before after (call.Newest expr most) expr refl) found
+without_memory w light pass before after (call.Oldest expr most) found =
+    ⊎_elim (no_more_calls w pass before after (call.Oldest expr most)) (search_calls w light pass before after (call.Oldest expr most) expr refl) found
+without_memory w light pass before after (call.Get id) found =
+    ⊎_elim (no_more_calls w pass before after (call.Get id)) (one_more_call w pass before after (call.Get id)) found
 without_memory w light pass before after (call.Journal from) found =
     ⊎_elim (no_more_calls w pass before after (call.Journal from)) (one_more_call w pass before after (call.Journal from)) found
 without_memory w light pass before after _ none = absurd none
@@ -194,10 +213,13 @@ calls_of_step w light limits pass before after asked given step =
     (λ made. one_more_call w pass before after asked made.call)
     (λ rest. ⊎_elim
     (λ lacks. without_memory w light pass before after asked lacks.call)
-    (λ last. ⊎_elim
+    (λ more. ⊎_elim
     (λ spent. no_more_calls w pass before after asked spent.call)
-    (λ judged. let less = light judged.expr in omega (arith, less, one_more_call w pass before after (call.Find []) judged.call, ap w judged.query))
+    (λ last. ⊎_elim
+    (λ judged. search_calls w light pass before after asked judged.expr judged.query judged.call)
+    (λ put. omega (arith, light.adds put.id put.text, one_more_call w pass before after (call.Add put.id put.text) put.call, ap w put.put))
     last)
+    more)
     rest)
     step.outcome
 
@@ -238,6 +260,7 @@ moves_a_call [] = omega arith
 moves_a_call (asked ∷ calls) = omega (arith, of_one asked, moves_a_call calls, sum_by-cons most_moves asked calls) where
   of_one : (c : Call) → most_moves c ≤ 16
   of_one (call.Add id text) = omega arith
+  of_one (call.Put id text) = omega arith
   of_one _ = omega arith
 
 -- so a pass that is idle after some calls of its own has few events, for each of them four and four for each document that it moves
@@ -247,7 +270,7 @@ few_events_a_call limits pass history calls legal end =
     omega (
       arith,
       few_events limits pass history legal end.idle,
-      end.few (λ c. 1) (λ expr. omega arith),
+      end.few (λ c. 1) one_each,
       end.moves_few,
       moves_a_call calls,
       length_is_sum calls,

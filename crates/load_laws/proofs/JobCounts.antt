@@ -1,12 +1,12 @@
 -- What the calls of all workers weigh together.
-use Rattle.std.proofs.Common.{◌≡◌, ℕ, zero, suc, ◌+◌, ◌%◌, ◌<◌, ◌==◌, Bool, true, false, cond, List, [], ◌∷◌, ◌++◌, length, map, filter, flat_map, refl, sym, ap, ap₂, ◌∙◌, arith}
+use Rattle.std.proofs.Common.{◌≡◌, ℕ, zero, suc, ◌+◌, ◌%◌, ◌<◌, ◌==◌, ◌||◌, Bool, true, false, cond, List, [], ◌∷◌, ◌++◌, length, map, filter, flat_map, refl, sym, ap, ap₂, ◌∙◌, arith}
 use Rattle.std.proofs.lemmas.List.Sums.{sum_by-append, sum_by-cons}
 use Rattle.std.proofs.lemmas.Bool.{or_from}
 use Rattle.std.proofs.lemmas.List.Folds.{list_any-append}
 use Rattle.std.specs.List.{enumerate_from, list_any, range_with_len, sum_by}
 use Rattle.funnel_model.specs.declared.call.Call.{Call}
 use Rattle.funnel_model.specs.declared.call.Call.TheVariants as call
-use Rattle.funnel_model.proofs.StepCauses.{is_query}
+use Rattle.funnel_model.proofs.StepCauses.{is_put, is_query}
 use Rattle.funnel_model.specs.Steps.{most_moves}
 use Rattle.load_gen.specs.declared.limits.TheConstants.{CHECKED_ONE_IN}
 use Rattle.load_gen.specs.Documents.{documents, name_of_document}
@@ -16,9 +16,10 @@ use Rattle.load_gen.proofs.Shares.{weigh, weigh-shares}
 use Rattle.load_gen.proofs.Totals.{total, total-none, total-same}
 use Rattle.load_laws.proofs.OneWorker.{length-documents}
 
--- an add weighs what its number does, and so does a delete
+-- an add weighs what its number does, as does a put, by which one is made, and so does a delete
 abbrev pub add_weight : (ℕ → ℕ) → Call → ℕ
 add_weight g (call.Add id text) = g id
+add_weight g (call.Put id text) = g id
 add_weight g _ = 0
 
 abbrev pub delete_weight : (ℕ → ℕ) → Call → ℕ
@@ -70,44 +71,48 @@ deletes_move_nothing texts workers worker = of_numbers (filter is_deleted (map (
 pub queries_move_nothing : (workers worker : ℕ) → sum_by most_moves (queries_of workers worker) ≡ 0
 queries_move_nothing workers worker = queries_weigh most_moves (λ query. refl) (share queries workers worker)
 
--- a worker asks no boolean query in any of its parts
-no_query_added : (n : ℕ) (items : List (ℕ × List ℕ)) → list_any is_query (flat_map nth_add (enumerate_from n items)) ≡ false
-no_query_added n [] = refl
-no_query_added n ((i, text) ∷ items) =
-    list_any-append is_query (add_and_check n (i + 1, text)) (flat_map nth_add (enumerate_from (n + 1) items))
-    ∙ or_from (list_any is_query (add_and_check n (i + 1, text))) (list_any is_query (flat_map nth_add (enumerate_from (n + 1) items)))
-    (one (n % CHECKED_ONE_IN == 0)) (no_query_added (n + 1) items)
+-- whether a call is made by another name: a search by an expression as a find, and a put that is done as an add
+abbrev pub is_renamed : Call → Bool
+is_renamed asked = is_query asked || is_put asked
+
+-- a worker asks no such call in any of its parts
+none_renamed : (n : ℕ) (items : List (ℕ × List ℕ)) → list_any is_renamed (flat_map nth_add (enumerate_from n items)) ≡ false
+none_renamed n [] = refl
+none_renamed n ((i, text) ∷ items) =
+    list_any-append is_renamed (add_and_check n (i + 1, text)) (flat_map nth_add (enumerate_from (n + 1) items))
+    ∙ or_from (list_any is_renamed (add_and_check n (i + 1, text))) (list_any is_renamed (flat_map nth_add (enumerate_from (n + 1) items)))
+    (one (n % CHECKED_ONE_IN == 0)) (none_renamed (n + 1) items)
   where
-    one : (b : Bool) → list_any is_query (call.Add (i + 1) text ∷ cond b (call.Find (name_of_document (i + 1)) ∷ []) []) ≡ false
+    one : (b : Bool) → list_any is_renamed (call.Add (i + 1) text ∷ cond b (call.Find (name_of_document (i + 1)) ∷ []) []) ≡ false
     one true = refl
     one false = refl
 
-pub adds_are_no_queries : (texts : List (List ℕ)) (workers worker : ℕ) → list_any is_query (adds_of texts workers worker) ≡ false
-adds_are_no_queries texts workers worker = no_query_added 1 (share texts workers worker)
+pub adds_keep_names : (texts : List (List ℕ)) (workers worker : ℕ) → list_any is_renamed (adds_of texts workers worker) ≡ false
+adds_keep_names texts workers worker = none_renamed 1 (share texts workers worker)
 
-pub deletes_are_no_queries : (texts : List (List ℕ)) (workers worker : ℕ) → list_any is_query (deletes_of texts workers worker) ≡ false
-deletes_are_no_queries texts workers worker = of_numbers (filter is_deleted (map (λ item. item.0 + 1) (share texts workers worker))) where
-  of_numbers : (ids : List ℕ) → list_any is_query (map call.Delete ids) ≡ false
+pub deletes_keep_names : (texts : List (List ℕ)) (workers worker : ℕ) → list_any is_renamed (deletes_of texts workers worker) ≡ false
+deletes_keep_names texts workers worker = of_numbers (filter is_deleted (map (λ item. item.0 + 1) (share texts workers worker))) where
+  of_numbers : (ids : List ℕ) → list_any is_renamed (map call.Delete ids) ≡ false
   of_numbers [] = refl
   of_numbers (id ∷ ids) = of_numbers ids
 
-pub finds_are_no_queries : (workers worker : ℕ) → list_any is_query (queries_of workers worker) ≡ false
-finds_are_no_queries workers worker = of_texts (share queries workers worker) where
-  of_texts : (items : List (ℕ × List ℕ)) → list_any is_query (map (λ item. call.Find item.1) items) ≡ false
+pub finds_keep_names : (workers worker : ℕ) → list_any is_renamed (queries_of workers worker) ≡ false
+finds_keep_names workers worker = of_texts (share queries workers worker) where
+  of_texts : (items : List (ℕ × List ℕ)) → list_any is_renamed (map (λ item. call.Find item.1) items) ≡ false
   of_texts [] = refl
   of_texts (item ∷ items) = of_texts items
 
 -- so it asks none at all
-pub jobs_are_no_queries : (docs words seed workers worker : ℕ) → list_any is_query (jobs docs words seed workers worker) ≡ false
-jobs_are_no_queries docs words seed workers worker =
+pub jobs_keep_names : (docs words seed workers worker : ℕ) → list_any is_renamed (jobs docs words seed workers worker) ≡ false
+jobs_keep_names docs words seed workers worker =
     let texts = documents docs words seed in
     let adds = adds_of texts workers worker in
     let deletes = deletes_of texts workers worker in
-    list_any-append is_query (adds ++ deletes) (queries_of workers worker)
-    ∙ or_from (list_any is_query (adds ++ deletes)) (list_any is_query (queries_of workers worker))
-    (list_any-append is_query adds deletes
-    ∙ or_from (list_any is_query adds) (list_any is_query deletes) (adds_are_no_queries texts workers worker) (deletes_are_no_queries texts workers worker))
-    (finds_are_no_queries workers worker)
+    list_any-append is_renamed (adds ++ deletes) (queries_of workers worker)
+    ∙ or_from (list_any is_renamed (adds ++ deletes)) (list_any is_renamed (queries_of workers worker))
+    (list_any-append is_renamed adds deletes
+    ∙ or_from (list_any is_renamed adds) (list_any is_renamed deletes) (adds_keep_names texts workers worker) (deletes_keep_names texts workers worker))
+    (finds_keep_names workers worker)
 
 -- the documents weigh what their numbers do
 weigh-numbers : (g : ℕ → ℕ) (n : ℕ) (texts : List (List ℕ)) → weigh (λ item. g (item.0 + 1)) (enumerate_from n texts) ≡ sum_by g (range_with_len (n + 1) (length texts))

@@ -2,7 +2,7 @@
 use Rattle.std.proofs.Common.{◌≡◌, ℕ, ◌+◌, ◌*◌, ◌<◌, Bool, true, false, cond, not, List, [], ◌∷◌, ◌++◌, map, filter, sym, refl, ap, ◌∙◌, subst, arith}
 use Rattle.std.specs.List.{list_any}
 use Rattle.std.specs.Prelude.{◌==◌}
-use Rattle.funnel_model.proofs.LiveLemmas.{live-adds, live-deletes, live-silent}
+use Rattle.funnel_model.proofs.LiveLemmas.{live-added, live-deletes, live-silent}
 use Rattle.funnel_model.specs.declared.bit_list.Bit.{Bit}
 use Rattle.funnel_model.specs.declared.call.Call.{Call}
 use Rattle.funnel_model.specs.declared.call.Call.TheVariants as call
@@ -13,7 +13,7 @@ use Rattle.funnel_model.specs.declared.reply.Reply.TheVariants as reply
 use Rattle.funnel_model.specs.Events.{pass_of}
 use Rattle.funnel_model.specs.History.{Document, is_live, live, place}
 use Rattle.funnel_model.specs.Legal.{Limits, IsFull, IsIdle}
-use Rattle.funnel_model.specs.Steps.{IsReply}
+use Rattle.funnel_model.specs.Steps.{IsReply, place_told}
 use Rattle.funnel_model.specs.Words.{meets}
 use Rattle.load_laws.specs.LonePass.{LoneStep, Adds, Deletes, Finds, count_of_takes}
 use Rattle.load_laws.proofs.Quiet.{Quiet, fills_column}
@@ -84,11 +84,11 @@ room_left limits pass before after asked given is few idle full =
     not_full limits is.earlier is.legal (subst (λ n. n < limits.slices * limits.columns) (sym same) few) full
 
 -- the document that is added comes behind those that were live
-live_added : (before history : List Event) (pass id : ℕ) (text : List ℕ) (slice column : ℕ) (bits : List Bit) → Quiet before history →
+live_added : (before history : List Event) (pass id : ℕ) (text : List ℕ) (slice column : ℕ) (bits : List Bit) → Quiet before history → is_live id history ≡ false →
     live (history ++ event.Add pass id text slice column bits ∷ []) ≡ live before ++ record { id = id; text = text; place = place before + 1 } ∷ []
-live_added before history pass id text slice column bits quiet =
+live_added before history pass id text slice column bits quiet absent =
     let added = λ (n : ℕ). let d : Document = record { id = id; text = text; place = n + 1 } in d in
-    live-adds history (event.Add pass id text slice column bits) (λ i. refl)
+    live-added history pass id text slice column bits absent
     ∙ ap (λ (ds : List Document). ds ++ added (place history) ∷ []) quiet.documents
     ∙ ap (λ n. live before ++ added n ∷ []) quiet.at_place
 
@@ -98,16 +98,17 @@ adds_by : (limits : Limits) (pass : ℕ) (before after : List Event) (id : ℕ) 
     count_of_takes before < limits.slices * limits.columns → Adds before after id text given
 adds_by limits pass before after id text given is absent few =
     let h = is.earlier in
-    let by = add_event limits h is.event id text (live_same id before h false is.first absent)
+    let new = live_same id before h false is.first absent in
+    let by = add_event limits h is.event id text new
     (room_left limits pass before after (call.Add id text) given is few) is.allowed is.call in
-    let told : given ≡ reply.Added (place h + 1) = subst (λ x. IsReply limits h x given) by.4 is.reply in
+    let told : given ≡ reply.Added (place h + 1) = subst (λ x. IsReply limits h x given) by.4 is.reply ∙ ap (λ b. place_told b (place h + 1)) new in
     let one_commit : place (is.event ∷ []) ≡ 1 = ap (λ x. place (x ∷ [])) by.4 in
     let commits = place_after limits pass before after (call.Add id text) given is in
     let takes : count_of_takes after ≡ count_of_takes before + 1 =
     takes_after limits pass before after (call.Add id text) given is ∙ ap (λ x. count_of_takes before + cond (fills_column x) 1 0) by.4 in
     record {
       reply = told ∙ ap (λ n. reply.Added (n + 1)) is.first.at_place;
-      documents = is.last.documents ∙ ap (λ x. live (h ++ x ∷ [])) by.4 ∙ live_added before h by.0 id text by.1 by.2 by.3 is.first;
+      documents = is.last.documents ∙ ap (λ x. live (h ++ x ∷ [])) by.4 ∙ live_added before h by.0 id text by.1 by.2 by.3 is.first new;
       at_place = omega arith;
       takes = omega arith;
     }

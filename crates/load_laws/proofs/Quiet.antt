@@ -9,7 +9,7 @@ use Rattle.funnel_model.proofs.StepLemmas.{call_by-own}
 use Rattle.funnel_model.specs.declared.call.Call.{Call}
 use Rattle.funnel_model.specs.declared.event.Event.{Event}
 use Rattle.funnel_model.specs.declared.event.Event.TheVariants as event
-use Rattle.funnel_model.specs.Events.{added_by, call_of, deletes, pass_of}
+use Rattle.funnel_model.specs.Events.{added_by, call_of, deletes_or_replaces, pass_of}
 use Rattle.funnel_model.specs.History.{live, own, place}
 use Rattle.load_laws.specs.LonePass.{IsAlone}
 
@@ -43,8 +43,8 @@ quiet-trans before middle after first second = record {
 pub filled-push : (history : List Event) (e : Event) → filled (history ++ e ∷ []) ≡ filled history + cond (fills_column e) 1 0
 filled-push history e = sum_by_push (λ x. cond (fills_column x) 1 0) history e
 
--- an event that neither deletes nor adds nor drops a document
-quiet_by : (history : List Event) (e : Event) → ((id : ℕ) → deletes id e ≡ false) → added_by e ≡ None → place (e ∷ []) ≡ 0 → fills_column e ≡ false →
+-- an event that neither deletes nor adds nor drops a document, in the place of another one or not
+quiet_by : (history : List Event) (e : Event) → ((id : ℕ) → deletes_or_replaces id e ≡ false) → added_by e ≡ None → place (e ∷ []) ≡ 0 → fills_column e ≡ false →
     Quiet history (history ++ e ∷ [])
 quiet_by history e deletes_none adds_none commits_none fills_none = record {
   documents = live-silent history e deletes_none adds_none;

@@ -5,7 +5,7 @@ use Rattle.std.proofs.lemmas.List.{append-nil, append_cancel_right, length-appen
 use Rattle.std.proofs.lemmas.List.Elements.{All-head, All-tail}
 use Rattle.std.specs.List.{All, cons_option, list_any}
 use mathlib.Core.List.{IsPrefix}
-use Rattle.funnel_model.proofs.StepCauses.{is_query, only_queries_are_judged}
+use Rattle.funnel_model.proofs.StepCauses.{is_put, is_query, made_outcome}
 use Rattle.funnel_model.proofs.StepLemmas.{linear-grows, own-append, prefix_trans}
 use Rattle.funnel_model.specs.declared.call.Call.{Call}
 use Rattle.funnel_model.specs.declared.event.Event.{Event}
@@ -15,6 +15,7 @@ use Rattle.funnel_model.specs.Events.{call_of, pass_of}
 use Rattle.funnel_model.specs.History.{call_by, own}
 use Rattle.funnel_model.specs.Legal.{Limits}
 use Rattle.funnel_model.specs.Steps.{IsMade, IsReply, Linear}
+use Rattle.load_laws.proofs.JobCounts.{is_renamed}
 
 -- the event of the history that answers this call of the pass, which came after its calls so far
 pub record EventOf (limits : Limits) (pass : ℕ) (history : List Event) (before : List Call) (asked : Call) (given : Reply) : Type 0 where
@@ -63,27 +64,25 @@ event_of_step limits pass before middle history done asked given made goes so_fa
       reply = is.reply;
     }
 
--- so has each call of a pass that is no query and found memory, in a history that wasn't spent
+-- so has each call of a pass that keeps its name and found memory, in a history that wasn't spent
 pub events_of_run : (limits : Limits) (pass : ℕ) (before after history : List Event) (done calls : List Call) (replies : List Reply) →
     Linear limits pass before after calls replies → IsPrefix after history → length history < limits.events → All (λ r. r ≢ reply.Memory) replies →
-    own pass before ≡ done → list_any is_query calls ≡ false → HaveEvents limits pass history done calls replies
+    own pass before ≡ done → list_any is_renamed calls ≡ false → HaveEvents limits pass history done calls replies
 events_of_run limits pass before after history done [] [] run goes unspent memory so_far none = tt
 events_of_run limits pass before after history done (asked ∷ calls) (given ∷ replies) run goes unspent memory so_far none =
     let middle = run.0 in
     let from_middle = prefix_trans middle after history (linear-grows limits pass middle after calls replies run.2) goes in
     let lengths = length-append middle from_middle.0 in
     let same = ap length from_middle.1 in
-    let others = or_parts (is_query asked) (list_any is_query calls) none in
+    let others = or_parts (is_renamed asked) (list_any is_renamed calls) none in
+    let names = or_parts (is_query asked) (is_put asked) others.0 in
     let made = ⊎_elim
     (λ made. made)
     (λ rest. ⊎_elim
     (λ lacks. absurd (All-head (λ r. r ≢ reply.Memory) given replies memory lacks.reply))
-    (λ last. ⊎_elim
     (λ spent. let many = spent.many in absurd (omega arith))
-    (λ judged. absurd (only_queries_are_judged pass before middle asked given others.0 judged))
-    last)
     rest)
-    run.1.outcome in (
+    (made_outcome limits pass before middle asked given names.0 names.1 run.1) in (
       event_of_step limits pass before middle history done asked given made from_middle so_far,
       events_of_run limits pass middle after history (done ++ asked ∷ []) calls replies run.2 goes unspent (All-tail (λ r. r ≢ reply.Memory) given replies memory)
           (made.call ∙ ap (λ cs. cs ++ asked ∷ []) so_far) others.1,

@@ -33,9 +33,9 @@ events_are_legal = (
   (
     record { pass = omega arith; at_once = tt; rule = inl (record { idle = tt; in_range = omega arith; room = room_by 2 0 1 _ (omega arith) refl refl refl refl; lowest = λ lower in'. absurd (omega arith); next = refl }) },
     (
-      record { pass = omega arith; at_once = tt; rule = record { taken = refl; absent = refl; inside = no_bits; in_word = none_wide } },
+      record { pass = omega arith; at_once = tt; rule = record { taken = refl; inside = no_bits; in_word = none_wide } },
       (
-        record { pass = omega arith; at_once = tt; rule = record { taken = refl; absent = refl; inside = no_bits; in_word = none_wide } },
+        record { pass = omega arith; at_once = tt; rule = record { taken = refl; inside = no_bits; in_word = none_wide } },
         (
           record { pass = omega arith; at_once = tt; rule = refl },
           (
@@ -102,27 +102,27 @@ unfolding digits unicode_segmentation caseless
 first_run = (
   take 4 events,
   step_made_from two_passes 0 (take 0 events) (take 3 events) (event.Add 0 1 (document 1 0 0) 0 0 []) (take 0 (drop 4 events))
-      (call.Add 1 (document 1 0 0)) (reply.Added 2) tt (take 3 (drop 0 events), refl) refl few_moved refl refl refl refl refl
+      (call.Add 1 (document 1 0 0)) (reply.Added 2) tt (take 3 (drop 0 events), refl) refl few_moved refl refl refl refl refl refl
       (legal_before two_passes (take 4 events) (drop 4 events) events_are_legal) refl,
   (
     take 7 events,
     step_made_from two_passes 0 (take 4 events) (take 4 events) (event.Find 0 (codes "w0")) (take 2 (drop 5 events))
-        (call.Find (codes "w0")) (reply.Found []) refl (take 0 (drop 4 events), refl) refl none_moved refl refl refl refl refl
+        (call.Find (codes "w0")) (reply.Found []) refl (take 0 (drop 4 events), refl) refl none_moved refl refl refl refl refl refl
         (legal_before two_passes (take 7 events) (drop 7 events) events_are_legal) refl,
     (
       take 10 events,
       step_made_from two_passes 0 (take 7 events) (take 8 events) (event.Find 0 (codes "w1")) (take 1 (drop 9 events))
-          (call.Find (codes "w1")) (reply.Found (1 ∷ [])) refl (take 1 (drop 7 events), refl) refl none_moved refl refl refl refl refl
+          (call.Find (codes "w1")) (reply.Found (1 ∷ [])) refl (take 1 (drop 7 events), refl) refl none_moved refl refl refl refl refl refl
           (legal_before two_passes (take 10 events) (drop 10 events) events_are_legal) refl,
       (
         take 12 events,
         step_made_from two_passes 0 (take 10 events) (take 10 events) (event.Find 0 (codes "w2")) (take 1 (drop 11 events))
-            (call.Find (codes "w2")) (reply.Found []) refl (take 0 (drop 10 events), refl) refl none_moved refl refl refl refl refl
+            (call.Find (codes "w2")) (reply.Found []) refl (take 0 (drop 10 events), refl) refl none_moved refl refl refl refl refl refl
             (legal_before two_passes (take 12 events) (drop 12 events) events_are_legal) refl,
         (
           take 14 events,
           step_made_from two_passes 0 (take 12 events) (take 12 events) (event.Find 0 (codes "w3")) (take 1 (drop 13 events))
-              (call.Find (codes "w3")) (reply.Found []) refl (take 0 (drop 12 events), refl) refl none_moved refl refl refl refl refl
+              (call.Find (codes "w3")) (reply.Found []) refl (take 0 (drop 12 events), refl) refl none_moved refl refl refl refl refl refl
               (legal_before two_passes (take 14 events) (drop 14 events) events_are_legal) refl,
           refl,
         ),
@@ -136,27 +136,27 @@ unfolding digits unicode_segmentation caseless
 second_run = (
   take 3 events,
   step_made_from two_passes 1 (take 0 events) (take 2 events) (event.Add 1 2 (document 1 0 1) 0 1 []) (take 0 (drop 3 events))
-      (call.Add 2 (document 1 0 1)) (reply.Added 1) tt (take 2 (drop 0 events), refl) refl few_moved refl refl refl refl refl
+      (call.Add 2 (document 1 0 1)) (reply.Added 1) tt (take 2 (drop 0 events), refl) refl few_moved refl refl refl refl refl refl
       (legal_before two_passes (take 3 events) (drop 3 events) events_are_legal) refl,
   (
     take 8 events,
     step_made_from two_passes 1 (take 3 events) (take 5 events) (event.Find 1 (codes "w0 w1")) (take 2 (drop 6 events))
-        (call.Find (codes "w0 w1")) (reply.Found []) refl (take 2 (drop 3 events), refl) refl none_moved refl refl refl refl refl
+        (call.Find (codes "w0 w1")) (reply.Found []) refl (take 2 (drop 3 events), refl) refl none_moved refl refl refl refl refl refl
         (legal_before two_passes (take 8 events) (drop 8 events) events_are_legal) refl,
     (
       take 16 events,
       step_made_from two_passes 1 (take 8 events) (take 14 events) (event.Find 1 (codes "w1 w2")) (take 1 (drop 15 events))
-          (call.Find (codes "w1 w2")) (reply.Found []) refl (take 6 (drop 8 events), refl) refl none_moved refl refl refl refl refl
+          (call.Find (codes "w1 w2")) (reply.Found []) refl (take 6 (drop 8 events), refl) refl none_moved refl refl refl refl refl refl
           (legal_before two_passes (take 16 events) (drop 16 events) events_are_legal) refl,
       (
         take 18 events,
         step_made_from two_passes 1 (take 16 events) (take 16 events) (event.Find 1 (codes "w2 w3")) (take 1 (drop 17 events))
-            (call.Find (codes "w2 w3")) (reply.Found []) refl (take 0 (drop 16 events), refl) refl none_moved refl refl refl refl refl
+            (call.Find (codes "w2 w3")) (reply.Found []) refl (take 0 (drop 16 events), refl) refl none_moved refl refl refl refl refl refl
             (legal_before two_passes (take 18 events) (drop 18 events) events_are_legal) refl,
         (
           take 20 events,
           step_made_from two_passes 1 (take 18 events) (take 18 events) (event.Find 1 (codes "w3 w4")) (take 1 (drop 19 events))
-              (call.Find (codes "w3 w4")) (reply.Found []) refl (take 0 (drop 18 events), refl) refl none_moved refl refl refl refl refl
+              (call.Find (codes "w3 w4")) (reply.Found []) refl (take 0 (drop 18 events), refl) refl none_moved refl refl refl refl refl refl
               (legal_before two_passes (take 20 events) (drop 20 events) events_are_legal) refl,
           refl,
         ),

@@ -1,19 +1,18 @@
 -- A load moves nothing: no document is deleted or dropped up to the end of its adds, and its deletes and queries move nothing by themselves.
 use Rattle.std.proofs.Common.{◌≡◌, ℕ, ◌+◌, ◌≤◌, Bool, true, false, cond, List, [], ◌∷◌, ◌++◌, refl, sym, ◌∙◌, subst, arith, append_assoc}
-use Rattle.std.proofs.lemmas.Bool.{or_from}
+use Rattle.std.proofs.lemmas.Bool.{both_ways, or_from}
 use Rattle.std.proofs.lemmas.List.Sums.{sum_by-append, sum_by-cons, sum_by_push}
 use Rattle.std.specs.List.{list_any, sum_by}
-use Rattle.funnel_model.proofs.CausedMoves.{caused-front, uncaused}
+use Rattle.funnel_model.proofs.CausedMoves.{caused-front, has_cause-push, uncaused}
 use Rattle.funnel_model.proofs.Histories.{holds_of_legal, legal_before}
 use Rattle.funnel_model.proofs.Moved.{moved_by-still}
-use Rattle.funnel_model.proofs.Spans.{none-push}
 use Rattle.funnel_model.proofs.StepLemmas.{linear-grows, linear-legal}
 use Rattle.funnel_model.specs.declared.call.Call.{Call}
 use Rattle.funnel_model.specs.declared.event.Event.{Event}
 use Rattle.funnel_model.specs.declared.event.Event.TheVariants as event
 use Rattle.funnel_model.specs.declared.reply.Reply.{Reply}
-use Rattle.funnel_model.specs.Events.{deletes_or_drops, moves}
-use Rattle.funnel_model.specs.History.{MovesAreCaused, MovesNothing, live, moved_by}
+use Rattle.funnel_model.specs.Events.{moves}
+use Rattle.funnel_model.specs.History.{MovesAreCaused, MovesNothing, has_cause, is_cause, is_live, moved_by}
 use Rattle.funnel_model.specs.Legal.{Limits, IsAllowed, IsIdle, IsLegal}
 use Rattle.funnel_model.specs.Steps.{Linear, most_moves}
 use Rattle.load_gen.specs.Documents.{documents}
@@ -21,7 +20,7 @@ use Rattle.load_gen.specs.Jobs.{adds_of, deletes_of, jobs, queries_of}
 use Rattle.load_gen.proofs.Totals.{total-none}
 use Rattle.load_laws.specs.LonePass.{IsAlone}
 use Rattle.load_laws.specs.Workers.{IsLoaded}
-use Rattle.load_laws.proofs.Balance.{added_was_asked, balanced, is_among, is_number, number_is}
+use Rattle.load_laws.proofs.Balance.{AddsOnce, is_number, not_live_before, number_is}
 use Rattle.load_laws.proofs.EventCounts.{IsLight, ends, moved_once, moved_weighs, moves_none}
 use Rattle.load_laws.proofs.JobCounts.{add_weight, adds_in_adds, delete_weight, deletes_in_adds, deletes_move_nothing, over, queries_move_nothing}
 use Rattle.load_laws.proofs.JobFacts.{at_most_once}
@@ -31,7 +30,7 @@ use Rattle.load_laws.proofs.Quiet.{alone_front}
 
 -- no number is asked to be added twice, and no delete is asked
 record AddsEachOnce (history : List Event) : Type 0 where
-  once : (id : ℕ) → sum_by (asked (add_weight (is_number id))) history ≤ 1
+  once : AddsOnce history
   no_delete : sum_by (asked (delete_weight (λ id. 1))) history ≡ 0
 
 -- so it is before its last event
@@ -41,24 +40,25 @@ once_before history e adds = record {
   no_delete = omega (arith, adds.no_delete, sum_by_push (asked (delete_weight (λ id. 1))) history e);
 }
 
--- this event deletes nothing, and it drops nothing: the number of a drop is live, and was asked to be added before
+-- this event deletes nothing, drops nothing and replaces nothing: the number of a drop, or of an add that replaces, is live, and was asked
+-- to be added before
 no_cause_next : (limits : Limits) (history : List Event) (e : Event) → IsLegal limits history → IsAllowed limits history e →
-    AddsEachOnce (history ++ e ∷ []) → deletes_or_drops e ≡ false
+    AddsEachOnce (history ++ e ∷ []) → is_cause history e ≡ false
+no_cause_next limits history (event.Add pass id text slice column bits) legal allowed adds =
+    not_live_before limits history (event.Add pass id text slice column bits) id legal adds.once (number_is id)
 no_cause_next limits history (event.Del pass id) legal allowed adds =
     absurd (omega (arith, adds.no_delete, sum_by_push (asked (delete_weight (λ id. 1))) history (event.Del pass id)))
 no_cause_next limits history (event.Drop pass id text slice column) legal allowed adds =
-    let present = is_among id (live history) allowed.rule.present in
-    let balance = (balanced limits history legal).balance (is_number id) in
-    let before = added_was_asked (is_number id) history in
-    let here = sum_by_push (asked (add_weight (is_number id))) history (event.Drop pass id text slice column) in
-    absurd (omega (arith, present, balance, before, here, number_is id, adds.once id))
+    absurd (both_ways (is_live id history)
+    (not_live_before limits history (event.Drop pass id text slice column) id legal adds.once (number_is id)) allowed.rule.present)
 no_cause_next limits history _ legal allowed adds = refl
 
 -- so nothing is moved there, where each move has its cause
-no_cause : (limits : Limits) (history : List Event) → IsLegal limits history → AddsEachOnce history → list_any deletes_or_drops history ≡ false
+no_cause : (limits : Limits) (history : List Event) → IsLegal limits history → AddsEachOnce history → has_cause history ≡ false
 no_cause limits =
-    holds_of_legal limits (λ h. AddsEachOnce h → list_any deletes_or_drops h ≡ false) (λ adds. refl)
-    (λ h e legal before allowed adds. none-push deletes_or_drops h e (before (once_before h e adds)) (no_cause_next limits h e legal allowed adds))
+    holds_of_legal limits (λ h. AddsEachOnce h → has_cause h ≡ false) (λ adds. refl)
+    (λ h e legal before allowed adds.
+    has_cause-push h e ∙ or_from (has_cause h) (is_cause h e) (before (once_before h e adds)) (no_cause_next limits h e legal allowed adds))
 
 adds_move_nothing : (limits : Limits) (history : List Event) → IsLegal limits history → MovesAreCaused history → AddsEachOnce history → MovesNothing history
 adds_move_nothing limits history legal caused adds = uncaused history caused (no_cause limits history legal adds)
@@ -139,8 +139,8 @@ lone_load_moves_nothing limits pass docs words seed after replies run alone caus
     let still = adds_move_nothing limits adding (linear-legal limits pass [] adding adds runs.to_first tt runs.first_run)
     (caused-front adding grows.0 (subst MovesAreCaused (sym grows.1) caused))
     (record {
-      once = λ id. omega (arith, weighs (add_weight (is_number id)) (λ expr. omega arith), numbers (is_number id), at_most_once docs id);
-      no_delete = omega (arith, weighs (delete_weight (λ id. 1)) (λ expr. omega arith), no_deletes);
+      once = λ id. omega (arith, weighs (add_weight (is_number id)) (adds_light (is_number id)), numbers (is_number id), at_most_once docs id);
+      no_delete = omega (arith, weighs (delete_weight (λ id. 1)) deletes_light, no_deletes);
     }) in
     let later = (ends limits pass adding after others runs.to_more end.idle runs.more_run).moves_few in
     let nothing : moved_by pass after ≡ 0 = omega (arith, later, moved_by-still pass adding still, others_move_nothing) in
@@ -154,6 +154,12 @@ lone_load_moves_nothing limits pass docs words seed after replies run alone caus
 
     others : List Call
     others = deletes_of texts 1 0 ++ queries_of 1 0
+
+    adds_light : (g : ℕ → ℕ) → IsLight (add_weight g)
+    adds_light g = record { finds = λ asked expr is. omega arith; adds = λ id text. omega arith }
+
+    deletes_light : IsLight (delete_weight (λ id. 1))
+    deletes_light = record { finds = λ asked expr is. omega arith; adds = λ id text. omega arith }
 
     numbers : (g : ℕ → ℕ) → 0 + sum_by (add_weight g) adds ≡ over docs g
     numbers g = adds_in_adds g docs words seed 1 (omega arith)

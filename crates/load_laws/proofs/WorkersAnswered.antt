@@ -19,7 +19,7 @@ use Rattle.funnel_model.specs.declared.reply.Reply.TheVariants as reply
 use Rattle.funnel_model.specs.Events.{added_by, call_of, pass_of}
 use Rattle.funnel_model.specs.History.{Document, answer, document_at, live, own, place}
 use Rattle.funnel_model.specs.Legal.{Limits, IsLegal}
-use Rattle.funnel_model.specs.Steps.{IsReply}
+use Rattle.funnel_model.specs.Steps.{IsReply, place_told}
 use Rattle.load_gen.specs.declared.limits.TheConstants.{CHECKED_ONE_IN}
 use Rattle.load_gen.specs.Documents.{documents, name_of_document}
 use Rattle.load_gen.specs.Jobs.{adds_of, deletes_of, is_deleted, jobs, nth_add, queries_of, share}
@@ -29,9 +29,9 @@ use Rattle.load_laws.specs.Replies.{result_in}
 use Rattle.load_laws.specs.Workers.{AreAnswered, HasRoomFor, IsAnswered, IsAnsweredAsTold, IsLoaded, TellsNumbers}
 use Rattle.load_laws.proofs.Balance.{added, balanced, by_number, deleted, deleted_was_asked, is_number, no_more, number_is}
 use Rattle.load_laws.proofs.CallEvents.{find_event}
-use Rattle.load_laws.proofs.Committed.{add_is_committed, added_as_asked, after_or_in, call_of_load, delete_is_committed, deleted_as_asked, same_stretch, sum_around}
+use Rattle.load_laws.proofs.Committed.{add_is_committed, add_is_new, added_as_asked, after_or_in, balanced_by_then, call_of_load, delete_is_committed, deleted_as_asked, same_stretch, sum_around}
 use Rattle.load_laws.proofs.FoundLive.{IsOfDocuments, found_over, met, met_weighs, one_named, same_result, where_met}
-use Rattle.load_laws.proofs.JobCounts.{jobs_are_no_queries, add_weight, delete_weight, over, where_deleted}
+use Rattle.load_laws.proofs.JobCounts.{jobs_keep_names, add_weight, delete_weight, over, where_deleted}
 use Rattle.load_laws.proofs.JobFacts.{IsItem, share_items}
 use Rattle.load_laws.proofs.Parts.{adds_asked, deletes_asked, parts_asked}
 use Rattle.load_laws.proofs.PassTotals.{asked, weigh_by, weigh_by-calls}
@@ -91,9 +91,8 @@ check_finds limits docs words seed workers history replies loaded room worker be
     (λ xs x ys at. added_as_asked limits docs words seed workers history replies loaded room xs x ys at (is_number id)) [] h (is.event ∷ is.later) is.whole in
     let mine = weigh_by-calls (add_weight (is_number id)) worker h ∙ ap (sum_by (add_weight (is_number id))) is.calls in
     let of_all = pass_weighs (asked (add_weight (is_number id))) worker h in
-    let balances = balanced limits h legal in
-    let balance = balances.balance (is_number id) in
-    let once = balances.once id in
+    let balance = balanced_by_then limits docs words seed workers history replies loaded h (is.event ∷ is.later) is.whole (is_number id) in
+    let once = (balanced limits h legal).once id in
     let documents_live = live_of_load limits docs words seed workers history replies loaded [] h (is.event ∷ is.later) is.whole (All-nil (IsOfDocuments docs words seed)) in
     let by = find_event limits h is.event (name_of_document id) given is.call is.reply in
     by.2 ∙ ap reply.Found (one_named docs words seed id (live h) room.few within documents_live
@@ -105,7 +104,8 @@ add_is_answered : (limits : Limits) (docs words seed workers : ℕ) (history : L
     EventOf limits worker history done (call.Add id text) given → IsAnswered (call.Add id text) given
 add_is_answered limits docs words seed workers history replies loaded room worker done id text given is =
     let by = add_is_committed limits docs words seed workers history replies loaded room is.earlier is.event is.later is.whole id text is.call in
-    (place is.earlier + 1, subst (λ x. IsReply limits is.earlier x given) by.4 is.reply)
+    let new = add_is_new limits docs words seed workers history replies loaded is.earlier is.event is.later is.whole id text is.call in
+    (place is.earlier + 1, subst (λ x. IsReply limits is.earlier x given) by.4 is.reply ∙ ap (λ b. place_told b (place is.earlier + 1)) new)
 
 -- and so is a delete
 delete_is_answered : (limits : Limits) (docs words seed workers : ℕ) (history : List Event) (replies : ℕ → List Reply) →
@@ -175,7 +175,6 @@ pub left_by_then : (limits : Limits) (docs words seed workers : ℕ) (history : 
 left_by_then limits docs words seed workers history replies loaded room earlier rest between whole behind g =
     let p = loaded.parts in
     let parts = parts_asked limits docs words seed workers history replies loaded in
-    let legal = legal_before limits earlier rest (subst (IsLegal limits) whole loaded.legal) in
     let adds_were = same_stretch (added g) (asked (add_weight g)) history
     (λ xs x ys at. added_as_asked limits docs words seed workers history replies loaded room xs x ys at g) [] earlier rest whole in
     let deletes_were = same_stretch (deleted g) (asked (delete_weight g)) history
@@ -188,7 +187,7 @@ left_by_then limits docs words seed workers history replies loaded room earlier 
     let deletes_whole = ap (sum_by (asked (delete_weight g))) whole ∙ sum_by-append (asked (delete_weight g)) earlier rest in
     let first = parts.adds_first g in
     let second = parts.deletes_second g in
-    let balance = (balanced limits earlier legal).balance g in
+    let balance = balanced_by_then limits docs words seed workers history replies loaded earlier rest whole g in
     let adds_there = adds behind in
     let deletes_there = deletes behind in
     omega (arith, adds_were, deletes_were, adds_there, deletes_there, all_adds, all_deletes, adds_whole, deletes_whole, first, second, balance)
@@ -321,7 +320,7 @@ worker_is_answered limits docs words seed workers history replies loaded room wo
     let events = room.events in
     let have = events_of_run limits worker [] was_asked.front history [] (jobs docs words seed workers worker) (replies worker) was_asked.run
     (was_asked.seen.later, sym was_asked.seen.whole) (omega (arith, few, events)) was_asked.memory refl
-    (jobs_are_no_queries docs words seed workers worker) in
+    (jobs_keep_names docs words seed workers worker) in
     let last = two_parts limits worker history [] (adds_of texts workers worker ++ deletes_of texts workers worker) (queries_of workers worker) (replies worker) have in
     let first = two_parts limits worker history [] (adds_of texts workers worker) (deletes_of texts workers worker) last.to_first last.first_events in
     record {

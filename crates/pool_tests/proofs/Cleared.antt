@@ -146,7 +146,6 @@ add_second_allowed text bits is = subst (λ (bs : List Bit). IsAllowed small tak
   at_once = tt;
   rule = record {
     taken = refl;
-    absent = refl;
     inside = All-cons (λ (b : Bit). IsInSlice 1 1 b.word) tested_bit [] (record { from = omega arith; to = omega arith }) (All-nil (λ (b : Bit). IsInSlice 1 1 b.word));
     in_word = All-cons (λ (b : Bit). b.bit < 64) tested_bit [] (omega arith) (All-nil (λ (b : Bit). b.bit < 64));
   };

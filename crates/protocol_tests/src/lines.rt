@@ -1,7 +1,7 @@
 //! Lines that no session passes on, and the texts of replies that no input of the program brings about.
 use funnel_io::MAX_LINE_LEN;
-use funnel_model::Reply;
-use line_proto::{Request, parse_line, reply_text};
+use funnel_model::{Ids, Reply, Stats, Text};
+use line_proto::{Request, Search, parse_line, reply_text};
 use std::alloc::{AllocError, Global};
 use std::process::Abort;
 use std::test::Fail;
@@ -36,6 +36,100 @@ fn a_query_stands_behind_a_space(rt: HostRuntime) -> Result<(), Fail> {
     Ok(())
 }
 
+// Lines that search, and what each asks for.
+static SEARCHES: [(&[u8], Request<'static>); 8] = [
+    (
+        b"count",
+        Request::Count {
+            kept: Search::Words(""),
+        },
+    ),
+    (
+        b"count ",
+        Request::Count {
+            kept: Search::Query(""),
+        },
+    ),
+    (
+        b"count  a\r",
+        Request::Count {
+            kept: Search::Query(" a"),
+        },
+    ),
+    (
+        b"newest 5",
+        Request::Newest {
+            most: 5,
+            kept: Search::Words(""),
+        },
+    ),
+    (
+        b"newest 5 ",
+        Request::Newest {
+            most: 5,
+            kept: Search::Query(""),
+        },
+    ),
+    (
+        b"newest 05 a |b",
+        Request::Newest {
+            most: 5,
+            kept: Search::Query("a |b"),
+        },
+    ),
+    (
+        b"oldest 0",
+        Request::Oldest {
+            most: 0,
+            kept: Search::Words(""),
+        },
+    ),
+    (
+        b"oldest 18446744073709551615 -a",
+        Request::Oldest {
+            most: u64::MAX,
+            kept: Search::Query("-a"),
+        },
+    ),
+];
+
+// Lines that are no searches, and others that name no document or have too much.
+static NO_SEARCHES: [&[u8]; 6] = [
+    b"newest",
+    b"newest a",
+    b"newest  5",
+    b"oldest +5",
+    b"counts",
+    b"newest 18446744073709551616",
+];
+
+static NO_DOCUMENTS: [&[u8]; 6] = [b"put", b"put a", b"get", b"get 7 ", b"get  7", b"stats "];
+
+#[test]
+fn a_search_has_a_query_only_behind_a_space(rt: HostRuntime) -> Result<(), Fail> {
+    for (line, wanted) in &SEARCHES {
+        assert_eq!(rt; parse_line(line), Some(*wanted));
+    }
+    for line in &NO_SEARCHES {
+        assert!(rt; parse_line(line).is_none());
+    }
+    Ok(())
+}
+
+#[test]
+fn documents_are_put_and_told_by_their_numbers(rt: HostRuntime) -> Result<(), Fail> {
+    let wanted = Request::Put { id: 7, text: " a" };
+    assert_eq!(rt; parse_line(b"put 007  a"), Some(wanted));
+    let wanted = Request::Put { id: 7, text: "" };
+    assert_eq!(rt; parse_line(b"put 7"), Some(wanted));
+    assert_eq!(rt; parse_line(b"get 7\r"), Some(Request::Get { id: 7 }));
+    assert_eq!(rt; parse_line(b"stats"), Some(Request::Stats));
+    for line in &NO_DOCUMENTS {
+        assert!(rt; parse_line(line).is_none());
+    }
+    Ok(())
+}
+
 #[test]
 fn a_tuning_stands_behind_a_space(rt: HostRuntime) -> Result<(), Fail> {
     let wanted = Request::Tune { text: " {} " };
@@ -48,9 +142,81 @@ fn a_tuning_stands_behind_a_space(rt: HostRuntime) -> Result<(), Fail> {
 
 #[test]
 fn a_reply_is_one_line(rt: HostRuntime) -> Result<(), Fail> {
-    let mut out = Vec::with_capacity(rt.alloc(), 64)?;
+    let mut out = Vec::with_capacity(rt.alloc(), 256)?;
     expect_texts(&rt, &mut out);
+    expect_numbers(&rt, &mut out);
     Ok(())
+}
+
+// Texts, and the replies that tell them.
+static TEXTS: [(&str, &str); 4] = [
+    (" a  b ", "text 3  a  b \n"),
+    ("", "text 3 \n"),
+    ("a\nb", "refused text\n"),
+    ("\n", "refused text\n"),
+];
+
+#[test]
+fn a_text_is_told_unless_a_newline_would_end_the_line(rt: HostRuntime) -> Result<(), Fail> {
+    let mut out = Vec::new(rt.alloc());
+    for (told, wanted) in &TEXTS {
+        let text = Text::new(String::from_str(rt.alloc(), told)?);
+        let reply = Reply::Text { place: 3, text };
+        expect_text(&rt, reply, wanted, &mut out);
+    }
+    Ok(())
+}
+
+#[test]
+fn some_numbers_stand_behind_how_many_there_are(rt: HostRuntime) -> Result<(), Fail> {
+    let mut out = Vec::new(rt.alloc());
+    let ids = Ids::new(Vec::from_slice(rt.alloc(), [9, 7].as_slice())?);
+    expect_text(
+        &rt,
+        Reply::FoundSome { count: 12, ids },
+        "found 12 9 7\n",
+        &mut out,
+    );
+    let ids = Ids::new(Vec::new(rt.alloc()));
+    expect_text(
+        &rt,
+        Reply::FoundSome { count: 12, ids },
+        "found 12\n",
+        &mut out,
+    );
+    Ok(())
+}
+
+// The longest reply that takes no room.
+fn expect_numbers(rt: &impl Abort, out: &mut Vec<u8>) {
+    let stats = Stats {
+        documents: u64::MAX,
+        place: u64::MAX,
+        base: u64::MAX,
+        columns: u64::MAX,
+        free: u64::MAX,
+        retired: u64::MAX,
+        finds: 0,
+    };
+    expect_text(
+        rt,
+        Reply::Stats(stats),
+        "stats documents 18446744073709551615 place 18446744073709551615 base 18446744073709551615 columns 18446744073709551615 \
+free 18446744073709551615 retired 18446744073709551615 finds 0\n",
+        out,
+    );
+    expect_text(
+        rt,
+        Reply::Replaced(u64::MAX),
+        "replaced 18446744073709551615\n",
+        out,
+    );
+    expect_text(
+        rt,
+        Reply::Count(u64::MAX),
+        "count 18446744073709551615\n",
+        out,
+    );
 }
 
 fn expect_texts(rt: &impl Abort, out: &mut Vec<u8>) {

@@ -7,14 +7,25 @@ use std::alloc::Global;
 use std::process::Abort;
 use std::test::Fail;
 
-// A document to be added, a query that is none, and a byte that no head begins with; what follows it isn't answered.
+// A document to be added, a value that stands for nothing, a put, a get, a count, the metrics, a key that comes twice, and a byte that no head
+// begins with; what follows it isn't answered.
 const REQUESTS: &[u8] =
     b"POST /documents HTTP/1.1\r\nHost: a\r\nContent-Length: 25\r\n\r\n{\"id\":7,\"text\":\"The cat\"}\
-GET /find?q=%zz HTTP/1.1\r\nHost: a\r\n\r\n\x01GET /place HTTP/1.1\r\n\r\n";
+GET /find?q=%zz HTTP/1.1\r\nHost: a\r\n\r\n\
+PUT /documents/7 HTTP/1.1\r\nContent-Length: 12\r\n\r\n{\"text\":\"a\"}\
+GET /documents/7 HTTP/1.1\r\n\r\n\
+GET /count?q=a HTTP/1.1\r\n\r\n\
+GET /metrics HTTP/1.1\r\n\r\n\
+GET /query?q=a&q=b HTTP/1.1\r\n\r\n\x01GET /place HTTP/1.1\r\n\r\n";
 
 const RESPONSES: &str =
     "HTTP/1.1 503 Service Unavailable\r\nContent-Type: application/json\r\nContent-Length: 17\r\n\r\n{\"error\":\"spent\"}\
 HTTP/1.1 400 Bad Request\r\nContent-Type: application/json\r\nContent-Length: 17\r\n\r\n{\"error\":\"query\"}\
+HTTP/1.1 503 Service Unavailable\r\nContent-Type: application/json\r\nContent-Length: 17\r\n\r\n{\"error\":\"spent\"}\
+HTTP/1.1 503 Service Unavailable\r\nContent-Type: application/json\r\nContent-Length: 17\r\n\r\n{\"error\":\"spent\"}\
+HTTP/1.1 503 Service Unavailable\r\nContent-Type: application/json\r\nContent-Length: 18\r\n\r\n{\"error\":\"memory\"}\
+HTTP/1.1 503 Service Unavailable\r\nContent-Type: application/json\r\nContent-Length: 17\r\n\r\n{\"error\":\"spent\"}\
+HTTP/1.1 404 Not Found\r\nContent-Type: application/json\r\nContent-Length: 17\r\n\r\n{\"error\":\"route\"}\
 HTTP/1.1 400 Bad Request\r\nContent-Type: application/json\r\nContent-Length: 16\r\nConnection: close\r\n\r\n{\"error\":\"head\"}";
 
 // The requests in pieces of one size.

@@ -7,7 +7,7 @@ use std::alloc::Global;
 use std::process::Abort;
 use std::test::Fail;
 
-// A pass of an engine that takes no event any more, and that finds no memory to read a query or a tuning.
+// A pass of an engine that takes no event any more, and that finds no memory to read a search or a tuning.
 #[derive(Drop)]
 pub(crate) struct SpentPass;
 
@@ -37,7 +37,10 @@ impl Service for SpentPass {
 
     fn call(&mut self, request: &Request<'_>) -> Reply {
         match request {
-            Request::Query { .. } => Reply::Memory,
+            Request::Query { .. }
+            | Request::Count { .. }
+            | Request::Newest { .. }
+            | Request::Oldest { .. } => Reply::Memory,
             Request::Tune { .. } => Reply::Memory,
             _ => Reply::Spent,
         }

@@ -7,7 +7,7 @@ use Rattle.funnel_io.specs.declared.end.End.{End}
 use Rattle.funnel_io.specs.declared.end.End.TheVariants as end_of
 use Rattle.funnel_model.proofs.LastEvents.{token_is_last}
 use Rattle.funnel_model.proofs.NextEvents.{busy}
-use Rattle.funnel_model.proofs.StepCauses.{query_not_made}
+use Rattle.funnel_model.proofs.StepCauses.{memory_cause}
 use Rattle.funnel_model.specs.declared.call.Call.{Call}
 use Rattle.funnel_model.specs.declared.call.Call.TheVariants as call
 use Rattle.funnel_model.specs.declared.config.Config.{Config}
@@ -17,77 +17,72 @@ use Rattle.funnel_model.specs.declared.expr.Expr.{Expr}
 use Rattle.funnel_model.specs.declared.reply.Reply.{Reply}
 use Rattle.funnel_model.specs.declared.reply.Reply.TheVariants as reply
 use Rattle.funnel_model.specs.History.{own}
-use Rattle.funnel_model.specs.Steps.{AddsCall, AddsNone, IsJudged, IsMade, IsSpent, LacksMemory, Linear}
+use Rattle.funnel_model.specs.Tokens.{HasToken}
+use Rattle.funnel_model.specs.Steps.{AddsCall, AddsNone, Linear, Step}
 use Rattle.funnel_stats.specs.Tunings.{Tuned, Gives, Faulty, Wide, tuned}
-use Rattle.line_proto.specs.Forms.{Item, Asks, Malformed, TooLong, Calls, Queries, Tunes, item_of}
-use Rattle.line_proto.specs.Services.{AnswersCall, AnswersTuned, Caller, IsNotTaken, IsUnread, RefusesTuning}
+use Rattle.line_proto.specs.Forms.{Asked, Item, Asks, Malformed, TooLong, Calls, Searches, Tunes, Told, Ids, Amount, Last, First, item_of}
+use Rattle.line_proto.specs.Services.{AnswersAsked, AnswersCall, AnswersTuned, Caller, IsNotTaken, IsUnread, RefusesTuning, searched}
 use Rattle.line_proto.specs.Texts.{text_of, texts}
 use Rattle.session.proofs.Progress.{texts-push}
 use Rattle.session.specs.Ends.{Serves, Stand}
-use Rattle.session.specs.Laws.{AreCalls, RunsCalls, IsRefusedAs, IsTunedInVain, TakesNone, IsProperFront, EndsByCount, FindIsOver}
+use Rattle.session.specs.Laws.{AreCalls, IsCallOf, IsNoCall, RunsCalls, IsRefusedAs, IsTunedInVain, TakesNone, IsProperFront, EndsByCount, FindIsOver}
 use Rattle.session.specs.Sessions.{Answers, AnswersItem, CutsLast}
 
--- a text that gives no configuration is no call
-runs_untuned : (caller : Caller) (before middle after : List Event) (text : List ℕ) (given : Reply) (items : List Item) (replies : List Reply)
-    → before ≡ middle → RefusesTuning (tuned caller.opening text) given → RunsCalls caller middle after items replies
-    → RunsCalls caller before after (Asks (Tunes text) ∷ items) (given ∷ replies)
-runs_untuned caller before middle after text given items replies same untuned run = record {
+-- what is asked is one call, which is answered by this step, or none, and there is no step
+abbrev pub IsOneCall : Caller → List Event → List Event → Asked → Reply → Type 0
+IsOneCall caller before after asked given = (made : Call) × IsCallOf caller.opening (Asks asked) made × Step caller.limits caller.pass before after made given
+
+abbrev pub IsNone : Caller → List Event → List Event → Asked → Reply → Type 0
+IsNone caller before after asked given = (before ≡ after) × IsNoCall caller.opening (Asks asked) given
+
+-- a tuning is one, by what comes of its text
+tuned_call : (caller : Caller) (before after : List Event) (text : List ℕ) (comes : Tuned) (given : Reply) → tuned caller.opening text ≡ comes →
+    AnswersTuned caller before after comes given → IsOneCall caller before after (Tunes text) given ⊎ IsNone caller before after (Tunes text) given
+tuned_call caller before after text (Gives config) given is answers = inl (call.Tune config, (config, is, refl), answers.step)
+tuned_call caller before after text (Faulty fault) given is answers = inr (answers.0, subst (λ (comes : Tuned). RefusesTuning comes given) (sym is) answers.1)
+tuned_call caller before after text (Wide needed room) given is answers = inr (answers.0, subst (λ (comes : Tuned). RefusesTuning comes given) (sym is) answers.1)
+
+-- and so is all that may be asked
+pub call_or_none : (caller : Caller) (before after : List Event) (asked : Asked) (given : Reply) → AnswersAsked caller before after asked given →
+    IsOneCall caller before after asked given ⊎ IsNone caller before after asked given
+call_or_none caller before after (Calls asked) given answers = inl (asked, refl, answers.step)
+call_or_none caller before after (Searches told sought) given (inl read) = inl (searched told read.expr, (read.expr, read.reads, refl), read.answers.step)
+call_or_none caller before after (Searches told sought) given (inr unread) = inr unread
+call_or_none caller before after (Tunes text) given answers = tuned_call caller before after text (tuned caller.opening text) given refl answers
+
+-- an item that is no call is none of the calls
+runs_none : (caller : Caller) (before middle after : List Event) (item : Item) (given : Reply) (items : List Item) (replies : List Reply)
+    → before ≡ middle → IsNoCall caller.opening item given → RunsCalls caller middle after items replies
+    → RunsCalls caller before after (item ∷ items) (given ∷ replies)
+runs_none caller before middle after item given items replies same none run = record {
   calls = run.calls;
   told = run.told;
-  are = inl (untuned, run.are);
+  are = inl (none, run.are);
   steps = subst (λ h. Linear caller.limits caller.pass h after run.calls run.told) (sym same) run.steps;
 }
 
--- and one that gives one is the first call
-runs_tuned : (caller : Caller) (before middle after : List Event) (text : List ℕ) (comes : Tuned) (given : Reply) (items : List Item) (replies : List Reply)
-    → tuned caller.opening text ≡ comes → AnswersTuned caller before middle comes given → RunsCalls caller middle after items replies
-    → RunsCalls caller before after (Asks (Tunes text) ∷ items) (given ∷ replies)
-runs_tuned caller before middle after text (Gives config) given items replies is answers run = record {
-  calls = call.Tune config ∷ run.calls;
+-- what is asked is the first call, or none
+runs_asked : (caller : Caller) (before middle after : List Event) (asked : Asked) (given : Reply) (items : List Item) (replies : List Reply)
+    → IsOneCall caller before middle asked given ⊎ IsNone caller before middle asked given → RunsCalls caller middle after items replies
+    → RunsCalls caller before after (Asks asked ∷ items) (given ∷ replies)
+runs_asked caller before middle after asked given items replies (inl one) run = record {
+  calls = one.0 ∷ run.calls;
   told = given ∷ run.told;
-  are = inr (call.Tune config, run.calls, run.told, (config, is, refl), run.are, refl, refl);
-  steps = (middle, answers.step, run.steps);
+  are = inr (one.0, run.calls, run.told, one.1, run.are, refl, refl);
+  steps = (middle, one.2, run.steps);
 }
-runs_tuned caller before middle after text (Faulty fault) given items replies is answers run =
-    runs_untuned caller before middle after text given items replies answers.0 (subst (λ (comes : Tuned). RefusesTuning comes given) (sym is) answers.1) run
-runs_tuned caller before middle after text (Wide needed room) given items replies is answers run =
-    runs_untuned caller before middle after text given items replies answers.0 (subst (λ (comes : Tuned). RefusesTuning comes given) (sym is) answers.1) run
+runs_asked caller before middle after asked given items replies (inr none) run =
+    runs_none caller before middle after (Asks asked) given items replies none.0 none.1 run
 
 -- an item with its reply is the first call, or no call
 runs_one : (caller : Caller) (before middle after : List Event) (item : Item) (given : Reply) (items : List Item) (replies : List Reply)
     → AnswersItem caller before item given middle → RunsCalls caller middle after items replies → RunsCalls caller before after (item ∷ items) (given ∷ replies)
-runs_one caller before middle after (Asks (Calls asked)) given items replies answers run = record {
-  calls = asked ∷ run.calls;
-  told = given ∷ run.told;
-  are = inr (asked, run.calls, run.told, refl, run.are, refl, refl);
-  steps = (middle, answers.step, run.steps);
-}
-runs_one caller before middle after (Asks (Queries text)) given items replies (inl read) run = record {
-  calls = call.Query read.expr ∷ run.calls;
-  told = given ∷ run.told;
-  are = inr (call.Query read.expr, run.calls, run.told, (read.expr, read.reads, refl), run.are, refl, refl);
-  steps = (middle, read.answers.step, run.steps);
-}
-runs_one caller before middle after (Asks (Queries text)) given items replies (inr unread) run = record {
-  calls = run.calls;
-  told = run.told;
-  are = inl (unread.1, run.are);
-  steps = subst (λ h. Linear caller.limits caller.pass h after run.calls run.told) (sym unread.0) run.steps;
-}
-runs_one caller before middle after (Asks (Tunes text)) given items replies answers run =
-    runs_tuned caller before middle after text (tuned caller.opening text) given items replies refl answers run
-runs_one caller before middle after Malformed given items replies answers run = record {
-  calls = run.calls;
-  told = run.told;
-  are = inl (tt, run.are);
-  steps = subst (λ h. Linear caller.limits caller.pass h after run.calls run.told) (sym answers.1) run.steps;
-}
-runs_one caller before middle after TooLong given items replies answers run = record {
-  calls = run.calls;
-  told = run.told;
-  are = inl (tt, run.are);
-  steps = subst (λ h. Linear caller.limits caller.pass h after run.calls run.told) (sym answers.1) run.steps;
-}
+runs_one caller before middle after (Asks asked) given items replies answers run =
+    runs_asked caller before middle after asked given items replies (call_or_none caller before middle asked given answers) run
+runs_one caller before middle after Malformed given items replies answers run =
+    runs_none caller before middle after Malformed given items replies answers.1 tt run
+runs_one caller before middle after TooLong given items replies answers run =
+    runs_none caller before middle after TooLong given items replies answers.1 tt run
 
 pub runs_calls : (caller : Caller) (before after : List Event) (asked : List Item) (replies : List Reply) → Answers caller before asked replies after
     → RunsCalls caller before after asked replies
@@ -148,14 +143,14 @@ one_refused : (caller : Caller) (before middle : List Event) (item : Item) (give
 one_refused caller before middle (Asks (Calls asked)) given many answers =
     let not_taken : IsNotTaken caller before middle given = answers.spent many in
     record { refusal = not_taken.reply; none = not_taken.call; spent = still_spent caller before middle asked given many answers }
-one_refused caller before middle (Asks (Queries text)) given many (inl read) =
+one_refused caller before middle (Asks (Searches told sought)) given many (inl read) =
     let not_taken : IsNotTaken caller before middle given = read.answers.spent many in
     record {
-      refusal = ⊎_elim (λ (spent : given ≡ reply.Spent). inl spent) (λ (memory : given ≡ reply.Memory). inr (subst (IsUnread text) (sym memory) tt)) not_taken.reply;
+      refusal = ⊎_elim (λ (spent : given ≡ reply.Spent). inl spent) (λ (memory : given ≡ reply.Memory). inr (subst (IsUnread sought) (sym memory) tt)) not_taken.reply;
       none = not_taken.call;
-      spent = still_spent caller before middle (call.Query read.expr) given many read.answers;
+      spent = still_spent caller before middle (searched told read.expr) given many read.answers;
     }
-one_refused caller before middle (Asks (Queries text)) given many (inr unread) =
+one_refused caller before middle (Asks (Searches told sought)) given many (inr unread) =
     record { refusal = inr unread.1; none = ap (own caller.pass) (sym unread.0); spent = subst (λ h. caller.limits.events ≤ length h) unread.0 many }
 one_refused caller before middle (Asks (Tunes text)) given many answers =
     tuned_in_vain caller before middle text (tuned caller.opening text) given many refl answers
@@ -220,40 +215,31 @@ at_limit caller limit old new (end_of.ByteLimit told) served some many = inl (ap
 at_limit caller limit old new end_of.WriteFault served some many = inr refl
 at_limit caller limit old new end_of.Memory served some many = absurd (omega (arith, some, many, ap length served.session.0))
 
--- a call that found no memory, as its step says
-find_calls : (caller : Caller) (before after : List Event) (query : List ℕ)
-    → IsMade caller.limits caller.pass before after (call.Find query) reply.Memory ⊎ LacksMemory caller.pass before after (call.Find query) reply.Memory
-    ⊎ IsSpent caller.limits caller.pass before after reply.Memory ⊎ IsJudged caller.pass before after (call.Find query) reply.Memory
-    → AddsNone caller.pass before after ⊎ AddsCall caller.pass before after (call.Find query)
-find_calls caller before after query (inl made) = inr made.call
-find_calls caller before after query (inr (inl lacks)) = lacks.call
-find_calls caller before after query (inr (inr (inl spent))) = inl spent.call
-find_calls caller before after query (inr (inr (inr judged))) = let other = judged.query in absurd (cc)
-
--- and so of a query
-query_calls : (caller : Caller) (before after : List Event) (expr : Expr)
-    → IsMade caller.limits caller.pass before after (call.Query expr) reply.Memory ⊎ LacksMemory caller.pass before after (call.Query expr) reply.Memory
-    ⊎ IsSpent caller.limits caller.pass before after reply.Memory ⊎ IsJudged caller.pass before after (call.Query expr) reply.Memory
-    → AddsNone caller.pass before after ⊎ AddsCall caller.pass before after (call.Find [])
-query_calls caller before after expr (inl made) = absurd (query_not_made caller.limits caller.pass before after expr reply.Memory made)
-query_calls caller before after expr (inr (inl lacks)) = lacks.call
-query_calls caller before after expr (inr (inr (inl spent))) = inl spent.call
-query_calls caller before after expr (inr (inr (inr judged))) = inr judged.call
+-- the pass of a call that is answered has no token
+no_token : (caller : Caller) (before after : List Event) (asked : Call) (given : Reply) → AnswersCall caller before after asked given →
+    (number : ℕ) → HasToken after caller.pass number → ⊥
+no_token caller before after asked given answers number token =
+    let last = token_is_last caller.limits after caller.pass number answers.step.legal token in
+    busy caller.pass after (event.Find caller.pass last.0) last.1 refl answers.step.idle_after
 
 pub find_is_over : (caller : Caller) (before after : List Event) (query : List ℕ) → AnswersCall caller before after (call.Find query) reply.Memory
     → FindIsOver caller.pass before after query
 find_is_over caller before after query answers = record {
-  no_token = λ number token.
-      let last = token_is_last caller.limits after caller.pass number answers.step.legal token in
-      busy caller.pass after (event.Find caller.pass last.0) last.1 refl answers.step.idle_after;
-  calls = find_calls caller before after query answers.step.outcome;
+  no_token = no_token caller before after (call.Find query) reply.Memory answers;
+  calls = memory_cause caller.limits caller.pass before after (call.Find query) answers.step;
 }
 
-pub query_is_over : (caller : Caller) (before after : List Event) (expr : Expr) → AnswersCall caller before after (call.Query expr) reply.Memory
+-- a search that found no memory made the find of the empty query, or no call
+search_calls : (caller : Caller) (before after : List Event) (told : Told) (expr : Expr) → AnswersCall caller before after (searched told expr) reply.Memory
+    → AddsNone caller.pass before after ⊎ AddsCall caller.pass before after (call.Find [])
+search_calls caller before after Ids expr answers = memory_cause caller.limits caller.pass before after (call.Query expr) answers.step
+search_calls caller before after Amount expr answers = memory_cause caller.limits caller.pass before after (call.Count expr) answers.step
+search_calls caller before after (Last most) expr answers = memory_cause caller.limits caller.pass before after (call.Newest expr most) answers.step
+search_calls caller before after (First most) expr answers = memory_cause caller.limits caller.pass before after (call.Oldest expr most) answers.step
+
+pub search_is_over : (caller : Caller) (before after : List Event) (told : Told) (expr : Expr) → AnswersCall caller before after (searched told expr) reply.Memory
     → FindIsOver caller.pass before after []
-query_is_over caller before after expr answers = record {
-  no_token = λ number token.
-      let last = token_is_last caller.limits after caller.pass number answers.step.legal token in
-      busy caller.pass after (event.Find caller.pass last.0) last.1 refl answers.step.idle_after;
-  calls = query_calls caller before after expr answers.step.outcome;
+search_is_over caller before after told expr answers = record {
+  no_token = no_token caller before after (searched told expr) reply.Memory answers;
+  calls = search_calls caller before after told expr answers;
 }

@@ -14,19 +14,18 @@ use Rattle.funnel_model.specs.declared.expr.Expr.{Expr}
 use Rattle.funnel_model.specs.declared.reply.Reply.{Reply}
 use Rattle.funnel_model.specs.declared.reply.Reply.TheVariants as reply
 use Rattle.funnel_model.specs.Expressions.{tree_of}
-use Rattle.funnel_model.specs.Queries.{IsQuery}
 use Rattle.funnel_model.specs.Steps.{AddsCall, AddsNone, Linear}
 use Rattle.funnel_model.specs.Tokens.{HasToken}
 use Rattle.funnel_stats.specs.Tunings.{Tuned, Gives, tuned}
-use Rattle.line_proto.specs.Services.{Caller, IsUnread, RefusesTuning}
-use Rattle.line_proto.specs.Forms.{Item, Asks, Malformed, TooLong, Calls, Queries, Tunes}
+use Rattle.line_proto.specs.Services.{Caller, IsSought, IsUnread, RefusesTuning, searched}
+use Rattle.line_proto.specs.Forms.{Item, Asks, Malformed, TooLong, Calls, Searches, Tunes}
 use Rattle.session.specs.Ends.{Serves, Stand}
 
--- the call that an item asks for, of an engine that was opened with this configuration; where it asks for what a text finds, the query of
--- the expression that the text is the query of; and for a tuning, the one by the configuration that its text gives
+-- the call that an item asks for, of an engine that was opened with this configuration; for a search, the one by an expression that keeps what
+-- is sought; and for a tuning, the one by the configuration that its text gives
 abbrev pub IsCallOf : Config → Item → Call → Type 0
 IsCallOf opening (Asks (Calls asked)) made = made ≡ asked
-IsCallOf opening (Asks (Queries text)) made = (expr : Expr) × IsQuery text (tree_of expr) × (made ≡ call.Query expr)
+IsCallOf opening (Asks (Searches told sought)) made = (expr : Expr) × IsSought sought (tree_of expr) × (made ≡ searched told expr)
 IsCallOf opening (Asks (Tunes text)) made = (config : Config) × (tuned opening text ≡ Gives config) × (made ≡ call.Tune config)
 IsCallOf opening Malformed made = ⊥
 IsCallOf opening TooLong made = ⊥
@@ -34,7 +33,7 @@ IsCallOf opening TooLong made = ⊥
 -- an item that is answered so is no call: a line of no form, one that is too long, or a text that was refused before anything was called
 abbrev pub IsNoCall : Config → Item → Reply → Type 0
 IsNoCall opening (Asks (Calls asked)) given = ⊥
-IsNoCall opening (Asks (Queries text)) given = IsUnread text given
+IsNoCall opening (Asks (Searches told sought)) given = IsUnread sought given
 IsNoCall opening (Asks (Tunes text)) given = RefusesTuning (tuned opening text) given
 IsNoCall opening Malformed given = ⊤
 IsNoCall opening TooLong given = ⊤
@@ -62,11 +61,10 @@ abbrev pub IsTunedInVain : Tuned → Reply → Type 0
 IsTunedInVain (Gives config) given = (given ≡ reply.Spent) ⊎ (given ≡ reply.Memory)
 IsTunedInVain comes given = RefusesTuning comes given
 
--- over a spent front an item is refused so: a call as spent or for want of memory, a text that is to be read as a query as spent or
--- before anything is called, a tuning by what comes of its text, and any other line as over each front
+-- over a spent front an item is refused so: a call as spent or for want of memory, a search as spent or before anything is called, a tuning by what comes of its text, and any other line as over each front
 abbrev pub IsRefusedAs : Config → Item → Reply → Type 0
 IsRefusedAs opening (Asks (Calls asked)) given = (given ≡ reply.Spent) ⊎ (given ≡ reply.Memory)
-IsRefusedAs opening (Asks (Queries text)) given = (given ≡ reply.Spent) ⊎ IsUnread text given
+IsRefusedAs opening (Asks (Searches told sought)) given = (given ≡ reply.Spent) ⊎ IsUnread sought given
 IsRefusedAs opening (Asks (Tunes text)) given = IsTunedInVain (tuned opening text) given
 IsRefusedAs opening Malformed given = given ≡ reply.Line
 IsRefusedAs opening TooLong given = given ≡ reply.Long

@@ -8,7 +8,7 @@ use funnel_model::Reply;
 use line_proto::{Service, parse_line, reply_text};
 
 /// The room that a reply's text needs, where it is no list.
-pub(crate) const TEXT_ROOM: usize = 64;
+pub(crate) const TEXT_ROOM: usize = 256;
 
 /// The service's reply to a line that is not too long, or the refusal of a line that has no form.
 pub(crate) fn reply_to<S: Service>(service: &mut S, line: &[u8]) -> Reply

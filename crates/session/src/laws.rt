@@ -10,8 +10,8 @@ ghost use Rattle.funnel_model.specs.declared.event.Event.{Event};
 ghost use Rattle.funnel_model.specs.declared.expr.Expr.{Expr};
 ghost use Rattle.funnel_model.specs.declared.reply.Reply.{Reply};
 ghost use Rattle.funnel_model.specs.declared.reply.Reply.TheVariants as reply;
-ghost use Rattle.line_proto.specs.Forms.{Item};
-ghost use Rattle.line_proto.specs.Services.{AnswersCall, Caller};
+ghost use Rattle.line_proto.specs.Forms.{Item, Told};
+ghost use Rattle.line_proto.specs.Services.{AnswersCall, Caller, searched};
 ghost use Rattle.line_proto.specs.Texts.{texts};
 ghost use Rattle.session.specs.Ends.{Serves, Stand};
 ghost use Rattle.session.specs.Laws.{RunsCalls, TakesNone, IsProperFront, EndsByCount, FindIsOver, FindsEnd};
@@ -21,7 +21,7 @@ ghost use Rattle.session.specs.Turns.{AreTurns, StopsReading, Turn, answers_of, 
 use funnel_io::Connection;
 
 /// The calls of a session lead from front to front, one step for each, and their replies are those that were given. A line's call is
-/// the one of which it has a form, the query of the expression that its text is the query of, or the tuning by the configuration that
+/// the one of which it has a form, the search by an expression that keeps what its text seeks, or the tuning by the configuration that
 /// its text gives. No other line is a call.
 pub fn a_session_is_one_run_of_calls()
     ensures { (caller : Caller) (before after : List Event) (asked : List Item) (replies : List Reply) →
@@ -79,13 +79,13 @@ pub fn replies_come_after_their_lines()
         length (answers_of turns) ≤ length (lines (bytes_read (reads_of turns)) (found_end (reads_of turns))) }
 {}
 
-/// A find that found no memory is over: its pass has no token, and made no other call. So is a query, whose find is that of the empty
-/// query.
+/// A find that found no memory is over: its pass has no token, and made no other call. So is a search by an expression, whose find is that
+/// of the empty query.
 pub fn finds_without_memory_are_over()
     ensures find { (caller : Caller) (before after : List Event) (query : List ℕ) →
         AnswersCall caller before after (call.Find query) reply.Memory →
         FindIsOver caller.pass before after query }
-    ensures query { (caller : Caller) (before after : List Event) (expr : Expr) →
-        AnswersCall caller before after (call.Query expr) reply.Memory →
+    ensures search { (caller : Caller) (before after : List Event) (told : Told) (expr : Expr) →
+        AnswersCall caller before after (searched told expr) reply.Memory →
         FindIsOver caller.pass before after [] }
 {}

@@ -35,12 +35,12 @@ module _ (limits : Limits) (pass : ℕ) (before after : List Event) where
     pub refused_step : (refusal : ClearRefusal) → IsRefusedTurn limits pass before after refusal → Step limits pass before after call.Recycle (reply_of_recycle (refused_as refusal))
     refused_step clear.NoneRetired turn =
         let e = event.No pass call.Recycle in
-        step_made_by_turn limits pass before after e call.Recycle reply.NothingRetired idle turn refl (call_by-own pass e refl) refl refl turn.answer.2 legal
+        step_made_by_turn limits pass before after e call.Recycle reply.NothingRetired idle turn refl (call_by-own pass e refl) refl refl turn.answer.2 refl legal
     refused_step (clear.Guarded slice guard opened_at) turn =
         let e = event.No pass call.Recycle in
         let lowest = turn.answer.2.0 in
         step_made_by_turn limits pass before after e call.Recycle (reply.Guarded slice guard) idle turn refl (call_by-own pass e refl) refl refl
-        (record { in_range = lowest.in_range; retired = lowest.retired; lowest = lowest.lowest; number = opened_at; guard = turn.answer.2.1 }) legal
+        (record { in_range = lowest.in_range; retired = lowest.retired; lowest = lowest.lowest; number = opened_at; guard = turn.answer.2.1 }) refl legal
     refused_step (clear.Spent events) turn = step_spent_turn limits pass before after call.Recycle idle turn turn.answer.many legal
 
     -- a slice was cleared and opened
@@ -50,7 +50,7 @@ module _ (limits : Limits) (pass : ℕ) (before after : List Event) where
         let clears = event.Clear pass slice in
         let opened = event.Opened pass slice true in
         step_made_after limits pass before middle after opened call.Recycle (reply.Recycled slice) idle
-        (quiet_turn pass before middle (clears ∷ []) first (own-unanswered pass (clears ∷ []) refl) refl) second refl (call_by-own pass opened refl) refl refl (refl, refl) legal
+        (quiet_turn pass before middle (clears ∷ []) first (own-unanswered pass (clears ∷ []) refl) refl) second refl (call_by-own pass opened refl) refl refl (refl, refl) refl legal
 
 -- what the first turn of a recycle is answered
 pub started : (answer : Result ToClear ClearRefusal) (pool : PoolId) (pass : ℕ) (before after : List Event) → IsTurn pass before after (StartsClear pool pass answer) (events_of_clear pass answer) →

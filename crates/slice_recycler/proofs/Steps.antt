@@ -5,6 +5,7 @@ use Rattle.std.specs.List.{cons_option, list_any}
 use Rattle.std.specs.Option.{is_some}
 use Rattle.std.specs.Prelude.{IfSome, ◌==◌}
 use mathlib.Core.List.{IsPrefix}
+use Rattle.funnel_model.specs.declared.bit_list.Bit.{Bit}
 use Rattle.funnel_model.specs.declared.call.Call.{Call}
 use Rattle.funnel_model.specs.declared.call.Call.TheVariants as call
 use Rattle.funnel_model.specs.declared.event.Event.{Event}
@@ -12,13 +13,13 @@ use Rattle.funnel_model.specs.declared.event.Event.TheVariants as event
 use Rattle.funnel_model.specs.declared.reply.Reply.{Reply}
 use Rattle.funnel_model.specs.declared.reply.Reply.TheVariants as reply
 use Rattle.funnel_model.specs.Events.{call_of, leaves_open, moves, pass_of}
-use Rattle.funnel_model.specs.History.{IsFrontOf, call_by, last_by, moved_by, own}
+use Rattle.funnel_model.specs.History.{IsFrontOf, call_by, is_live, last_by, moved_by, own, place}
 use Rattle.funnel_model.specs.Legal.{IsIdle, IsLegal, Limits}
-use Rattle.funnel_model.specs.Steps.{AddsCall, AddsNone, FindsNoMemory, IsReply, Step, most_moves}
+use Rattle.funnel_model.specs.Steps.{AddsCall, AddsNone, FindsNoMemory, IsReply, Step, is_replaced, most_moves, place_told}
 use Rattle.funnel_model.proofs.Clears.{last_by-front}
 use Rattle.funnel_model.proofs.Spans.{last_by-own}
 use Rattle.funnel_model.proofs.Moved.{moved_by-append, moved_by-others, moved_by-still}
-use Rattle.funnel_model.proofs.StepLemmas.{own-append, prefix_trans, step_made_from}
+use Rattle.funnel_model.proofs.StepLemmas.{own-append, prefix_trans, step_made_from, step_put_from}
 use Rattle.slice_recycler.specs.Turns.{IsTurn}
 
 -- events of other passes are no calls of the pass
@@ -100,12 +101,12 @@ module _ {answers : List Event → Type 0} (pass : ℕ) (before after events : L
       quiet_trans pass 0 0 before turn.earlier after (quiet_front pass before turn.earlier turn.seen)
       (record { more = events; whole = turn.made; none = none; few = omega (arith, moved_by-still pass events still) })
 
--- A turn without an event leaves the last event of the pass as it was.
--- a turn whose answer says something tells it
+-- A turn whose answer says something tells it.
 pub turn_as : {answers tells : List Event → Type 0} (pass : ℕ) (before after events : List Event) → ((history : List Event) → answers history → tells history) →
     IsTurn pass before after answers events → IsTurn pass before after tells events
 turn_as pass before after events says turn = record { earlier = turn.earlier; seen = turn.seen; answer = says turn.earlier turn.answer; made = turn.made }
 
+-- A turn without an event leaves the last event of the pass as it was.
 pub idle_still : {answers : List Event → Type 0} (pass : ℕ) (before after : List Event) → IsTurn pass before after answers [] → IsIdle pass before → IsIdle pass after
 idle_still pass before after turn idle =
     let last = ap (last_by pass) (turn.made ∙ append-nil turn.earlier) ∙ last_by-front pass before turn.earlier turn.seen in
@@ -128,8 +129,8 @@ adds_call pass before after e asked turn call =
 -- A call goes on without an answer at first, then a turn's one event answers it, and then it goes on until the pass is idle.
 pub step_made_within : {answers : List Event → Type 0} (limits : Limits) (pass : ℕ) (before middle after end : List Event) (e : Event) (asked : Call) (given : Reply) →
     IsIdle pass before → IsQuiet pass (most_moves asked) before middle → (turn : IsTurn pass middle after answers (e ∷ [])) → call_by pass e ≡ Some asked → moves e ≡ false →
-    IsReply limits turn.earlier e given → IsQuiet pass 0 after end → IsLegal limits end → IsIdle pass end → Step limits pass before end asked given
-step_made_within limits pass before middle after end e asked given idle first turn call unmoved replied last legal idle_end =
+    IsReply limits turn.earlier e given → is_replaced given ≡ false → IsQuiet pass 0 after end → IsLegal limits end → IsIdle pass end → Step limits pass before end asked given
+step_made_within limits pass before middle after end e asked given idle first turn call unmoved replied replaces_none last legal idle_end =
     let most = most_moves asked in
     let led = quiet_trans pass most 0 before middle turn.earlier first (quiet_front pass middle turn.earlier turn.seen) in
     let few = quiet_moves_few pass (most + 0) before turn.earlier led in
@@ -137,21 +138,34 @@ step_made_within limits pass before middle after end e asked given idle first tu
     let whole : end ≡ turn.earlier ++ e ∷ last.more = last.whole ∙ ap (λ h. h ++ last.more) turn.made ∙ append_assoc turn.earlier (e ∷ []) last.more in
     subst (λ (h : List Event). Step limits pass before h asked given) (sym whole)
     (step_made_from limits pass before turn.earlier e last.more asked given idle (quiet_grows pass (most + 0) before turn.earlier led) (quiet_adds_none pass (most + 0) before turn.earlier led)
-    (omega (arith, few)) call unmoved last.none (omega (arith, still)) replied (subst (IsLegal limits) whole legal) (subst (IsIdle pass) whole idle_end))
+    (omega (arith, few)) call unmoved last.none (omega (arith, still)) replied replaces_none (subst (IsLegal limits) whole legal) (subst (IsIdle pass) whole idle_end))
 
 -- A call whose last turn has one event, which answers it: turns that answer nothing may come before it.
 pub step_made_after : {answers : List Event → Type 0} (limits : Limits) (pass : ℕ) (before middle after : List Event) (e : Event) (asked : Call) (given : Reply) →
     IsIdle pass before → IsQuiet pass (most_moves asked) before middle → (turn : IsTurn pass middle after answers (e ∷ [])) → pass_of e ≡ pass → call_by pass e ≡ Some asked → moves e ≡ false → leaves_open e ≡ false →
-    IsReply limits turn.earlier e given → IsLegal limits after → Step limits pass before after asked given
-step_made_after limits pass before middle after e asked given idle first turn mine call unmoved shut replied legal =
-    step_made_within limits pass before middle after after e asked given idle first turn call unmoved replied (quiet_none pass after) legal (idle_turn pass middle after e turn mine shut)
+    IsReply limits turn.earlier e given → is_replaced given ≡ false → IsLegal limits after → Step limits pass before after asked given
+step_made_after limits pass before middle after e asked given idle first turn mine call unmoved shut replied replaces_none legal =
+    step_made_within limits pass before middle after after e asked given idle first turn call unmoved replied replaces_none (quiet_none pass after) legal (idle_turn pass middle after e turn mine shut)
 
 -- A call that is one turn with one event.
 pub step_made_by_turn : {answers : List Event → Type 0} (limits : Limits) (pass : ℕ) (before after : List Event) (e : Event) (asked : Call) (given : Reply) →
     IsIdle pass before → (turn : IsTurn pass before after answers (e ∷ [])) → pass_of e ≡ pass → call_by pass e ≡ Some asked → moves e ≡ false → leaves_open e ≡ false →
-    IsReply limits turn.earlier e given → IsLegal limits after → Step limits pass before after asked given
-step_made_by_turn limits pass before after e asked given idle turn mine call unmoved shut replied legal =
-    step_made_after limits pass before before after e asked given idle (quiet_weaker pass 0 (most_moves asked) before before (omega arith) (quiet_none pass before)) turn mine call unmoved shut replied legal
+    IsReply limits turn.earlier e given → is_replaced given ≡ false → IsLegal limits after → Step limits pass before after asked given
+step_made_by_turn limits pass before after e asked given idle turn mine call unmoved shut replied replaces_none legal =
+    step_made_after limits pass before before after e asked given idle (quiet_weaker pass 0 (most_moves asked) before before (omega arith) (quiet_none pass before)) turn mine call unmoved shut replied replaces_none legal
+
+-- A put whose last turn adds its document: turns that answer nothing may come before it.
+pub step_put_after : {answers : List Event → Type 0} (limits : Limits) (pass : ℕ) (before middle after : List Event) (id : ℕ) (text : List ℕ) (slice column : ℕ) (bits : List Bit) (given : Reply) →
+    IsIdle pass before → IsQuiet pass (most_moves (call.Put id text)) before middle → (turn : IsTurn pass middle after answers (event.Add pass id text slice column bits ∷ [])) →
+    given ≡ place_told (is_live id turn.earlier) (place turn.earlier + 1) → IsLegal limits after → Step limits pass before after (call.Put id text) given
+step_put_after limits pass before middle after id text slice column bits given idle first turn told legal =
+    let e = event.Add pass id text slice column bits in
+    let most = most_moves (call.Put id text) in
+    let led = quiet_trans pass most 0 before middle turn.earlier first (quiet_front pass middle turn.earlier turn.seen) in
+    let few = quiet_moves_few pass (most + 0) before turn.earlier led in
+    subst (λ (h : List Event). Step limits pass before h (call.Put id text) given) (sym turn.made)
+    (step_put_from limits pass before turn.earlier id text slice column bits [] given idle (quiet_grows pass (most + 0) before turn.earlier led) (quiet_adds_none pass (most + 0) before turn.earlier led)
+    (omega (arith, few)) refl refl told (subst (IsLegal limits) turn.made legal) (subst (IsIdle pass) turn.made (idle_turn pass middle after e turn refl refl)))
 
 -- A call that came too late: its turn has no event, and it may have moved documents before.
 pub step_spent_after : {answers : List Event → Type 0} (limits : Limits) (pass : ℕ) (before middle after : List Event) (asked : Call) →
@@ -197,7 +211,17 @@ module _ (limits : Limits) (pass : ℕ) (before after : List Event) (idle : IsId
       let most = most_moves (call.Add id text) in
       step_lacks_memory limits pass before after (call.Add id text) idle (quiet_grows pass most before after quiet) (quiet_moves_few pass most before after quiet) (quiet_adds_none pass most before after quiet) legal idle_end
 
+  -- and so may a put
+  pub step_put_without_memory : (id : ℕ) (text : List ℕ) → IsQuiet pass (most_moves (call.Put id text)) before after → Step limits pass before after (call.Put id text) reply.Memory
+  step_put_without_memory id text quiet =
+      let most = most_moves (call.Put id text) in
+      step_lacks_memory limits pass before after (call.Put id text) idle (quiet_grows pass most before after quiet) (quiet_moves_few pass most before after quiet) (quiet_adds_none pass most before after quiet) legal idle_end
+
   module _ (quiet : IsQuiet pass 0 before after) where
+    pub step_get_without_memory : (id : ℕ) → Step limits pass before after (call.Get id) reply.Memory
+    step_get_without_memory id =
+        step_lacks_memory limits pass before after (call.Get id) idle (quiet_grows pass 0 before after quiet) (quiet_moves_few pass 0 before after quiet) (inl (quiet_adds_none pass 0 before after quiet)) legal idle_end
+
     pub step_find_without_memory : (query : List ℕ) → Step limits pass before after (call.Find query) reply.Memory
     step_find_without_memory query =
         step_lacks_memory limits pass before after (call.Find query) idle (quiet_grows pass 0 before after quiet) (quiet_moves_few pass 0 before after quiet) (inl (quiet_adds_none pass 0 before after quiet)) legal idle_end

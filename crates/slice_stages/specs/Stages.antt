@@ -1,5 +1,5 @@
 -- What is kept of each slice, and the sets that it makes.
-use Rattle.std.specs.Prelude.{◌≡◌, ℕ, ◌+◌, ◌-◌, ◌<◌, ◌≤◌, ◌==◌, nat_le, List, length, sum_by, slice_index_or, slice_set, if◌then◌else◌}
+use Rattle.std.specs.Prelude.{◌≡◌, ℕ, ◌+◌, ◌-◌, ◌<◌, ◌≤◌, ◌==◌, nat_le, Bool, true, false, List, length, sum_by, slice_index_or, slice_set, if◌then◌else◌}
 use Rattle.slice_stages.specs.declared.stage.Stage.{Stage}
 use Rattle.slice_stages.specs.declared.stage.Stage.TheVariants as stage
 
@@ -39,6 +39,19 @@ ready_in columns mark (stage.Clearing pass) = 0
 
 abbrev pub ready_of : StageTable → ℕ
 ready_of table = sum_by (ready_in table.columns table.mark) table.stages
+
+-- how many columns of the slice are unclaimed: none where it is retired or being cleared
+abbrev pub free_in : ℕ → Stage → ℕ
+free_in columns (stage.InUse claimed over) = columns - claimed
+free_in columns _ = 0
+
+abbrev pub free_of : StageTable → ℕ
+free_of table = sum_by (free_in table.columns) table.stages
+
+-- whether the slice is retired
+abbrev pub is_retired : Stage → Bool
+is_retired (stage.Retired at) = true
+is_retired _ = false
 
 -- how many columns of the slice are claimed and not over
 abbrev pub held_in : Stage → ℕ

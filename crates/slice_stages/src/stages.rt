@@ -1,6 +1,7 @@
-ghost use Rattle.std.specs.Prelude.{◌≡◌, ℕ, ◌+◌, ◌<◌, ◌≤◌, ◌↔◌, All, Contains, IfOk, IsTrue, MatchOption, false, length, replicate};
+ghost use Rattle.std.specs.Prelude.{◌≡◌, ℕ, ◌+◌, ◌<◌, ◌≤◌, ◌↔◌, All, Contains, IfOk, IsTrue, MatchOption, count_by, false, length, replicate};
 ghost use Rattle.funnel_model.specs.declared.config.TheConstants.{MOST_SLICES};
-ghost use Rattle.slice_stages.specs.Stages.{ClaimsNext, EndsColumn, HasLeft, HoldsOfNone, IsLowest, IsRetiredBy, IsUsed, RetiredBefore, RetiredIn, after_end, empty_stage, held_in, ready_in, ready_of, spare_of, stage_of, with_stage};
+ghost use Rattle.slice_stages.specs.Stages.{ClaimsNext, EndsColumn, HasLeft, HoldsOfNone, IsLowest, IsRetiredBy, IsUsed, RetiredBefore, RetiredIn, after_end, empty_stage, free_in, free_of, held_in};
+ghost use Rattle.slice_stages.specs.Stages.{is_retired, ready_in, ready_of, spare_of, stage_of, with_stage};
 ghost use Rattle.slice_stages.specs.declared.stage.Stage.TheVariants as stage;
 
 use crate::stage::Stage;
@@ -91,6 +92,28 @@ impl Stages {
             ready += self.ready_in(*stage) as u64;
         }
         ready
+    }
+
+    /// How many columns are unclaimed. It looks through the slices.
+    pub fn free(&self) -> u64
+        ensures { result ≡ free_of self.now }
+    {
+        let mut free = 0;
+        for stage in &self.stages {
+            free += self.free_in(*stage) as u64;
+        }
+        free
+    }
+
+    /// How many slices are retired. It looks through them.
+    pub fn retired(&self) -> u64
+        ensures { result ≡ count_by is_retired self.now.stages }
+    {
+        let mut retired = 0;
+        for stage in &self.stages {
+            retired += is_retired(*stage) as u64;
+        }
+        retired
     }
 
     /// How many columns of the slice are claimed and not over: none where it is retired or being cleared, or where there is no such slice.
@@ -199,6 +222,16 @@ impl Stages {
         }
     }
 
+    // How many columns of a slice that is as far are unclaimed.
+    fn free_in(&self, stage: Stage) -> u32
+        ensures { result ≡ free_in self.now.columns stage }
+    {
+        match stage {
+            Stage::InUse { claimed, .. } => self.columns.saturating_sub(claimed),
+            _ => 0,
+        }
+    }
+
     // The last column of a slice in use is over: the slice retires, and waits.
     fn retire(&mut self, slice: u32, claimed: u32, event: u64)
         requires in_range { slice < length self.old.stages }
@@ -238,6 +271,13 @@ impl Stages {
         self.mark = at;
         true
     }
+}
+
+// Whether a slice that is as far is retired.
+fn is_retired(stage: Stage) -> bool
+    ensures { result ≡ is_retired stage }
+{
+    matches!(stage, Stage::Retired { .. })
 }
 
 /// The set of so many slices.

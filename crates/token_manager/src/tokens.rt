@@ -1,4 +1,5 @@
-ghost use Rattle.std.specs.Prelude.{◌≡◌, ◌<◌, length, Option, Some, None, replicate, slice_index_or, slice_set, MatchOption, IfOk, IsSome};
+ghost use Rattle.std.specs.Prelude.{◌≡◌, ◌<◌, length, Option, Some, None, replicate, slice_index_or, slice_set, MatchOption, IfOk, IsSome, count_by};
+ghost use Rattle.std.specs.Option.{is_some};
 ghost use Rattle.token_manager.specs.Guarding.{IsLowestBefore, IsOldest, NoneBefore, NoneOpen, older};
 
 use funnel_model::Memory;
@@ -66,6 +67,17 @@ impl Tokens {
             }
         }
         None
+    }
+
+    /// How many tokens are open. It walks over the passes.
+    pub fn count(&self) -> u64
+        ensures { result ≡ count_by is_some self.now }
+    {
+        let mut count = 0;
+        for token in self.open.iter() {
+            count += token.is_some() as u64;
+        }
+        count
     }
 
     /// The number of the oldest open token, where one is open. It walks over the passes.

@@ -13,6 +13,7 @@ ghost use Rattle.funnel_model.specs.Example.{first_added, small};
 ghost use Rattle.funnel_model.specs.Legal.{IsIdle, IsLegal, Limits};
 ghost use Rattle.funnel_model.specs.MoveExample.{moved};
 ghost use Rattle.funnel_model.specs.History.{MovesAreCaused};
+ghost use Rattle.funnel_model.specs.PutExample.{replaced};
 ghost use Rattle.funnel_model.specs.RecycleExample.{guarded, paired, slices_filled, unguarded};
 ghost use Rattle.funnel_model.specs.Steps.{AddsNone, AnswersLast, FindsNoMemory, IsReply, Step};
 ghost use Rattle.funnel_model.specs.Tokens.{MayRead};
@@ -42,13 +43,11 @@ pub fn passes_out_of_turn()
     ensures between { IsLegal paired (unguarded ++ event.Clear 0 0 ∷ event.Opened 0 0 false ∷ event.Find 1 [] ∷ []) → ⊥ }
 {}
 
-/// Not legal are an add of bits outside its slice or past the 64 of a word, of a number that is live, and on another column than
-/// the one that was taken, a drop of a document that can be added, and a delete of a number that isn't live.
+/// Not legal are an add of bits outside its slice or past the 64 of a word, and one on another column than the one that was taken, a drop of a document that can be added, and a delete of a number that isn't live.
 pub fn adds_out_of_place()
     ensures bits { IsLegal paired (event.Take 0 0 0 ∷ event.Add 0 9 [] 0 0 (record { word = 4; bit = 0 } ∷ []) ∷ []) → ⊥ }
     ensures below { IsLegal paired (first_added ++ event.Take 0 1 0 ∷ event.Add 0 7 [] 1 0 (record { word = 3; bit = 0 } ∷ []) ∷ []) → ⊥ }
     ensures wide { IsLegal paired (event.Take 0 0 0 ∷ event.Add 0 9 [] 0 0 (record { word = 0; bit = 64 } ∷ []) ∷ []) → ⊥ }
-    ensures live { IsLegal paired (first_added ++ event.Take 0 1 0 ∷ event.Add 0 9 [] 1 0 [] ∷ []) → ⊥ }
     ensures column { IsLegal paired (event.Take 0 0 0 ∷ event.Add 0 9 [] 1 0 [] ∷ []) → ⊥ }
     ensures dropped { IsLegal paired (event.Take 0 0 0 ∷ event.Drop 0 9 [] 0 0 ∷ []) → ⊥ }
     ensures absent { IsLegal paired (first_added ++ event.Del 0 7 ∷ []) → ⊥ }
@@ -74,10 +73,21 @@ pub fn moves_have_no_reply()
         ⊎ IsReply limits history (event.Void pass slice column) given → ⊥ }
 {}
 
-/// A move without a delete or a drop before it has no cause. Either is one.
+/// Not legal is a put that is refused while a column is left, also where its number is live. No put is a delete and an add, and none is
+/// told that it added a document where it replaced one.
+pub fn puts_out_of_place()
+    ensures refused { IsLegal paired (event.No 0 (call.Put 9 []) ∷ []) → ⊥ }
+    ensures present { IsLegal small (first_added ++ event.No 0 (call.Put 9 []) ∷ []) → ⊥ }
+    ensures two_turns { (given : Reply) → Step small 0 first_added
+        (first_added ++ event.Del 0 9 ∷ event.Take 0 0 1 ∷ event.Add 0 9 (codes "b") 0 1 [] ∷ []) (call.Put 9 (codes "b")) given → ⊥ }
+    ensures told_as_added { Step small 0 first_added replaced (call.Put 9 (codes "b")) (reply.Added 2) → ⊥ }
+{}
+
+/// A move without a delete, a drop or a replacement before it has no cause. Each is one; an add of a number that isn't live is none.
 pub fn moves_without_a_cause()
     ensures deleted { MovesAreCaused (event.Del 0 5 ∷ event.Void 0 0 0 ∷ []) }
     ensures dropped { MovesAreCaused (event.Drop 0 5 [] 0 0 ∷ event.Void 0 0 0 ∷ []) }
+    ensures replaced { MovesAreCaused (replaced ++ event.Void 0 0 0 ∷ []) }
     ensures moved { MovesAreCaused moved → ⊥ }
 {}
 
@@ -123,7 +133,8 @@ pub fn steps_answer_their_call()
 {}
 
 /// A step is made between calls of the pass. Only a history with so many events is answered Spent, and then the call isn't made;
-/// and only an add and a tuning, which aren't made then, a find, a query and a journal are answered by want of memory.
+/// and only an add, a put and a tuning, which aren't made then, a find, a call that searches by an expression, a journal and a get are
+/// answered by want of memory.
 pub fn steps_have_their_cause()
     ensures spent { (limits : Limits) (pass : ℕ) (before after : List Event) (asked : Call) →
         Step limits pass before after asked reply.Spent → (limits.events ≤ length after) × AddsNone pass before after }
@@ -133,6 +144,8 @@ pub fn steps_have_their_cause()
         Step limits pass before after asked given → IsIdle pass before × IsIdle pass after }
     ensures add { (limits : Limits) (pass id : ℕ) (text : List ℕ) (before after : List Event) →
         Step limits pass before after (call.Add id text) reply.Memory → AddsNone pass before after }
+    ensures put { (limits : Limits) (pass id : ℕ) (text : List ℕ) (before after : List Event) →
+        Step limits pass before after (call.Put id text) reply.Memory → AddsNone pass before after }
     ensures tune { (limits : Limits) (pass : ℕ) (config : Config) (before after : List Event) →
         Step limits pass before after (call.Tune config) reply.Memory → AddsNone pass before after }
     ensures delete { (limits : Limits) (pass id : ℕ) (before after : List Event) →
@@ -140,6 +153,7 @@ pub fn steps_have_their_cause()
     ensures place { (limits : Limits) (pass : ℕ) (before after : List Event) → Step limits pass before after call.Place reply.Memory → ⊥ }
     ensures recycle { (limits : Limits) (pass : ℕ) (before after : List Event) →
         Step limits pass before after call.Recycle reply.Memory → ⊥ }
+    ensures stats { (limits : Limits) (pass : ℕ) (before after : List Event) → Step limits pass before after call.Stats reply.Memory → ⊥ }
 {}
 
 /// No step is answered as a malformed or a too long line, as a tuning that has a fault or is too wide, or as a text that is no

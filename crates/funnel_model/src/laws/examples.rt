@@ -1,15 +1,16 @@
 //! Histories, most of them shown to be legal, with their replies, steps and blocks, and what row words owe them. What is not
 //! legal, no reply and no step stands in `counter_examples`.
-ghost use Rattle.std.specs.Prelude.{◌≡◌, ℕ, true, false, [], ◌∷◌, ◌++◌, Some, None};
+ghost use Rattle.std.specs.Prelude.{◌≡◌, ℕ, true, false, [], ◌∷◌, ◌++◌, Some, None, codes};
 ghost use Rattle.funnel_model.specs.Blocks.{AreBlocks};
 ghost use Rattle.funnel_model.specs.declared.block.Block.TheVariants as block;
 ghost use Rattle.funnel_model.specs.declared.call.Call.TheVariants as call;
 ghost use Rattle.funnel_model.specs.declared.config.Config.{Config};
 ghost use Rattle.funnel_model.specs.declared.event.Event.TheVariants as event;
 ghost use Rattle.funnel_model.specs.Example.{AreReplies, episode, episode_calls, episode_replies, filling_and_deleting, first_added, forgetful, later_added, reuse, reuse_replies, same_number, same_number_replies, shared, small, trimmed, trimmed_replies};
-ghost use Rattle.funnel_model.specs.History.{own};
+ghost use Rattle.funnel_model.specs.History.{has_cause, own};
 ghost use Rattle.funnel_model.specs.Legal.{IsFull, IsLegal};
 ghost use Rattle.funnel_model.specs.MoveExample.{added_again, cat, found_again, half_deleted, moved, moved_again, moved_again_replies, new_cat, voided};
+ghost use Rattle.funnel_model.specs.PutExample.{new_document, old_document, put_replies, refused_after, replaced};
 ghost use Rattle.funnel_model.specs.RecycleExample.{both_clearing, both_recycled, covering, first_set, guarded, held, high_bit, low_bit, not_covering, paired, recycled, second_set, together, together_replies, unguarded};
 ghost use Rattle.funnel_model.specs.Reserve.{HasReadyColumns, IsSource, HasSpareColumns};
 ghost use Rattle.funnel_model.specs.RowWords.{AreFresh, Covers, IsCommitted};
@@ -118,6 +119,18 @@ pub fn moves_retire_their_slice()
     ensures voided { IsInState voided 0 0 Dropped × IsRetiredAt paired.columns 0 voided 13 }
     ensures again { IsInState moved_again 1 0 (Live new_cat 22) × IsInState moved_again 0 0 (Deleted new_cat 18 22) }
     ensures committed { IsCommitted moved 0 low_bit × IsCommitted moved 1 high_bit }
+{}
+
+/// There is a legal history in which a document is put in the place of a live one with its number. Its old column is over from that event
+/// on, and its new one is live; a find, a get and the numbers of the engine tell of the new one alone. The put is a step, told that it
+/// replaced one. Another put of the number, for which no column is left, is refused for want of room. These are the replies.
+pub fn put_example()
+    ensures legal { IsLegal small refused_after }
+    ensures replies { AreReplies small refused_after put_replies }
+    ensures old { IsInState replaced 0 0 (Deleted old_document 2 4) }
+    ensures new { IsInState replaced 0 1 (Live new_document 4) }
+    ensures step { Step small 0 first_added replaced (call.Put 9 (codes "b")) (reply.Replaced 2) }
+    ensures cause { has_cause replaced ≡ true }
 {}
 
 /// A slice that retired under a find has a spare column, which is ready once the find has ended. Documents are moved out of a filled

@@ -81,8 +81,8 @@ pub fn slices_fill_from_the_first_column()
         is_clearing slice history ≡ true → IsFilled limits.columns slice history }
 {}
 
-/// In a legal history a slice retires by an event that deletes or moves a document, or that leaves one of its columns without one.
-pub fn slices_retire_by_a_delete_a_move_a_drop_or_a_void()
+/// In a legal history a slice retires by an event that deletes, replaces or moves a document, or that leaves one of its columns without one.
+pub fn slices_retire_by_an_event_that_ends_a_document_there()
     ensures { (limits : Limits) (history : List Event) (slice number : ℕ) → IsLegal limits history →
         (at : IsRetiredAt limits.columns slice history number) →
         ((id : ℕ) × (takes_off id at.event ≡ true)) ⊎ ((column : ℕ) × (drops_on slice column at.event ≡ true)) }
@@ -101,15 +101,17 @@ pub fn finds_guard_what_retires_after_them()
 {}
 
 /// In a legal history in which nothing is awaited each call that began can go on: after a take the pass adds its document, with any
-/// bits of the slice, or drops it, and it may void the column or move a live document there, after a clear it opens the slice for
+/// bits of the slice, or drops it where its number is live, and it may void the column or move a live document there, after a clear it opens the slice for
 /// an add or by itself, and after a find it ends. The take that an opening awaits can follow, where slices have columns.
 pub fn calls_can_go_on()
     ensures taken { (limits : Limits) (history : List Event) (pass slice column id : ℕ) (text : List ℕ) (bits : List Bit) →
         IsLegal limits history → pass < limits.passes → awaited history ≡ None →
         last_by pass history ≡ Some (event.Take pass slice column) → All (λ b. IsInSlice limits.slice_words slice b.word) bits →
         All (λ (b : Bit). b.bit < 64) bits →
-        IsAllowed limits history (event.Add pass id text slice column bits)
-        ⊎ IsAllowed limits history (event.Drop pass id text slice column) }
+        IsAllowed limits history (event.Add pass id text slice column bits) }
+    ensures dropped { (limits : Limits) (history : List Event) (pass slice column id : ℕ) (text : List ℕ) → pass < limits.passes →
+        awaited history ≡ None → last_by pass history ≡ Some (event.Take pass slice column) → is_live id history ≡ true →
+        IsAllowed limits history (event.Drop pass id text slice column) }
     ensures voided { (limits : Limits) (history : List Event) (pass slice column : ℕ) → pass < limits.passes → awaited history ≡ None →
         last_by pass history ≡ Some (event.Take pass slice column) → IsAllowed limits history (event.Void pass slice column) }
     ensures moved { (limits : Limits) (history : List Event) (pass slice column id : ℕ) (bits : List Bit) → pass < limits.passes →
@@ -125,15 +127,20 @@ pub fn calls_can_go_on()
         last_by pass history ≡ Some (event.Find pass query) → IsAllowed limits history (event.End pass) }
 {}
 
-/// In a legal history in which nothing is awaited, each call of an idle pass can begin: its add takes a column, clears a slice or
-/// is refused, its delete commits or is refused, its recycle clears a slice or is refused, its find begins, a place or a journal is
-/// read, and a tuning is taken.
+/// In a legal history in which nothing is awaited, each call of an idle pass can begin: its add and its put take a column, clear a
+/// slice or are refused, its delete commits or is refused, its recycle clears a slice or is refused, its find begins, what
+/// only reads is read, and a tuning is taken.
 pub fn calls_can_begin()
     ensures add { (limits : Limits) (history : List Event) (pass id : ℕ) (text : List ℕ) → IsLegal limits history →
         pass < limits.passes → awaited history ≡ None → IsIdle pass history →
         ((slice : ℕ) × (column : ℕ) × IsAllowed limits history (event.Take pass slice column))
         ⊎ ((slice : ℕ) × IsAllowed limits history (event.Clear pass slice))
         ⊎ IsAllowed limits history (event.No pass (call.Add id text)) }
+    ensures put { (limits : Limits) (history : List Event) (pass id : ℕ) (text : List ℕ) → IsLegal limits history →
+        pass < limits.passes → awaited history ≡ None → IsIdle pass history →
+        ((slice : ℕ) × (column : ℕ) × IsAllowed limits history (event.Take pass slice column))
+        ⊎ ((slice : ℕ) × IsAllowed limits history (event.Clear pass slice))
+        ⊎ IsAllowed limits history (event.No pass (call.Put id text)) }
     ensures delete { (limits : Limits) (history : List Event) (pass id : ℕ) → IsLegal limits history →
         pass < limits.passes → awaited history ≡ None → IsIdle pass history →
         IsAllowed limits history (event.Del pass id) ⊎ IsAllowed limits history (event.No pass (call.Delete id)) }

@@ -1,14 +1,14 @@
 //! What documents that move leave alone in a legal history: a running find still sees each document once, and no other; and where
 //! nothing moves.
-ghost use Rattle.std.specs.Prelude.{◌≡◌, ◌==◌, ◌&&◌, ◌+◌, ◌<◌, ◌≤◌, ◌↔◌, ◌⊎◌, ℕ, true, false, List, [], ◌∷◌, ◌++◌, None, Some, Contains, if◌then◌else◌};
+ghost use Rattle.std.specs.Prelude.{◌≡◌, ◌==◌, ◌&&◌, ◌+◌, ◌<◌, ◌≤◌, ◌↔◌, ◌⊎◌, ◌||◌, ℕ, true, false, List, [], ◌∷◌, ◌++◌, None, Some, Contains, if◌then◌else◌};
 ghost use Rattle.funnel_model.specs.declared.call.Call.{Call};
 ghost use Rattle.funnel_model.specs.declared.call.Call.TheVariants as call;
 ghost use Rattle.funnel_model.specs.declared.reply.Reply.{Reply};
 ghost use Rattle.std.specs.List.{list_any};
 ghost use Rattle.std.specs.Option.{is_some};
 ghost use Rattle.funnel_model.specs.declared.event.Event.{Event};
-ghost use Rattle.funnel_model.specs.Events.{bits_added_in, bits_on, call_of, clears, column_taken_in, deletes_or_drops, drops_on, fills, moves, pass_of, put_on};
-ghost use Rattle.funnel_model.specs.History.{Document, MovesAreCaused, MovesNothing, is_live, live, moved_by};
+ghost use Rattle.funnel_model.specs.Events.{bits_added_in, bits_on, call_of, clears, column_taken_in, drops_on, fills, moves, pass_of, put_on};
+ghost use Rattle.funnel_model.specs.History.{Document, MovesAreCaused, MovesNothing, has_cause, is_cause, is_live, live, moved_by};
 ghost use Rattle.funnel_model.specs.Legal.{IsLegal, Limits};
 ghost use Rattle.funnel_model.specs.Steps.{Step};
 ghost use Rattle.funnel_model.specs.Slices.{ColumnState, Live, IsHome, IsInState, IsInUse, IsLiveOn};
@@ -59,22 +59,25 @@ pub fn nothing_moves_event_by_event()
         × ((is_some (put_on slice column e) ≡ true) ⊎ (drops_on slice column e ≡ true))) }
 {}
 
-/// Whether each move of a history has its cause, a delete or a drop before it, is seen event by event. A history without one of these
-/// moves nothing.
+/// Whether each move of a history has its cause before it, a delete, a drop or an add in the place of a live document, is seen event by
+/// event, and so is whether there is one. A history without one of these moves nothing.
 pub fn moves_are_caused_event_by_event()
     ensures none { MovesAreCaused [] }
     ensures push { (history : List Event) (e : Event) →
-        MovesAreCaused (history ++ e ∷ []) ↔ (MovesAreCaused history × (moves e ≡ true → list_any deletes_or_drops history ≡ true)) }
+        MovesAreCaused (history ++ e ∷ []) ↔ (MovesAreCaused history × (moves e ≡ true → has_cause history ≡ true)) }
     ensures front { (front rest : List Event) → MovesAreCaused (front ++ rest) → MovesAreCaused front }
-    ensures uncaused { (history : List Event) → MovesAreCaused history → list_any deletes_or_drops history ≡ false → MovesNothing history }
+    ensures uncaused { (history : List Event) → MovesAreCaused history → has_cause history ≡ false → MovesNothing history }
+    ensures causes { (history : List Event) (e : Event) → has_cause (history ++ e ∷ []) ≡ (has_cause history || is_cause history e) }
 {}
 
-/// An add moves at most 16 documents, and no other call moves any. How many a pass moved is counted event by event.
+/// An add and a put move at most 16 documents, and no other call moves any. How many a pass moved is counted event by event.
 pub fn calls_move_few_documents()
     ensures adds { (limits : Limits) (pass : ℕ) (before after : List Event) (id : ℕ) (text : List ℕ) (given : Reply) →
         Step limits pass before after (call.Add id text) given → moved_by pass after ≤ moved_by pass before + 16 }
+    ensures puts { (limits : Limits) (pass : ℕ) (before after : List Event) (id : ℕ) (text : List ℕ) (given : Reply) →
+        Step limits pass before after (call.Put id text) given → moved_by pass after ≤ moved_by pass before + 16 }
     ensures others { (limits : Limits) (pass : ℕ) (before after : List Event) (asked : Call) (given : Reply) →
-        ((id : ℕ) (text : List ℕ) → asked ≡ call.Add id text → ⊥) → Step limits pass before after asked given →
+        ((id : ℕ) (text : List ℕ) → (asked ≡ call.Add id text → ⊥) × (asked ≡ call.Put id text → ⊥)) → Step limits pass before after asked given →
         moved_by pass after ≤ moved_by pass before }
     ensures counted { (pass : ℕ) (history : List Event) (e : Event) →
         moved_by pass (history ++ e ∷ []) ≡ moved_by pass history + (if pass_of e == pass && moves e then 1 else 0) }

@@ -1,7 +1,8 @@
 //! What events are answered: each call has one reply, and each refusal has its cause.
-ghost use Rattle.std.specs.Prelude.{◌≡◌, ◌+◌, ◌<◌, ◌≤◌, ◌↔◌, ℕ, true, false, List, [], ◌∷◌, ◌++◌, length, Some};
+ghost use Rattle.std.specs.Prelude.{◌≡◌, ◌+◌, ◌<◌, ◌≤◌, ◌↔◌, ◌⊎◌, ℕ, true, false, List, [], ◌∷◌, ◌++◌, length, Some};
 ghost use mathlib.Core.List.{IsPrefix};
 ghost use Rattle.funnel_model.specs.Blocks.{AreBlocks, IsBlock};
+ghost use Rattle.funnel_model.specs.declared.bit_list.Bit.{Bit};
 ghost use Rattle.funnel_model.specs.declared.block.Block.{Block};
 ghost use Rattle.funnel_model.specs.declared.call.Call.{Call};
 ghost use Rattle.funnel_model.specs.declared.call.Call.TheVariants as call;
@@ -14,7 +15,7 @@ ghost use Rattle.funnel_model.specs.Events.{call_of};
 ghost use Rattle.funnel_model.specs.History.{base, commits_after, is_live, live_place, place};
 ghost use Rattle.funnel_model.specs.Legal.{IsFull, IsLegal, Limits};
 ghost use Rattle.funnel_model.specs.Slices.{IsRetired};
-ghost use Rattle.funnel_model.specs.Steps.{IsLowestGuarded, IsReply, IsReplyAt, Linear, NoneRetired};
+ghost use Rattle.funnel_model.specs.Steps.{IsLowestGuarded, IsPut, IsReply, IsReplyAt, Linear, NoneRetired, Step};
 ghost use Rattle.funnel_model.specs.Tokens.{IsGuarded};
 ghost use Rattle.funnel_model.specs.Tunings.{tunings};
 
@@ -47,12 +48,35 @@ pub fn refusals_have_their_cause()
     ensures full { (limits : Limits) (before later : List Event) (e : Event) → IsLegal limits (before ++ e ∷ later) →
         IsReply limits before e reply.Full → IsFull limits before }
     ensures absent { (limits : Limits) (before later : List Event) (e : Event) → IsLegal limits (before ++ e ∷ later) →
-        IsReply limits before e reply.Absent → (pass : ℕ) × (id : ℕ) × (e ≡ event.No pass (call.Delete id)) × (is_live id before ≡ false) }
+        IsReply limits before e reply.Absent → (pass : ℕ) × (id : ℕ)
+        × ((e ≡ event.No pass (call.Delete id)) ⊎ (e ≡ event.Read pass (call.Get id))) × (is_live id before ≡ false) }
     ensures none_retired { (limits : Limits) (before : List Event) (e : Event) → IsReply limits before e reply.NothingRetired →
         NoneRetired limits before }
     ensures guarded { (limits : Limits) (before later : List Event) (e : Event) (slice pass : ℕ) → IsLegal limits (before ++ e ∷ later) →
         IsReply limits before e (reply.Guarded slice pass) → IsLowestGuarded limits before slice pass
         × ((other : ℕ) → other < limits.slices → IsRetired limits.columns other before → IsGuarded limits.columns before other) }
+{}
+
+/// An add is told that it replaced a document exactly where its number was live; its reply tells the place that it got.
+pub fn adds_are_told_what_they_replace()
+    ensures replaced { (limits : Limits) (before : List Event) (pass id : ℕ) (text : List ℕ) (slice column : ℕ) (bits : List Bit) →
+        is_live id before ≡ true →
+        IsReply limits before (event.Add pass id text slice column bits) (reply.Replaced (place before + 1)) }
+    ensures added { (limits : Limits) (before : List Event) (pass id : ℕ) (text : List ℕ) (slice column : ℕ) (bits : List Bit) →
+        is_live id before ≡ false →
+        IsReply limits before (event.Add pass id text slice column bits) (reply.Added (place before + 1)) }
+{}
+
+/// The step of an add is never told that a document was replaced. A put is done, or it is refused for want of room, lacks memory or
+/// comes to a spent history; it is never told that its number is present.
+pub fn adds_replace_nothing_and_puts_are_never_present()
+    ensures adds { (limits : Limits) (pass : ℕ) (before after : List Event) (id place : ℕ) (text : List ℕ) →
+        Step limits pass before after (call.Add id text) (reply.Replaced place) → ⊥ }
+    ensures puts { (limits : Limits) (pass : ℕ) (before after : List Event) (id : ℕ) (text : List ℕ) (given : Reply) →
+        Step limits pass before after (call.Put id text) given →
+        IsPut limits pass before after (call.Put id text) given ⊎ (given ≡ reply.Full) ⊎ (given ≡ reply.Memory) ⊎ (given ≡ reply.Spent) }
+    ensures never_present { (limits : Limits) (pass : ℕ) (before after : List Event) (id place : ℕ) (text : List ℕ) →
+        Step limits pass before after (call.Put id text) (reply.Present place) → ⊥ }
 {}
 
 /// A tuning is answered by how many there were, with it, and no other event is.

@@ -47,7 +47,7 @@ one_next limits looks history slice column at document another since from is is_
     is.next
 
 next_is_one : NextLookIsOne
-next_is_one reserve most limits looks history id slice column other at document another since from legal is is_too =
+next_is_one reserve most limits looks history replaces id slice column other at document another since from legal is is_too =
     let slices = one_source limits history slice other is.held is_too.held is.empties.source is_too.empties.source in
     let next_too : IsNextToMove limits looks history slice at another from =
     subst (λ s. IsNextToMove limits looks history s at another from) (sym slices) is_too.next in

@@ -1,11 +1,11 @@
-use Rattle.std.proofs.Common.{ℕ, List, [], ◌∷◌, Err, refl, ap, append-nil}
+use Rattle.std.proofs.Common.{ℕ, Bool, List, [], ◌∷◌, Err, refl, ap, append-nil}
 use Rattle.funnel_model.specs.declared.call.Call.{Call}
 use Rattle.funnel_model.specs.declared.call.Call.TheVariants as call
 use Rattle.funnel_model.specs.declared.event.Event.{Event}
 use Rattle.funnel_model.specs.declared.event.Event.TheVariants as event
 use Rattle.funnel_model.specs.History.{live}
 use Rattle.funnel_model.proofs.LiveLemmas.{live-silent}
-use Rattle.commit_desk.specs.Answers.{events_of_clear, events_of_delete, events_of_take}
+use Rattle.commit_desk.specs.Answers.{call_asked, events_of_clear, events_of_delete, events_of_take}
 use Rattle.commit_desk.specs.Laws.{KeepsDocuments}
 use Rattle.commit_desk.specs.declared.answers.AddFault.{AddFault}
 use Rattle.commit_desk.specs.declared.answers.AddFault.TheVariants as add
@@ -22,11 +22,11 @@ none history = ap live (append-nil history)
 refusal : (history : List Event) (pass : ℕ) (asked : Call) → KeepsDocuments history (event.No pass asked ∷ [])
 refusal history pass asked = live-silent history (event.No pass asked) (λ id. refl) refl
 
-take : (history : List Event) (pass id : ℕ) (text : List ℕ) (fault : AddFault) → KeepsDocuments history (events_of_take pass id text (taken.Refused fault))
-take history pass id text (add.Spent events) = none history
-take history pass id text (add.Present added) = refusal history pass (call.Add id text)
-take history pass id text (add.Full blocks) = refusal history pass (call.Add id text)
-take history pass id text add.Memory = none history
+take : (history : List Event) (pass : ℕ) (replaces : Bool) (id : ℕ) (text : List ℕ) (fault : AddFault) → KeepsDocuments history (events_of_take pass replaces id text (taken.Refused fault))
+take history pass replaces id text (add.Spent events) = none history
+take history pass replaces id text (add.Present added) = refusal history pass (call_asked replaces id text)
+take history pass replaces id text (add.Full blocks) = refusal history pass (call_asked replaces id text)
+take history pass replaces id text add.Memory = none history
 
 deleting : (history : List Event) (pass id : ℕ) (fault : DeleteFault) → KeepsDocuments history (events_of_delete pass id (Err fault))
 deleting history pass id (delete.Spent events) = none history

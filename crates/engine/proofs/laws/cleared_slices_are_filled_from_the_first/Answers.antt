@@ -5,7 +5,7 @@ use Rattle.funnel_model.specs.declared.event.Event.TheVariants as event
 use Rattle.engine.proofs.laws.cleared_slices_are_filled_from_the_first.Goals as goal
 
 pub returns : goal.returns
-returns c limits pass id text before after claim clears =
+returns c limits pass replaces id text before after claim clears =
     let take = event.Take pass claim.slice 0 in
     let events = event.Opened pass claim.slice false ∷ take ∷ [] in
     let took : Contains after take =

@@ -17,7 +17,7 @@ events_are_legal : IsLegal small small_load_events
 events_are_legal = (
   record { pass = omega arith; at_once = tt; rule = inl (record { idle = tt; in_range = omega arith; room = room_by 2 0 0 _ (omega arith) refl refl refl refl; lowest = λ lower in'. absurd (omega arith); next = refl }) },
   (
-    record { pass = omega arith; at_once = tt; rule = record { taken = refl; absent = refl; inside = no_bits; in_word = none_wide } },
+    record { pass = omega arith; at_once = tt; rule = record { taken = refl; inside = no_bits; in_word = none_wide } },
     (
       record { pass = omega arith; at_once = tt; rule = refl },
       (
@@ -25,7 +25,7 @@ events_are_legal = (
         (
           record { pass = omega arith; at_once = tt; rule = inl (record { idle = refl; in_range = omega arith; room = room_by 2 0 1 _ (omega arith) refl refl refl refl; lowest = λ lower in'. absurd (omega arith); next = refl }) },
           (
-            record { pass = omega arith; at_once = tt; rule = record { taken = refl; absent = refl; inside = no_bits; in_word = none_wide } },
+            record { pass = omega arith; at_once = tt; rule = record { taken = refl; inside = no_bits; in_word = none_wide } },
             (
               record { pass = omega arith; at_once = tt; rule = refl },
               (
@@ -74,13 +74,13 @@ returns-clause-run c =
     let after_one_found = event.Take 0 0 1 ∷ event.Add 0 7 [] 0 1 [] ∷ after_two_added in
     let after_one_added = event.Find 0 [] ∷ event.End 0 ∷ after_one_found in (
       one_added,
-      step_added small 0 [] 9 [] 0 0 [] 1 tt refl (legal_before small one_added after_one_added events_are_legal),
+      step_added small 0 [] 9 [] 0 0 [] 1 tt refl refl (legal_before small one_added after_one_added events_are_legal),
       (
         one_found,
         step_found small 0 one_added [] refl (legal_before small one_found after_one_found events_are_legal),
         (
           two_added,
-          step_added small 0 one_found 7 [] 0 1 [] 2 refl refl (legal_before small two_added after_two_added events_are_legal),
+          step_added small 0 one_found 7 [] 0 1 [] 2 refl refl refl (legal_before small two_added after_two_added events_are_legal),
           (
             two_found,
             step_found small 0 two_added [] refl (legal_before small two_found after_two_found events_are_legal),

@@ -7,7 +7,7 @@ abbrev pub invariant-loop-end : goal.invariant-loop-end
 invariant-loop-end g l = record {
   caller : g.S.Service.caller l.service ≡ g.S.Service.caller l.fn.service;
   borrowed : g.C.Borrower.borrowed l.conn ≡ g.C.Borrower.borrowed l.fn.conn;
-  room : 64 ≤ vec_capacity l.server.text;
+  room : 256 ≤ vec_capacity l.server.text;
   gone : HasGone g.C.Source.read_gives g.C.Sink.write_gives l.fn.limit l.server.left l.fn.conn l.conn l.server.reader;
   served : HasServedLines (g.S.Service.caller l.fn.service) l.fn.limit l.server.left l.server.reader
       (record { front = g.S.Service.front l.fn.service; incoming = g.C.Source.incoming l.fn.conn; outgoing = g.C.Sink.outgoing l.fn.conn })

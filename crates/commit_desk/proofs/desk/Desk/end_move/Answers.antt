@@ -1,6 +1,5 @@
 use Rattle.std.proofs.Common.{◌≡◌, sym, ap, ◌∙◌, subst}
-use Rattle.std.specs.List.{list_any}
-use Rattle.funnel_model.specs.Events.{deletes_or_drops}
+use Rattle.funnel_model.specs.History.{has_cause}
 use Rattle.funnel_model.specs.Legal.{IsLegal}
 use Rattle.slice_rule.specs.Pools.{PoolId}
 use Rattle.commit_desk.specs.Desks.{DeskState}
@@ -31,4 +30,4 @@ make_move-requires-clause-of_words c = of_words c.requires.written.document
 pub make_void-requires-clause-cause : goal.make_void-requires-clause-cause
 make_void-requires-clause-cause c =
     let up = c.catch_up.ensures in
-    ap (list_any deletes_or_drops) (sym up.front) ∙ (look_held c.args.seat.now c.catch_up.new.seat up.seat up.none_since c.args.look c.requires.look).cause
+    ap has_cause (sym up.front) ∙ (look_held c.args.seat.now c.catch_up.new.seat up.seat up.none_since c.args.look c.requires.look).cause

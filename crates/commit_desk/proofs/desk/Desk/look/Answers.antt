@@ -1,8 +1,6 @@
 use Rattle.std.proofs.Common.{◌≡◌, ⊎_elim, inl, inr, ℕ, List, [], None, Some, Ok, sym, ap, ◌∙◌, subst, append-nil}
-use Rattle.std.specs.List.{list_any}
 use Rattle.funnel_model.specs.declared.event.Event.{Event}
-use Rattle.funnel_model.specs.Events.{deletes_or_drops}
-use Rattle.funnel_model.specs.History.{Document}
+use Rattle.funnel_model.specs.History.{Document, has_cause}
 use Rattle.funnel_model.specs.Legal.{Limits}
 use Rattle.funnel_model.specs.Reserve.{IsSource}
 use Rattle.funnel_model.specs.Slices.{IsInState, Live}
@@ -21,15 +19,15 @@ view_now c = desk_is c.args.self.now c.self.inside.home c.catch_up.new.home c.se
 
 pub returns-in_default-clause-answer : goal.returns-in_default-clause-answer
 returns-in_default-clause-answer c slice held is =
-    c.in_default.ensures.answer slice held (subst (λ (d : DeskState). IsToBeEmptied c.args.reserve d.events_limit d.pool.limits d.history c.args.id slice held) (sym (view_now c.before)) is)
+    c.in_default.ensures.answer slice held (subst (λ (d : DeskState). IsToBeEmptied c.args.reserve d.events_limit d.pool.limits d.history c.args.replaces c.args.id slice held) (sym (view_now c.before)) is)
 
 -- and looked for a slice to be emptied
 looked_now : (c : After-next_to_move-column) → c.to_be_emptied.new.self ≡ c.args.self.now
 looked_now c = c.in-Some.ensures.same ∙ view_now c.before.before
 
-empties_now : (c : After-next_to_move-column) → (held : ℕ) × IsToBeEmptied c.args.reserve c.args.self.now.events_limit c.args.self.now.pool.limits c.args.self.now.history c.args.id c.in-Some.slice held
+empties_now : (c : After-next_to_move-column) → (held : ℕ) × IsToBeEmptied c.args.reserve c.args.self.now.events_limit c.args.self.now.pool.limits c.args.self.now.history c.args.replaces c.args.id c.in-Some.slice held
 empties_now c =
-    subst (λ (d : DeskState). (held : ℕ) × IsToBeEmptied c.args.reserve d.events_limit d.pool.limits d.history c.args.id c.in-Some.slice held) (view_now c.before.before) c.in-Some.ensures.answer
+    subst (λ (d : DeskState). (held : ℕ) × IsToBeEmptied c.args.reserve d.events_limit d.pool.limits d.history c.args.replaces c.args.id c.in-Some.slice held) (view_now c.before.before) c.in-Some.ensures.answer
 
 -- the next column is so with whatever document it has
 next_is : (limits : Limits) (looks : LooksState) (history : List Event) (slice column : ℕ) (d e : Document) (since at : ℕ) → IsNextToMove limits looks history slice column d since →
@@ -69,10 +67,10 @@ returns-clause-answer c =
     subst (λ k. IsNextToMove now.pool.limits c.forget.new.self now.history k c.next_to_move-column.result found.0 found.1) (sym c.in_ok-look.ensures.slice) next in
     let of_column : IsNextToMove now.pool.limits c.forget.new.self now.history look.slice look.column found.0 found.1 =
     subst (λ k. IsNextToMove now.pool.limits c.forget.new.self now.history look.slice k found.0 found.1) (sym c.in_ok-look.ensures.column) of_slice in (
-      subst (λ (l : LooksState). IsLookAtNext c.args.reserve now.events_limit now.pool.limits l now.history c.args.id look) forgot
+      subst (λ (l : LooksState). IsLookAtNext c.args.reserve now.events_limit now.pool.limits l now.history c.args.replaces c.args.id look) forgot
           (record {
             held = e.0;
-            empties = subst (λ k. IsToBeEmptied c.args.reserve now.events_limit now.pool.limits now.history c.args.id k e.0) (sym c.in_ok-look.ensures.slice) e.1;
+            empties = subst (λ k. IsToBeEmptied c.args.reserve now.events_limit now.pool.limits now.history c.args.replaces c.args.id k e.0) (sym c.in_ok-look.ensures.slice) e.1;
             next = next_is now.pool.limits c.forget.new.self now.history look.slice look.column found.0 (document_of look) found.1 look.since of_column lives;
           }),
       c.in_ok-look.ensures.opened ∙ number,
@@ -94,7 +92,7 @@ returns-clause-look c =
       live = subst (λ h. IsInState h look.slice look.column (Live (document_of look) look.since)) front_now
           (live_now start look c.in_ok-look.ensures.slice c.in_ok-look.ensures.column c.in_ok-look.ensures.live);
       of_text = c.in_ok-look.ensures.of_text;
-      cause = ap (list_any deletes_or_drops) (up.front ∙ up.home.history) ∙ source_is_caused i.home.pool i.events_limit i.home.history (books_of i) c.in-Some.slice e.0 c.self.invariant source;
+      cause = ap has_cause (up.front ∙ up.home.history) ∙ source_is_caused i.home.pool i.events_limit i.home.history (books_of i) c.in-Some.slice e.0 c.self.invariant source;
     }
 
 -- the looks, without what the pass itself had named

@@ -1,24 +1,22 @@
-use Rattle.std.proofs.Common.{◌≡◌, false, true, ◌+◌, ◌<◌, List, [], ◌∷◌, ◌++◌, Some, length, All, cond, refl, sym, ap, ◌∙◌, subst, arith, Contains, ◌↔◌}
-use Rattle.std.proofs.lemmas.List.{length-append}
+use Rattle.std.proofs.Common.{◌≡◌, false, true, ◌+◌, ◌<◌, [], ◌∷◌, ◌++◌, Some, length, All, cond, refl, sym, ap, ◌∙◌, subst, arith, Contains, ◌↔◌}
 use Rattle.std.specs.Prelude.{◌==◌}
 use Rattle.document_store.specs.Entries.{column_of}
-use Rattle.document_store.specs.Slots.{IsColumn, with_slot}
+use Rattle.document_store.specs.Slots.{with_slot}
 use Rattle.document_store.specs.declared.column.Column.TheVariants as became
 use Rattle.funnel_model.specs.declared.bit_list.Bit.{Bit}
-use Rattle.funnel_model.specs.declared.event.Event.{Event}
 use Rattle.funnel_model.specs.declared.event.Event.TheVariants as event
-use Rattle.funnel_model.specs.History.{is_live, last_by, place}
+use Rattle.funnel_model.specs.History.{is_live, place}
 use Rattle.funnel_model.specs.Legal.{IsAllowed, IsInSlice}
 use Rattle.funnel_model.proofs.Progress.{allowed_by}
 use Rattle.slice_rule.specs.declared.view.Fact.TheVariants as fact
 use Rattle.slice_rule.specs.Numbers.{last_number}
 use Rattle.slice_rule.specs.Pools.{PoolId}
-use Rattle.commit_desk.specs.Desks.{DeskState, IsCaughtUp, Makes}
+use Rattle.commit_desk.specs.Desks.{DeskState, Makes}
 use Rattle.commit_desk.specs.Journals.{with_commit}
 use Rattle.commit_desk.proofs.DocumentEvents.{desk-add, desk-as}
 use Rattle.commit_desk.proofs.HeldClaims.{bits_now}
 use Rattle.commit_desk.proofs.Inside.{books_of, desk_of}
-use Rattle.commit_desk.proofs.Journals.{journal_fits}
+use Rattle.commit_desk.proofs.Journals.{documents_fit, journal_fits}
 use Rattle.commit_desk.proofs.RecordFacts.{no_entry, none_live_in_pending}
 use Rattle.commit_desk.proofs.MadeEvents.{desk_at, made_with, number_is}
 use Rattle.commit_desk.proofs.TakenColumns.{HasTaken, has_taken}
@@ -74,7 +72,6 @@ allowed_now c =
     (subst (λ (p : PoolId). c.number-pass.result < p.limits.passes) pool c.number-pass.ensures.in_range) c.self.invariant.none_awaited
     (record {
       taken = (held c).taken;
-      absent = absent_now c;
       inside = subst (λ (d : DeskState). All (λ (b : Bit). IsInSlice d.pool.limits.slice_words c.args.claim.slice b.word) c.args.bits.now.bits) (sym c.self.view_is) c.requires.written.inside;
       in_word = c.requires.of_words;
     })
@@ -88,6 +85,11 @@ place_now c = ap (λ n. n + 1) (c.place-place.ensures ∙ c.self.invariant.kept.
 -- one more commit can be counted
 pub push-requires : goal.push-requires
 push-requires c = journal_fits c.self.inside.home.pool c.self.inside.events_limit c.self.inside.home.history (books_of c.self.inside) c.self.invariant
+
+pub overflow_add-documents : goal.overflow_add-documents
+overflow_add-documents c =
+    let few = documents_fit c.self.inside.home.pool c.self.inside.events_limit c.self.inside.home.history (books_of c.self.inside) c.self.invariant in
+    omega (arith, few, c.documents-documents.ensures)
 
 pub overflow_add-place : goal.overflow_add-place
 overflow_add-place c =
@@ -111,7 +113,7 @@ invariant_of-self c =
       slices = i.slices;
       columns = i.columns;
       events = length i.home.history + 1;
-      journal = with_commit i.journal (record { add = true; id = doc.id });
+      journal = with_commit i.journal (record { add = true; id = doc.id }) (i.journal.documents + 1);
       table = with_slot i.records s k (record { column = became.Live (place i.home.history + 1) (length i.home.history + 1); doc = Some doc });
       live = c.add.new.self;
       tokens = i.tokens;
@@ -119,13 +121,14 @@ invariant_of-self c =
       stages = i.stages;
     })
     c.make_event-number.result c.push.new.self c.live.new.self c.add.new.self i.stages
-    (desk-add i.home.pool i.events_limit i.home.history (books_of i) c.self.invariant pass s k doc bits c.add.new.self (allowed_now earlier) c.words.ensures.of_text
+    (desk-add i.home.pool i.events_limit i.home.history (books_of i) c.self.invariant pass s k doc bits c.add.new.self (allowed_now earlier) (absent_now earlier) c.words.ensures.of_text
     (bits_now c.args.self.now (desk_of i) c.args.seat.now doc.words s k bits c.self.view_is c.requires.caught_up.front c.requires.written.document)
     (λ other. c.add.ensures.columns other ∙ ap (λ n. cond (other == n) (Some (s, k)) (column_of i.live other)) id)
     c.add.ensures.slices c.add.ensures.slice_columns)
     made.home.pool made.home.history
     (number_now earlier)
-    (c.push.ensures ∙ ap (λ n. with_commit i.journal (record { add = true; id = n })) id)
+    (c.push.ensures ∙ ap (λ n. with_commit i.journal (record { add = true; id = n }) (c.documents-documents.result + 1)) id
+    ∙ ap (λ n. with_commit i.journal (record { add = true; id = doc.id }) (n + 1)) c.documents-documents.ensures)
     (c.live.ensures ∙ ap (λ n. with_slot i.records s k (record { column = became.Live n c.make_event-number.result; doc = Some doc })) (place_now earlier)
     ∙ ap (λ n. with_slot i.records s k (record { column = became.Live (place i.home.history + 1) n; doc = Some doc })) (number_now earlier))
     refl refl

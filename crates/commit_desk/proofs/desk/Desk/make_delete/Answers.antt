@@ -1,5 +1,4 @@
-use Rattle.std.proofs.Common.{◌≡◌, ℕ, ◌+◌, ◌<◌, false, [], ◌∷◌, ◌++◌, Some, None, length, cond, refl, sym, ap, ◌∙◌, subst, arith}
-use Rattle.std.proofs.lemmas.List.{length-append}
+use Rattle.std.proofs.Common.{◌≡◌, ℕ, ◌+◌, ◌-◌, ◌<◌, false, [], ◌∷◌, ◌++◌, Some, None, length, cond, refl, sym, ap, ◌∙◌, subst, arith}
 use Rattle.std.specs.Prelude.{◌==◌}
 use Rattle.document_store.specs.Entries.{column_of}
 use Rattle.document_store.specs.Slots.{slot_at, with_slot}
@@ -11,12 +10,13 @@ use Rattle.slice_rule.specs.Pools.{PoolId}
 use Rattle.slice_stages.specs.Stages.{IsUsed, after_end, stage_of, with_stage}
 use Rattle.slice_stages.specs.declared.stage.Stage.TheVariants as stage
 use Rattle.commit_desk.specs.Answers.{MayDeleteNow}
-use Rattle.commit_desk.specs.Desks.{DeskState, IsCaughtUp, Makes}
+use Rattle.commit_desk.specs.Desks.{DeskState, Makes}
 use Rattle.commit_desk.specs.Journals.{with_commit}
 use Rattle.commit_desk.specs.Records.{IsEntry}
 use Rattle.commit_desk.proofs.DocumentEvents.{desk-as, desk-delete, live_stage, none_retired_later}
 use Rattle.commit_desk.proofs.Inside.{books_of}
 use Rattle.commit_desk.proofs.Journals.{journal_fits}
+use Rattle.commit_desk.proofs.LiveCounts.{some_live}
 use Rattle.commit_desk.proofs.Options.{none_some}
 use Rattle.commit_desk.proofs.RecordFacts.{live_entry}
 use Rattle.commit_desk.proofs.MadeEvents.{desk_at, made_with, number_is}
@@ -84,6 +84,14 @@ allowed_now c =
 pub push-requires : goal.push-requires
 push-requires c = journal_fits c.self.inside.home.pool c.self.inside.events_limit c.self.inside.home.history (books_of c.self.inside) c.self.invariant
 
+pub overflow_sub-documents : goal.overflow_sub-documents
+overflow_sub-documents c =
+    let i = c.self.inside in
+    let may : MayDeleteNow i.events_limit i.home.history c.args.id =
+    subst (λ (d : DeskState). MayDeleteNow d.events_limit d.history c.args.id) (sym c.self.view_is) c.requires.may in
+    let some = some_live i.home.history c.args.id may.live in
+    omega (arith, some, c.documents-documents.ensures, c.self.invariant.kept.journal_is.documents_are)
+
 pub overflow_add-place : goal.overflow_add-place
 overflow_add-place c =
     let few = journal_fits c.self.inside.home.pool c.self.inside.events_limit c.self.inside.home.history (books_of c.self.inside) c.self.invariant in
@@ -110,7 +118,7 @@ invariant_of-self c =
       slices = i.slices;
       columns = i.columns;
       events = length i.home.history + 1;
-      journal = with_commit i.journal (record { add = false; id = doc.id });
+      journal = with_commit i.journal (record { add = false; id = doc.id }) (i.journal.documents - 1);
       table = with_slot i.records s k (record { column = became.Over e.live.added e.live.since (length i.home.history + 1); doc = Some doc });
       live = c.remove.new.self;
       tokens = i.tokens;
@@ -123,7 +131,8 @@ invariant_of-self c =
     (λ other. c.in-Some.ensures.columns other ∙ ap (λ n. cond (other == n) None (column_of i.live other)) (sym e.number))
     c.in-Some.ensures.slices c.in-Some.ensures.slice_columns at.2)
     made.home.pool (made.home.history ∙ ap (λ n. i.home.history ++ event.Del pass n ∷ []) (sym e.number)) (number_now earlier)
-    (c.push.ensures ∙ ap (λ n. with_commit i.journal (record { add = false; id = n })) (sym e.number))
+    (c.push.ensures ∙ ap (λ n. with_commit i.journal (record { add = false; id = n }) (c.documents-documents.result - 1)) (sym e.number)
+    ∙ ap (λ n. with_commit i.journal (record { add = false; id = doc.id }) (n - 1)) c.documents-documents.ensures)
     (c.delete.ensures e.live.added e.live.since e.live.column
     ∙ ap (λ n. with_slot i.records s k (record { column = became.Over e.live.added e.live.since n; doc = (slot_at i.records s k).doc })) (number_now earlier)
     ∙ ap (λ d. with_slot i.records s k (record { column = became.Over e.live.added e.live.since (length i.home.history + 1); doc = d })) e.live.doc_is)

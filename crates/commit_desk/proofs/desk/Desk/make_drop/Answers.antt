@@ -1,16 +1,13 @@
-use Rattle.std.proofs.Common.{◌≡◌, true, ℕ, ◌+◌, ◌<◌, List, [], ◌∷◌, ◌++◌, Some, None, length, refl, sym, ap, ◌∙◌, subst, arith}
-use Rattle.std.proofs.lemmas.List.{length-append}
-use Rattle.document_store.specs.Slots.{IsColumn, with_slot}
+use Rattle.std.proofs.Common.{◌≡◌, true, ◌+◌, ◌<◌, [], ◌∷◌, ◌++◌, None, length, refl, sym, ap, ◌∙◌, subst, arith}
+use Rattle.document_store.specs.Slots.{with_slot}
 use Rattle.document_store.specs.declared.column.Column.TheVariants as became
-use Rattle.funnel_model.specs.declared.event.Event.{Event}
 use Rattle.funnel_model.specs.declared.event.Event.TheVariants as event
-use Rattle.funnel_model.specs.History.{is_live, last_by}
+use Rattle.funnel_model.specs.History.{is_live}
 use Rattle.funnel_model.specs.Legal.{IsAllowed}
 use Rattle.funnel_model.proofs.Progress.{allowed_by}
 use Rattle.slice_rule.specs.Pools.{PoolId}
-use Rattle.slice_stages.specs.Stages.{IsUsed, after_end, stage_of, with_stage}
-use Rattle.slice_stages.specs.declared.stage.Stage.TheVariants as stage
-use Rattle.commit_desk.specs.Desks.{DeskState, IsCaughtUp, Makes}
+use Rattle.slice_stages.specs.Stages.{IsUsed, after_end, with_stage}
+use Rattle.commit_desk.specs.Desks.{DeskState, Makes}
 use Rattle.commit_desk.proofs.DocumentEvents.{desk-as, desk-drop, none_retired_later}
 use Rattle.commit_desk.proofs.Inside.{books_of}
 use Rattle.commit_desk.proofs.MadeEvents.{desk_at, made_with, number_is}

@@ -1,5 +1,4 @@
-use Rattle.std.proofs.Common.{◌≡◌, ◌↔◌, ℕ, ◌+◌, ◌<◌, [], ◌∷◌, ◌++◌, length, refl, sym, ap, ◌∙◌, subst, Contains}
-use Rattle.std.proofs.lemmas.List.{length-append}
+use Rattle.std.proofs.Common.{◌≡◌, ◌↔◌, ℕ, ◌+◌, ◌<◌, [], ◌∷◌, ◌++◌, length, sym, ap, ◌∙◌, subst, Contains}
 use Rattle.funnel_model.specs.declared.claim.Token.{Token}
 use Rattle.funnel_model.specs.declared.event.Event.TheVariants as event
 use Rattle.funnel_model.specs.History.{place}
@@ -7,7 +6,7 @@ use Rattle.funnel_model.specs.Legal.{IsAllowed, IsIdle}
 use Rattle.funnel_model.specs.Slices.{IsInUse}
 use Rattle.slice_rule.specs.Pools.{PoolId}
 use Rattle.commit_desk.specs.Answers.{TakesCalls}
-use Rattle.commit_desk.specs.Desks.{DeskState, IsCaughtUp, Makes}
+use Rattle.commit_desk.specs.Desks.{DeskState, Makes}
 use Rattle.commit_desk.proofs.FindEvents.{desk-find, find_allowed, token_held}
 use Rattle.commit_desk.proofs.Inside.{books_of, desk_of}
 use Rattle.commit_desk.proofs.MadeEvents.{desk_at, made_with, number_is}

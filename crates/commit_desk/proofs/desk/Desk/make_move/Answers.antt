@@ -1,7 +1,6 @@
 use Rattle.std.proofs.Common.{◌≡◌, ⊎_elim, ◌+◌, [], ◌∷◌, ◌++◌, length, Contains, Some, None, cond, refl, sym, ap, ◌∙◌, subst, arith}
 use Rattle.std.proofs.lemmas.Bool.{cond-false, cond-true, eq-eqb}
 use Rattle.std.proofs.lemmas.Bool.Decides.{eqb_tells}
-use Rattle.std.proofs.lemmas.List.{length-append}
 use Rattle.std.specs.Prelude.{◌==◌, ◌↔◌}
 use Rattle.document_store.specs.Entries.{column_of}
 use Rattle.document_store.specs.Slots.{slot_at, with_slot}
@@ -13,7 +12,7 @@ use Rattle.slice_rule.specs.Pools.{PoolId}
 use Rattle.slice_rule.specs.declared.view.Fact.TheVariants as fact
 use Rattle.slice_rule.specs.Numbers.{last_number}
 use Rattle.slice_stages.specs.Stages.{IsUsed, after_end, with_stage}
-use Rattle.commit_desk.specs.Desks.{DeskState, IsCaughtUp, Makes}
+use Rattle.commit_desk.specs.Desks.{DeskState, Makes}
 use Rattle.commit_desk.proofs.DocumentEvents.{desk-as, none_retired_later}
 use Rattle.commit_desk.proofs.HeldClaims.{bits_now}
 use Rattle.commit_desk.proofs.Inside.{books_of, desk_of}

@@ -1,10 +1,11 @@
 use Rattle.std.proofs.Common.{◌≡◌, ℕ, true, false, inl, inr, refl, sym, ◌∙◌, subst}
 use Rattle.std.specs.Option.{is_some}
 use Rattle.funnel_model.specs.Blocks.{AreBlocks}
-use Rattle.funnel_model.specs.Legal.{IsFull, MayClear}
-use Rattle.commit_desk.specs.Answers.{IsBeingCleared, NoneIsCleared}
+use Rattle.funnel_model.specs.Legal.{IsFull, IsRefused, MayClear}
+use Rattle.commit_desk.specs.Answers.{IsBeingCleared, NoneIsCleared, call_asked}
 use Rattle.commit_desk.specs.Desks.{DeskState}
 use Rattle.commit_desk.specs.Layouts.{HandsBackOld}
+use Rattle.commit_desk.proofs.Checks.{refused_full}
 use Rattle.commit_desk.proofs.LayoutsKept.{when_none, when_some}
 use Rattle.commit_desk.proofs.TakenRoom.{full_from, not_full_by_clear}
 use Rattle.commit_desk.proofs.desk.Desk.make_room.Goals as goal
@@ -61,7 +62,8 @@ blocks-blocks-requires-clause-full c =
 
 pub refuse_add-requires-clause-refused : goal.refuse_add-requires-clause-refused
 refuse_add-requires-clause-refused c =
-    inr (subst (λ (d : DeskState). IsFull d.pool.limits d.history) (sym c.clearable.ensures.same)
+    subst (λ (d : DeskState). IsRefused d.pool.limits d.history (call_asked c.args.replaces c.args.doc.now.id c.args.doc.now.text)) (sym c.clearable.ensures.same)
+    (refused_full c.args.self.now.pool.limits c.args.self.now.history c.args.replaces c.args.doc.now.id c.args.doc.now.text
     (full (goal.at.refuse_add-requires-clause-refused c).After-clearable (sym c.is_some.ensures ∙ c.if-is_some.false)))
 
 pub returns-clause-answer : goal.returns-clause-answer

@@ -1,18 +1,13 @@
-use Rattle.std.proofs.Common.{◌≡◌, true, ℕ, ◌+◌, ◌<◌, List, [], ◌∷◌, ◌++◌, Some, None, length, refl, sym, ap, ◌∙◌, subst, arith}
-use Rattle.std.proofs.lemmas.List.{length-append}
-use Rattle.document_store.specs.Slots.{IsColumn, with_slot}
+use Rattle.std.proofs.Common.{◌≡◌, true, ◌+◌, ◌<◌, [], ◌∷◌, ◌++◌, None, length, refl, sym, ap, ◌∙◌, subst, arith}
+use Rattle.document_store.specs.Slots.{with_slot}
 use Rattle.document_store.specs.declared.column.Column.TheVariants as became
-use Rattle.funnel_model.specs.declared.event.Event.{Event}
 use Rattle.funnel_model.specs.declared.event.Event.TheVariants as event
-use Rattle.std.specs.List.{list_any}
-use Rattle.funnel_model.specs.Events.{deletes_or_drops}
-use Rattle.funnel_model.specs.History.{last_by}
+use Rattle.funnel_model.specs.History.{has_cause}
 use Rattle.funnel_model.specs.Legal.{IsAllowed}
 use Rattle.funnel_model.proofs.Progress.{allowed_by}
 use Rattle.slice_rule.specs.Pools.{PoolId}
-use Rattle.slice_stages.specs.Stages.{IsUsed, after_end, stage_of, with_stage}
-use Rattle.slice_stages.specs.declared.stage.Stage.TheVariants as stage
-use Rattle.commit_desk.specs.Desks.{DeskState, IsCaughtUp, Makes}
+use Rattle.slice_stages.specs.Stages.{IsUsed, after_end, with_stage}
+use Rattle.commit_desk.specs.Desks.{DeskState, Makes}
 use Rattle.commit_desk.proofs.DocumentEvents.{desk-as, none_retired_later}
 use Rattle.commit_desk.proofs.MoveEvents.{desk-void}
 use Rattle.commit_desk.proofs.Inside.{books_of}
@@ -87,7 +82,7 @@ invariant_of-self c =
     })
     c.make_event-number.result i.journal c.drop_column.new.self i.live c.end_column.new.self
     (desk-void i.home.pool i.events_limit i.home.history (books_of i) c.self.invariant pass s k at.0 at.1 (allowed_now earlier)
-    (subst (λ (d : DeskState). list_any deletes_or_drops d.history ≡ true) (sym c.self.view_is) c.requires.cause) at.2)
+    (subst (λ (d : DeskState). has_cause d.history ≡ true) (sym c.self.view_is) c.requires.cause) at.2)
     made.home.pool made.home.history (number_now earlier) refl c.drop_column.ensures refl
     (c.end_column.ensures at.0 at.1 at.2 ∙ ap (λ n. with_stage i.stages s (after_end n c.make_event-number.result at.0 at.1)) c.self.invariant.kept.staged.columns_are
     ∙ ap (λ n. with_stage i.stages s (after_end i.home.pool.limits.columns n at.0 at.1)) (number_now earlier))

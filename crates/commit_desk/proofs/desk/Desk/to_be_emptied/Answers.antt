@@ -1,10 +1,8 @@
 use Rattle.std.proofs.Common.{sym, ap, ◌∙◌, subst, arith}
-use Rattle.std.proofs.lemmas.Bool.{both_ways}
 use Rattle.std.specs.Option.{is_some}
-use Rattle.funnel_model.specs.History.{is_live}
 use Rattle.funnel_model.specs.Reserve.{HoldsColumns}
 use Rattle.funnel_model.proofs.ReserveLemmas.{one_held_count, one_ready, one_source, one_spare}
-use Rattle.commit_desk.proofs.Checks.{absent_by_place, live_by_place, takes_calls}
+use Rattle.commit_desk.proofs.Checks.{absent_by_way, kept_out_in_way, takes_calls}
 use Rattle.commit_desk.proofs.desk.Desk.to_be_emptied.Goals as goal
 use Rattle.commit_desk.proofs.desk.Desk.to_be_emptied.Goals.{then-is_spent-via-then-is_spent, then-is_spent-via-else-is_spent+then-is_some, then-is_spent-via-else-is_spent+else-is_some+then-reserve-spare}
 
@@ -15,8 +13,7 @@ returns-then-is_spent-clause-answer c slice held is =
     elim c.then-is_spent.branch [
       | then-is_spent-via-then-is_spent w ↦ let spent = c.is_spent.ensures.spent.0 w.if-is_spent.true in let takes = is.may.takes_calls in absurd (omega (arith, spent, takes))
       | then-is_spent-via-else-is_spent+then-is_some w ↦
-          absurd (both_ways (is_live c.args.id history) is.may.absent
-          (live_by_place history c.args.id (ap is_some (sym w.place_of.ensures) ∙ sym w.is_some.ensures ∙ w.if-is_some.true)))
+          kept_out_in_way history c.args.replaces c.args.id is.may.absent (ap is_some (sym w.in_the_way.ensures) ∙ sym w.is_some.ensures ∙ w.if-is_some.true)
       | then-is_spent-via-else-is_spent+else-is_some+then-reserve-spare w ↦
           let one = one_spare limits history w.spare.result is.short.0 w.spare.ensures is.short.1 in
           let less = is.short.2 in
@@ -48,7 +45,7 @@ returns-clause-answer c =
       record {
         may = record {
           takes_calls = takes_calls c.args.self.now.events_limit c.args.self.now.history c.if-is_spent.ensures.spent.1;
-          absent = absent_by_place c.args.self.now.history c.args.id (ap is_some (sym c.place_of.ensures) ∙ sym c.is_some.ensures ∙ c.if-is_some.false);
+          absent = absent_by_way c.args.self.now.history c.args.replaces c.args.id (ap is_some (sym c.in_the_way.ensures) ∙ sym c.is_some.ensures ∙ c.if-is_some.false);
         };
         short = (c.spare.result, c.spare.ensures, omega (arith, spare));
         source = c.in-Some.ensures;

@@ -1,4 +1,4 @@
-use Rattle.std.proofs.Common.{ℕ, List, refl, sym, subst, arith}
+use Rattle.std.proofs.Common.{refl, sym, subst, arith}
 use Rattle.commit_desk.specs.Scans.{AreOfToken}
 use Rattle.commit_desk_tests.proofs.Scans.{columns_of_token}
 use Rattle.funnel_model.specs.Sizes.{columns_of_slice}

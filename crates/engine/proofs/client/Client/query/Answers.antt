@@ -1,15 +1,20 @@
-use Rattle.std.proofs.Common.{sym, subst}
-use Rattle.engine.proofs.QueryCalls.{client_answers}
-use Rattle.funnel_model.specs.declared.reply.Reply.{Reply}
-use Rattle.line_proto.specs.Services.{AnswersQuery}
+use Rattle.std.proofs.Common.{List, ℕ, Result, Ok, Err, ◌≡◌, refl, ◌∙◌}
+use Rattle.engine.proofs.SearchCalls.{client_searches, reply_or}
+use Rattle.engine.specs.declared.querying.SearchFault.{SearchFault}
+use Rattle.engine.specs.Replies.{reply_of_query}
+use Rattle.engine.specs.Searches.{reply_told}
+use Rattle.line_proto.specs.Forms.{ByQuery, Ids}
 use Rattle.engine.proofs.client.Client.query.Goals as goal
+
+as_told : (answer : Result (List ℕ) SearchFault) → reply_of_query answer ≡ reply_or (reply_told Ids) answer
+as_told (Ok ids) = refl
+as_told (Err fault) = refl
 
 pub returns-clause-answers : goal.returns-clause-answers
 returns-clause-answers g c =
-    let opening = g.N.PoolName.pool.config in
-    let limits = g.N.PoolName.pool.limits in
+    let pool = g.N.PoolName.pool in
     let pass = c.self.inside.pass in
     let next = c.query.new.pass in
     rw (← c.self.view_is)
-    (subst (λ (given : Reply). AnswersQuery (record { opening = opening; limits = limits; pass = pass.number }) pass.front next.front c.args.text.now given) (sym c.reply_to_query.ensures)
-    (client_answers opening limits pass.number next.number c.args.text.now pass.front next.front c.query.result c.query.ensures.turns c.query.ensures.call))
+    (client_searches pool.config pool.limits pass.number next.number Ids (ByQuery c.args.text.now) pass.front next.front c.query.result c.query.ensures.turns c.query.ensures.call c.reply_to_query.result
+    (c.reply_to_query.ensures ∙ as_told c.query.result))

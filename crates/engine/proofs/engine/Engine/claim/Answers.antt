@@ -38,7 +38,7 @@ returns-in-Clear-clause-turns g c =
     let pass = c.args.pass.now in
     let doc = c.args.doc.now in
     let opened = c.opened_take.ensures in
-    inr (cleared_first g.N.PoolName.pool.limits pass.number doc.id doc.text pass.front c.opened_take.new.pass.front c.in-Clear.to_clear c.in-Clear.layout c.opened_take.result c.take.new.pass c.clear.new.seat
+    inr (cleared_first g.N.PoolName.pool.limits pass.number c.args.replaces doc.id doc.text pass.front c.opened_take.new.pass.front c.in-Clear.to_clear c.in-Clear.layout c.opened_take.result c.take.new.pass c.clear.new.seat
     c.in-Clear.ensures.turns c.in-Clear.ensures.next.1 c.take.ensures.number c.clear.ensures.same opened.turn (ap (λ (k : Claim). k.slice) opened.claim) (ap (λ (k : Claim). k.column) opened.claim))
 
 -- the slice has the layout that it had as the pass began to clear it

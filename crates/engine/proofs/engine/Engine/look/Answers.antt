@@ -13,8 +13,8 @@ returns-clause-turn g c =
     let named = c.deref_mut-named.result.now in
     let did = c.look.ensures in
     let is = c.self.invariant in
-    subst (λ r. IsTurn pass.number pass.front c.look.new.seat.front (IsLookForMove r pool.limits pass.number c.args.id c.look.result) []) (is.kept_free ∙ ap (λ (p : PoolId). p.config.reserve) is.of_name)
-    (looked_for pool named.desk c.look.new.self pass c.look.new.seat named.looks c.self.inside.reserve c.args.id c.look.result named.of_pool (named.limit ∙ sym named.pool_limit) named.each_pass did.answer did.events)
+    subst (λ r. IsTurn pass.number pass.front c.look.new.seat.front (IsLookForMove r pool.limits pass.number c.args.replaces c.args.id c.look.result) []) (is.kept_free ∙ ap (λ (p : PoolId). p.config.reserve) is.of_name)
+    (looked_for pool named.desk c.look.new.self pass c.look.new.seat named.looks c.self.inside.reserve c.args.replaces c.args.id c.look.result named.of_pool (named.limit ∙ sym named.pool_limit) named.each_pass did.answer did.events)
 
 pub returns-clause-rests : goal.returns-clause-rests
 returns-clause-rests g c =

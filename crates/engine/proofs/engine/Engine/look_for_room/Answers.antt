@@ -8,4 +8,4 @@ returns-clause-next g c =
     let rests = c.requires.rests in
     let took = c.take.ensures in
     is_to_do g.N.PoolName.pool desk c.take.new.self c.args.pass.now c.take.new.seat rests.seated.same took.none_outstanding rests.idle
-    c.deref_mut.result.now.of_pool desk.events_limit doc.id doc.text c.take.result took.answer.answers took.handed.prepared took.events
+    c.deref_mut.result.now.of_pool desk.events_limit c.args.replaces doc.id doc.text c.take.result took.answer.answers took.handed.prepared took.events

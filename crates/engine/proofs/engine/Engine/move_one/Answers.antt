@@ -59,7 +59,7 @@ returns-clause-moved g c =
     let look = c.in-Ok-Some.look in
     let taken = c.in-Ok-take_move.taken in
     let bits = c.write.new.bits.bits in
-    let looked = subst (λ (o : Option Look). IsTurn pass.number pass.front seen.front (IsLookForMove config.reserve pool.limits pass.number c.args.id (Ok o)) [])
+    let looked = subst (λ (o : Option Look). IsTurn pass.number pass.front seen.front (IsLookForMove config.reserve pool.limits pass.number c.args.replaces c.args.id (Ok o)) [])
     c.in-Ok-Some.field-0-is c.in-Ok-Some.ensures.turn in
     let turn : IsTurn seen.number seen.front took.front (λ history. AnswersTakeMove pool.limits.events pool.limits history seen.number look (Ok taken)) (event.Take seen.number taken.claim.slice taken.claim.column ∷ []) =
     c.in-Ok-take_move.ensures.turn in
@@ -69,7 +69,7 @@ returns-clause-moved g c =
     let of_words = subst (λ (k : Look). HasWritten pool taken.claim k.doc.words bits wrote) same written in
     let of_text : AreBitsAt config pool.limits wrote.front look.doc.text taken.claim bits =
     bits_of_text pool.limits.slice_words (treat config taken.claim.slice wrote.front) look.doc.words look.doc.text taken.claim.slice taken.claim.column bits held.of_text of_words.document in
-    move_turns config pool.limits pass.number c.args.id pass.front c.end_move.new.pass.front look taken bits (is_none c.end_move.result) seen took wrote looked c.look.ensures.number turn same c.take_move.ensures.number
+    move_turns config pool.limits pass.number c.args.replaces c.args.id pass.front c.end_move.new.pass.front look taken bits (is_none c.end_move.result) seen took wrote looked c.look.ensures.number turn same c.take_move.ensures.number
     c.write.ensures.seat of_text c.end_move.ensures.turn
 
 -- no document is to be moved
@@ -77,13 +77,13 @@ pub returns-in-Ok-None-clause-moved : goal.returns-in-Ok-None-clause-moved
 returns-in-Ok-None-clause-moved g c =
     let pool = g.N.PoolName.pool in
     let pass = c.args.pass.now in
-    let turn : IsTurn pass.number pass.front c.look.new.pass.front (IsLookForMove pool.config.reserve pool.limits pass.number c.args.id (Ok None)) [] =
-    subst (λ (o : Option Look). IsTurn pass.number pass.front c.look.new.pass.front (IsLookForMove pool.config.reserve pool.limits pass.number c.args.id (Ok o)) []) c.in-Ok-None.field-0-is c.in-Ok-None.ensures.turn in
+    let turn : IsTurn pass.number pass.front c.look.new.pass.front (IsLookForMove pool.config.reserve pool.limits pass.number c.args.replaces c.args.id (Ok None)) [] =
+    subst (λ (o : Option Look). IsTurn pass.number pass.front c.look.new.pass.front (IsLookForMove pool.config.reserve pool.limits pass.number c.args.replaces c.args.id (Ok o)) []) c.in-Ok-None.field-0-is c.in-Ok-None.ensures.turn in
     inl (record { earlier = turn.earlier; seen = turn.seen; answer = turn.answer.answers; made = turn.made })
 
 -- there was no memory for the look
 pub returns-in-Err-clause-moved : goal.returns-in-Err-clause-moved
-returns-in-Err-clause-moved g c = lacks_memory g.N.PoolName.pool.config g.N.PoolName.pool.limits c.args.pass.now.number c.args.id c.args.pass.now.front c.look.new.pass.front c.in-Err.field-0 c.in-Err.ensures.turn
+returns-in-Err-clause-moved g c = lacks_memory g.N.PoolName.pool.config g.N.PoolName.pool.limits c.args.pass.now.number c.args.replaces c.args.id c.args.pass.now.front c.look.new.pass.front c.in-Err.field-0 c.in-Err.ensures.turn
 
 -- nor for the bits
 pub returns-in_default-clause-moved : goal.returns-in_default-clause-moved
@@ -93,9 +93,9 @@ returns-in_default-clause-moved g c =
     let pass = c.args.pass.now in
     let seen = c.look.new.pass in
     let look = c.in-Ok-Some.look in
-    let looked = subst (λ (o : Option Look). IsTurn pass.number pass.front seen.front (IsLookForMove config.reserve pool.limits pass.number c.args.id (Ok o)) [])
+    let looked = subst (λ (o : Option Look). IsTurn pass.number pass.front seen.front (IsLookForMove config.reserve pool.limits pass.number c.args.replaces c.args.id (Ok o)) [])
     c.in-Ok-Some.field-0-is c.in-Ok-Some.ensures.turn in
-    lacks_later config pool.limits pass.number c.args.id pass.front seen.front look looked seen.front (front_refl pass.number seen.front)
+    lacks_later config pool.limits pass.number c.args.replaces c.args.id pass.front seen.front look looked seen.front (front_refl pass.number seen.front)
 
 -- no column was claimed
 pub returns-in-Err-NoColumn-clause-moved : goal.returns-in-Err-NoColumn-clause-moved
@@ -105,13 +105,13 @@ returns-in-Err-NoColumn-clause-moved g c =
     let pass = c.args.pass.now in
     let seen = c.look.new.pass in
     let look = c.in-Ok-Some.look in
-    let looked = subst (λ (o : Option Look). IsTurn pass.number pass.front seen.front (IsLookForMove config.reserve pool.limits pass.number c.args.id (Ok o)) [])
+    let looked = subst (λ (o : Option Look). IsTurn pass.number pass.front seen.front (IsLookForMove config.reserve pool.limits pass.number c.args.replaces c.args.id (Ok o)) [])
     c.in-Ok-Some.field-0-is c.in-Ok-Some.ensures.turn in
     let after = c.take_move.new.pass.front in
     let none = c.in-Err-NoColumn in
     let turn : IsTurn seen.number seen.front after (λ history. AnswersTakeMove pool.limits.events pool.limits history seen.number look (Err (untaken.NoColumn none.doc))) [] =
     subst (λ (f : NotTaken). IsTurn seen.number seen.front after (λ history. AnswersTakeMove pool.limits.events pool.limits history seen.number look (Err f)) []) none.field-0-is none.ensures.turn in
-    inr (looks_in_vain config pool.limits pass.number c.args.id pass.front seen.front look looked after none.doc
+    inr (looks_in_vain config pool.limits pass.number c.args.replaces c.args.id pass.front seen.front look looked after none.doc
     (subst (λ n. IsTurn n seen.front after (λ history. AnswersTakeMove pool.limits.events pool.limits history n look (Err (untaken.NoColumn none.doc))) []) c.look.ensures.number turn))
 
 -- nor was one where its layout can't be shared
@@ -122,8 +122,8 @@ returns-in-Err-Memory-clause-moved g c =
     let pass = c.args.pass.now in
     let seen = c.look.new.pass in
     let look = c.in-Ok-Some.look in
-    let looked = subst (λ (o : Option Look). IsTurn pass.number pass.front seen.front (IsLookForMove config.reserve pool.limits pass.number c.args.id (Ok o)) [])
+    let looked = subst (λ (o : Option Look). IsTurn pass.number pass.front seen.front (IsLookForMove config.reserve pool.limits pass.number c.args.replaces c.args.id (Ok o)) [])
     c.in-Ok-Some.field-0-is c.in-Ok-Some.ensures.turn in
     let after = c.take_move.new.pass.front in
-    lacks_later config pool.limits pass.number c.args.id pass.front seen.front look looked after
+    lacks_later config pool.limits pass.number c.args.replaces c.args.id pass.front seen.front look looked after
     (subst (λ n. IsFrontOf n seen.front after) c.look.ensures.number (silent_turn seen.number seen.front after c.in-Err-Memory.ensures.turn))

@@ -27,13 +27,13 @@ returns-in-Ok-false-clause-moves g c =
     let pool = g.N.PoolName.pool in
     let so_far = c.loop.invariant in
     let low = c.loop-test.true in
-    let none = subst (λ b. EndsMove pool.config pool.limits c.loop.pass.number c.args.id c.loop.pass.front c.move_one.new.pass.front (Ok b)) c.in-Ok-false.field-0-test c.in-Ok-false.ensures.moved in
+    let none = subst (λ b. EndsMove pool.config pool.limits c.loop.pass.number c.args.replaces c.args.id c.loop.pass.front c.move_one.new.pass.front (Ok b)) c.in-Ok-false.field-0-test c.in-Ok-false.ensures.moved in
     record {
       moves = c.loop.counter;
       few = omega (arith, low);
       last = c.loop.pass.front;
       moved = so_far.moved;
-      ended = inr (inl (subst (λ n. MovesNone pool.config pool.limits n c.args.id c.loop.pass.front c.move_one.new.pass.front) so_far.number none));
+      ended = inr (inl (subst (λ n. MovesNone pool.config pool.limits n c.args.replaces c.args.id c.loop.pass.front c.move_one.new.pass.front) so_far.number none));
     }
 
 pub returns-in-Err-clause-moves : goal.returns-in-Err-clause-moves
@@ -46,7 +46,7 @@ returns-in-Err-clause-moves g c =
       few = omega (arith, low);
       last = c.loop.pass.front;
       moved = so_far.moved;
-      ended = inr (inr (subst (λ n. LacksMemory pool.config pool.limits n c.args.id c.loop.pass.front c.move_one.new.pass.front) so_far.number c.in-Err.ensures.moved));
+      ended = inr (inr (subst (λ n. LacksMemory pool.config pool.limits n c.args.replaces c.args.id c.loop.pass.front c.move_one.new.pass.front) so_far.number c.in-Err.ensures.moved));
     }
 
 pub returns-clause-moves : goal.returns-clause-moves
@@ -67,10 +67,10 @@ loop-preserved g c =
     let pool = g.N.PoolName.pool in
     let pass = c.args.pass.now in
     let so_far = c.loop.invariant in
-    let moved = subst (λ b. EndsMove pool.config pool.limits c.loop.pass.number c.args.id c.loop.pass.front c.move_one.new.pass.front (Ok b)) c.in-Ok-true.field-0-test c.in-Ok-true.ensures.moved in
+    let moved = subst (λ b. EndsMove pool.config pool.limits c.loop.pass.number c.args.replaces c.args.id c.loop.pass.front c.move_one.new.pass.front (Ok b)) c.in-Ok-true.field-0-test c.in-Ok-true.ensures.moved in
     record {
-      moved = one_more pool.config pool.limits pass.number c.args.id c.loop.counter pass.front c.loop.pass.front c.move_one.new.pass.front so_far.moved
-          (subst (λ n. MoveTurns pool.config pool.limits n c.args.id c.loop.pass.front c.move_one.new.pass.front) so_far.number moved);
+      moved = one_more pool.config pool.limits pass.number c.args.replaces c.args.id c.loop.counter pass.front c.loop.pass.front c.move_one.new.pass.front so_far.moved
+          (subst (λ n. MoveTurns pool.config pool.limits n c.args.replaces c.args.id c.loop.pass.front c.move_one.new.pass.front) so_far.number moved);
       rests = c.in-Ok-true.ensures.rests;
       number = c.in-Ok-true.ensures.number ∙ so_far.number;
     }

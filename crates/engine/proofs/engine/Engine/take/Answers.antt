@@ -22,15 +22,15 @@ loop-preserved g c =
     let did = c.in-Wait.ensures in
     let slice = c.in-Wait.slice in
     let after = c.look_for_room.new.pass.front in
-    let turn : IsTurn pass.number c.loop.pass.front after (IsLookForRoom pool pass.number doc.id c.loop.awaited false (taken.Wait slice)) [] =
-    subst (λ n. IsTurn n c.loop.pass.front after (IsLookForRoom pool n doc.id c.loop.awaited false (taken.Wait slice)) []) so_far.number did.turn in
+    let turn : IsTurn pass.number c.loop.pass.front after (IsLookForRoom pool pass.number c.args.replaces doc.id c.loop.awaited false (taken.Wait slice)) [] =
+    subst (λ n. IsTurn n c.loop.pass.front after (IsLookForRoom pool n c.args.replaces doc.id c.loop.awaited false (taken.Wait slice)) []) so_far.number did.turn in
     record {
       rests = did.next;
       number = did.number ∙ so_far.number;
       room = subst (λ o. MatchOption o ⊥ (λ empty. (empty.items ≡ []) × (limits.slices ≤ vec_capacity empty))) (sym did.room) so_far.room;
       in_range = turn.answer.look.answers.2.0;
       seen = front_goes_on pass.number pass.front c.loop.pass.front after so_far.seen (silent_turn pass.number c.loop.pass.front after turn);
-      waited = waited_more pool pass.number doc.id c.loop.counter pass.front c.loop.pass.front after c.loop.awaited so_far.waited false slice turn;
+      waited = waited_more pool pass.number c.args.replaces doc.id c.loop.counter pass.front c.loop.pass.front after c.loop.awaited so_far.waited false slice turn;
     }
 
 pub returns-in_default : goal.returns-in_default
@@ -44,9 +44,9 @@ returns-in_default g c =
     let after = c.look_for_room.new.pass.front in
     let answer = c.look_for_room.result in
     record {
-      turns = take_turns pool pass.number doc.id c.loop.counter pass.front c.loop.pass.front after c.loop.awaited so_far.waited doc.text false answer so_far.seen (λ is. cc)
+      turns = take_turns pool pass.number c.args.replaces doc.id c.loop.counter pass.front c.loop.pass.front after c.loop.awaited so_far.waited doc.text false answer so_far.seen (λ is. cc)
           (λ slice is last. c.in_default.not-Wait slice is)
-          (subst (λ n. IsTurn n c.loop.pass.front after (IsLookForRoom pool n doc.id c.loop.awaited false answer) (events_of_take n doc.id doc.text answer)) so_far.number did.turn);
+          (subst (λ n. IsTurn n c.loop.pass.front after (IsLookForRoom pool n c.args.replaces doc.id c.loop.awaited false answer) (events_of_take n c.args.replaces doc.id doc.text answer)) so_far.number did.turn);
       next = did.next;
       number = did.number ∙ so_far.number;
       legal = did.legal;
@@ -67,6 +67,6 @@ returns-clause-turns g c =
     ap (λ (k : Config). k.passes) is.based ∙ sym (ap (λ (l : Limits). l.passes) is.of_config.limits) ∙ ap (λ (p : PoolId). p.limits.passes) is.of_name in
     let end = c.loop.auto.counter-end in
     let done = c.loop-test.false in
-    take_turns pool pass.number doc.id c.loop.counter pass.front c.loop.pass.front after c.loop.awaited so_far.waited doc.text true answer so_far.seen
+    take_turns pool pass.number c.args.replaces doc.id c.loop.counter pass.front c.loop.pass.front after c.loop.awaited so_far.waited doc.text true answer so_far.seen
     (λ yes. omega (arith, passes, end, done)) (λ slice here last. cc)
-    (subst (λ n. IsTurn n c.loop.pass.front after (IsLookForRoom pool n doc.id c.loop.awaited true answer) (events_of_take n doc.id doc.text answer)) so_far.number did.turn)
+    (subst (λ n. IsTurn n c.loop.pass.front after (IsLookForRoom pool n c.args.replaces doc.id c.loop.awaited true answer) (events_of_take n c.args.replaces doc.id doc.text answer)) so_far.number did.turn)

@@ -34,12 +34,6 @@ returns-clause-wide c legal =
     let in' = All-head (λ (b : Bit). b.bit < 64) bit [] (allowed_within paired (taken ++ add ∷ []) taken add [] legal refl).rule.in_word in
     omega arith
 
-pub returns-clause-live : goal.returns-clause-live
-returns-clause-live c legal =
-    let before = first_added ++ event.Take 0 1 0 ∷ [] in
-    let add = event.Add 0 9 [] 1 0 [] in
-    both_ways (is_live 9 before) (allowed_within paired (before ++ add ∷ []) before add [] legal refl).rule.absent refl
-
 pub returns-clause-column : goal.returns-clause-column
 returns-clause-column c legal =
     let taken = event.Take 0 0 0 ∷ [] in

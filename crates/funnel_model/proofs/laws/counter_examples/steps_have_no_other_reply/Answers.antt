@@ -37,12 +37,12 @@ pub returns-clause-older : goal.returns-clause-older
 returns-clause-older c step =
     ⊎_elim
     (λ made. let same = one_answer small 0 (first_added ++ event.No 0 (call.Add 9 []) ∷ []) (call.Add 9 []) (call.Add 9 []) (reply.Added 1) (reply.Present 1) made.answered refused in cc)
-    (λ rest. ⊎_elim (λ lacks. let other = lacks.reply in cc) (λ last. ⊎_elim (λ spent. let other = spent.reply in cc) (λ judged. let other = judged.query in cc) last) rest)
+    (λ rest. ⊎_elim (λ lacks. let other = lacks.reply in cc) (λ more. ⊎_elim (λ spent. let other = spent.reply in cc) (λ last. ⊎_elim (λ judged. let other = judged.query in cc) (λ put. let other = put.put in cc) last) more) rest)
     step.outcome
 
 pub returns-clause-twice : goal.returns-clause-twice
 returns-clause-twice c step =
-    ⊎_elim (λ made. let alone = made.call in cc) (λ rest. ⊎_elim (λ lacks. let other = lacks.reply in cc) (λ last. ⊎_elim (λ spent. let other = spent.reply in cc) (λ judged. let other = judged.query in cc) last) rest) step.outcome
+    ⊎_elim (λ made. let alone = made.call in cc) (λ rest. ⊎_elim (λ lacks. let other = lacks.reply in cc) (λ more. ⊎_elim (λ spent. let other = spent.reply in cc) (λ last. ⊎_elim (λ judged. let other = judged.query in cc) (λ put. let other = put.put in cc) last) more) rest) step.outcome
 
 pub returns-clause-empty : goal.returns-clause-empty
 returns-clause-empty c asked step = let many = (spent_cause paired 0 [] [] asked step).0 in omega arith

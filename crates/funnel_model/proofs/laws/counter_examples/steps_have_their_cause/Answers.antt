@@ -24,3 +24,9 @@ returns-clause-place c limits pass before after step = memory_cause limits pass 
 
 pub returns-clause-recycle : goal.returns-clause-recycle
 returns-clause-recycle c limits pass before after step = memory_cause limits pass before after _ step
+
+pub returns-clause-put : goal.returns-clause-put
+returns-clause-put c limits pass id text before after step = memory_cause limits pass before after _ step
+
+pub returns-clause-stats : goal.returns-clause-stats
+returns-clause-stats c limits pass before after step = memory_cause limits pass before after _ step

@@ -32,7 +32,7 @@ returns-clause-legal c = (
   (
     record { pass = omega arith; at_once = tt; rule = second },
     (
-      record { pass = omega arith; at_once = tt; rule = record { taken = refl; absent = refl; inside = no_bits; in_word = none_wide } },
+      record { pass = omega arith; at_once = tt; rule = record { taken = refl; inside = no_bits; in_word = none_wide } },
       (
         record { pass = omega arith; at_once = tt; rule = record { taken = refl; present = refl } },
         tt,

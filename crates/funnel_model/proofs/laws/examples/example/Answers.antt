@@ -16,13 +16,13 @@ episode_is_legal : IsLegal small episode
 episode_is_legal = (
   record { pass = omega arith; at_once = tt; rule = inl (record { idle = tt; in_range = omega arith; room = room_by 2 0 0 _ (omega arith) refl refl refl refl; lowest = λ lower in'. absurd (omega arith); next = refl }) },
   (
-    record { pass = omega arith; at_once = tt; rule = record { taken = refl; absent = refl; inside = no_bits; in_word = none_wide } },
+    record { pass = omega arith; at_once = tt; rule = record { taken = refl; inside = no_bits; in_word = none_wide } },
     (
       record { pass = omega arith; at_once = tt; rule = record { idle = refl; refused = inl refl } },
       (
         record { pass = omega arith; at_once = tt; rule = inl (record { idle = refl; in_range = omega arith; room = room_by 2 0 1 _ (omega arith) refl refl refl refl; lowest = λ lower in'. absurd (omega arith); next = refl }) },
         (
-          record { pass = omega arith; at_once = tt; rule = record { taken = refl; absent = refl; inside = no_bits; in_word = none_wide } },
+          record { pass = omega arith; at_once = tt; rule = record { taken = refl; inside = no_bits; in_word = none_wide } },
           (
             record { pass = omega arith; at_once = tt; rule = refl },
             (
@@ -66,13 +66,13 @@ returns-clause-steps c =
     let after_refused = event.Take 0 0 1 ∷ event.Add 0 7 [] 0 1 [] ∷ after_added in
     let after_first = event.No 0 (call.Add 9 []) ∷ after_refused in (
       first_added,
-      step_added small 0 [] 9 [] 0 0 [] 1 tt refl (legal_before small first_added after_first episode_is_legal),
+      step_added small 0 [] 9 [] 0 0 [] 1 tt refl refl (legal_before small first_added after_first episode_is_legal),
       (
         refused,
         step_refused small 0 first_added (call.Add 9 []) (reply.Present 1) refl refl (legal_before small refused after_refused episode_is_legal),
         (
           both_added,
-          step_added small 0 refused 7 [] 0 1 [] 2 refl refl (legal_before small both_added after_added episode_is_legal),
+          step_added small 0 refused 7 [] 0 1 [] 2 refl refl refl (legal_before small both_added after_added episode_is_legal),
           (
             found,
             step_found small 0 both_added [] refl (legal_before small found last episode_is_legal),

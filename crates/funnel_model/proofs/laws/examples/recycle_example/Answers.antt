@@ -21,9 +21,9 @@ returns-clause-replies c = inr (_, _, refl, nothing_retired, inl (refl, inr (_, 
 pub returns-clause-recycles : goal.returns-clause-recycles
 returns-clause-recycles c =
     step_made paired 1 recycled (event.Clear 1 1 ∷ event.Take 0 0 0 ∷ []) (event.Opened 1 1 true) [] call.Recycle (reply.Recycled 1) refl refl refl refl refl refl refl
-    (refl, refl) (legal_before paired both_recycled (event.Add 0 5 [] 0 0 [] ∷ []) together_is_legal) refl
+    (refl, refl) refl (legal_before paired both_recycled (event.Add 0 5 [] 0 0 [] ∷ []) together_is_legal) refl
 
 pub returns-clause-adds : goal.returns-clause-adds
 returns-clause-adds c =
     step_made paired 0 (recycled ++ event.Clear 1 1 ∷ []) (event.Take 0 0 0 ∷ event.Opened 1 1 true ∷ []) (event.Add 0 5 [] 0 0 []) [] (call.Add 5 []) (reply.Added 5)
-    refl refl refl refl refl refl refl refl together_is_legal refl
+    refl refl refl refl refl refl refl refl refl together_is_legal refl

@@ -35,11 +35,11 @@ half_is_legal : IsLegal shared half_deleted
 half_is_legal = (
   record { pass = omega arith; at_once = tt; rule = inl (record { idle = tt; in_range = omega arith; room = room_by 2 0 0 _ (omega arith) refl refl refl refl; lowest = λ lower in'. absurd (omega arith); next = refl }) },
   (
-    record { pass = omega arith; at_once = tt; rule = record { taken = refl; absent = refl; inside = no_bits; in_word = none_wide } },
+    record { pass = omega arith; at_once = tt; rule = record { taken = refl; inside = no_bits; in_word = none_wide } },
     (
       record { pass = omega arith; at_once = tt; rule = inl (record { idle = refl; in_range = omega arith; room = room_by 2 0 1 _ (omega arith) refl refl refl refl; lowest = λ lower in'. absurd (omega arith); next = refl }) },
       (
-        record { pass = omega arith; at_once = tt; rule = record { taken = refl; absent = refl; inside = no_bits; in_word = none_wide } },
+        record { pass = omega arith; at_once = tt; rule = record { taken = refl; inside = no_bits; in_word = none_wide } },
         (
           record { pass = omega arith; at_once = tt; rule = record { idle = refl; present = refl } },
           tt,

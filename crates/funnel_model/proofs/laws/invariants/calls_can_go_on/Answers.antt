@@ -11,6 +11,10 @@ pub returns-clause-taken : goal.returns-clause-taken
 returns-clause-taken c limits history pass slice column id text bits legal in' none taken inside in_word =
     take_ends limits history pass legal in' none slice column id text bits taken inside in_word
 
+pub returns-clause-dropped : goal.returns-clause-dropped
+returns-clause-dropped c limits history pass slice column id text in' none taken present =
+    allowed_by limits history (event.Drop pass id text slice column) in' none (record { taken = taken; present = present })
+
 pub returns-clause-cleared : goal.returns-clause-cleared
 returns-clause-cleared c limits history pass slice alone in' none last =
     allowed_by limits history (event.Opened pass slice alone) in' none (record { cleared = last })

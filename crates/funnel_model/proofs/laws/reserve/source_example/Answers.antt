@@ -23,27 +23,27 @@ six_is_legal : IsLegal spacious six_added
 six_is_legal = (
   record { pass = omega arith; at_once = tt; rule = inl (record { idle = tt; in_range = omega arith; room = room_by 3 0 0 _ (omega arith) refl refl refl refl; lowest = λ lower in'. absurd (omega arith); next = refl }) },
   (
-    record { pass = omega arith; at_once = tt; rule = record { taken = refl; absent = refl; inside = no_bits; in_word = none_wide } },
+    record { pass = omega arith; at_once = tt; rule = record { taken = refl; inside = no_bits; in_word = none_wide } },
     (
       record { pass = omega arith; at_once = tt; rule = inl (record { idle = refl; in_range = omega arith; room = room_by 3 0 1 _ (omega arith) refl refl refl refl; lowest = λ lower in'. absurd (omega arith); next = refl }) },
       (
-        record { pass = omega arith; at_once = tt; rule = record { taken = refl; absent = refl; inside = no_bits; in_word = none_wide } },
+        record { pass = omega arith; at_once = tt; rule = record { taken = refl; inside = no_bits; in_word = none_wide } },
         (
           record { pass = omega arith; at_once = tt; rule = inl (record { idle = refl; in_range = omega arith; room = room_by 3 0 2 _ (omega arith) refl refl refl refl; lowest = λ lower in'. absurd (omega arith); next = refl }) },
           (
-            record { pass = omega arith; at_once = tt; rule = record { taken = refl; absent = refl; inside = no_bits; in_word = none_wide } },
+            record { pass = omega arith; at_once = tt; rule = record { taken = refl; inside = no_bits; in_word = none_wide } },
             (
               record { pass = omega arith; at_once = tt; rule = inl (record { idle = refl; in_range = omega arith; room = room_by 3 1 0 _ (omega arith) refl refl refl refl; lowest = first_filled _ (three_columns _ refl refl refl); next = refl }) },
               (
-                record { pass = omega arith; at_once = tt; rule = record { taken = refl; absent = refl; inside = no_bits_in 1; in_word = none_wide } },
+                record { pass = omega arith; at_once = tt; rule = record { taken = refl; inside = no_bits_in 1; in_word = none_wide } },
                 (
                   record { pass = omega arith; at_once = tt; rule = inl (record { idle = refl; in_range = omega arith; room = room_by 3 1 1 _ (omega arith) refl refl refl refl; lowest = first_filled _ (three_columns _ refl refl refl); next = refl }) },
                   (
-                    record { pass = omega arith; at_once = tt; rule = record { taken = refl; absent = refl; inside = no_bits_in 1; in_word = none_wide } },
+                    record { pass = omega arith; at_once = tt; rule = record { taken = refl; inside = no_bits_in 1; in_word = none_wide } },
                     (
                       record { pass = omega arith; at_once = tt; rule = inl (record { idle = refl; in_range = omega arith; room = room_by 3 1 2 _ (omega arith) refl refl refl refl; lowest = first_filled _ (three_columns _ refl refl refl); next = refl }) },
                       (
-                        record { pass = omega arith; at_once = tt; rule = record { taken = refl; absent = refl; inside = no_bits_in 1; in_word = none_wide } },
+                        record { pass = omega arith; at_once = tt; rule = record { taken = refl; inside = no_bits_in 1; in_word = none_wide } },
                         tt,
                       ),
                     ),
@@ -136,7 +136,7 @@ beside_is_legal : IsLegal shared taken_beside
 beside_is_legal = (
   record { pass = omega arith; at_once = tt; rule = inl (record { idle = tt; in_range = omega arith; room = room_by 2 0 0 _ (omega arith) refl refl refl refl; lowest = λ lower in'. absurd (omega arith); next = refl }) },
   (
-    record { pass = omega arith; at_once = tt; rule = record { taken = refl; absent = refl; inside = no_bits; in_word = none_wide } },
+    record { pass = omega arith; at_once = tt; rule = record { taken = refl; inside = no_bits; in_word = none_wide } },
     (
       record { pass = omega arith; at_once = tt; rule = inl (record { idle = tt; in_range = omega arith; room = room_by 2 0 1 _ (omega arith) refl refl refl refl; lowest = λ lower in'. absurd (omega arith); next = refl }) },
       (

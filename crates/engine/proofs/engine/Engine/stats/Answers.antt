@@ -1,0 +1,24 @@
+use Rattle.std.proofs.Common.{rules}
+use Rattle.commit_desk.proofs.CallEnds.{rests_stats}
+use Rattle.engine.proofs.DeskTurns.{stats_made}
+use Rattle.engine.proofs.engine.Engine.stats.Goals as goal
+
+pub returns-clause-call : goal.returns-clause-call
+returns-clause-call g c =
+    let named = c.deref_mut.result.now in
+    let did = c.read_stats.ensures in
+    rw (← c.pass.view_is)
+    (record {
+      step = stats_made g.N.PoolName.pool named.desk c.read_stats.new.self c.pass.inside.seat c.read_stats.new.seat named.of_pool named.limit named.pool_limit c.pass.invariant.idle
+          c.read_stats.result did.answer did.events;
+      number = did.events.number;
+    })
+
+pub returns-clause-turn : goal.returns-clause-turn
+returns-clause-turn g c = rw (← c.pass.view_is) (search rules)
+
+pub invariant_of-pass : goal.invariant_of-pass
+invariant_of-pass g c =
+    let rests = c.pass.invariant in
+    let did = c.read_stats.ensures in
+    rests_stats g.N.PoolName.pool c.deref_mut.result.now.desk c.read_stats.new.self c.pass.inside.seat c.read_stats.new.seat rests.seated.same did.none_outstanding rests.idle c.read_stats.result did.events
