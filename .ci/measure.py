@@ -98,7 +98,7 @@ def refusals(log):
         # a note comes before what refused it, of which the log has no more
         told = "" if re.search(r":\d+:\d+: note:", why) else why
         at = re.search(r"(?:\./)?((?:src|specs|proofs)/[^:\s]+):\d+:\d+:", told)
-        goal = re.search(r"`([^`]+)`", told)
+        goal = re.search(r"\(`([^`]+)`\)", told) or re.search(r"`([^`]+)`", told)
         where = f"`{at[1]}`" if at else "the check"
         found[crate, name] = f"{where}, `{goal[1]}`" if goal else where
         if "names what the edit took away" in why:
