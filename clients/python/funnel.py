@@ -15,9 +15,14 @@ from __future__ import annotations
 import json
 import selectors
 import socket
+import ssl
+from collections.abc import Callable, Generator, Mapping, Sequence
 from concurrent.futures import ThreadPoolExecutor, wait
 from contextlib import closing
-from typing import Any, Callable, Generator, NamedTuple, Sequence
+from dataclasses import dataclass
+from typing import Any, Generic, TypeVar
+
+Answer = TypeVar("Answer")
 
 
 class Refused(Exception):
@@ -106,35 +111,40 @@ REFUSALS: dict[str, type[Refused]] = {
 }
 
 
-class Commit(NamedTuple):
+@dataclass(frozen=True)
+class Commit:
     """A commit as the journal tells it."""
 
     is_add: bool
     id: int
 
 
-class Placed(NamedTuple):
+@dataclass(frozen=True)
+class Placed:
     """What a put did: the place of its add, and whether a document with the number was live."""
 
     place: int
     replaced: bool
 
 
-class Document(NamedTuple):
+@dataclass(frozen=True)
+class Document:
     """A live document: the place of its add, and its text."""
 
     place: int
     text: str
 
 
-class Some(NamedTuple):
+@dataclass(frozen=True)
+class Some:
     """How many documents were found, and the numbers of some of them."""
 
     count: int
     ids: list[int]
 
 
-class Stats(NamedTuple):
+@dataclass(frozen=True)
+class Stats:
     """How full the server is: live documents, commits, those that the journal no longer keeps, columns, unclaimed ones, slices that
     are retired, and finds that are running."""
 
@@ -147,16 +157,14 @@ class Stats(NamedTuple):
     finds: int
 
 
-Reader = Callable[[Sequence[str]], object]
-
-
-class Call(NamedTuple):
+@dataclass(frozen=True)
+class Call(Generic[Answer]):
     """A line, and by the word with which the reply begins where the call was done, what the words after it are read as."""
 
     line: bytes
-    readers: dict[str, Reader]
+    readers: Mapping[str, Callable[[Sequence[str]], Answer]]
 
-    def answer(self, reply: str) -> object:
+    def answer(self, reply: str) -> Answer | Refused:
         """What the reply gives, or the refusal that it is."""
         word, *rest = reply.split(" ")
         if word in self.readers:
@@ -201,10 +209,12 @@ def commits(words: Sequence[str]) -> list[Commit]:
     return [Commit(word[0] == "+", int(word[1:])) for word in words[1:]]
 
 
-def call(line: str, **readers: Reader) -> Call:
+def call(line: str, **readers: Callable[[Sequence[str]], Answer]) -> Call[Answer]:
+    """The call of a line. The server drops one carriage return at the end of a line, so there one more is sent."""
     if "\n" in line:
         raise ValueError("a newline would end the line")
-    return Call(line.encode() + b"\n", readers)
+    end = "\r\n" if line.endswith("\r") else "\n"
+    return Call(f"{line}{end}".encode(), readers)
 
 
 def behind(line: str, expression: str | None) -> str:
@@ -215,7 +225,7 @@ def behind(line: str, expression: str | None) -> str:
 class Calls:
     """The calls, however they are sent."""
 
-    def send(self, asked: Call) -> Any:
+    def send(self, asked: Call[Answer]) -> Answer:
         raise NotImplementedError
 
     def add(self, id: int, text: str) -> int:
@@ -270,38 +280,52 @@ class Calls:
         """Empties a slice that has no live document, and gives its number."""
         return self.send(call("recycle", recycled=number))
 
-    def tune(self, statistics: dict) -> int:
+    def tune(self, statistics: Mapping[str, Any]) -> int:
         """Gives new statistics, and tells how many tunings there were."""
         return self.send(call(f"tune {json.dumps(statistics, ensure_ascii=False)}", tuned=number))
 
 
 class Client(Calls):
     """A connection to a server. It is made at the first call, and anew where the server has closed it since the last one: that is a
-    new session, and a server that was started anew has an empty index, so a client that has to know asks for the place. A
-    connection that is closed while calls have no reply is a `ConnectionError`.
+    new session, and a server that was started anew has an empty index. A connection that is closed while calls have no reply is a
+    `ConnectionError`.
 
     `timeout` is the number of seconds after which a call fails in which nothing was sent or read; by default it waits, also for a
-    worker that is free.
+    worker that is free. `tls` is for a server behind a proxy that takes TLS. With `one_session` a connection is never made anew, and
+    each call after its end is a `ConnectionError`: for who has to know that all calls come to one index.
     """
 
-    def __init__(self, host: str = "127.0.0.1", port: int = 7000, timeout: float | None = None):
+    def __init__(
+        self,
+        host: str = "127.0.0.1",
+        port: int = 7000,
+        timeout: float | None = None,
+        *,
+        tls: ssl.SSLContext | None = None,
+        one_session: bool = False,
+    ):
         self.address = host, port
         self.timeout = timeout
+        self.tls = tls
+        self.one_session = one_session
+        self.sessions = 0
         self.socket: socket.socket | None = None
         self.unread: list[bytes] = []  # the reply that has come in part
 
-    def send(self, asked: Call) -> Any:
-        [answer] = self.exchange([asked], [])
+    def send(self, asked: Call[Answer]) -> Answer:
+        answers: list[Any] = []
+        self.exchange([asked], answers)
+        [answer] = answers
         if isinstance(answer, Refused):
             raise answer
-        return answer
+        return answer  # type: ignore[no-any-return]
 
     def pipeline(self) -> Pipeline:
         """Calls that are sent together: with client.pipeline() as calls: .. . Their answers are in `calls.answers` afterwards."""
         return Pipeline(self)
 
     def close(self) -> None:
-        """Ends the connection. The next call makes a new one."""
+        """Ends the connection. The next call makes a new one, or with `one_session` fails."""
         if self.socket is not None:
             self.socket.close()
         self.socket, self.unread = None, []
@@ -312,7 +336,7 @@ class Client(Calls):
     def __exit__(self, *_: object) -> None:
         self.close()
 
-    def exchange(self, calls: Sequence[Call], answers: list) -> list:
+    def exchange(self, calls: Sequence[Call[Any]], answers: list[Any]) -> None:
         """Sends the calls while their replies come, and appends what each was answered, a refusal among them. Where this fails the
         connection is closed, and of the calls that have no answer it isn't known whether they were done."""
         try:
@@ -322,31 +346,40 @@ class Client(Calls):
         except BaseException:
             self.close()
             raise
-        return answers
 
     def connected(self) -> socket.socket:
         """The connection, which is a new one where there is none or the server closed it."""
         if self.socket is not None and is_closed(self.socket):
             self.close()
         if self.socket is None:
-            self.socket = socket.create_connection(self.address, self.timeout)
-            self.socket.setsockopt(socket.IPPROTO_TCP, socket.TCP_NODELAY, 1)
+            if self.one_session and self.sessions:
+                raise ConnectionError("the session is over")
+            self.socket = self.connect()
+            self.sessions += 1
         return self.socket
 
-    def replies(self, open_socket: socket.socket, calls: Sequence[Call]) -> Generator[str, None, None]:
+    def connect(self) -> socket.socket:
+        """A new connection, on which no call waits."""
+        made = socket.create_connection(self.address, self.timeout)
+        made.setsockopt(socket.IPPROTO_TCP, socket.TCP_NODELAY, 1)
+        if self.tls is not None:
+            made = self.tls.wrap_socket(made, server_hostname=self.address[0])
+        made.setblocking(False)
+        return made
+
+    def replies(self, open_socket: socket.socket, calls: Sequence[Call[Any]]) -> Generator[str, None, None]:
         """Sends the lines as the server takes them, and yields the replies as they come."""
         unsent = memoryview(b"".join(asked.line for asked in calls))
         left = len(calls)
         with selectors.DefaultSelector() as selector:
             selector.register(open_socket, selectors.EVENT_READ | selectors.EVENT_WRITE)
-            open_socket.setblocking(False)
             while left:
                 ready = selector.select(self.timeout)
                 if not ready:
                     raise TimeoutError(f"nothing was sent or read for {self.timeout} seconds")
                 for _, events in ready:
                     if events & selectors.EVENT_WRITE and unsent:
-                        unsent = unsent[open_socket.send(unsent) :]
+                        unsent = unsent[sent(open_socket, unsent) :]
                         if not unsent:
                             selector.modify(open_socket, selectors.EVENT_READ)
                     if events & selectors.EVENT_READ:
@@ -356,7 +389,10 @@ class Client(Calls):
 
     def read_lines(self, open_socket: socket.socket) -> list[bytes]:
         """The lines that one read completes."""
-        data = open_socket.recv(1 << 18)
+        try:
+            data = open_socket.recv(1 << 18)
+        except NOT_YET:
+            return []
         if not data:
             raise ConnectionError("the server closed the connection before all replies")
         self.unread.append(data)
@@ -367,15 +403,26 @@ class Client(Calls):
         return lines
 
 
-def is_closed(open_socket: socket.socket) -> bool:
-    """Whether the server has closed a connection on which no reply is awaited."""
-    open_socket.setblocking(False)
+NOT_YET = (BlockingIOError, ssl.SSLWantReadError, ssl.SSLWantWriteError)
+
+
+def sent(open_socket: socket.socket, data: memoryview) -> int:
+    """Sends some of the bytes, and tells how many. TLS takes the same ones again until it has sent them."""
     try:
-        return not open_socket.recv(1, socket.MSG_PEEK)
-    except BlockingIOError:
+        return open_socket.send(data[: 1 << 16])
+    except NOT_YET:
+        return 0
+
+
+def is_closed(open_socket: socket.socket) -> bool:
+    """Whether the server has closed a connection on which no reply is awaited, or sent what nobody asked for."""
+    try:
+        open_socket.recv(1)
+    except NOT_YET:
         return False
     except OSError:
         return True
+    return True
 
 
 class Pipeline(Calls):
@@ -384,10 +431,10 @@ class Pipeline(Calls):
 
     def __init__(self, client: Client):
         self.client = client
-        self.calls: list[Call] = []
-        self.answers: list = []
+        self.calls: list[Call[Any]] = []
+        self.answers: list[Any] = []
 
-    def send(self, asked: Call) -> Any:
+    def send(self, asked: Call[Answer]) -> Any:
         self.calls.append(asked)
         return len(self.calls) - 1
 
@@ -401,7 +448,8 @@ class Pipeline(Calls):
 
 
 class Shards:
-    """Servers of which each has the documents whose numbers leave its place when they are divided by how many there are."""
+    """Servers of which each has the documents whose numbers leave its place, from 0 on, when they are divided by how many there are.
+    Nothing is merged: what they answer comes in their order. It is used by one thread at a time, as a client is."""
 
     def __init__(self, clients: Sequence[Client]):
         self.clients = list(clients)
@@ -439,7 +487,19 @@ class Shards:
         """How many documents of all servers the boolean query keeps; without one, how many there are."""
         return sum(self.ask_all(lambda client: client.count(expression)))
 
-    def ask_all(self, ask: Callable[[Client], Any]) -> list:
+    def newest(self, most: int, expression: str | None = None) -> list[Some]:
+        """What each server answers: places are a server's own, so none tells which of two servers' documents is newer."""
+        return self.ask_all(lambda client: client.newest(most, expression))
+
+    def oldest(self, most: int, expression: str | None = None) -> list[Some]:
+        """What each server answers, as to `newest`."""
+        return self.ask_all(lambda client: client.oldest(most, expression))
+
+    def stats(self) -> list[Stats]:
+        """How full each server is."""
+        return self.ask_all(lambda client: client.stats())
+
+    def ask_all(self, ask: Callable[[Client], Answer]) -> list[Answer]:
         """What each server answers, in their order."""
         asked = [self.threads.submit(ask, client) for client in self.clients]
         wait(asked)  # also where one is refused: no client may still be in use by a thread

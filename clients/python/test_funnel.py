@@ -1,6 +1,7 @@
 """Tests the client against a served program: test_funnel.py PROGRAM."""
 
 import socket
+import ssl
 import subprocess
 import sys
 import tempfile
@@ -9,7 +10,7 @@ import time
 import unittest
 
 import funnel
-from funnel import Client, Commit, Shards
+from funnel import Client, Commit, Shards, Some
 
 PROGRAM = ""
 
@@ -29,6 +30,15 @@ def free_ports(count):
         finally:
             for it in sockets:
                 it.close()
+
+
+def without_certificate(protocol):
+    """A way of TLS in which nobody shows a certificate."""
+    context = ssl.SSLContext(protocol)
+    context.check_hostname, context.verify_mode = False, ssl.CERT_NONE
+    context.maximum_version = ssl.TLSVersion.TLSv1_2
+    context.set_ciphers("AECDH-AES256-SHA:@SECLEVEL=0")
+    return context
 
 
 class Server:
@@ -71,11 +81,12 @@ class Answers(unittest.TestCase):
             self.assertEqual(client.get(7), funnel.Document(2, "b  c "))
             self.refused(funnel.Absent, [], lambda: client.get(8))
             self.refused(funnel.Present, [2], lambda: client.add(7, "d"))
-            self.assertEqual(client.put(8, ""), (3, False))
-            self.assertEqual(client.get(8), (3, ""))
+            self.assertEqual(client.put(8, ""), funnel.Placed(3, False))
+            self.assertEqual(client.get(8), funnel.Document(3, ""))
             self.assertEqual([client.count(), client.count("b"), client.count("-b")], [2, 1, 1])
-            self.assertEqual([client.newest(1), client.oldest(1), client.newest(5, "b | -b")], [(2, [8]), (2, [7]), (2, [8, 7])])
-            self.assertEqual([client.newest(0), client.oldest(3, "zebra")], [(2, []), (0, [])])
+            self.assertEqual([client.newest(1), client.oldest(1)], [Some(2, [8]), Some(2, [7])])
+            self.assertEqual(client.newest(5, "b | -b"), Some(2, [8, 7]))
+            self.assertEqual([client.newest(0), client.oldest(3, "zebra")], [Some(2, []), Some(0, [])])
             self.refused(funnel.BadQuery, [0], lambda: client.count("|"))
             self.refused(funnel.BadQuery, [0], lambda: client.newest(1, ""))
             self.assertEqual(client.journal(), [Commit(True, 7), Commit(True, 7), Commit(True, 8)])
@@ -113,6 +124,12 @@ class Answers(unittest.TestCase):
                 client.add(66, "a\ndel 1")
             self.assertEqual(client.find("a"), list(range(1, 65)))
 
+    def test_a_text_comes_back_as_it_was(self):
+        with Server() as server, Client(port=server.port) as client:
+            for text in ["", " a  b ", "a\r", "a\r\r", "\r", "groß\t\u2028\0", "a" * 65_528]:
+                client.put(7, text)
+                self.assertEqual(client.get(7).text, text)
+
     def test_a_slice_is_recycled(self):
         with Server('{"slices":1}') as server, Client(port=server.port) as client:
             with client.pipeline() as calls:
@@ -143,6 +160,36 @@ class Answers(unittest.TestCase):
             server.process.wait()
             with self.assertRaises(OSError):
                 client.find("a")
+
+    def test_one_session_is_never_made_anew(self):
+        with Server("{}", 1, "--idle", "1") as server, Client(port=server.port, one_session=True) as client:
+            self.assertEqual(client.add(1, "a"), 1)
+            time.sleep(2.5)
+            for _ in range(2):
+                with self.assertRaises(ConnectionError):
+                    client.find("a")
+
+    def test_calls_go_through_tls(self):
+        ids = list(range(1000))
+        reply = f"found 1000 {' '.join(map(str, ids))}\n".encode()
+
+        def answer():
+            connection, _ = listener.accept()
+            with without_certificate(ssl.PROTOCOL_TLS_SERVER).wrap_socket(connection, server_side=True) as server:
+                while lines := server.recv(1 << 16):
+                    server.sendall(reply * lines.count(b"\n"))
+
+        with socket.create_server(("127.0.0.1", 0)) as listener:
+            thread = threading.Thread(target=answer)
+            thread.start()
+            with Client(port=listener.getsockname()[1], timeout=60, tls=without_certificate(ssl.PROTOCOL_TLS_CLIENT)) as client:
+                with client.pipeline() as calls:
+                    for _ in range(2000):
+                        calls.find("a cat " * 100)
+                self.assertEqual(calls.answers, [ids] * 2000)
+                self.assertEqual(client.find(), ids)
+                self.assertEqual(client.sessions, 1)
+            thread.join()
 
     def test_a_call_whose_reply_is_cut_fails(self):
         with socket.create_server(("127.0.0.1", 0)) as listener, Client(port=listener.getsockname()[1]) as client:
@@ -190,6 +237,9 @@ class Answers(unittest.TestCase):
                     shards.query("(")
                 self.assertEqual(shards.find("w2"), [2])
                 self.assertEqual([shards.count(), shards.count("w2"), shards.put(2, "dog").replaced, shards.get(2).text], [4, 1, True, "dog"])
+                self.assertEqual(shards.newest(1), [Some(3, [2]), Some(1, [1])])
+                self.assertEqual(shards.oldest(2, "cat"), [Some(2, [0, 4]), Some(1, [1])])
+                self.assertEqual([(it.documents, it.place) for it in shards.stats()], [(3, 4), (1, 3)])
 
 
 if __name__ == "__main__":
