@@ -1,5 +1,5 @@
-"""Serves a client that asks, one that sends nothing, one that reads nothing, and one that asks, by one worker that lets each wait for a second, and
-prints what they got: idle_clients.py PROGRAM."""
+"""Serves a client that asks, one that sends nothing, one that reads nothing, and one that asks, by one worker that lets each wait for some seconds,
+and prints what they got: idle_clients.py PROGRAM."""
 
 import subprocess
 import sys
@@ -9,14 +9,15 @@ from ports import connect, free_port
 
 ADDS = "".join(f"add {number} x\n" for number in range(1, 101)).encode()
 FINDS = b"find\n" * 10_000
+IDLE = 3  # seconds for which a read or a write may wait
 
 
 def wait_for_end(client):
-    """Waits until the connection is closed, and tells whether that came after a second at least, and before long."""
+    """Waits until the connection is closed, and tells whether that came after one read waited, and before a second one did."""
     begin = time.monotonic()
     while client.recv(1 << 16):
         pass
-    return "closed" if 0.9 < time.monotonic() - begin < 10 else "closed at another time"
+    return "closed" if 0.9 * IDLE < time.monotonic() - begin < 1.9 * IDLE else "closed at another time"
 
 
 def send_until_closed(client):
@@ -37,7 +38,7 @@ def ask(client, lines, count):
 
 
 port = free_port()
-words = [sys.argv[1], "serve", "--port", str(port), "--workers", "1", "--connections", "4", "--idle", "1"]
+words = [sys.argv[1], "serve", "--port", str(port), "--workers", "1", "--connections", "4", "--idle", str(IDLE)]
 with subprocess.Popen(words, stdin=subprocess.DEVNULL) as program:
     first = connect(port)
     print("a client that asks:", ask(first, ADDS + b"place\n", 101))
