@@ -21,8 +21,8 @@ SHAPES = [
 ]
 STATISTICS = [
     {"max_rows": 8, "words": {"ant": 40, "bee": 16, "cat": 4, "dog": 2}},
-    {"max_rows": 5, "words": {"ant": 3, "cat": 40, "elk": 9}},
-    {"max_rows": 6, "words": {"bee": 60, "dog": 4, "fox": 1}},
+    {"max_rows": 5, "private": 4, "words": {"ant": 3, "cat": 40, "elk": 9}},
+    {"max_rows": 6, "private": 0, "words": {"bee": 60, "dog": 4, "fox": 1}},
 ]
 COMMON = {"one_in": 20, "snr": 1, "documents": 64, "tail": 4}
 WORDS = ["ant", "bee", "cat", "dog", "elk", "fox", "gnu"]

@@ -75,6 +75,7 @@ fn config(alloc: Global, slices: u32, blocks: u32, max_rank: u8) -> Config
         documents: 1000,
         tail: 10,
         max_rows: 65536,
+        private: 2,
         words: no_words(alloc),
     }
 }

@@ -32,6 +32,7 @@ fn with_tail(alloc: Global, base: &Config, tail: u64) -> Config
         documents: base.documents,
         tail,
         max_rows: base.max_rows,
+        private: base.private,
         words: no_words(alloc),
     }
 }

@@ -51,6 +51,7 @@ module _ (opening base : Config) (is : base ≡ record opening { words = [] }) w
     documents = range.documents;
     tail = range.tail;
     max_rows = range.max_rows;
+    private = range.private;
     words = record { few = omega arith; counted = All-nil (λ (entry : List ℕ × ℕ). IsBetween 1 opening.documents entry.1) };
   })
 

@@ -42,6 +42,7 @@ pub(crate) fn without_words(alloc: Global, config: &Config) -> Config
         documents: config.documents,
         tail: config.tail,
         max_rows: config.max_rows,
+        private: config.private,
         words: no_words(alloc),
     }
 }

@@ -38,6 +38,7 @@ tuning-no_words opening config kept is tail none = record {
     documents = is.documents;
     tail = tail;
     max_rows = is.max_rows;
+    private = is.private;
     words = record {
       few = subst (λ (ws : List (List ℕ × ℕ)). length ws ≤ 65536) (sym none) (let none_few : 0 ≤ 65536 = omega arith in none_few);
       counted = subst (All (λ (entry : List ℕ × ℕ). IsBetween 1 opening.documents entry.1)) (sym none) (All-nil (λ (entry : List ℕ × ℕ). IsBetween 1 opening.documents entry.1));

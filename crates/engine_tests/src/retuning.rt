@@ -51,6 +51,7 @@ fn by_tail(alloc: Global, opening: &Config, tail: u64) -> Config
         documents: opening.documents,
         tail,
         max_rows: opening.max_rows,
+        private: opening.private,
         words: no_words(alloc),
     }
 }

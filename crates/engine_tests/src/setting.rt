@@ -49,6 +49,7 @@ pub(crate) fn config(alloc: Global, passes: u32, slices: u32, blocks: u32, commi
         documents: 1000,
         tail: 10,
         max_rows: 65536,
+        private: 2,
         words: no_words(alloc),
     }
 }

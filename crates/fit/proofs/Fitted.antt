@@ -22,6 +22,7 @@ use Rattle.fit.proofs.Reading.{IsTested, all_words, reads_back}
 use Rattle.fit.specs.Ends.{IsFitted}
 use Rattle.fit.specs.Fits.{HasFirst, IsFit, IsFull}
 use Rattle.fit.specs.Listings.{IsRanking, IsTail, may_be_listed}
+use Rattle.fit.specs.Privates.{IsPrivateClass}
 use Rattle.fit.specs.Made.{IsFrameOf, IsMade, IsOfSample, ListsSample}
 use Rattle.fit.specs.Shapes.{IsBestRank, IsLeastRoom, columns_at}
 use Rattle.fit.specs.Steps.{HasCounted}
@@ -61,6 +62,7 @@ has_first n documents tally ranking words count frame config f together within m
     slices = subst (λ (s : ℕ). IsLeastRoom n config.max_rank s) (sym made.slices) (subst (λ (r : ℕ). IsLeastRoom n r frame.slices) (sym made.rank) f.least);
     reserve = made.reserve ∙ ap columns_at (sym made.rank);
   };
+  private = subst (λ (d : ℕ). IsPrivateClass d config.words config.private) f.corpus made.private;
   lists = record {
     within = within;
     words = made.words;

@@ -3,6 +3,7 @@ pub mod Counting
 pub mod Sampling
 pub mod Rooms
 pub mod Orders
+pub mod Privates
 pub mod Writing
 pub mod Making
 pub mod Reading

@@ -39,6 +39,7 @@ in_range_made frame first config sound can few made = record {
   documents = (omega (arith, made.documents, sound.corpus.0), omega (arith, made.documents, sound.corpus.1));
   tail = omega (arith, made.tail.least 65536 (omega arith) (omega (arith, sound.few_words)));
   max_rows = (omega (arith, made.defaults.max_rows), omega (arith, made.defaults.max_rows));
+  private = omega (arith, made.private.high);
   words = record {
     few = omega (arith, length_permutation first config.words made.words, few);
     counted = subst (λ (n : ℕ). All (λ (entry : List ℕ × ℕ). IsBetween 1 n entry.1) config.words) (sym made.documents)

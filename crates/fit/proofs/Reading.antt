@@ -1,23 +1,26 @@
 -- The text of a configuration is read as this configuration.
-use Rattle.std.proofs.Common.{◌≡◌, ◌∙◌, ◌≤◌, ◌&&◌, ◌==◌, ℕ, suc, nat_le, true, false, List, [], ◌∷◌, All, None, Ok, Some, IsUtf8, ap, arith, eqb-true, le-leb, le-ltb, length, refl, subst, sym}
+use Rattle.std.proofs.Common.{◌≡◌, ◌∙◌, ◌≤◌, ◌&&◌, ◌==◌, ℕ, suc, nat_le, Bool, true, false, List, [], ◌∷◌, All, None, Ok, Some, IsUtf8, ap, arith, eqb-true, le-leb, le-ltb, length, refl, subst, sym}
 use Rattle.std.proofs.lemmas.Bool.{false_from_ne_true}
 use Rattle.std.proofs.lemmas.List.Elements.{All-head, All-tail}
 use Rattle.std.specs.Option.{option_map_or}
+use Rattle.std.specs.Prelude.{Option, option_and_then}
 use Rattle.funnel_model.specs.Configuration.{IsBetween, IsInRange, IsWord}
 use Rattle.funnel_model.specs.Sizes.{columns_of_pool, words_of_pool}
 use Rattle.funnel_model.specs.declared.config.Config.{Config}
 use Rattle.funnel_model.specs.declared.config.TheConstants.{MOST_COLUMNS, MOST_ROW_WORDS}
 use Rattle.serde_json.specs.Data.{Data, Members, object}
+use Rattle.serde_json.specs.Find.{as_object}
 use Rattle.serde_json.specs.Read.{read}
 use Rattle.funnel_stats.proofs.ConfigurationLemmas.{configuration-object}
 use Rattle.funnel_stats.proofs.ObjectLemmas.{object_of-value}
 use Rattle.funnel_stats.proofs.Validity.{words-from_not_word}
 use Rattle.funnel_stats.specs.Configurations.{config_of, configuration, fault_of, longest, value_fault, word_counts}
 use Rattle.funnel_stats.specs.Faults.{bad_value, is_word, not_word, unknown_key, word_count}
-use Rattle.funnel_stats.specs.Keys.{keys}
+use Rattle.funnel_stats.specs.Keys.{keys, range_of}
 use Rattle.funnel_stats.specs.Values.{entries, is_in_limits, listed_at, number_at, quantity, value_at}
 use Rattle.funnel_stats.specs.declared.key.Key.{Key}
-use Rattle.funnel_stats.specs.declared.key.Key.TheVariants.{Passes, Slices, Blocks, MaxRank, Commits, Reserve, OneIn, Snr, Documents, Tail, MaxRows, Words}
+use Rattle.funnel_stats.specs.declared.key.Key.TheVariants.{Passes, Slices, Blocks, MaxRank, Commits, Reserve, OneIn, Snr, Documents, Tail, MaxRows, Private, Words}
+use Rattle.fit.proofs.Writing.{is_left_out, members_by}
 use Rattle.fit.specs.Fits.{HasDefaults}
 use Rattle.fit.specs.Texts.{members_of, members_of_words, text_of, whole}
 
@@ -70,29 +73,55 @@ some_bytes config =
     false_from_ne_true (length (text_of config) == 0) (λ empty. let none : length (text_of config) ≡ 0 = eqb-true (length (text_of config)) 0 empty in omega (arith, none))
 
 module _ (config : Config) (range : IsInRange config) (tested : All IsTested config.words) where
+  -- the value of a key, whether or not `private` is left out
+  value_is : (key : Key) (value : Option Data) → value_at (members_by true config) key ≡ value → value_at (members_by false config) key ≡ value
+      → value_at (members_of config) key ≡ value
+  unfolding members_of
+  value_is key value gone there = by (is_left_out config)
+    where
+      by : (left : Bool) → value_at (members_by left config) key ≡ value
+      by true = gone
+      by false = there
+
+  has_good : (key : Key) (value : Data) → value_at (members_by true config) key ≡ Some value → value_at (members_by false config) key ≡ Some value
+      → option_map_or (is_in_limits key) (quantity key value) false ≡ true → bad_value (members_of config) key ≡ None
+  has_good key value gone there good = good_value (members_of config) key value (value_is key (Some value) gone there) good
+
+  lacks : (key : Key) → value_at (members_by true config) key ≡ None → value_at (members_by false config) key ≡ None → bad_value (members_of config) key ≡ None
+  lacks key gone there = left_out (members_of config) key (value_is key None gone there)
+
+  no_bad_private : (left : Bool) → bad_value (members_by left config) Private ≡ None
+  no_bad_private true = left_out (members_by true config) Private refl
+  no_bad_private false = good_value (members_by false config) Private (whole config.private) refl (both 0 config.private 15 (omega arith) range.private)
+
   no_bad_value : (key : Key) → bad_value (members_of config) key ≡ None
   unfolding members_of
-  no_bad_value Passes = good_value (members_of config) Passes (whole config.passes) refl (both 1 config.passes 64 range.passes.0 range.passes.1)
-  no_bad_value Slices = good_value (members_of config) Slices (whole config.slices) refl (both 1 config.slices 1024 range.slices.0 range.slices.1)
-  no_bad_value Blocks = left_out (members_of config) Blocks refl
-  no_bad_value MaxRank = good_value (members_of config) MaxRank (whole config.max_rank) refl (both 0 config.max_rank 6 (omega arith) range.max_rank)
-  no_bad_value Commits = left_out (members_of config) Commits refl
-  no_bad_value Reserve = good_value (members_of config) Reserve (whole config.reserve) refl (both 0 config.reserve 4194304 (omega arith) range.reserve)
-  no_bad_value OneIn = left_out (members_of config) OneIn refl
-  no_bad_value Snr = left_out (members_of config) Snr refl
-  no_bad_value Documents = good_value (members_of config) Documents (whole config.documents) refl (both 1 config.documents 4294967296 range.documents.0 range.documents.1)
-  no_bad_value Tail = good_value (members_of config) Tail (whole config.tail) refl (both 0 config.tail 100000 (omega arith) range.tail)
-  no_bad_value MaxRows = left_out (members_of config) MaxRows refl
-  no_bad_value Words = good_value (members_of config) Words (object (members_of_words config.words)) refl
+  no_bad_value Passes = has_good Passes (whole config.passes) refl refl (both 1 config.passes 64 range.passes.0 range.passes.1)
+  no_bad_value Slices = has_good Slices (whole config.slices) refl refl (both 1 config.slices 1024 range.slices.0 range.slices.1)
+  no_bad_value Blocks = lacks Blocks refl refl
+  no_bad_value MaxRank = has_good MaxRank (whole config.max_rank) refl refl (both 0 config.max_rank 6 (omega arith) range.max_rank)
+  no_bad_value Commits = lacks Commits refl refl
+  no_bad_value Reserve = has_good Reserve (whole config.reserve) refl refl (both 0 config.reserve 4194304 (omega arith) range.reserve)
+  no_bad_value OneIn = lacks OneIn refl refl
+  no_bad_value Snr = lacks Snr refl refl
+  no_bad_value Documents = has_good Documents (whole config.documents) refl refl (both 1 config.documents 4294967296 range.documents.0 range.documents.1)
+  no_bad_value Tail = has_good Tail (whole config.tail) refl refl (both 0 config.tail 100000 (omega arith) range.tail)
+  no_bad_value MaxRows = lacks MaxRows refl refl
+  no_bad_value Private = no_bad_private (is_left_out config)
+  no_bad_value Words = has_good Words (object (members_of_words config.words)) refl refl
       (both 0 (length (entries (members_of_words config.words))) 65536 (omega arith) (omega (arith, length-words config.words, range.words.few)))
 
+  no_unknown_key_by : (left : Bool) → unknown_key keys (entries (members_by left config)) ≡ None
+  unfolding unknown_key
+  no_unknown_key_by true = refl
+  no_unknown_key_by false = refl
+
   no_unknown_key : unknown_key keys (entries (members_of config)) ≡ None
-  unfolding unknown_key members_of
-  no_unknown_key = refl
+  unfolding members_of
+  no_unknown_key = no_unknown_key_by (is_left_out config)
 
   listed_is : listed_at (members_of config) ≡ entries (members_of_words config.words)
-  unfolding members_of
-  listed_is = refl
+  listed_is = ap (λ (value : Option Data). option_map_or entries (option_and_then as_object value) []) (value_is Words (Some (object (members_of_words config.words))) refl refl)
 
   corpus_is : number_at (members_of config) Documents ≡ config.documents
   unfolding members_of
@@ -113,6 +142,7 @@ module _ (config : Config) (range : IsInRange config) (tested : All IsTested con
         no_bad_value Documents,
         no_bad_value Tail,
         no_bad_value MaxRows,
+        no_bad_value Private,
         no_bad_value Words,
         listed_is,
         corpus_is,
@@ -120,9 +150,18 @@ module _ (config : Config) (range : IsInRange config) (tested : All IsTested con
         none_word_count config.documents config.words range.words.counted,
       ) refl
 
-  config_is : HasDefaults config → config_of (members_of config) ≡ config
-  unfolding config_of members_of
-  config_is d = λ i. record config {
+  config_by : (left : Bool) → (left ≡ true → config.private ≡ (range_of Private).default) → HasDefaults config → config_of (members_by left config) ≡ config
+  unfolding config_of
+  config_by true is d = λ i. record config {
+    blocks = sym d.blocks i;
+    commits = sym d.commits i;
+    one_in = sym d.one_in i;
+    snr = sym d.snr i;
+    max_rows = sym d.max_rows i;
+    private = sym (is refl) i;
+    words = counts_words config.words i;
+  }
+  config_by false is d = λ i. record config {
     blocks = sym d.blocks i;
     commits = sym d.commits i;
     one_in = sym d.one_in i;
@@ -130,6 +169,10 @@ module _ (config : Config) (range : IsInRange config) (tested : All IsTested con
     max_rows = sym d.max_rows i;
     words = counts_words config.words i;
   }
+
+  config_is : HasDefaults config → config_of (members_of config) ≡ config
+  unfolding members_of
+  config_is d = config_by (is_left_out config) (eqb-true config.private (range_of Private).default) d
 
   no_fault : HasDefaults config → columns_of_pool config ≤ MOST_COLUMNS → words_of_pool config ≤ MOST_ROW_WORDS → fault_of (members_of config) ≡ None
   unfolding fault_of

@@ -1,5 +1,5 @@
 -- The text of a configuration, and what it is read as.
-use Rattle.std.proofs.Common.{◌≡◌, ◌∙◌, ◌+◌, ◌<◌, ◌≤◌, ◌^◌, ◌&&◌, ℕ, zero, suc, Bool, true, false, cond, List, [], ◌∷◌, ◌++◌, All, map, length, get_or, take, refl, sym, ap, ap₂, subst, arith, append_assoc, append-nil, length-append, add-one, Some}
+use Rattle.std.proofs.Common.{◌≡◌, ◌∙◌, ◌+◌, ◌<◌, ◌≤◌, ◌^◌, ◌&&◌, ◌==◌, ℕ, zero, suc, Bool, true, false, cond, List, [], ◌∷◌, ◌++◌, All, map, length, get_or, take, refl, sym, ap, ap₂, subst, arith, append_assoc, append-nil, length-append, add-one, Some}
 use Rattle.std.proofs.lemmas.Cmp.{nat_list_cmp_total}
 use Rattle.std.proofs.lemmas.Map.Keys.{sorted_head, sorted_tail}
 use Rattle.std.specs.Cmp.Lexicographic.{slice_cmp}
@@ -23,14 +23,34 @@ use Rattle.funnel_model.specs.Configuration.{IsBetween, IsInRange}
 use Rattle.std.proofs.lemmas.List.Elements.{All-head, All-tail, All-weaker}
 use Rattle.std.specs.Prelude.{Option, decimal, option_and_then}
 use Rattle.std.proofs.lemmas.Fmt.{length-decimal-le}
-use Rattle.funnel_stats.specs.Keys.{name_of}
-use Rattle.funnel_stats.specs.declared.key.Key.TheVariants.{Documents, MaxRank, Passes, Reserve, Slices, Tail, Words}
+use Rattle.funnel_stats.specs.Keys.{name_of, range_of}
+use Rattle.funnel_stats.specs.declared.key.Key.TheVariants.{Documents, MaxRank, Passes, Private, Reserve, Slices, Tail, Words}
 use Rattle.funnel_model.proofs.ListedLemmas.{later}
 use Rattle.funnel_model.specs.Listed.{IsInByteOrder}
 use Rattle.funnel_model.specs.declared.config.Config.{Config}
 use Rattle.fit.specs.Texts.{members_of, members_of_words, text_of, whole}
 
 -- ---- the members
+
+-- those behind the key `private`
+abbrev members_behind : Config → tree.Members
+members_behind config =
+    tree.member (name_of Reserve) (whole config.reserve)
+    (tree.member (name_of Slices) (whole config.slices)
+    (tree.member (name_of Tail) (whole config.tail)
+    (tree.member (name_of Words) (tree.object (members_of_words config.words)) tree.no_members)))
+
+-- all, of which the key `private` is left out or not
+abbrev pub members_by : Bool → Config → tree.Members
+members_by left config =
+    tree.member (name_of Documents) (whole config.documents)
+    (tree.member (name_of MaxRank) (whole config.max_rank)
+    (tree.member (name_of Passes) (whole config.passes)
+    (cond left (members_behind config) (tree.member (name_of Private) (whole config.private) (members_behind config)))))
+
+-- whether it is
+abbrev pub is_left_out : Config → Bool
+is_left_out config = config.private == (range_of Private).default
 
 put_first : (word : List ℕ) (value : tree.Data) (e : List ℕ × ℕ) (others : tree.Members) → slice_cmp nat_cmp e.0 word ≡ Less
     → tree.put word value (tree.member e.0 (whole e.1) others) ≡ tree.member e.0 (whole e.1) (tree.put word value others)
@@ -59,9 +79,13 @@ words_have_none : (es : List (List ℕ × ℕ)) → members_have_float (members_
 words_have_none [] = refl
 words_have_none (e ∷ es) = words_have_none es
 
+has_none_by : (left : Bool) (config : Config) → has_float (tree.object (members_by left config)) ≡ false
+has_none_by true config = rw (words_have_none config.words) refl
+has_none_by false config = rw (words_have_none config.words) refl
+
 pub has_none : (config : Config) → has_float (tree.object (members_of config)) ≡ false
 unfolding members_of
-has_none config = rw (words_have_none config.words) refl
+has_none config = has_none_by (is_left_out config) config
 
 -- ---- a newline behind the text
 
@@ -151,32 +175,39 @@ words_have_numbers [] all = tt
 words_have_numbers (e ∷ es) all =
     (IsNumber-decimal e.1 (All-head (λ (entry : List ℕ × ℕ). entry.1 < 2 ^ 64) e es all), words_have_numbers es (All-tail (λ (entry : List ℕ × ℕ). entry.1 < 2 ^ 64) e es all))
 
-have_numbers : (config : Config) → IsInRange config → HasNumbers (outline (tree.object (members_of config)))
-unfolding members_of
-have_numbers config range = (
-  IsNumber-decimal config.documents (omega (arith, range.documents.1)),
+numbers_behind : (config : Config) → IsInRange config → MembersHaveNumbers (members_outline (members_behind config))
+numbers_behind config range = (
+  IsNumber-decimal config.reserve (omega (arith, range.reserve)),
   (
-    IsNumber-decimal config.max_rank (omega (arith, range.max_rank)),
+    IsNumber-decimal config.slices (omega (arith, range.slices.1)),
     (
-      IsNumber-decimal config.passes (omega (arith, range.passes.1)),
+      IsNumber-decimal config.tail (omega (arith, range.tail)),
       (
-        IsNumber-decimal config.reserve (omega (arith, range.reserve)),
-        (
-          IsNumber-decimal config.slices (omega (arith, range.slices.1)),
-          (
-            IsNumber-decimal config.tail (omega (arith, range.tail)),
-            (
-              words_have_numbers config.words
-                  (All-weaker (λ (entry : List ℕ × ℕ). IsBetween 1 config.documents entry.1) (λ (entry : List ℕ × ℕ). entry.1 < 2 ^ 64)
-                  (λ entry between. omega (arith, between.1, range.documents.1)) config.words range.words.counted),
-              tt,
-            ),
-          ),
-        ),
+        words_have_numbers config.words
+            (All-weaker (λ (entry : List ℕ × ℕ). IsBetween 1 config.documents entry.1) (λ (entry : List ℕ × ℕ). entry.1 < 2 ^ 64)
+            (λ entry between. omega (arith, between.1, range.documents.1)) config.words range.words.counted),
+        tt,
       ),
     ),
   ),
 )
+
+have_numbers_by : (left : Bool) (config : Config) → IsInRange config → HasNumbers (outline (tree.object (members_by left config)))
+have_numbers_by true config range = (
+  IsNumber-decimal config.documents (omega (arith, range.documents.1)),
+  (IsNumber-decimal config.max_rank (omega (arith, range.max_rank)), (IsNumber-decimal config.passes (omega (arith, range.passes.1)), numbers_behind config range)),
+)
+have_numbers_by false config range = (
+  IsNumber-decimal config.documents (omega (arith, range.documents.1)),
+  (
+    IsNumber-decimal config.max_rank (omega (arith, range.max_rank)),
+    (IsNumber-decimal config.passes (omega (arith, range.passes.1)), (IsNumber-decimal config.private (omega (arith, range.private)), numbers_behind config range)),
+  ),
+)
+
+have_numbers : (config : Config) → IsInRange config → HasNumbers (outline (tree.object (members_of config)))
+unfolding members_of
+have_numbers config range = have_numbers_by (is_left_out config) config range
 
 -- ---- the text is read with its newline as it is read without
 
@@ -197,10 +228,14 @@ words_are_flat : (es : List (List ℕ × ℕ)) → tree.members_depth (members_o
 words_are_flat [] = omega arith
 words_are_flat (e ∷ es) = omega (arith, words_are_flat es)
 
+is_shallow_by : (left : Bool) (config : Config) → tree.depth (tree.object (members_by left config)) ≤ max_depth
+is_shallow_by true config = omega (arith, words_are_flat config.words)
+is_shallow_by false config = omega (arith, words_are_flat config.words)
+
 -- the object nests two deep
 pub is_shallow : (config : Config) → tree.depth (tree.object (members_of config)) ≤ max_depth
 unfolding members_of
-is_shallow config = omega (arith, words_are_flat config.words)
+is_shallow config = is_shallow_by (is_left_out config) config
 
 -- the text of the object is that of the configuration
 pub written : (config : Config) (s : List ℕ) (value : tree.Data) → value ≡ tree.object (members_of config) → (has_float value ≡ false → s ≡ compact_text value)
@@ -217,15 +252,13 @@ length-member true k n ms small =
 length-member false k n ms small =
     omega (arith, length-append (quoted k) (58 ∷ (decimal n ++ members_text true ms)), length-append (decimal n) (members_text true ms), length-decimal-le 20 n (omega arith) (omega arith) small)
 
-pub short_text : (config : Config) → IsInRange config → config.words ≡ [] → length (text_of config) ≤ 1000
-unfolding text_of members_of escape_byte
-short_text config range none =
+-- from the key `reserve` on
+short_behind : (config : Config) → IsInRange config → config.words ≡ [] → length (members_text true (members_behind config)) ≤ 200
+unfolding escape_byte
+short_behind config range none =
     let last = tree.member (name_of Words) (tree.object (members_of_words config.words)) tree.no_members in
     let tail = tree.member (name_of Tail) (whole config.tail) last in
     let slices = tree.member (name_of Slices) (whole config.slices) tail in
-    let reserve = tree.member (name_of Reserve) (whole config.reserve) slices in
-    let passes = tree.member (name_of Passes) (whole config.passes) reserve in
-    let rank = tree.member (name_of MaxRank) (whole config.max_rank) passes in
     let few : length (members_text true last) ≤ 20 =
     subst (λ (es : List (List ℕ × ℕ)). length (members_text true (tree.member (name_of Words) (tree.object (members_of_words es)) tree.no_members)) ≤ 20) (sym none) (omega arith) in
     omega (
@@ -234,7 +267,26 @@ short_text config range none =
       length-member true (name_of Tail) config.tail last (omega (arith, range.tail)),
       length-member true (name_of Slices) config.slices tail (omega (arith, range.slices.1)),
       length-member true (name_of Reserve) config.reserve slices (omega (arith, range.reserve)),
-      length-member true (name_of Passes) config.passes reserve (omega (arith, range.passes.1)),
+    )
+
+-- from the key `private` on, which is left out or not
+short_private : (left : Bool) (config : Config) → IsInRange config → config.words ≡ []
+    → length (members_text true (cond left (members_behind config) (tree.member (name_of Private) (whole config.private) (members_behind config)))) ≤ 300
+unfolding escape_byte
+short_private true config range none = omega (arith, short_behind config range none)
+short_private false config range none =
+    omega (arith, short_behind config range none, length-member true (name_of Private) config.private (members_behind config) (omega (arith, range.private)))
+
+pub short_text : (config : Config) → IsInRange config → config.words ≡ [] → length (text_of config) ≤ 1000
+unfolding text_of members_of escape_byte
+short_text config range none =
+    let private = cond (is_left_out config) (members_behind config) (tree.member (name_of Private) (whole config.private) (members_behind config)) in
+    let passes = tree.member (name_of Passes) (whole config.passes) private in
+    let rank = tree.member (name_of MaxRank) (whole config.max_rank) passes in
+    omega (
+      arith,
+      short_private (is_left_out config) config range none,
+      length-member true (name_of Passes) config.passes private (omega (arith, range.passes.1)),
       length-member true (name_of MaxRank) config.max_rank passes (omega (arith, range.max_rank)),
       length-member false (name_of Documents) config.documents rank (omega (arith, range.documents.1)),
       length-append (compact_text (tree.object (tree.member (name_of Documents) (whole config.documents) rank))) (10 ∷ []),

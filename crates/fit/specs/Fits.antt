@@ -10,9 +10,10 @@ use Rattle.funnel_stats.specs.declared.key.Key.TheVariants.{Blocks, Commits, One
 use Rattle.fit.specs.Tallies.{IsTally, total}
 use Rattle.fit.specs.Shapes.{IsBestRank, IsLeastRoom, columns_at}
 use Rattle.fit.specs.Listings.{IsRanking, IsTail}
+use Rattle.fit.specs.Privates.{IsPrivateClass}
 use Rattle.fit.specs.Texts.{text_of}
 
--- as many passes as there may be, and the default of each key that is not written
+-- as many passes as there may be, and the default of each key that is never written
 pub record HasDefaults (config : Config) : Type 0 where
   pub passes : config.passes ≡ MOST_PASSES
   pub blocks : config.blocks ≡ (range_of Blocks).default
@@ -39,6 +40,7 @@ pub record ListsFirst (documents : ℕ) (tally ranking : List (List ℕ × ℕ))
 pub record HasFirst (n documents : ℕ) (tally ranking : List (List ℕ × ℕ)) (count : ℕ) (config : Config) : Type 0 where
   pub defaults : HasDefaults config
   pub shape : HasShape n config
+  pub private : IsPrivateClass documents config.words config.private
   pub lists : ListsFirst documents tally ranking count config
 
 -- no more words may be listed: they are as many as may be, or all, or with the next one the text would be too long

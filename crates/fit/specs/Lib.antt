@@ -2,6 +2,7 @@ pub mod Adds
 pub mod Tallies
 pub mod Shapes
 pub mod Listings
+pub mod Privates
 pub mod Texts
 pub mod Fits
 pub mod Ends

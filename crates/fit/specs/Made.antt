@@ -14,6 +14,7 @@ use Rattle.funnel_model.specs.Listed.{IsInByteOrder}
 use Rattle.funnel_model.specs.declared.config.Config.{Config}
 use Rattle.fit.specs.Fits.{HasDefaults}
 use Rattle.fit.specs.Listings.{IsRanking, IsTail}
+use Rattle.fit.specs.Privates.{IsPrivateClass}
 use Rattle.fit.specs.Shapes.{IsBestRank, IsLeastRoom, columns_at}
 use Rattle.fit.specs.Tallies.{total}
 use Rattle.fit.specs.Texts.{members_of, text_of}
@@ -30,6 +31,7 @@ pub record IsMade (frame : Frame) (first : List (List ℕ × ℕ)) (config : Con
   pub words : IsPermutation first config.words
   pub order : IsInByteOrder config.words
   pub tail : IsTail (frame.words - total config.words) frame.documents config.tail
+  pub private : IsPrivateClass frame.documents config.words config.private
 
 -- the frame's numbers are in their ranges
 pub record IsSound (frame : Frame) : Type 0 where

@@ -7,6 +7,7 @@
 mod ends;
 mod fitting;
 mod listing;
+mod private;
 mod ranking;
 mod sample;
 mod shape;

@@ -12,6 +12,7 @@ ghost use Rattle.fit.specs.Made.{CanBeListed, IsMade, IsSound, IsWrittenFor};
 ghost use Rattle.fit.specs.Steps.{ranked};
 ghost use Rattle.fit.specs.Tallies.{total};
 
+use crate::private::private_class;
 use crate::ranking::Ranked;
 use crate::text::text_of;
 use funnel_model::{Config, Listed, MOST_PASSES, Memory};
@@ -71,6 +72,7 @@ fn configuration(alloc: Global, frame: Frame, first: &[Ranked]) -> Result<Config
         documents: frame.documents,
         tail: tail(others, frame.documents),
         max_rows: Key::MaxRows.limits().default as u32,
+        private: private_class(first, frame.documents),
         words: listed(alloc, first)?,
     })
 }

@@ -1,11 +1,12 @@
 //! The text of a configuration.
 
-ghost use Rattle.std.specs.Prelude.{◌≡◌, Some, IfOk, IsUtf8, OnOk, string_bytes};
+ghost use Rattle.std.specs.Prelude.{◌≡◌, ◌==◌, Some, IfOk, IsUtf8, OnOk, string_bytes, if◌then◌else◌};
 ghost use Rattle.funnel_model.specs.Configuration.{IsInRange};
 ghost use Rattle.serde_json.specs.Data.{object, put};
 ghost use Rattle.serde_json.specs.Read.{read};
 ghost use Rattle.serde_json.specs.View.{members_view, view};
-ghost use Rattle.funnel_stats.specs.Keys.{name_of};
+ghost use Rattle.funnel_stats.specs.Keys.{name_of, range_of};
+ghost use Rattle.funnel_stats.specs.declared.key.Key.TheVariants.{Private};
 ghost use Rattle.fit.specs.Texts.{text_of, members_of, members_of_words, whole};
 
 use funnel_model::{Config, Listed, Memory};
@@ -34,12 +35,25 @@ fn object_of(alloc: Global, config: &Config) -> Result<Map<String, Value>, Memor
     put_number(alloc, &mut object, Key::Documents, config.documents)?;
     put_number(alloc, &mut object, Key::MaxRank, u64::from(config.max_rank))?;
     put_number(alloc, &mut object, Key::Passes, u64::from(config.passes))?;
+    put_private(alloc, &mut object, u64::from(config.private))?;
     put_number(alloc, &mut object, Key::Reserve, u64::from(config.reserve))?;
     put_number(alloc, &mut object, Key::Slices, u64::from(config.slices))?;
     put_number(alloc, &mut object, Key::Tail, config.tail)?;
     let words = object_of_words(alloc, &config.words)?;
     put_value(alloc, &mut object, Key::Words, Value::Object(words))?;
     Ok(object)
+}
+
+/// Puts the number of the key `private` into an object, unless it is the default.
+fn put_private(alloc: Global, object: &mut Map<String, Value>, number: u64) -> Result<(), Memory>
+    ensures { OnOk result (members_view object.new.entries
+        ≡ (if number == (range_of Private).default then members_view object.old.entries
+        else put (name_of Private) (whole number) (members_view object.old.entries))) }
+{
+    if number == Key::Private.limits().default {
+        return Ok(());
+    }
+    put_number(alloc, object, Key::Private, number)
 }
 
 /// Puts the number of a key into an object.

@@ -54,6 +54,7 @@ Keys of funnel.json, a file with one JSON object in the folder where the program
   documents  1 to 4294967296, default 1000: documents among which the listed words were counted
   tail       0 to 100000, default 10: words of a document that are not listed
   max_rows   1 to 1048576, default 65536: shared rows of one rank at most
+  private    0 to 15, default 2: listed words up to this class have a row of their own
   words      at most 65536 words, default {}: the listed words, each with the documents that have it
 
 Lines of run and serve, each with a reply:

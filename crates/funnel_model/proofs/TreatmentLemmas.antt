@@ -1,5 +1,5 @@
 -- The laws of the treatment.
-use Rattle.std.proofs.Common.{◌≡◌, ℕ, ◌+◌, ◌-◌, ◌*◌, ◌^◌, ◌<◌, ◌≤◌, Bool, true, false, cond, leb, ltb, ⊎_elim, arith}
+use Rattle.std.proofs.Common.{◌≡◌, ℕ, ◌+◌, ◌-◌, ◌*◌, ◌^◌, ◌<◌, ◌≤◌, Bool, true, false, cond, leb, ⊎_elim, arith}
 use Rattle.std.proofs.Math.Nat.{mul-le-mul_left, pow-le-pow_left, pow-le-pow_right}
 use Rattle.std.proofs.lemmas.Nat.{mul-le}
 use Rattle.std.proofs.lemmas.Bool.{cases_lt}
@@ -93,7 +93,7 @@ row_count-rises m snr c d low few le small =
     let e : snr * (2 ^ (c + 1) - 1) ≤ snr * (2 ^ (d + 1) - 1) = mul-le-mul_left snr b in
     lower.least _ higher.positive (let h : snr * (2 ^ (c + 1) - 1) ≤ m ^ row_count_of_class m snr d = omega (arith, higher.enough) in h)
 
--- two rows that do not fall, of which the first is 1 below class 3
+-- two rows that do not fall, of which the first is 1 where the second is private
 choice_rises : (a b : Bool) (x y : ℕ) → x ≤ y → 1 ≤ y → (b ≡ true → a ≡ true) → cond a 1 x ≤ cond b 1 y
 choice_rises true true x y le pos h = omega arith
 choice_rises true false x y le pos h = omega arith
@@ -103,7 +103,7 @@ choice_rises false false x y le pos h = le
 pub rows_of_class-rises : (config : _) → IsInRange config → (c d : ℕ) → c ≤ d → d ≤ 15 → rows_of_class config c ≤ rows_of_class config d
 unfolding rows_of_class
 rows_of_class-rises config range c d le small =
-    choice_rises (ltb c 3) (ltb d 3) _ _
+    choice_rises (leb c config.private) (leb d config.private) _ _
     (row_count-rises config.one_in config.snr c d range.one_in.0 range.snr.1 le small)
     (row_count-is_least config.one_in config.snr d range.one_in.0 range.snr.1 small).positive
     (λ low. grind (arith, nat_tests))
@@ -114,4 +114,11 @@ rarer-more_rows config range f g le fits =
     (class-is_greatest f config.documents (let h : f ≤ config.documents = omega arith in h)).in_range
 
 pub unlisted-most_rows : UnlistedWordsHaveMostRows
-unlisted-most_rows config range c small = rows_of_class-rises config range c 15 small (omega arith)
+unfolding rows_of_class
+unlisted-most_rows config range c small =
+    below (leb c config.private) _ _
+    (row_count-rises config.one_in config.snr c 15 range.one_in.0 range.snr.1 small (omega arith))
+    (row_count-is_least config.one_in config.snr 15 range.one_in.0 range.snr.1 (omega arith)).positive where
+      below : (b : Bool) (x y : ℕ) → x ≤ y → 1 ≤ y → cond b 1 x ≤ y
+      below true x y le pos = pos
+      below false x y le pos = le

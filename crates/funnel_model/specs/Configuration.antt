@@ -4,7 +4,7 @@ use Rattle.funnel_model.specs.Words.{words}
 use Rattle.funnel_model.specs.Listed.{IsInByteOrder}
 use Rattle.funnel_model.specs.Sizes.{columns_of_pool, words_of_pool}
 use Rattle.funnel_model.specs.declared.config.Config.{Config}
-use Rattle.funnel_model.specs.declared.config.TheConstants.{MOST_PASSES, MOST_SLICES, MOST_BLOCKS, MOST_RANK, MOST_COMMITS, MOST_RESERVE, LEAST_ONE_IN, MOST_ONE_IN, MOST_SNR, MOST_DOCUMENTS, MOST_TAIL, MOST_MAX_ROWS, MOST_WORDS, MOST_COLUMNS, MOST_ROW_WORDS}
+use Rattle.funnel_model.specs.declared.config.TheConstants.{MOST_PASSES, MOST_SLICES, MOST_BLOCKS, MOST_RANK, MOST_COMMITS, MOST_RESERVE, LEAST_ONE_IN, MOST_ONE_IN, MOST_SNR, MOST_DOCUMENTS, MOST_TAIL, MOST_MAX_ROWS, MOST_PRIVATE, MOST_WORDS, MOST_COLUMNS, MOST_ROW_WORDS}
 
 -- the set of the words of a text is that text alone
 pub record IsWord (text : List ℕ) : Type 0 where
@@ -33,6 +33,7 @@ pub record IsInRange (config : Config) : Type 0 where
   pub documents : IsBetween 1 MOST_DOCUMENTS config.documents
   pub tail : config.tail ≤ MOST_TAIL
   pub max_rows : IsBetween 1 MOST_MAX_ROWS config.max_rows
+  pub private : config.private ≤ MOST_PRIVATE
   pub words : CountsWords config
 
 -- The configuration can be used: besides, each listed word is one folded word, no word is listed twice, and neither the
@@ -52,6 +53,7 @@ with_statistics opening statistics = record opening {
   documents = statistics.documents;
   tail = statistics.tail;
   max_rows = statistics.max_rows;
+  private = statistics.private;
   words = statistics.words;
 }
 

@@ -1,5 +1,5 @@
 -- What a configuration gives each word, and how large the rows, a slice and the pool are.
-use Rattle.std.specs.Prelude.{ℕ, ◌+◌, ◌-◌, ◌*◌, ◌^◌, Bool, not, nat_lt, nat_le, min, max, List, map, length, filter, sum_by, if◌then◌else◌}
+use Rattle.std.specs.Prelude.{ℕ, ◌+◌, ◌-◌, ◌*◌, ◌^◌, Bool, false, not, nat_le, min, max, List, map, length, filter, sum_by, if◌then◌else◌}
 use Rattle.std.specs.Option.{option_map_or}
 use Rattle.std.specs.List.{range_with_len}
 use Rattle.std.specs.Int.{div_ceil}
@@ -11,17 +11,21 @@ use Rattle.funnel_model.specs.declared.config.Config.{Config}
 unfoldable pub class_of_word : Config → List ℕ → ℕ
 class_of_word config word = option_map_or (λ f. class_of_count f config.documents) (listed_count config.words word) 15
 
--- the rows of a word of class c: one private row below class 3, and else the row count of its class
+-- the rows of a listed word of class c: one private row up to the class `private`, and else the row count of its class
 unfoldable pub rows_of_class : Config → ℕ → ℕ
-rows_of_class config c = if nat_lt c 3 then 1 else row_count_of_class config.one_in config.snr c
+rows_of_class config c = if nat_le c config.private then 1 else row_count_of_class config.one_in config.snr c
 
--- how many shared rows of rank r a word of class c has, from class 3 on
+-- how many shared rows of rank r a word of class c has that has no private row
 unfoldable pub ranked_rows : Config → ℕ → ℕ → ℕ
 ranked_rows config c r = rows_at_rank c (row_count_of_class config.one_in config.snr c) config.max_rank r
 
--- whether a listed word has a private row: its class is 0, 1 or 2
+-- whether a listed word has a private row: its class is at most `private`
 abbrev pub is_private : Config → List ℕ × ℕ → Bool
-is_private config entry = nat_lt (class_of_count entry.1 config.documents) 3
+is_private config entry = nat_le (class_of_count entry.1 config.documents) config.private
+
+-- whether a word has a private row: it is listed, and its class is at most `private`
+unfoldable pub has_private_row : Config → List ℕ → Bool
+has_private_row config word = option_map_or (λ f. nat_le (class_of_count f config.documents) config.private) (listed_count config.words word) false
 
 -- the listed words with a private row, and those with shared rows
 unfoldable pub private_words : Config → List (List ℕ × ℕ)

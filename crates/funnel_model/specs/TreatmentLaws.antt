@@ -35,6 +35,7 @@ RarerWordsHaveMoreRows =
     (config : Config) → IsInRange config → (f g : ℕ) → f ≤ g → g ≤ config.documents
     → rows_of_class config (class_of_count g config.documents) ≤ rows_of_class config (class_of_count f config.documents)
 
--- no listed word has more rows than an unlisted one, whose class is 15
+-- no listed word has more rows than an unlisted one, which has the row count of class 15
 abbrev pub UnlistedWordsHaveMostRows : Type 0
-UnlistedWordsHaveMostRows = (config : Config) → IsInRange config → (c : ℕ) → c ≤ 15 → rows_of_class config c ≤ rows_of_class config 15
+UnlistedWordsHaveMostRows =
+    (config : Config) → IsInRange config → (c : ℕ) → c ≤ 15 → rows_of_class config c ≤ row_count_of_class config.one_in config.snr 15

@@ -36,6 +36,9 @@ pub const MOST_TAIL: u64 = 100_000;
 /// The greatest number that `max_rows` may be.
 pub const MOST_MAX_ROWS: u32 = 1_048_576;
 
+/// The highest class of listed words that have a row of their own.
+pub const MOST_PRIVATE: u8 = 15;
+
 /// The most listed words.
 pub const MOST_WORDS: u64 = 65_536;
 
@@ -70,6 +73,8 @@ pub struct Config {
     pub tail: u64,
     /// The greatest number of shared rows of one rank: 1 to [`MOST_MAX_ROWS`].
     pub max_rows: u32,
+    /// The highest class of the listed words that have a row of their own: 0 to [`MOST_PRIVATE`].
+    pub private: u8,
     /// The listed words, each with the number of those documents that hold it: at most
     /// [`MOST_WORDS`] of them.
     pub words: Listed,

@@ -33,8 +33,8 @@ pub use claim::{Claim, ClearJob, Token};
 pub use commit::{Commit, Commits};
 pub use config::{
     Config, LEAST_ONE_IN, MOST_BLOCKS, MOST_COLUMNS, MOST_COMMITS, MOST_DOCUMENTS, MOST_MAX_ROWS,
-    MOST_ONE_IN, MOST_PASSES, MOST_RANK, MOST_RESERVE, MOST_ROW_WORDS, MOST_SLICES, MOST_SNR,
-    MOST_TAIL, MOST_WORDS,
+    MOST_ONE_IN, MOST_PASSES, MOST_PRIVATE, MOST_RANK, MOST_RESERVE, MOST_ROW_WORDS, MOST_SLICES,
+    MOST_SNR, MOST_TAIL, MOST_WORDS,
 };
 pub use event::Event;
 pub use expr::{Expr, Exprs, MOST_OPEN};

@@ -99,6 +99,7 @@ IsInRange-words config words range counts = record {
   documents = range.documents;
   tail = range.tail;
   max_rows = range.max_rows;
+  private = range.private;
   words = counts;
 }
 
@@ -159,6 +160,7 @@ with_statistics-tunes opening statistics opened range ordered words = record {
     documents = range.documents;
     tail = range.tail;
     max_rows = range.max_rows;
+    private = range.private;
     words = record { few = range.words.few; counted = range.words.counted };
   };
   in_order = ordered;

@@ -10,7 +10,7 @@ use Rattle.funnel_stats.specs.Keys.{keys}
 use Rattle.funnel_stats.specs.Values.{entries, whole_number, number_at, listed_at}
 use Rattle.funnel_stats.specs.Faults.{unknown_key, bad_value, not_word, word_count, too_many_columns, pool_too_large}
 use Rattle.funnel_stats.specs.declared.reading.TheConstants.{LONGEST}
-use Rattle.funnel_stats.specs.declared.key.Key.TheVariants.{Passes, Slices, Blocks, MaxRank, Commits, Reserve, OneIn, Snr, Documents, Tail, MaxRows}
+use Rattle.funnel_stats.specs.declared.key.Key.TheVariants.{Passes, Slices, Blocks, MaxRank, Commits, Reserve, OneIn, Snr, Documents, Tail, MaxRows, Private}
 use Rattle.funnel_stats.specs.declared.fault.ConfigFault.{ConfigFault}
 use Rattle.funnel_stats.specs.declared.fault.ConfigFault.TheVariants.{TooLong, NotJson}
 
@@ -37,6 +37,7 @@ config_of object = record {
   documents = number_at object Documents;
   tail = number_at object Tail;
   max_rows = number_at object MaxRows;
+  private = number_at object Private;
   words = word_counts (listed_at object);
 }
 

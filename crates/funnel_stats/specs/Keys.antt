@@ -1,15 +1,15 @@
 -- The keys of a configuration.
 use Rattle.std.specs.Prelude.{ℕ, Bool, List, [], ◌∷◌, codes, bytes_eq}
 use Rattle.std.specs.List.{list_any}
-use Rattle.funnel_model.specs.declared.config.TheConstants.{MOST_PASSES, MOST_SLICES, MOST_BLOCKS, MOST_RANK, MOST_COMMITS, MOST_RESERVE, LEAST_ONE_IN, MOST_ONE_IN, MOST_SNR, MOST_DOCUMENTS, MOST_TAIL, MOST_MAX_ROWS, MOST_WORDS}
-use Rattle.funnel_stats.specs.declared.key.TheConstants.{PASSES, SLICES, BLOCKS, MAX_RANK, COMMITS, RESERVE, ONE_IN, SNR, DOCUMENTS, TAIL, MAX_ROWS}
+use Rattle.funnel_model.specs.declared.config.TheConstants.{MOST_PASSES, MOST_SLICES, MOST_BLOCKS, MOST_RANK, MOST_COMMITS, MOST_RESERVE, LEAST_ONE_IN, MOST_ONE_IN, MOST_SNR, MOST_DOCUMENTS, MOST_TAIL, MOST_MAX_ROWS, MOST_PRIVATE, MOST_WORDS}
+use Rattle.funnel_stats.specs.declared.key.TheConstants.{PASSES, SLICES, BLOCKS, MAX_RANK, COMMITS, RESERVE, ONE_IN, SNR, DOCUMENTS, TAIL, MAX_ROWS, PRIVATE}
 use Rattle.funnel_stats.specs.declared.key.Key.{Key}
-use Rattle.funnel_stats.specs.declared.key.Key.TheVariants.{Passes, Slices, Blocks, MaxRank, Commits, Reserve, OneIn, Snr, Documents, Tail, MaxRows, Words}
+use Rattle.funnel_stats.specs.declared.key.Key.TheVariants.{Passes, Slices, Blocks, MaxRank, Commits, Reserve, OneIn, Snr, Documents, Tail, MaxRows, Private, Words}
 use Rattle.funnel_stats.specs.declared.key.Limits.{Limits}
 
 -- the keys of the statistics, all that a running engine can be given anew
 abbrev pub statistic_keys : List Key
-statistic_keys = OneIn ∷ Snr ∷ Documents ∷ Tail ∷ MaxRows ∷ Words ∷ []
+statistic_keys = OneIn ∷ Snr ∷ Documents ∷ Tail ∷ MaxRows ∷ Private ∷ Words ∷ []
 
 -- the table of keys
 abbrev pub keys : List Key
@@ -28,6 +28,7 @@ name_of Snr = codes "snr"
 name_of Documents = codes "documents"
 name_of Tail = codes "tail"
 name_of MaxRows = codes "max_rows"
+name_of Private = codes "private"
 name_of Words = codes "words"
 
 -- the least and the greatest number of a key, and its default
@@ -47,6 +48,7 @@ range_of Snr = limits 1 MOST_SNR SNR
 range_of Documents = limits 1 MOST_DOCUMENTS DOCUMENTS
 range_of Tail = limits 0 MOST_TAIL TAIL
 range_of MaxRows = limits 1 MOST_MAX_ROWS MAX_ROWS
+range_of Private = limits 0 MOST_PRIVATE PRIVATE
 range_of Words = limits 0 MOST_WORDS 0
 
 -- one of the keys has this name

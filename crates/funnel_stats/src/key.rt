@@ -3,7 +3,8 @@ ghost use Rattle.funnel_stats.specs.Keys.{name_of, range_of, is_name};
 
 use funnel_model::{
     LEAST_ONE_IN, MOST_BLOCKS, MOST_COMMITS, MOST_DOCUMENTS, MOST_MAX_ROWS, MOST_ONE_IN,
-    MOST_PASSES, MOST_RANK, MOST_RESERVE, MOST_SLICES, MOST_SNR, MOST_TAIL, MOST_WORDS,
+    MOST_PASSES, MOST_PRIVATE, MOST_RANK, MOST_RESERVE, MOST_SLICES, MOST_SNR, MOST_TAIL,
+    MOST_WORDS,
 };
 
 /// A key of a configuration. The order of the variants is that of the table of keys.
@@ -31,6 +32,8 @@ pub enum Key {
     Tail,
     /// The greatest number of shared rows of one rank.
     MaxRows,
+    /// The highest class of listed words that have a row of their own.
+    Private,
     /// The listed words with their counts.
     Words,
 }
@@ -79,8 +82,10 @@ const TAIL: u64 = 10;
 
 const MAX_ROWS: u64 = 65_536;
 
+const PRIVATE: u64 = 2;
+
 /// All keys in the order of the table.
-pub const KEYS: [Key; 12] = [
+pub const KEYS: [Key; 13] = [
     Key::Passes,
     Key::Slices,
     Key::Blocks,
@@ -92,16 +97,18 @@ pub const KEYS: [Key; 12] = [
     Key::Documents,
     Key::Tail,
     Key::MaxRows,
+    Key::Private,
     Key::Words,
 ];
 
 /// The keys of the statistics, which a tuning may have.
-pub const STATISTIC_KEYS: [Key; 6] = [
+pub const STATISTIC_KEYS: [Key; 7] = [
     Key::OneIn,
     Key::Snr,
     Key::Documents,
     Key::Tail,
     Key::MaxRows,
+    Key::Private,
     Key::Words,
 ];
 
@@ -122,6 +129,7 @@ impl Key {
             Key::Documents => "documents",
             Key::Tail => "tail",
             Key::MaxRows => "max_rows",
+            Key::Private => "private",
             Key::Words => "words",
         }
     }
@@ -144,6 +152,7 @@ impl Key {
             Key::Documents => (1, MOST_DOCUMENTS, DOCUMENTS),
             Key::Tail => (0, MOST_TAIL, TAIL),
             Key::MaxRows => (1, MOST_MAX_ROWS as u64, MAX_ROWS),
+            Key::Private => (0, MOST_PRIVATE as u64, PRIVATE),
             Key::Words => (0, MOST_WORDS, 0),
         };
         Limits {

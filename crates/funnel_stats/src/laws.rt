@@ -8,7 +8,7 @@ ghost use Rattle.funnel_stats.specs.FaultNumbers.{number_of_fault};
 ghost use Rattle.funnel_stats.specs.Laws.{EntriesAreInByteOrder};
 ghost use Rattle.funnel_stats.specs.Tunings.{Faulty, Gives, Wide, tuned, tuning};
 ghost use Rattle.funnel_stats.specs.declared.fault.ConfigFault.{ConfigFault};
-ghost use Rattle.funnel_stats.specs.declared.key.TheConstants.{ONE_IN, SNR, DOCUMENTS, TAIL, MAX_ROWS};
+ghost use Rattle.funnel_stats.specs.declared.key.TheConstants.{ONE_IN, SNR, DOCUMENTS, TAIL, MAX_ROWS, PRIVATE};
 
 /// Whatever bytes are read, the entries of their object stand in byte order of their names, each name once, and so do
 /// its listed words. So the first unknown key, word or count that is a fault is the first in byte order.
@@ -33,6 +33,7 @@ pub fn the_empty_text_gives_defaults()
       documents = DOCUMENTS;
       tail = TAIL;
       max_rows = MAX_ROWS;
+      private = PRIVATE;
       words = [];
     }) }
 {}

@@ -35,6 +35,7 @@ pub fn read_numbers(alloc: Global, object: &Map<String, Value>) -> Result<Config
     let documents = number_of(object, Key::Documents)?;
     let tail = number_of(object, Key::Tail)?;
     let max_rows = number_of(object, Key::MaxRows)? as u32;
+    let private = number_of(object, Key::Private)? as u8;
     let _count = number_of(object, Key::Words)?;
     Ok(Config {
         passes,
@@ -48,6 +49,7 @@ pub fn read_numbers(alloc: Global, object: &Map<String, Value>) -> Result<Config
         documents,
         tail,
         max_rows,
+        private,
         words: no_words(alloc),
     })
 }

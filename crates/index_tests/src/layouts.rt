@@ -2,7 +2,7 @@
 ghost use Rattle.std.specs.Prelude.{◌≡◌, ◌<◌, ◌≤◌, IfOk};
 ghost use Rattle.funnel_model.specs.Sizes.{columns_of_slice};
 
-use crate::setting::{config, layout_of, no_words, ranked_layout, ranked_within};
+use crate::setting::{config, layout_of, no_words, ranked_layout, ranked_within, three_words};
 use funnel_model::{Memory, WordSet};
 use row_layout::{Bits, Layout, LayoutFault, Row, fill_bits};
 use std::alloc::{AllocError, Global};
@@ -69,8 +69,10 @@ fn a_layout_has_the_numbers_of_its_configuration(rt: HostRuntime) -> Result<(), 
     Ok(())
 }
 
-/// Words, whether they are exact, and their rows.
-static RANKED: [(&str, bool, &[(u8, u32, u16)]); 4] = [
+/// A word, whether it is exact, and its rows.
+type Laid = (&'static str, bool, &'static [(u8, u32, u16)]);
+
+static RANKED: [Laid; 4] = [
     ("the", true, &[(0, 0, 64)]),
     ("cat", false, &[(0, 128, 64), (0, 192, 64), (0, 256, 64)]),
     (
@@ -98,6 +100,35 @@ static RANKED: [(&str, bool, &[(u8, u32, u16)]); 4] = [
     ),
 ];
 
+/// The same words where those of class 3 are exact too.
+static EXACT: [Laid; 4] = [
+    ("the", true, &[(0, 64, 64)]),
+    ("cat", true, &[(0, 0, 64)]),
+    (
+        "axolotl",
+        false,
+        &[
+            (6, 254, 1),
+            (4, 248, 4),
+            (2, 224, 16),
+            (0, 128, 64),
+            (0, 128, 64),
+        ],
+    ),
+    (
+        "dog",
+        false,
+        &[
+            (6, 254, 1),
+            (4, 248, 4),
+            (2, 224, 16),
+            (0, 128, 64),
+            (0, 128, 64),
+            (0, 128, 64),
+        ],
+    ),
+];
+
 /// Whether a word has these rows.
 fn has_rows(
     alloc: Global,
@@ -109,10 +140,10 @@ fn has_rows(
     Ok(rows.as_slice() == wanted)
 }
 
-/// How many of those words have these rows, and are exact or not.
-fn right_words(alloc: Global, layout: &Layout) -> Result<usize, AllocError> {
+/// How many of these words have these rows, and are exact or not.
+fn right_words(alloc: Global, layout: &Layout, laid: &[Laid]) -> Result<usize, AllocError> {
     let mut right: usize = 0;
-    for (word, exact, wanted) in &RANKED {
+    for (word, exact, wanted) in laid {
         if has_rows(alloc, layout, word, wanted)? && layout.is_exact(word.as_bytes()) == *exact {
             right = right.saturating_add(1);
         }
@@ -129,13 +160,27 @@ fn counts(alloc: Global, layout: &Layout) -> Result<(usize, usize), Memory> {
 
 fn ranked_rows(alloc: Global) -> Result<(usize, (usize, usize)), Memory> {
     let layout = ranked_layout(alloc)?;
-    let right = right_words(alloc, &layout)?;
+    let right = right_words(alloc, &layout, &RANKED)?;
     Ok((right, counts(alloc, &layout)?))
 }
 
 #[test]
 fn rows_lie_by_rank(rt: HostRuntime) -> Result<(), Fail> {
     assert!(rt; ranked_rows(rt.alloc())? == (4, (14, 3)));
+    Ok(())
+}
+
+/// How many words are right where those of class 3 are exact too.
+fn exact_rows(alloc: Global) -> Result<usize, Memory> {
+    let mut config = config(6, 10, 10, 1000, 0, three_words(alloc)?);
+    config.private = 3;
+    let layout = layout_of(alloc, &config)?;
+    Ok(right_words(alloc, &layout, &EXACT)?)
+}
+
+#[test]
+fn words_up_to_a_class_have_a_row_of_their_own(rt: HostRuntime) -> Result<(), Fail> {
+    assert!(rt; exact_rows(rt.alloc())? == 4);
     Ok(())
 }
 

@@ -39,6 +39,7 @@ pub(crate) fn config(
         documents,
         tail,
         max_rows: 65536,
+        private: 2,
         words,
     }
 }

@@ -47,7 +47,6 @@ fn a_class_has_its_row_count(rt: HostRuntime) {
 
 /// The ranks of the rows of a word, where the highest rank is 6.
 fn ranks(alloc: Global, class: u8, count: u8) -> Result<Vec<u8>, AllocError>
-    requires shared { 3 ≤ class }
     requires class { class ≤ 15 }
 {
     let mut ranks = Vec::new(alloc);
@@ -59,7 +58,6 @@ fn ranks(alloc: Global, class: u8, count: u8) -> Result<Vec<u8>, AllocError>
 
 /// Whether they are these.
 fn are_ranks(alloc: Global, class: u8, count: u8, wanted: &[u8]) -> Result<bool, AllocError>
-    requires shared { 3 ≤ class }
     requires class { class ≤ 15 }
 {
     let ranks = ranks(alloc, class, count)?;
@@ -84,6 +82,13 @@ fn sizes_of_listed(alloc: Global) -> Result<Sizes, AllocError> {
     Ok(sizes(&config))
 }
 
+/// Those where the common word has a row of its own too.
+fn sizes_of_exact(alloc: Global) -> Result<Sizes, AllocError> {
+    let mut config = config(6, 10, 10, 1000, 0, three_words(alloc)?);
+    config.private = 3;
+    Ok(sizes(&config))
+}
+
 fn sizes_of_tail(alloc: Global) -> Sizes {
     let config = config(0, 10, 10, 1000, 10, no_words(alloc));
     sizes(&config)
@@ -100,6 +105,14 @@ static OF_LISTED: Sizes = Sizes {
     rows: [4, 1, 1, 1, 1, 1, 1],
     slice_words: 383,
     pool_words: 766,
+    columns: 8192,
+};
+
+static OF_EXACT: Sizes = Sizes {
+    private: 2,
+    rows: [1, 1, 1, 1, 1, 1, 1],
+    slice_words: 255,
+    pool_words: 510,
     columns: 8192,
 };
 
@@ -122,6 +135,7 @@ static OF_LONG_TAIL: Sizes = Sizes {
 #[test]
 fn listed_words_size_the_pool(rt: HostRuntime) -> Result<(), Fail> {
     assert!(rt; sizes_of_listed(rt.alloc())? == OF_LISTED);
+    assert!(rt; sizes_of_exact(rt.alloc())? == OF_EXACT);
     Ok(())
 }
 

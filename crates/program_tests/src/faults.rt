@@ -32,7 +32,7 @@ const FIRST: &str = "added 1\nfound 1 1\n";
 const PLACED: &str = "place 0\n";
 
 const FITTED: &str =
-    "{\"documents\":1,\"max_rank\":0,\"passes\":64,\"reserve\":64,\"slices\":2,\"tail\":1,\"words\":{\"cat\":1,\"sat\":1,\"the\":1}}\n";
+    "{\"documents\":1,\"max_rank\":0,\"passes\":64,\"private\":6,\"reserve\":64,\"slices\":2,\"tail\":1,\"words\":{\"cat\":1,\"sat\":1,\"the\":1}}\n";
 
 static FAULTS: [Row; 18] = [
     Row(RUN, PARTS, [NONE, &[1], NONE], &[], 3, Wanted::Text("")),

@@ -21,7 +21,7 @@ static FITS: [Row; 5] = [
         &[],
         0,
         Wanted::Text(
-            "{\"documents\":4,\"max_rank\":0,\"passes\":64,\"reserve\":64,\"slices\":3,\"tail\":1,\"words\":{\"cat\":1,\"dog\":2,\"the\":2}}\n",
+            "{\"documents\":4,\"max_rank\":0,\"passes\":64,\"private\":6,\"reserve\":64,\"slices\":3,\"tail\":1,\"words\":{\"cat\":1,\"dog\":2,\"the\":2}}\n",
         ),
     ),
     Row(
@@ -31,7 +31,7 @@ static FITS: [Row; 5] = [
         &[],
         0,
         Wanted::Text(
-            "{\"documents\":1,\"max_rank\":4,\"passes\":64,\"reserve\":1024,\"slices\":22,\"tail\":1,\"words\":{\"cat\":1}}\n",
+            "{\"documents\":1,\"max_rank\":4,\"passes\":64,\"private\":6,\"reserve\":1024,\"slices\":22,\"tail\":1,\"words\":{\"cat\":1}}\n",
         ),
     ),
     Row(

@@ -30,7 +30,7 @@ pub fn told(alloc: Global, answer: &Result<Config, ConfigFault>) -> Result<Strin
     match answer {
         Ok(config) => {
             let mut text = format!(in alloc;
-                "{} {} {} {} {} {} {} {} {} {} {}",
+                "{} {} {} {} {} {} {} {} {} {} {} {}",
                 config.passes,
                 config.slices,
                 config.blocks,
@@ -41,7 +41,8 @@ pub fn told(alloc: Global, answer: &Result<Config, ConfigFault>) -> Result<Strin
                 config.snr,
                 config.documents,
                 config.tail,
-                config.max_rows
+                config.max_rows,
+                config.private
             )?;
             for (word, count) in config.words.as_slice() {
                 let entry = format!(in alloc; " {word}:{count}")?;
@@ -61,49 +62,49 @@ fn read(alloc: Global, bytes: &[u8], piece: usize, fails: &[u64]) -> Result<Stri
     told(alloc, &read_config(alloc, &mut source))
 }
 
-const DEFAULTS: &str = "2 2 1 0 1024 0 10 10 1000 10 65536";
+const DEFAULTS: &str = "2 2 1 0 1024 0 10 10 1000 10 65536 2";
 
 /// Bytes, and what they are read as.
-static ROWS: [(&[u8], &str); 47] = [
+static ROWS: [(&[u8], &str); 48] = [
     (b"", DEFAULTS),
     (b"{}", DEFAULTS),
     (b" \t\r\n{ }\n", DEFAULTS),
     (
         br#"{"slices":1,"max_rank":1}"#,
-        "2 1 1 1 1024 0 10 10 1000 10 65536",
+        "2 1 1 1 1024 0 10 10 1000 10 65536 2",
     ),
     (
-        br#"{"passes":64,"slices":1,"blocks":64,"max_rank":6,"commits":16777216,"reserve":4194304,"one_in":20,"snr":1000,"documents":4294967296,"tail":0,"max_rows":1,"words":{}}"#,
-        "64 1 64 6 16777216 4194304 20 1000 4294967296 0 1",
+        br#"{"passes":64,"slices":1,"blocks":64,"max_rank":6,"commits":16777216,"reserve":4194304,"one_in":20,"snr":1000,"documents":4294967296,"tail":0,"max_rows":1,"private":15,"words":{}}"#,
+        "64 1 64 6 16777216 4194304 20 1000 4294967296 0 1 15",
     ),
     (
-        br#"{"passes":1,"slices":1,"blocks":1,"max_rank":0,"commits":1,"reserve":0,"one_in":2,"snr":1,"documents":1,"tail":100000,"max_rows":1048576,"words":{"a":1}}"#,
-        "1 1 1 0 1 0 2 1 1 100000 1048576 a:1",
+        br#"{"passes":1,"slices":1,"blocks":1,"max_rank":0,"commits":1,"reserve":0,"one_in":2,"snr":1,"documents":1,"tail":100000,"max_rows":1048576,"private":0,"words":{"a":1}}"#,
+        "1 1 1 0 1 0 2 1 1 100000 1048576 0 a:1",
     ),
     (
         br#"{"words":{"the":1000,"cat":100,"axolotl":1}}"#,
-        "2 2 1 0 1024 0 10 10 1000 10 65536 axolotl:1 cat:100 the:1000",
+        "2 2 1 0 1024 0 10 10 1000 10 65536 2 axolotl:1 cat:100 the:1000",
     ),
     (
         br#"{"words":{"don't":7,"3.14":8}}"#,
-        "2 2 1 0 1024 0 10 10 1000 10 65536 3.14:8 don't:7",
+        "2 2 1 0 1024 0 10 10 1000 10 65536 2 3.14:8 don't:7",
     ),
     (
         br#"{"passes":4,"slices":8,"max_rank":6,"commits":65536,"documents":20000,"tail":80}"#,
-        "4 8 1 6 65536 0 10 10 20000 80 65536",
+        "4 8 1 6 65536 0 10 10 20000 80 65536 2",
     ),
     // The last value of a key stands, and escapes in a key are read first.
     (
         br#"{"passes":0,"passes":3}"#,
-        "3 2 1 0 1024 0 10 10 1000 10 65536",
+        "3 2 1 0 1024 0 10 10 1000 10 65536 2",
     ),
     (
         br#"{"passes":3,"p\u0061sses":4}"#,
-        "4 2 1 0 1024 0 10 10 1000 10 65536",
+        "4 2 1 0 1024 0 10 10 1000 10 65536 2",
     ),
     (
         br#"{"words":{"cat":0,"cat":5}}"#,
-        "2 2 1 0 1024 0 10 10 1000 10 65536 cat:5",
+        "2 2 1 0 1024 0 10 10 1000 10 65536 2 cat:5",
     ),
     (br#"{"words":{"Cat":5},"words":{}}"#, DEFAULTS),
     // no object
@@ -145,6 +146,7 @@ static ROWS: [(&[u8], &str); 47] = [
     (br#"{"words":5,"tail":null}"#, "5: tail is another value"),
     (br#"{"words":[]}"#, "5: words is another value"),
     (br#"{"words":{"Cat":1},"max_rows":0}"#, "5: max_rows is 0"),
+    (br#"{"words":[],"private":16}"#, "5: private is 16"),
     // the first bad word or count
     (br#"{"words":{"Cat":1}}"#, r#"6: "Cat" is no folded word"#),
     (

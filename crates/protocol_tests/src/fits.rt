@@ -37,11 +37,11 @@ fn words_are_listed_with_the_documents_that_have_them(rt: HostRuntime) -> Result
     let bytes = b"add 1 The cat\nadd 1 the dog, the\nfind x\nadd x y\nadd 3\r\ndel 1\nadd 4 dog";
     let answer = fitted(alloc, 100, 1_000, bytes, &[], &[])?;
     let wanted =
-        "Done {\"documents\":4,\"max_rank\":0,\"passes\":64,\"reserve\":64,\"slices\":3,\"tail\":1,\"words\":{\"cat\":1,\"dog\":2,\"the\":2}}\n";
+        "Done {\"documents\":4,\"max_rank\":0,\"passes\":64,\"private\":6,\"reserve\":64,\"slices\":3,\"tail\":1,\"words\":{\"cat\":1,\"dog\":2,\"the\":2}}\n";
     assert_eq!(rt; answer.as_str(), wanted);
     let answer = fitted(alloc, 20_000, 1_000, "add 1 א\"א".as_bytes(), &[], &[])?;
     let wanted =
-        "Done {\"documents\":1,\"max_rank\":4,\"passes\":64,\"reserve\":1024,\"slices\":22,\"tail\":1,\"words\":{\"א\\\"א\":1}}\n";
+        "Done {\"documents\":1,\"max_rank\":4,\"passes\":64,\"private\":6,\"reserve\":1024,\"slices\":22,\"tail\":1,\"words\":{\"א\\\"א\":1}}\n";
     assert_eq!(rt; answer.as_str(), wanted);
     Ok(())
 }
@@ -54,7 +54,46 @@ fn what_is_written_is_a_configuration(rt: HostRuntime) -> Result<(), Fail> {
     fit(alloc, 100, 1_000, &mut input, &mut output);
     let mut written = source(alloc, output.bytes(), 7, &[])?;
     let answer = told(alloc, &read_config(alloc, &mut written))?;
-    assert_eq!(rt; answer.as_str(), "64 3 1 0 1024 64 10 10 2 1 65536 a:2 b:1");
+    assert_eq!(rt; answer.as_str(), "64 3 1 0 1024 64 10 10 2 1 65536 6 a:2 b:1");
+    Ok(())
+}
+
+/// Adds the line of a document with so many of the words `w0`, `w1`, ...
+fn push_document(alloc: Global, lines: &mut String, words: u32) -> Result<(), AllocError> {
+    lines.push_str("add 1 ")?;
+    for i in 0..words {
+        let word = format!(in alloc; "w{i} ")?;
+        lines.push_str(&word)?;
+    }
+    lines.push('\n')?;
+    Ok(())
+}
+
+/// The key `private` of what is fitted to 16 documents, of which two have the first `both` of those words, which are of class 3,
+/// and one has all of them, whose others are of class 4.
+fn private_class(alloc: Global, both: u32, all: u32) -> Result<Option<u8>, AllocError> {
+    let mut lines = String::new(alloc);
+    push_document(alloc, &mut lines, all)?;
+    push_document(alloc, &mut lines, both)?;
+    for _ in 0..14 {
+        push_document(alloc, &mut lines, 0)?;
+    }
+    let mut input = source(alloc, lines.as_bytes(), 1_000, &[])?;
+    let mut output = MemSink::new(alloc, 20_000, Vec::new(alloc))?;
+    fit(alloc, 100, 100_000, &mut input, &mut output);
+    let mut written = source(alloc, output.bytes(), 1_000, &[])?;
+    Ok(match read_config(alloc, &mut written) {
+        Ok(config) => Some(config.private),
+        Err(_) => None,
+    })
+}
+
+#[test]
+fn at_most_512_words_above_class_2_have_a_row_of_their_own(rt: HostRuntime) -> Result<(), Fail> {
+    assert!(rt; private_class(rt.alloc(), 300, 512)? == Some(6));
+    assert!(rt; private_class(rt.alloc(), 300, 513)? == Some(3));
+    assert!(rt; private_class(rt.alloc(), 512, 513)? == Some(3));
+    assert!(rt; private_class(rt.alloc(), 513, 513)? == Some(2));
     Ok(())
 }
 

@@ -27,6 +27,7 @@ impl Service for SpentPass {
         documents = 1;
         tail = 0;
         max_rows = 1;
+        private = 0;
         words = [];
       };
       limits = record { passes = 1; slices = 1; columns = 64; slice_words = 1; commits = 1; events = 0 };

@@ -8,7 +8,7 @@ use std::test::Fail;
 
 /// A configuration in which no value is the default.
 const OPENING: &[u8] =
-    br#"{"passes":3,"slices":4,"blocks":5,"max_rank":1,"commits":6,"reserve":4194304,"one_in":20,"snr":100,"documents":500,"tail":0,"max_rows":7,"words":{"dog":500}}"#;
+    br#"{"passes":3,"slices":4,"blocks":5,"max_rank":1,"commits":6,"reserve":4194304,"one_in":20,"snr":100,"documents":500,"tail":0,"max_rows":7,"private":9,"words":{"dog":500}}"#;
 
 /// What the text is read as in an engine that was opened with it, in words.
 fn read(alloc: Global, text: &str) -> Result<String, AllocError> {
@@ -19,20 +19,20 @@ fn read(alloc: Global, text: &str) -> Result<String, AllocError> {
 }
 
 /// Six values stay, and the statistics that a text leaves out have their defaults.
-const DEFAULTS: &str = "3 4 5 1 6 4194304 10 10 1000 10 65536";
+const DEFAULTS: &str = "3 4 5 1 6 4194304 10 10 1000 10 65536 2";
 
 /// Texts, and what they are read as.
-static ROWS: [(&str, &str); 16] = [
+static ROWS: [(&str, &str); 17] = [
     ("", DEFAULTS),
     ("{}", DEFAULTS),
     (r#"{"words":{}}"#, DEFAULTS),
     (
         r#"{"tail":100000}"#,
-        "3 4 5 1 6 4194304 10 10 1000 100000 65536",
+        "3 4 5 1 6 4194304 10 10 1000 100000 65536 2",
     ),
     (
-        r#"{"one_in":2,"snr":1,"documents":9,"tail":5,"max_rows":8,"words":{"the":9,"cat":1}}"#,
-        "3 4 5 1 6 4194304 2 1 9 5 8 cat:1 the:9",
+        r#"{"one_in":2,"snr":1,"documents":9,"tail":5,"max_rows":8,"private":0,"words":{"the":9,"cat":1}}"#,
+        "3 4 5 1 6 4194304 2 1 9 5 8 0 cat:1 the:9",
     ),
     // no object
     (" ", "3: no JSON object"),
@@ -48,6 +48,7 @@ static ROWS: [(&str, &str); 16] = [
     (r#"{"tail":100001}"#, "5: tail is 100001"),
     (r#"{"words":[],"snr":0}"#, "5: snr is 0"),
     (r#"{"words":{"Cat":1},"max_rows":0}"#, "5: max_rows is 0"),
+    (r#"{"words":[],"private":16}"#, "5: private is 16"),
     // the first bad word or count
     (
         r#"{"words":{"a":0,"two words":1}}"#,

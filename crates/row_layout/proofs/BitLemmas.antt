@@ -4,7 +4,7 @@ use Rattle.std.specs.List.{All, AllPass, list_any, range_with_len}
 use Rattle.std.specs.Prelude.{◌-◌, min}
 use Rattle.std.specs.Str.{bytes_eq}
 use Rattle.std.proofs.lemmas.Nat.{mul-le, pow_pos}
-use Rattle.std.proofs.lemmas.Bool.{cases_lt}
+use Rattle.std.proofs.lemmas.Bool.{cases_Bool}
 use Rattle.std.proofs.lemmas.List.{map-append}
 use Rattle.std.proofs.lemmas.List.Elements.{All-contains, All-contains_itself, All-weaker}
 use Rattle.std.proofs.lemmas.List.Sums.{AllPass-from_list_all}
@@ -13,7 +13,7 @@ use Rattle.funnel_model.proofs.SizesLemmas.{shared_rows-positive}
 use Rattle.funnel_model.proofs.WordLemmas.{Contains-has}
 use Rattle.funnel_model.specs.Configuration.{IsInRange}
 use Rattle.funnel_model.specs.Legal.{IsInSlice}
-use Rattle.funnel_model.specs.Sizes.{class_of_word, columns_of_slice, shared_rows, words_of_slice}
+use Rattle.funnel_model.specs.Sizes.{class_of_word, columns_of_slice, has_private_row, shared_rows, words_of_slice}
 use Rattle.funnel_model.specs.Treatment.{row_count_of_class}
 use Rattle.funnel_model.specs.Words.{words}
 use Rattle.funnel_model.specs.declared.bit_list.Bit.{Bit}
@@ -86,15 +86,15 @@ word-row config word row has =
     let class = class_of_word config word in
     let rank = rank_in_class config class from.0 in
     ⊎_elim
-    (λ (low : class < 3). inl (private_number config word, private_number-below config word low, from.2 ∙ row_of_word-private config word from.0 low))
-    (λ (high : 3 ≤ class). inr (
+    (λ (exact : has_private_row config word ≡ true). inl (private_number config word, private_number-below config word exact, from.2 ∙ row_of_word-private config word from.0 exact))
+    (λ (shares : has_private_row config word ≡ false). inr (
       rank,
       row_number word from.0 (shared_rows config rank),
       low_rank (eqb (from.0 + 1) (row_count_of_class config.one_in config.snr class)) config.max_rank (class - 3) (2 * from.0),
       row_number-below word from.0 (shared_rows config rank) (shared_rows-positive config rank),
-      from.2 ∙ row_of_word-shared config word from.0 high,
+      from.2 ∙ row_of_word-shared config word from.0 shares,
     ))
-    (cases_lt class 3)
+    (cases_Bool (has_private_row config word))
 
 pub words-row : (config : Config) (set : List (List ℕ)) (row : Row) → Contains (rows_of_words config set) row → IsRowOf config row
 words-row config set row has =

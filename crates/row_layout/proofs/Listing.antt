@@ -1,5 +1,5 @@
 -- Which rows the listed words have, and any other word.
-use Rattle.std.proofs.Common.{◌≡◌, ℕ, zero, suc, ◌+◌, ◌*◌, ◌^◌, ◌<◌, ◌≤◌, Bool, true, false, not, cond, leb, ltb, List, [], ◌∷◌, ◌++◌, map, filter, length, take, get_or, Some, None, refl, ap, sym, subst, ◌∙◌, arith}
+use Rattle.std.proofs.Common.{◌≡◌, ℕ, zero, suc, ◌+◌, ◌*◌, ◌^◌, ◌<◌, ◌≤◌, Bool, true, false, not, cond, leb, List, [], ◌∷◌, ◌++◌, map, filter, length, take, get_or, Some, None, refl, ap, sym, subst, ◌∙◌, arith}
 use Rattle.std.specs.Prelude.{find, Option}
 use Rattle.std.specs.Option.{option_map, option_map_or}
 use Rattle.std.specs.List.{position_or_len}
@@ -7,30 +7,20 @@ use Rattle.std.specs.Ordering.{nat_cmp}
 use Rattle.std.specs.declared.cmp.Ordering.TheVariants.{Less}
 use Rattle.std.specs.Cmp.Lexicographic.{slice_cmp}
 use Rattle.std.specs.Str.{bytes_eq}
-use Rattle.std.proofs.lemmas.Bool.Decides.{nat_tests}
+use Rattle.std.proofs.lemmas.Bool.{true≢false}
 use Rattle.std.proofs.lemmas.List.{map-append, take_more}
 use Rattle.std.proofs.lemmas.Map.Keys.{sorted_head, sorted_tail}
 use Rattle.funnel_model.specs.Listed.{IsInByteOrder, listed_count}
-use Rattle.funnel_model.specs.Sizes.{class_of_word, is_private, private_words}
+use Rattle.funnel_model.specs.Sizes.{class_of_word, has_private_row, is_private, private_words}
 use Rattle.funnel_model.specs.Treatment.{class_of_count}
 use Rattle.funnel_model.specs.declared.config.Config.{Config}
-use Rattle.funnel_model.proofs.ListedLemmas.{same_bytes, other_bytes, later}
+use Rattle.funnel_model.proofs.ListedLemmas.{listed_count-at, same_bytes, other_bytes, later}
 use Rattle.funnel_model.proofs.Searches.{greatest-in_range}
-use Rattle.funnel_model.proofs.WordClasses.{listed-class}
 use Rattle.treatment.proofs.Passes.{private_so_far}
 use Rattle.row_layout.specs.Layouts.{word_rows}
 use Rattle.row_layout.specs.Rows.{private_number}
 use Rattle.row_layout.specs.declared.word_rows.WordRows.{WordRows}
 use Rattle.row_layout.specs.declared.word_rows.WordRows.TheVariants.{Private, Shared}
-
-is_below : (a b : ℕ) → ltb a b ≡ true → a < b
-is_below a b h = grind (arith, nat_tests)
-
-is_not_below : (a b : ℕ) → ltb a b ≡ false → b ≤ a
-is_not_below a b h = grind (arith, nat_tests)
-
-below_is : (a b : ℕ) → a < b → ltb a b ≡ true
-below_is a b h = grind (arith, nat_tests)
 
 private_choice : (b : Bool) (i n c : ℕ) → Private i ≡ cond b (Private n) (Shared c) → (b ≡ true) × (i ≡ n)
 private_choice true i n c e = (refl, cc)
@@ -40,19 +30,15 @@ shared_choice : (b : Bool) (k n c : ℕ) → Shared k ≡ cond b (Private n) (Sh
 shared_choice true k n c e = cc
 shared_choice false k n c e = (refl, cc)
 
--- a word with a private row has a class below 3, and its number
-pub word_rows-private : (config : Config) (word : List ℕ) (i : ℕ) → Private i ≡ word_rows config word → (class_of_word config word < 3) × (i ≡ private_number config word)
+-- a word with a private row has its number
+pub word_rows-private : (config : Config) (word : List ℕ) (i : ℕ) → Private i ≡ word_rows config word → (has_private_row config word ≡ true) × (i ≡ private_number config word)
 unfolding word_rows
-word_rows-private config word i e =
-    let h = private_choice (ltb (class_of_word config word) 3) i (private_number config word) (class_of_word config word) e in
-    (is_below _ _ h.0, h.1)
+word_rows-private config word i e = private_choice (has_private_row config word) i (private_number config word) (class_of_word config word) e
 
 -- any other word has the shared rows of its class
-pub word_rows-shared : (config : Config) (word : List ℕ) (c : ℕ) → Shared c ≡ word_rows config word → (3 ≤ class_of_word config word) × (c ≡ class_of_word config word)
+pub word_rows-shared : (config : Config) (word : List ℕ) (c : ℕ) → Shared c ≡ word_rows config word → (has_private_row config word ≡ false) × (c ≡ class_of_word config word)
 unfolding word_rows
-word_rows-shared config word c e =
-    let h = shared_choice (ltb (class_of_word config word) 3) c (private_number config word) (class_of_word config word) e in
-    (is_not_below _ _ h.0, h.1)
+word_rows-shared config word c e = shared_choice (has_private_row config word) c (private_number config word) (class_of_word config word) e
 
 class_within : (count : Option ℕ) (n : ℕ) → option_map_or (λ f. class_of_count f n) count 15 ≤ 15
 unfolding class_of_count
@@ -66,9 +52,10 @@ class_of_word-small config word = class_within (listed_count config.words word) 
 
 -- an unlisted word has the shared rows of the last class
 pub word_rows-unlisted : (config : Config) (word : List ℕ) → listed_count config.words word ≡ None → Shared 15 ≡ word_rows config word
-unfolding word_rows class_of_word
+unfolding word_rows class_of_word has_private_row
 word_rows-unlisted config word none =
-    sym (ap (λ count. let c = option_map_or (λ f. class_of_count f config.documents) count 15 in cond (ltb c 3) (Private (private_number config word)) (Shared c)) none)
+    sym (ap (λ count. cond (option_map_or (λ f. leb (class_of_count f config.documents) config.private) count false) (Private (private_number config word))
+    (Shared (option_map_or (λ f. class_of_count f config.documents) count 15))) none)
 
 -- the place of a word in a list of words
 abbrev place : List ℕ → List (List ℕ × ℕ) → ℕ
@@ -96,9 +83,9 @@ place-kept q (entry ∷ rest) word (suc i) d order less is kept =
     one_more (q entry) word entry (filter q rest) (filter q (take i rest)) (other_bytes entry.0 word Less below refl)
     (place-kept q rest word i d (sorted_tail (slice_cmp nat_cmp) _ _ order) (omega arith) is kept)
 
--- the class that a list gives a word
-abbrev class_in : List (List ℕ × ℕ) → ℕ → List ℕ → ℕ
-class_in entries n word = option_map_or (λ f. class_of_count f n) (option_map (λ entry. entry.1) (find (λ entry. bytes_eq entry.0 word) entries)) 15
+-- whether a list gives a word a private row, where these classes have one
+abbrev private_in : List (List ℕ × ℕ) → ℕ → ℕ → List ℕ → Bool
+private_in entries n most word = option_map_or (λ f. leb (class_of_count f n) most) (option_map (λ entry. entry.1) (find (λ entry. bytes_eq entry.0 word) entries)) false
 
 less_here : (b : Bool) (word : List ℕ) (entry : List ℕ × ℕ) (rest : List (List ℕ × ℕ)) → bytes_eq entry.0 word ≡ true → b ≡ true → place word (cond b (entry ∷ rest) rest) < length (cond b (entry ∷ rest) rest)
 less_here true word entry rest e kept = let p = place_here word entry rest e in omega (arith, p)
@@ -108,48 +95,46 @@ less_later : (b : Bool) (word : List ℕ) (entry : List ℕ × ℕ) (rest : List
 less_later true word entry rest e h = let p = place_later word entry rest e in omega (arith, p, h)
 less_later false word entry rest e h = h
 
-low_step : (b : Bool) (n : ℕ) (entry : List ℕ × ℕ) (rest : List (List ℕ × ℕ)) (word : List ℕ) → bytes_eq entry.0 word ≡ b → option_map_or (λ f. class_of_count f n) (option_map (λ entry. entry.1) (cond b (Some entry) (find (λ entry. bytes_eq entry.0 word) rest))) 15 < 3 → (class_in rest n word < 3 → place word (filter (λ entry. ltb (class_of_count entry.1 n) 3) rest) < length (filter (λ entry. ltb (class_of_count entry.1 n) 3) rest)) → place word (filter (λ entry. ltb (class_of_count entry.1 n) 3) (entry ∷ rest)) < length (filter (λ entry. ltb (class_of_count entry.1 n) 3) (entry ∷ rest))
-low_step true n entry rest word e low h = less_here (ltb (class_of_count entry.1 n) 3) word entry (filter (λ entry. ltb (class_of_count entry.1 n) 3) rest) e (below_is _ _ low)
-low_step false n entry rest word e low h = less_later (ltb (class_of_count entry.1 n) 3) word entry (filter (λ entry. ltb (class_of_count entry.1 n) 3) rest) e (h low)
+private_step : (b : Bool) (n most : ℕ) (entry : List ℕ × ℕ) (rest : List (List ℕ × ℕ)) (word : List ℕ) → bytes_eq entry.0 word ≡ b
+    → option_map_or (λ f. leb (class_of_count f n) most) (option_map (λ entry. entry.1) (cond b (Some entry) (find (λ entry. bytes_eq entry.0 word) rest))) false ≡ true
+    → (private_in rest n most word ≡ true → place word (filter (λ entry. leb (class_of_count entry.1 n) most) rest) < length (filter (λ entry. leb (class_of_count entry.1 n) most) rest))
+    → place word (filter (λ entry. leb (class_of_count entry.1 n) most) (entry ∷ rest)) < length (filter (λ entry. leb (class_of_count entry.1 n) most) (entry ∷ rest))
+private_step true n most entry rest word e has h = less_here (leb (class_of_count entry.1 n) most) word entry (filter (λ entry. leb (class_of_count entry.1 n) most) rest) e has
+private_step false n most entry rest word e has h = less_later (leb (class_of_count entry.1 n) most) word entry (filter (λ entry. leb (class_of_count entry.1 n) most) rest) e (h has)
 
--- a word of a low class is among those of low classes
-place-low : (n : ℕ) (entries : List (List ℕ × ℕ)) (word : List ℕ) → class_in entries n word < 3 → place word (filter (λ entry. ltb (class_of_count entry.1 n) 3) entries) < length (filter (λ entry. ltb (class_of_count entry.1 n) 3) entries)
-place-low n [] word low = absurd (omega arith)
-place-low n (entry ∷ rest) word low = low_step (bytes_eq entry.0 word) n entry rest word refl low (place-low n rest word)
+-- a word with a private row is among those that have one
+place-private : (n most : ℕ) (entries : List (List ℕ × ℕ)) (word : List ℕ) → private_in entries n most word ≡ true
+    → place word (filter (λ entry. leb (class_of_count entry.1 n) most) entries) < length (filter (λ entry. leb (class_of_count entry.1 n) most) entries)
+place-private n most [] word has = absurd (true≢false (sym has))
+place-private n most (entry ∷ rest) word has = private_step (bytes_eq entry.0 word) n most entry rest word refl has (place-private n most rest word)
 
 -- the number of a private row is below their number
-pub private_number-below : (config : Config) (word : List ℕ) → class_of_word config word < 3 → private_number config word < length (private_words config)
-unfolding private_number private_words class_of_word listed_count
-private_number-below config word low = place-low config.documents config.words word low
-
--- a listed word of a class below 3 has a private row, and any other has none
-pub low_class : (config : Config) (entry : List ℕ × ℕ) → class_of_count entry.1 config.documents < 3 → is_private config entry ≡ true
-low_class config entry low = below_is _ _ low
-
-pub high_class : (config : Config) (entry : List ℕ × ℕ) → 3 ≤ class_of_count entry.1 config.documents → is_private config entry ≡ false
-high_class config entry high = grind (arith, nat_tests)
+pub private_number-below : (config : Config) (word : List ℕ) → has_private_row config word ≡ true → private_number config word < length (private_words config)
+unfolding private_number private_words has_private_row listed_count
+private_number-below config word has = place-private config.documents config.private config.words word has
 
 -- the rows of the word at a place of the list
 module _ (config : Config) (i : ℕ) (entry : List ℕ × ℕ) (order : IsInByteOrder config.words) (within : i < length config.words) (at : get_or config.words i entry ≡ entry) where
-  class_at : class_of_word config entry.0 ≡ class_of_count entry.1 config.documents
-  class_at = listed-class config order entry.0 entry.1 (i, within, at)
+  count_at : listed_count config.words entry.0 ≡ Some entry.1
+  count_at = listed_count-at config.words entry.0 i entry order within (ap (λ e. e.0) at) ∙ ap (λ e. Some e.1) at
 
-  pub private_at : class_of_count entry.1 config.documents < 3 → word_rows config entry.0 ≡ Private (private_so_far config i)
+  has_at : has_private_row config entry.0 ≡ is_private config entry
+  unfolding has_private_row
+  has_at = ap (λ count. option_map_or (λ f. leb (class_of_count f config.documents) config.private) count false) count_at
+
+  pub private_at : is_private config entry ≡ true → word_rows config entry.0 ≡ Private (private_so_far config i)
   unfolding word_rows private_number private_words
-  private_at low =
-      let kept : ltb (class_of_count entry.1 config.documents) 3 ≡ true = below_is _ _ low in
+  private_at kept =
       let number : private_number config entry.0 ≡ private_so_far config i =
       place-kept (is_private config) config.words entry.0 i entry order within (ap (λ e. e.0) at) (ap (is_private config) at ∙ kept) in
-      ap (λ c. cond (ltb c 3) (Private (private_number config entry.0)) (Shared c)) class_at
-      ∙ ap (λ b. cond b (Private (private_number config entry.0)) (Shared (class_of_count entry.1 config.documents))) kept
+      ap (λ b. cond b (Private (private_number config entry.0)) (Shared (class_of_word config entry.0))) (has_at ∙ kept)
       ∙ ap Private number
 
-  pub shared_at : 3 ≤ class_of_count entry.1 config.documents → word_rows config entry.0 ≡ Shared (class_of_count entry.1 config.documents)
-  unfolding word_rows
-  shared_at high =
-      let kept : ltb (class_of_count entry.1 config.documents) 3 ≡ false = grind (arith, nat_tests) in
-      ap (λ c. cond (ltb c 3) (Private (private_number config entry.0)) (Shared c)) class_at
-      ∙ ap (λ b. cond b (Private (private_number config entry.0)) (Shared (class_of_count entry.1 config.documents))) kept
+  pub shared_at : is_private config entry ≡ false → word_rows config entry.0 ≡ Shared (class_of_count entry.1 config.documents)
+  unfolding word_rows class_of_word
+  shared_at kept =
+      ap (λ b. cond b (Private (private_number config entry.0)) (Shared (class_of_word config entry.0))) (has_at ∙ kept)
+      ∙ ap (λ count. Shared (option_map_or (λ f. class_of_count f config.documents) count 15)) count_at
 
   -- one more listed word has its rows
   pub listed_more : (rows rows' : List WordRows) (r : WordRows) → rows ≡ map (λ (e : List ℕ × ℕ). word_rows config e.0) (take i config.words) → rows' ≡ rows ++ r ∷ [] → word_rows config entry.0 ≡ r → rows' ≡ map (λ (e : List ℕ × ℕ). word_rows config e.0) (take (i + 1) config.words)

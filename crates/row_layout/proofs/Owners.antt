@@ -1,6 +1,6 @@
 -- Private rows: whose bits theirs are, and that they tell their word.
 use Rattle.std.proofs.Common.{◌≡◌, ℕ, ◌+◌, ◌*◌, ◌/◌, ◌%◌, ◌^◌, ◌<◌, ◌≤◌, ⊎_elim, Bool, true, false, cond, List, [], ◌∷◌, ◌++◌, get_or, filter, length, map, Contains, Option, Some, None, sym, refl, ap, ◌∙◌, subst, append_assoc, arith}
-use Rattle.std.proofs.lemmas.Bool.{and_parts, cases_lt, eqb-true, lt-ltb, ltb-true, or_from}
+use Rattle.std.proofs.lemmas.Bool.{and_parts, cases_Bool, cases_lt, eqb-true, or_from}
 use Rattle.std.proofs.lemmas.List.Elements.{Contains-append_right}
 use Rattle.std.proofs.lemmas.List.Sums.{passes_at_first}
 use Rattle.std.proofs.lemmas.Slice.Eq.{bytes_eq-Decides}
@@ -17,7 +17,7 @@ use Rattle.funnel_model.proofs.TuningLemmas.{treat-later}
 use Rattle.funnel_model.specs.Events.{bits_on, clears, put_on}
 use Rattle.funnel_model.specs.History.{Document, live, place}
 use Rattle.funnel_model.specs.Legal.{Limits, IsInSlice, IsLegal}
-use Rattle.funnel_model.specs.Sizes.{class_of_word, columns_of_slice, private_words, shared_rows, width_of_rank, words_of_slice}
+use Rattle.funnel_model.specs.Sizes.{class_of_word, columns_of_slice, has_private_row, private_words, shared_rows, width_of_rank, words_of_slice}
 use Rattle.funnel_model.specs.Tunings.{treat}
 use Rattle.funnel_model.specs.Words.{words}
 use Rattle.funnel_model.specs.declared.bit_list.Bit.{Bit}
@@ -34,7 +34,7 @@ use Rattle.row_layout.specs.declared.row.Row.{Row}
 use Rattle.row_layout.proofs.Listing.{private_number-below}
 use Rattle.row_layout.proofs.Lists.{Contains-from_flat_map, Contains-from_map}
 use Rattle.row_layout.proofs.Spans.{base-below, offset-below, private-ends, rows_more, width-positive}
-use Rattle.row_layout.proofs.WordRows.{row_of_word-private, row_of_word-shared, rows_of_class-private}
+use Rattle.row_layout.proofs.WordRows.{row_of_word-private, row_of_word-shared, row_count-private}
 
 -- each column of a slice owns the bits of its private rows
 pub private-owned : PrivateRowsHaveOwnedBits
@@ -52,24 +52,23 @@ private-owned room config slice column row fits in_slice private =
     }
 
 -- the only row of an exact word is its private row
-exact_row : (config : Config) (word : List ℕ) (row : Row) → class_of_word config word < 3 → Contains (rows_of_word config word) row →
+exact_row : (config : Config) (word : List ℕ) (row : Row) → has_private_row config word ≡ true → Contains (rows_of_word config word) row →
     row ≡ private_row config (private_number config word)
-exact_row config word row less has =
+exact_row config word row exact has =
     let from = Contains-from_map (row_of_word config word) (range_with_len 0 (row_count_of_word config word)) row has in
-    from.2 ∙ row_of_word-private config word from.0 less
+    from.2 ∙ row_of_word-private config word from.0 exact
 
 -- and it has that row
 pub exact-has_row : (config : Config) (word : List ℕ) → is_exact config word ≡ true → Contains (rows_of_word config word) (row_of_word config word 0)
 exact-has_row config word exact =
-    let one = rows_of_class-private config (class_of_word config word) (ltb-true (class_of_word config word) 3 exact) in
+    let one = row_count-private config word exact in
     subst (λ n. Contains (map (row_of_word config word) (range_with_len 0 n)) (row_of_word config word 0)) (sym one) (0, omega arith, refl)
 
 -- so its column owns its bit
 pub exact-owned : ExactWordsHaveOwnedBits
 exact-owned room config slice column word row fits in_slice exact has =
-    let less = ltb-true (class_of_word config word) 3 exact in
     private-owned room config slice column row fits in_slice
-    (private_number config word, private_number-below config word less, exact_row config word row less has)
+    (private_number config word, private_number-below config word exact, exact_row config word row exact has)
 
 -- two private rows have one number where they start together
 one_number : (w i k : ℕ) → 1 ≤ w → i * w ≡ k * w → i ≡ k
@@ -126,19 +125,19 @@ one_owner-treated limits opening history slice other column at bit owns also =
     (same, one_column room (treat opening slice history) slice column at bit owns.treated (subst (λ s. OwnsIn room (treat opening s history) s at bit) (sym same) also.treated))
 
 -- the word at the place of a private row is that word
-word_there : (config : Config) (word : List ℕ) (d : List ℕ × ℕ) → class_of_word config word < 3 →
+word_there : (config : Config) (word : List ℕ) (d : List ℕ × ℕ) → has_private_row config word ≡ true →
     (get_or (private_words config) (private_number config word) d).0 ≡ word
 unfolding private_number
-word_there config word d less =
+word_there config word d exact =
     let test = λ (entry : List ℕ × ℕ). bytes_eq entry.0 word in
     (bytes_eq-Decides (get_or (private_words config) (private_number config word) d).0 word).0
-    (passes_at_first test (private_words config) d (private_number-below config word less))
+    (passes_at_first test (private_words config) d (private_number-below config word exact))
 
 -- so two exact words with one number are one word
-one_word : (config : Config) (word other : List ℕ) → class_of_word config word < 3 → class_of_word config other < 3 →
+one_word : (config : Config) (word other : List ℕ) → has_private_row config word ≡ true → has_private_row config other ≡ true →
     private_number config word ≡ private_number config other → word ≡ other
-one_word config word other less also same =
-    sym (word_there config word (word, 0) less)
+one_word config word other exact also same =
+    sym (word_there config word (word, 0) exact)
     ∙ ap (λ k. (get_or (private_words config) k (word, 0)).0) same
     ∙ word_there config other (word, 0) also
 
@@ -155,36 +154,35 @@ rows-apart room config slice column at i rank x below in_slice same =
 
 -- so it is none of a row of a word that has shared rows
 shared-apart : (room : ℕ) (config : Config) (word : List ℕ) (slice column i : ℕ) (row : Row) → i < length (private_words config) →
-    column < columns_of_slice config → 3 ≤ class_of_word config word → Contains (rows_of_word config word) row →
+    column < columns_of_slice config → has_private_row config word ≡ false → Contains (rows_of_word config word) row →
     bit_of_row room slice column (private_row config i) ≡ bit_of_row room slice column row → ⊥
-shared-apart room config word slice column i row below in_slice high has same =
+shared-apart room config word slice column i row below in_slice shares has same =
     let listed = Contains-from_map (row_of_word config word) (range_with_len 0 (row_count_of_word config word)) row has in
-    let theirs = listed.2 ∙ row_of_word-shared config word listed.0 high in
+    let theirs = listed.2 ∙ row_of_word-shared config word listed.0 shares in
     let rank = rank_in_class config (class_of_word config word) listed.0 in
     rows-apart room config slice column column i rank (row_number word listed.0 (shared_rows config rank)) below in_slice (same ∙ ap (bit_of_row room slice column) theirs)
 
 -- a document that has the bit of an exact word's row has the word
 pub owned-tells : OwnedBitsTellWords
 owned-tells room config set slice column bits word row range in_slice are exact has bit =
-    let less = ltb-true (class_of_word config word) 3 exact in
     let from = (are.exactly (bit_of_row room slice column row)).0 bit in
     let of_word = Contains-from_flat_map (rows_of_word config) set from.0 from.1 in
-    let mine = exact_row config word row less has in
+    let mine = exact_row config word row exact has in
     let n = private_number config word in
     let w = width_of_rank config 0 in
     let same : bit_of_row room slice column (private_row config n) ≡ bit_of_row room slice column from.0 =
     ap (bit_of_row room slice column) (sym mine) ∙ from.2 in
     ⊎_elim
-    (λ (low' : class_of_word config of_word.0 < 3).
-    let theirs = exact_row config of_word.0 from.0 low' of_word.2 in
+    (λ (also : has_private_row config of_word.0 ≡ true).
+    let theirs = exact_row config of_word.0 from.0 also of_word.2 in
     let k = private_number config of_word.0 in
     let word_same : slice * room + n * w + column / (64 * 2 ^ 0) ≡ slice * room + k * w + column / (64 * 2 ^ 0) =
     ap (λ (b : Bit). b.word) (same ∙ ap (bit_of_row room slice column) theirs) in
     let number = one_number w n k (width-positive config range 0) (omega (arith, word_same)) in
-    subst (Contains set) (sym (one_word config word of_word.0 less low' number)) of_word.1)
-    (λ (high : 3 ≤ class_of_word config of_word.0).
-    absurd (shared-apart room config of_word.0 slice column n from.0 (private_number-below config word less) in_slice high of_word.2 same))
-    (cases_lt (class_of_word config of_word.0) 3)
+    subst (Contains set) (sym (one_word config word of_word.0 exact also number)) of_word.1)
+    (λ (shares : has_private_row config of_word.0 ≡ false).
+    absurd (shared-apart room config of_word.0 slice column n from.0 (private_number-below config word exact) in_slice shares of_word.2 same))
+    (cases_Bool (has_private_row config of_word.0))
 
 -- a bit of a document that its column owns is one of an exact word
 pub owned-exact : (room : ℕ) (config : Config) (set : List (List ℕ)) (slice column : ℕ) (bits : List Bit) (bit : Bit) →
@@ -197,17 +195,17 @@ owned-exact room config set slice column bits bit are owns has =
     let same : bit_of_row room slice column (private_row config i) ≡ bit_of_row room slice column from.0 =
     sym (owns.is_its ∙ ap (bit_of_row room slice column) owns.private.2) ∙ from.2 in
     ⊎_elim
-    (λ (low : class_of_word config of_word.0 < 3). record {
+    (λ (exact : has_private_row config of_word.0 ≡ true). record {
       word = of_word.0;
       has = of_word.1;
-      exact = lt-ltb (class_of_word config of_word.0) 3 low;
+      exact = exact;
       row = from.0;
       its_row = of_word.2;
       is_its = from.2;
     })
-    (λ (high : 3 ≤ class_of_word config of_word.0).
-    absurd (shared-apart room config of_word.0 slice column i from.0 owns.private.1 owns.in_slice high of_word.2 same))
-    (cases_lt (class_of_word config of_word.0) 3)
+    (λ (shares : has_private_row config of_word.0 ≡ false).
+    absurd (shared-apart room config of_word.0 slice column i from.0 owns.private.1 owns.in_slice shares of_word.2 same))
+    (cases_Bool (has_private_row config of_word.0))
 
 -- no column of the slice owns the bit of a row at a column but that one
 pub own-column : RowsKeepToTheirColumn

@@ -1,6 +1,6 @@
 -- What a layout is, and what it keeps beside its configuration.
-use Rattle.std.specs.Prelude.{◌≡◌, ℕ, ◌*◌, ◌<◌, ◌≤◌, nat_lt, List, [], map, slice_index, slice_index_or, if◌then◌else◌}
-use Rattle.funnel_model.specs.Sizes.{class_of_word, shared_rows, base_of_rank, words_of_slice}
+use Rattle.std.specs.Prelude.{◌≡◌, ℕ, ◌*◌, ◌<◌, ◌≤◌, List, [], map, slice_index, slice_index_or, if◌then◌else◌}
+use Rattle.funnel_model.specs.Sizes.{class_of_word, has_private_row, shared_rows, base_of_rank, words_of_slice}
 use Rattle.funnel_model.specs.Configuration.{IsInRange}
 use Rattle.funnel_model.specs.declared.config.TheConstants.{MOST_ROW_WORDS}
 use Rattle.funnel_model.specs.declared.config.Config.{Config}
@@ -24,14 +24,14 @@ own_layout config = record { config = config; room = words_of_slice config }
 -- the rows that a word has: its private row, or those of its class
 unfoldable pub word_rows : Config → List ℕ → WordRows
 word_rows config word =
-    if nat_lt (class_of_word config word) 3 then Private (private_number config word) else Shared (class_of_word config word)
+    if has_private_row config word then Private (private_number config word) else Shared (class_of_word config word)
 
--- the row count of each class, which is the number of its rows from class 3 on, and the rank of each row of those that have shared ones, which is none above the highest
+-- the row count of each class, and the rank of each of so many shared rows, which is none above the highest
 pub record IsClassTable (config : Config) (table : ClassTable) : Type 0 where
   pub counts_are : (class : ℕ) → class ≤ 15 → slice_index table.counts class ≡ row_count_of_class config.one_in config.snr class
-  pub ranks_are : (class j : ℕ) → 3 ≤ class → class ≤ 15 → j < row_count_of_class config.one_in config.snr class →
+  pub ranks_are : (class j : ℕ) → class ≤ 15 → j < row_count_of_class config.one_in config.snr class →
       slice_index (slice_index_or table.ranks class []) j ≡ rank_in_class config class j
-  pub ranks_low : (class j : ℕ) → 3 ≤ class → class ≤ 15 → j < row_count_of_class config.one_in config.snr class →
+  pub ranks_low : (class j : ℕ) → class ≤ 15 → j < row_count_of_class config.one_in config.snr class →
       slice_index (slice_index_or table.ranks class []) j ≤ config.max_rank
 
 -- the rows have room in a slice, and the pool is small enough; beside the configuration and the room stand the shared rows of each

@@ -1,10 +1,10 @@
 -- Bits that belong to one column each, those of the private rows, words that such a bit tells, and what holds of those that are set.
-use Rattle.std.specs.Prelude.{◌≡◌, ℕ, ◌<◌, Bool, true, false, List, ◌∷◌, ◌++◌, Contains, nat_lt}
+use Rattle.std.specs.Prelude.{◌≡◌, ℕ, ◌<◌, Bool, true, false, List, ◌∷◌, ◌++◌, Contains}
 use Rattle.std.specs.List.{list_any}
 use Rattle.std.specs.Option.{is_some}
 use Rattle.funnel_model.specs.Events.{bits_on, clears, put_on}
 use Rattle.funnel_model.specs.Legal.{IsInSlice, Limits}
-use Rattle.funnel_model.specs.Sizes.{class_of_word, columns_of_slice}
+use Rattle.funnel_model.specs.Sizes.{columns_of_slice, has_private_row}
 use Rattle.funnel_model.specs.Slices.{is_claimed}
 use Rattle.funnel_model.specs.Tunings.{treat}
 use Rattle.funnel_model.specs.declared.bit_list.Bit.{Bit}
@@ -16,7 +16,7 @@ use Rattle.row_layout.specs.declared.row.Row.{Row}
 
 -- whether the word is exact: it has a row of its own, which no other word has
 abbrev pub is_exact : Config → List ℕ → Bool
-is_exact config word = nat_lt (class_of_word config word) 3
+is_exact config word = has_private_row config word
 
 -- the column of the slice owns the bit: it is one of the slice's columns, and the bit is that of a private row there and lies in the
 -- slice, where each slice has room for this many words

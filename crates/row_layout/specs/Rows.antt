@@ -1,9 +1,9 @@
 -- The rows of a word, and where they lie in a slice.
-use Rattle.std.specs.Prelude.{◌≡◌, ℕ, ◌+◌, ◌*◌, ◌<◌, ◌≤◌, ◌⊎◌, nat_lt, List, map, flat_map, length, if◌then◌else◌}
+use Rattle.std.specs.Prelude.{◌≡◌, ℕ, ◌+◌, ◌*◌, ◌<◌, ◌≤◌, ◌⊎◌, List, map, flat_map, length, if◌then◌else◌}
 use Rattle.std.specs.List.{range_with_len, position_or_len}
 use Rattle.std.specs.Str.{bytes_eq}
 use Rattle.funnel_model.specs.Treatment.{rank_of_row, row_count_of_class}
-use Rattle.funnel_model.specs.Sizes.{class_of_word, rows_of_class, private_words, shared_rows, width_of_rank, base_of_rank}
+use Rattle.funnel_model.specs.Sizes.{class_of_word, has_private_row, private_words, shared_rows, width_of_rank, base_of_rank}
 use Rattle.funnel_model.specs.declared.config.Config.{Config}
 use Rattle.term_hash.specs.Hash.{row_number}
 use Rattle.row_layout.specs.declared.row.Row.{Row}
@@ -25,23 +25,24 @@ private_number config word = position_or_len (λ entry. bytes_eq entry.0 word) (
 abbrev pub rank_in_class : Config → ℕ → ℕ → ℕ
 rank_in_class config c j = rank_of_row c (row_count_of_class config.one_in config.snr c) config.max_rank j
 
--- row j of a word of class c, from class 3 on: the shared row of its rank that the word's hash names
+-- row j of a word of class c that has shared rows: the shared row of its rank that the word's hash names
 abbrev pub hashed_row : Config → List ℕ → ℕ → ℕ → Row
 hashed_row config word c j =
     let rank = rank_in_class config c j in shared_row config rank (row_number word j (shared_rows config rank))
 
--- the rows of a word of class c, from class 3 on
+-- the rows of a word of class c that has shared rows
 abbrev pub hashed_rows : Config → List ℕ → ℕ → List Row
 hashed_rows config word c = map (hashed_row config word c) (range_with_len 0 (row_count_of_class config.one_in config.snr c))
 
--- how many rows a word has
-abbrev pub row_count_of_word : Config → List ℕ → ℕ
-row_count_of_word config word = rows_of_class config (class_of_word config word)
+-- how many rows a word has: its private row, or as many as its class has
+unfoldable pub row_count_of_word : Config → List ℕ → ℕ
+row_count_of_word config word =
+    if has_private_row config word then 1 else row_count_of_class config.one_in config.snr (class_of_word config word)
 
--- row j of a word: its private row below class 3, and else a shared one
+-- row j of a word: its private row, or a shared one
 unfoldable pub row_of_word : Config → List ℕ → ℕ → Row
 row_of_word config word j =
-    if nat_lt (class_of_word config word) 3
+    if has_private_row config word
     then private_row config (private_number config word)
     else hashed_row config word (class_of_word config word) j
 

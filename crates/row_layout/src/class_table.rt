@@ -41,16 +41,16 @@ fn counts_of(config: &Config) -> [u8; 16]
     counts
 }
 
-/// The ranks of the rows of each class that has shared rows.
+/// The ranks of the shared rows of each class.
 fn ranks_of(config: &Config) -> [[u8; 26]; 16]
     requires { IsInRange config.now }
-    ensures ranks { (class j : ℕ) → 3 ≤ class → class ≤ 15 → j < row_count_of_class config.now.one_in config.now.snr class →
+    ensures ranks { (class j : ℕ) → class ≤ 15 → j < row_count_of_class config.now.one_in config.now.snr class →
         slice_index (slice_index_or result class []) j ≡ rank_in_class config.now class j }
-    ensures low { (class j : ℕ) → 3 ≤ class → class ≤ 15 → j < row_count_of_class config.now.one_in config.now.snr class →
+    ensures low { (class j : ℕ) → class ≤ 15 → j < row_count_of_class config.now.one_in config.now.snr class →
         slice_index (slice_index_or result class []) j ≤ config.now.max_rank }
 {
     let mut ranks = [[0; 26]; 16];
-    for class in 3..LAST_CLASS + 1 {
+    for class in 0..LAST_CLASS + 1 {
         ranks[class as usize] = ranks_in_class(config, class);
     }
     ranks
@@ -59,7 +59,6 @@ fn ranks_of(config: &Config) -> [[u8; 26]; 16]
 /// The ranks of the rows of this class.
 fn ranks_in_class(config: &Config, class: u8) -> [u8; 26]
     requires in_range { IsInRange config.now }
-    requires shared { 3 ≤ class }
     requires class { class ≤ 15 }
     ensures ranks { (j : ℕ) → j < row_count_of_class config.now.one_in config.now.snr class → slice_index result j ≡ rank_in_class config.now class j }
     ensures low { (j : ℕ) → j < row_count_of_class config.now.one_in config.now.snr class → slice_index result j ≤ config.now.max_rank }

@@ -30,6 +30,7 @@ pub(crate) fn copy_of(alloc: Global, config: &Config) -> Result<Config, Memory>
         documents: config.documents,
         tail: config.tail,
         max_rows: config.max_rows,
+        private: config.private,
         words,
     })
 }
@@ -54,7 +55,7 @@ pub(crate) fn rows_of_listed(alloc: Global, config: &Config) -> Result<Vec<WordR
     let mut private = 0;
     for (_, count) in config.words.as_slice() {
         let class = class(*count, config.documents);
-        if class < 3 {
+        if class <= config.private {
             rows.push(WordRows::Private(private))?;
             private += 1;
         } else {

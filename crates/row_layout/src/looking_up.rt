@@ -104,7 +104,6 @@ impl Layout {
     /// Adds the shared rows of a word with this hash and of this class.
     fn push_hashed(&self, hash: &WordHash, class: u8, rows: &mut Vec<Row>) -> Result<(), Memory>
         requires laid { All (IsRowOf self.now.config) rows.old.items }
-        requires shared { 3 ≤ class }
         requires class { class ≤ 15 }
         ensures rows { (word : List ℕ) → hash.now ≡ fnv_1a word → OnOk result (rows.new.items ≡ rows.old.items ++ hashed_rows self.now.config word class) }
         ensures laid { All (IsRowOf self.now.config) rows.new.items }
@@ -144,7 +143,6 @@ impl Layout {
     )
         requires fits { (row : Row) → IsRowOf self.now.config row → first + row.start + column / (64 * 2 ^ row.rank) < 2 ^ 32 }
         requires room { vec_len bits.old + MOST_ROWS ≤ vec_capacity bits.old }
-        requires shared { 3 ≤ class }
         requires class { class ≤ 15 }
         ensures bits { (word : List ℕ) → hash.now ≡ fnv_1a word →
             bits.new.items ≡ bits.old.items ++ map (bit_from first column) (hashed_rows self.now.config word class) }
@@ -183,7 +181,6 @@ impl Layout {
 
     /// Row `j` of a word with this hash and of this class.
     fn hashed(&self, hash: &WordHash, class: u8, j: u8) -> Row
-        requires shared { 3 ≤ class }
         requires class { class ≤ 15 }
         requires j { j < row_count_of_class self.now.config.one_in self.now.config.snr class }
         ensures value { (word : List ℕ) → hash.now ≡ fnv_1a word → result ≡ hashed_row self.now.config word class j }

@@ -12,7 +12,7 @@ use Rattle.slice_rule.specs.declared.view.View.{View}
 
 -- a configuration of zeros: that of a seat that is spent, and of views and pools of which the configuration doesn't matter
 abbrev pub no_config : Config
-no_config = record { passes = 0; slices = 0; blocks = 0; max_rank = 0; commits = 0; reserve = 0; one_in = 0; snr = 0; documents = 0; tail = 0; max_rows = 0; words = [] }
+no_config = record { passes = 0; slices = 0; blocks = 0; max_rank = 0; commits = 0; reserve = 0; one_in = 0; snr = 0; documents = 0; tail = 0; max_rows = 0; private = 0; words = [] }
 
 -- a seat that has seen nothing
 abbrev pub view_at_start : Limits → Config → Role → View

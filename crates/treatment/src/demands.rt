@@ -28,7 +28,7 @@ pub fn demand_of(config: &Config) -> Demand
     let mut bits = [0; 7];
     for (_, count) in config.words.as_slice() {
         let class = class(*count, config.documents);
-        if class < 3 {
+        if class <= config.private {
             private += 1;
         } else {
             add_bits(config, class, *count, &mut bits);
@@ -40,7 +40,6 @@ pub fn demand_of(config: &Config) -> Demand
 /// Adds what a word of this class and count sets in each of its shared rows, at the row's rank.
 fn add_bits(config: &Config, class: u8, count: u64, bits: &mut [u64; 7])
     requires range { IsInRange config.now }
-    requires shared { 3 ≤ class }
     requires class { class ≤ 15 }
     requires count { count ≤ MOST_DOCUMENTS }
     requires room { (r : ℕ) → r < 7 → slice_index bits.old r ≤ 2 ^ 60 }

@@ -1,7 +1,7 @@
 /// How large the rows, a slice and the pool of a configuration are.
 #[derive(Debug, Clone, Copy, PartialEq, Eq, Drop)]
 pub struct Sizes {
-    /// The private rows: one for each listed word of class 0 to 2.
+    /// The private rows: one for each listed word of a class up to `private`.
     pub private: u32,
     /// The shared rows of each rank from 0 to 6, and 0 above the highest rank.
     pub rows: [u32; 7],

@@ -27,6 +27,7 @@ returns c =
         documents = is.documents;
         tail = c.requires.tail;
         max_rows = is.max_rows;
+        private = is.private;
         words = subst (λ words. CountsWords (record c.args.base.now { tail = c.args.tail; words = words })) none (record { few = omega arith; counted = λ k d below. absurd (omega (arith, below)) });
       };
       in_order = subst IsInByteOrder none none_in_order;

@@ -1,6 +1,7 @@
 use Rattle.std.proofs.Common.{ap, arith, map, refl}
 use Rattle.std.proofs.lemmas.List.{length-map}
 use Rattle.fit.proofs.Making.{in_range_made, shifted, tail_made}
+use Rattle.fit.proofs.Privates.{private_moved}
 use Rattle.fit.specs.Steps.{ranked}
 use Rattle.fit.proofs.listing.configuration.Goals as goal
 
@@ -21,6 +22,8 @@ returns-clause-made c = record {
   words = c.in_ok-listed.ensures.words;
   order = c.in_ok-listed.ensures.order;
   tail = tail_made c.args.frame.words c.args.frame.documents c.together.result c.tail.result (map ranked c.args.first.now) c.in_ok-listed.field-0 c.together.ensures c.in_ok-listed.ensures.words c.tail.ensures;
+  private = private_moved c.args.frame.documents c.private_class.result (map ranked c.args.first.now) c.in_ok-listed.field-0 c.in_ok-listed.ensures.words
+      c.private_class.ensures;
 }
 
 pub returns-clause-in_range : goal.returns-clause-in_range

@@ -23,12 +23,13 @@ returns-clause-answer c =
     let documents = c.in_ok-documents.ensures.answer in
     let tail = c.in_ok-tail.ensures.answer in
     let max_rows = c.in_ok-max_rows.ensures.answer in
+    let private = c.in_ok-private.ensures.answer in
     let words = c.in_ok-_count.ensures.answer in (
       neither _ _ passes.0 (neither _ _ slices.0 (neither _ _ blocks.0 (neither _ _ max_rank.0 (neither _ _ commits.0 (
           neither _ _ reserve.0 (neither _ _ one_in.0 (neither _ _ snr.0 (neither _ _ documents.0 (neither _ _ tail.0 (neither _ _ max_rows.0 (
-          neither _ _ words.0 refl))))))))))),
-      config_of-numbers (members_view c.args.object.now.entries) _ _ _ _ _ _ _ _ _ _ _ _
-          passes.1 slices.1 blocks.1 max_rank.1 commits.1 reserve.1 one_in.1 snr.1 documents.1 tail.1 max_rows.1 c.no_words.ensures.words,
+          neither _ _ private.0 (neither _ _ words.0 refl)))))))))))),
+      config_of-numbers (members_view c.args.object.now.entries) _ _ _ _ _ _ _ _ _ _ _ _ _
+          passes.1 slices.1 blocks.1 max_rank.1 commits.1 reserve.1 one_in.1 snr.1 documents.1 tail.1 max_rows.1 private.1 c.no_words.ensures.words,
     )
 
 pub returns-clause-few : goal.returns-clause-few

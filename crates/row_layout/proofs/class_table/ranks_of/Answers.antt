@@ -21,12 +21,12 @@ loop-class-preserved c =
     let lt : c.loop-class.class < length c.loop-class.ranks = omega (arith, c.loop-class.invariant.all) in
     record {
       all = length-set c.loop-class.ranks c.loop-class.class _ ∙ c.loop-class.invariant.all;
-      ranks = λ k j shared below has.
-          one_more (λ i ranks. 3 ≤ i → (j : ℕ) → j < row_count_of_class config.one_in config.snr i → get_or ranks j 0 ≡ rank_in_class config i j)
-          c.loop-class.ranks c.loop-class.class c.ranks_in_class.result lt (λ i less from row in'. c.loop-class.invariant.ranks i row from less in')
-          (λ from. c.ranks_in_class.ensures.ranks) k below shared j has;
-      low = λ k j shared below has.
-          one_more (λ i ranks. 3 ≤ i → (j : ℕ) → j < row_count_of_class config.one_in config.snr i → get_or ranks j 0 ≤ config.max_rank)
-          c.loop-class.ranks c.loop-class.class c.ranks_in_class.result lt (λ i less from row in'. c.loop-class.invariant.low i row from less in')
-          (λ from. c.ranks_in_class.ensures.low) k below shared j has;
+      ranks = λ k j below has.
+          one_more (λ i ranks. (j : ℕ) → j < row_count_of_class config.one_in config.snr i → get_or ranks j 0 ≡ rank_in_class config i j)
+          c.loop-class.ranks c.loop-class.class c.ranks_in_class.result lt (λ i less row in'. c.loop-class.invariant.ranks i row less in')
+          c.ranks_in_class.ensures.ranks k below j has;
+      low = λ k j below has.
+          one_more (λ i ranks. (j : ℕ) → j < row_count_of_class config.one_in config.snr i → get_or ranks j 0 ≤ config.max_rank)
+          c.loop-class.ranks c.loop-class.class c.ranks_in_class.result lt (λ i less row in'. c.loop-class.invariant.low i row less in')
+          c.ranks_in_class.ensures.low k below j has;
     }

@@ -7,6 +7,6 @@ use Rattle.row_layout.proofs.class_table.ranks_of.Given as goal
 abbrev pub invariant-loop-class : goal.invariant-loop-class
 invariant-loop-class l = record {
   all : length l.ranks ≡ 16;
-  ranks : (k j : ℕ) → 3 ≤ k → k < l.class → j < row_count_of_class l.config.one_in l.config.snr k → get_or (get_or l.ranks k []) j 0 ≡ rank_in_class l.config k j;
-  low : (k j : ℕ) → 3 ≤ k → k < l.class → j < row_count_of_class l.config.one_in l.config.snr k → get_or (get_or l.ranks k []) j 0 ≤ l.config.max_rank;
+  ranks : (k j : ℕ) → k < l.class → j < row_count_of_class l.config.one_in l.config.snr k → get_or (get_or l.ranks k []) j 0 ≡ rank_in_class l.config k j;
+  low : (k j : ℕ) → k < l.class → j < row_count_of_class l.config.one_in l.config.snr k → get_or (get_or l.ranks k []) j 0 ≤ l.config.max_rank;
 }

@@ -1,12 +1,20 @@
-use Rattle.std.proofs.Common.{rules, ◌+◌, ◌^◌, ◌<◌, ◌≤◌, ap, sym, ◌∙◌, subst, arith}
+use Rattle.std.proofs.Common.{rules, ◌≡◌, ℕ, ◌+◌, ◌^◌, ◌<◌, ◌≤◌, true, false, leb, ap, sym, ◌∙◌, arith}
 use Rattle.std.proofs.lemmas.List.{length-take}
+use Rattle.std.proofs.lemmas.Bool.Decides.{nat_tests}
 use Rattle.funnel_model.specs.Listed.{listed_pair}
+use Rattle.funnel_model.specs.Sizes.{is_private}
 use Rattle.treatment.proofs.Lookups.{item_at, long_enough}
 use Rattle.treatment.proofs.Passes.{private_more, private_same, private_small}
-use Rattle.row_layout.proofs.Listing.{listed_more, private_at, shared_at, low_class, high_class}
+use Rattle.row_layout.proofs.Listing.{listed_more, private_at, shared_at}
 use Rattle.row_layout.specs.declared.word_rows.WordRows.TheVariants.{Private, Shared}
 use Rattle.row_layout.proofs.listed_rows.rows_of_listed.Goals as goal
-use Rattle.row_layout.proofs.listed_rows.rows_of_listed.Goals.{then-class-lt3+in_ok-push, else-class-lt3+in_ok-push-2}
+use Rattle.row_layout.proofs.listed_rows.rows_of_listed.Goals.{then-class-config+in_ok-push, else-class-config+in_ok-push-2}
+
+is_low : (a b most : ℕ) → a ≡ b → a ≤ most → leb b most ≡ true
+is_low a b most e h = grind (arith, nat_tests)
+
+is_high : (a b most : ℕ) → a ≡ b → most < a → leb b most ≡ false
+is_high a b most e h = grind (arith, nat_tests)
 
 pub class-class-requires-clause-positive : goal.class-class-requires-clause-positive
 class-class-requires-clause-positive c =
@@ -37,20 +45,20 @@ loop-count-preserved c =
     let order = c.as_slice-count-items.ensures.in_order in
     let within = long_enough _ _ c.as_slice-count-items.ensures.entries c.loop-count.count-index c.loop-count-test.true in
     let at = item_at _ _ c.as_slice-count-items.ensures.entries c.loop-count.count-index c.loop-count-item.result c.loop-count-item.is in
-    elim c.if-class-lt3.branch [
-      | then-class-lt3+in_ok-push w ↦
-          let low = subst (λ k. k < 3) c.class-class.ensures.value w.if-class-lt3.true in
+    elim c.if-class-config.branch [
+      | then-class-config+in_ok-push w ↦
+          let low : is_private config entry ≡ true = is_low _ _ _ c.class-class.ensures.value w.if-class-config.true in
           record {
-            private = w.private-is ∙ ap (λ n. n + 1) c.loop-count.invariant.private ∙ sym (private_more config i entry within at (low_class config entry low));
+            private = w.private-is ∙ ap (λ n. n + 1) c.loop-count.invariant.private ∙ sym (private_more config i entry within at low);
             rows =
                 listed_more config i entry order within at _ _ (Private c.loop-count.private) c.loop-count.invariant.rows
                 (ap (λ v. v.items) w.rows-is ∙ w.in_ok-push.ensures.items)
                 (private_at config i entry order within at low ∙ ap Private (sym c.loop-count.invariant.private));
           }
-      | else-class-lt3+in_ok-push-2 w ↦
-          let high = subst (λ k. 3 ≤ k) c.class-class.ensures.value w.if-class-lt3.false in
+      | else-class-config+in_ok-push-2 w ↦
+          let high : is_private config entry ≡ false = is_high _ _ _ c.class-class.ensures.value w.if-class-config.false in
           record {
-            private = w.private-is ∙ c.loop-count.invariant.private ∙ sym (private_same config i entry within at (high_class config entry high));
+            private = w.private-is ∙ c.loop-count.invariant.private ∙ sym (private_same config i entry within at high);
             rows =
                 listed_more config i entry order within at _ _ (Shared c.class-class.result) c.loop-count.invariant.rows
                 (ap (λ v. v.items) w.rows-is ∙ w.in_ok-push-2.ensures.items)

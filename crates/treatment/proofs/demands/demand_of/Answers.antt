@@ -1,4 +1,4 @@
-use Rattle.std.proofs.Common.{rules, ◌≡◌, ℕ, ◌+◌, ◌*◌, ◌^◌, ◌<◌, ◌≤◌, true, false, ltb, get_or, ap, sym, ◌∙◌, arith}
+use Rattle.std.proofs.Common.{rules, ◌≡◌, ℕ, ◌+◌, ◌*◌, ◌^◌, ◌<◌, ◌≤◌, true, false, leb, get_or, ap, sym, ◌∙◌, arith}
 use Rattle.std.specs.Prelude.{min}
 use Rattle.std.proofs.lemmas.Bool.Decides.{nat_tests}
 use Rattle.std.proofs.lemmas.List.{length-take}
@@ -7,13 +7,13 @@ use Rattle.funnel_model.specs.Sizes.{is_private, bits_of_entry, ranked_rows}
 use Rattle.treatment.proofs.Lookups.{item_at, long_enough, all_passed}
 use Rattle.treatment.proofs.Passes.{bits_so_far, private_more, private_same, bits_same, bits_more_at, all_private, all_bits, private_small, bits_so_far_small}
 use Rattle.treatment.proofs.demands.demand_of.Goals as goal
-use Rattle.treatment.proofs.demands.demand_of.Goals.{then-class-lt3, else-class-lt3}
+use Rattle.treatment.proofs.demands.demand_of.Goals.{then-class-config, else-class-config}
 
-is_low : (a b : ℕ) → a ≡ b → a < 3 → ltb b 3 ≡ true
-is_low a b e h = grind (arith, nat_tests)
+is_low : (a b most : ℕ) → a ≡ b → a ≤ most → leb b most ≡ true
+is_low a b most e h = grind (arith, nat_tests)
 
-is_high : (a b : ℕ) → a ≡ b → 3 ≤ a → ltb b 3 ≡ false
-is_high a b e h = grind (arith, nat_tests)
+is_high : (a b most : ℕ) → a ≡ b → most < a → leb b most ≡ false
+is_high a b most e h = grind (arith, nat_tests)
 
 pub class-class-requires-clause-positive : goal.class-class-requires-clause-positive
 class-class-requires-clause-positive c =
@@ -48,15 +48,15 @@ loop-count-preserved c =
     let entry = listed_pair c.loop-count-item.result in
     let within = long_enough _ _ c.as_slice-count-items.ensures.entries c.loop-count.count-index c.loop-count-test.true in
     let at = item_at _ _ c.as_slice-count-items.ensures.entries c.loop-count.count-index c.loop-count-item.result c.loop-count-item.is in
-    elim c.if-class-lt3.branch [
-      | then-class-lt3 w ↦
-          let low : is_private config entry ≡ true = is_low _ _ c.class-class.ensures.value w.if-class-lt3.true in
+    elim c.if-class-config.branch [
+      | then-class-config w ↦
+          let low : is_private config entry ≡ true = is_low _ _ _ c.class-class.ensures.value w.if-class-config.true in
           record {
             private = w.private-is ∙ ap (λ n. n + 1) c.loop-count.invariant.private ∙ sym (private_more config i entry within at low);
             bits = λ r less. ap (λ bits. get_or bits r 0) w.bits-is ∙ c.loop-count.invariant.bits r less ∙ sym (bits_same config i entry within at r low);
           }
-      | else-class-lt3 w ↦
-          let high : is_private config entry ≡ false = is_high _ _ c.class-class.ensures.value w.if-class-lt3.false in
+      | else-class-config w ↦
+          let high : is_private config entry ≡ false = is_high _ _ _ c.class-class.ensures.value w.if-class-config.false in
           record {
             private = w.private-is ∙ c.loop-count.invariant.private ∙ sym (private_same config i entry within at high);
             bits = λ r less.

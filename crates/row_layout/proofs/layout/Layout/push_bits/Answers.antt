@@ -29,11 +29,6 @@ bit-requires-clause-rank c = rank-small c.args.self.now.config c.look_up.ensures
 pub bit-requires-clause-fits : goal.bit-requires-clause-fits
 bit-requires-clause-fits c = c.requires.fits c.private.result (laid c)
 
-pub push_hashed_bits-requires-clause-shared : goal.push_hashed_bits-requires-clause-shared
-push_hashed_bits-requires-clause-shared c =
-    let shared = word_rows-shared c.args.self.now.config c.args.word.now c.in-Shared.class c.in-Shared.ensures.value in
-    omega (arith, shared.0, shared.1)
-
 pub push_hashed_bits-requires-clause-class : goal.push_hashed_bits-requires-clause-class
 push_hashed_bits-requires-clause-class c =
     let shared = word_rows-shared c.args.self.now.config c.args.word.now c.in-Shared.class c.in-Shared.ensures.value in

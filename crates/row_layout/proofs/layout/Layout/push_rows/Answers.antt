@@ -1,8 +1,7 @@
 -- The rows of a word are its private row, or those of its class.
 use Rattle.std.proofs.Common.{◌++◌, ◌∷◌, [], ◌<◌, ℕ, length, ap, sym, subst, ◌∙◌, inl, arith}
 use Rattle.std.specs.List.{All}
-use Rattle.std.proofs.lemmas.Bool.{le-ltb, lt-ltb}
-use Rattle.funnel_model.specs.Sizes.{class_of_word, private_words}
+use Rattle.funnel_model.specs.Sizes.{private_words}
 use Rattle.std.proofs.lemmas.List.Elements.{All-push}
 use Rattle.row_layout.specs.Rows.{IsRowOf, hashed_rows, private_row}
 use Rattle.row_layout.proofs.Listing.{word_rows-private, word_rows-shared, class_of_word-small, private_number-below}
@@ -14,11 +13,6 @@ private-requires c =
     let config = c.args.self.now.config in
     let private = word_rows-private config c.args.word.now c.in-Private.number c.in-Private.ensures.value in
     subst (λ (i : ℕ). i < length (private_words config)) (sym private.1) (private_number-below config c.args.word.now private.0)
-
-pub push_hashed-requires-clause-shared : goal.push_hashed-requires-clause-shared
-push_hashed-requires-clause-shared c =
-    let shared = word_rows-shared c.args.self.now.config c.args.word.now c.in-Shared.class c.in-Shared.ensures.value in
-    omega (arith, shared.0, shared.1)
 
 pub push_hashed-requires-clause-class : goal.push_hashed-requires-clause-class
 push_hashed-requires-clause-class c =
@@ -52,9 +46,9 @@ returns-in_ok-push_hashed-in-Shared-clause-rows c =
 pub returns-in_ok-push-in-Private-clause-exact : goal.returns-in_ok-push-in-Private-clause-exact
 returns-in_ok-push-in-Private-clause-exact c =
     let private = word_rows-private c.args.self.now.config c.args.word.now c.in-Private.number c.in-Private.ensures.value in
-    sym (lt-ltb (class_of_word c.args.self.now.config c.args.word.now) 3 private.0)
+    sym private.0
 
 pub returns-in_ok-push_hashed-in-Shared-clause-exact : goal.returns-in_ok-push_hashed-in-Shared-clause-exact
 returns-in_ok-push_hashed-in-Shared-clause-exact c =
     let shared = word_rows-shared c.args.self.now.config c.args.word.now c.in-Shared.class c.in-Shared.ensures.value in
-    sym (le-ltb (class_of_word c.args.self.now.config c.args.word.now) 3 shared.0)
+    sym shared.0

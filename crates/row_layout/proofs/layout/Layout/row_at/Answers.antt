@@ -3,7 +3,7 @@ use Rattle.funnel_model.specs.Sizes.{private_words}
 use Rattle.funnel_model.specs.Treatment.{row_count_of_class}
 use Rattle.row_layout.specs.Rows.{private_row, hashed_row}
 use Rattle.row_layout.proofs.Listing.{word_rows-private, word_rows-shared, class_of_word-small, private_number-below}
-use Rattle.row_layout.proofs.WordRows.{rows_of_class-shared, row_of_word-private, row_of_word-shared}
+use Rattle.row_layout.proofs.WordRows.{row_count-shared, row_of_word-private, row_of_word-shared}
 use Rattle.row_layout.proofs.layout.Layout.row_at.Goals as goal
 
 pub private-requires : goal.private-requires
@@ -11,11 +11,6 @@ private-requires c =
     let config = c.args.self.now.config in
     let private = word_rows-private config c.args.word.now c.in-Private.number c.in-Private.ensures.value in
     subst (λ i. i < length (private_words config)) (sym private.1) (private_number-below config c.args.word.now private.0)
-
-pub hashed-requires-clause-shared : goal.hashed-requires-clause-shared
-hashed-requires-clause-shared c =
-    let shared = word_rows-shared c.args.self.now.config c.args.word.now c.in-Shared.class c.in-Shared.ensures.value in
-    omega (arith, shared.0, shared.1)
 
 pub hashed-requires-clause-class : goal.hashed-requires-clause-class
 hashed-requires-clause-class c =
@@ -27,7 +22,7 @@ hashed-requires-clause-j c =
     let config = c.args.self.now.config in
     let shared = word_rows-shared config c.args.word.now c.in-Shared.class c.in-Shared.ensures.value in
     subst (λ k. c.args.j < row_count_of_class config.one_in config.snr k) (sym shared.1)
-    (subst (λ n. c.args.j < n) (rows_of_class-shared config _ shared.0) c.requires)
+    (subst (λ n. c.args.j < n) (row_count-shared config c.args.word.now shared.0) c.requires)
 
 pub returns-in-Private-clause-value : goal.returns-in-Private-clause-value
 returns-in-Private-clause-value c =
