@@ -135,10 +135,10 @@ asks_no_put caller front id body is closing = asks_none caller front (λ (t : Li
 pub asks_tune : (caller : Caller) (before after : List Event) (body : List ℕ) (given : Reply) → IsUtf8 body
     → AnswersAsked caller before after (Tunes body) given → AnswersRoute Tune body caller before (outcome.Replied shape.Object given) after
 asks_tune caller before after body given text answers closing =
-    asks_with caller before Tunes cause.Body closing after (as_text body) body given (is_text body text) answers
+    asks_with caller before Tunes cause.Text closing after (as_text body) body given (is_text body text) answers
 
-pub asks_no_tune : (caller : Caller) (front : List Event) (body : List ℕ) → ¬ (IsUtf8 body) → AnswersRoute Tune body caller front (outcome.Refused cause.Body) front
-asks_no_tune caller front body other closing = asks_none caller front Tunes cause.Body closing (as_text body) (not_text body (is_utf8 body) refl other)
+pub asks_no_tune : (caller : Caller) (front : List Event) (body : List ℕ) → ¬ (IsUtf8 body) → AnswersRoute Tune body caller front (outcome.Refused cause.Text) front
+asks_no_tune caller front body other closing = asks_none caller front Tunes cause.Text closing (as_text body) (not_text body (is_utf8 body) refl other)
 
 last_route : (form : Shape) (why : Cause) (closing : Bool) (o : Option Asked) → is_last (option_map_or (λ (asked : Asked). Asks asked form closing) o (Refused why closing)) ≡ closing
 last_route form why closing None = refl

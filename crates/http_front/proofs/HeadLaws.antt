@@ -27,6 +27,7 @@ no_refusal bytes none may few cause.Length refused = none _ _ refused.2.reads
 no_refusal bytes none may few cause.Long refused = none _ _ refused.2.reads
 no_refusal bytes none may few cause.Route refused = refused.3
 no_refusal bytes none may few cause.Body refused = refused.3
+no_refusal bytes none may few cause.Text refused = refused.3
 no_refusal bytes none may few cause.Query refused = refused.3
 
 -- and decide nothing
@@ -71,6 +72,7 @@ good_body fields count good cause.Long bad = let same : Some count ≡ Some bad.
 good_body fields count good cause.Head bad = bad
 good_body fields count good cause.Route bad = bad
 good_body fields count good cause.Body bad = bad
+good_body fields count good cause.Text bad = bad
 good_body fields count good cause.Query bad = bad
 
 -- where the body isn't whole, nothing is answered
@@ -97,6 +99,7 @@ no_entry_without_body bytes head after count has good short entry rest reads = g
   refused cause.Long bad = at_head cause.Long _ _ bad.2 bad.3
   refused cause.Route bad = bad.3
   refused cause.Body bad = bad.3
+  refused cause.Text bad = bad.3
   refused cause.Query bad = bad.3
 
   go : (entry : Entry) → ReadsEntry bytes entry rest → ⊥

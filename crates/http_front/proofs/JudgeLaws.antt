@@ -71,6 +71,7 @@ module _ (bytes first : List ℕ) (fields : List HeaderSpan) (r : RequestSpans) 
   judged_refused cause.Long bad = (head, drop r.len bytes, head_all (few_fields bad.0), rw (← is.fields_are) bad.1)
   judged_refused cause.Route bad = absurd bad.1
   judged_refused cause.Body bad = absurd bad.1
+  judged_refused cause.Text bad = absurd bad.1
   judged_refused cause.Query bad = absurd bad.1
 
   module _ (count : ℕ) (good : IsGoodHead (map (header_bytes first) fields) count) where

@@ -29,10 +29,12 @@ one_fault fields cause.Long cause.Long a b = refl
 one_fault fields cause.Head why' a b = absurd a
 one_fault fields cause.Route why' a b = absurd a
 one_fault fields cause.Body why' a b = absurd a
+one_fault fields cause.Text why' a b = absurd a
 one_fault fields cause.Query why' a b = absurd a
 one_fault fields why cause.Head a b = absurd b
 one_fault fields why cause.Route a b = absurd b
 one_fault fields why cause.Body a b = absurd b
+one_fault fields why cause.Text a b = absurd b
 one_fault fields why cause.Query a b = absurd b
 
 one_refusal : (bytes : List ℕ) (why why' : Cause) → IsRefusedAtHead bytes why → IsRefusedAtHead bytes why' → why ≡ why'

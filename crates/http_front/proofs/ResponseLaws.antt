@@ -27,6 +27,11 @@ pub ok_with_room : {X E : Type 0} (r : Result X E) (room len need : ℕ) → OnE
 ok_with_room (Ok x) room len need full none few fits = refl
 ok_with_room (Err e) room len need full none few fits = absurd (omega (arith, full, none, few, fits))
 
+-- and so it does where what it needs fits
+pub ok_where_it_fits : {X E : Type 0} (r : Result X E) (room len need : ℕ) → OnErr r (room < len + need) → len ≡ 0 → need ≤ room → IsOk r
+ok_where_it_fits (Ok x) room len need full none fits = refl
+ok_where_it_fits (Err e) room len need full none fits = absurd (omega (arith, full, none, fits))
+
 -- three texts behind another, one after another
 pub appended : (o a b d o1 o2 o3 : List ℕ) → o1 ≡ o ++ a → o2 ≡ o1 ++ b → o3 ≡ o2 ++ d → o3 ≡ o ++ (a ++ (b ++ d))
 appended o a b d o1 o2 o3 first second third =

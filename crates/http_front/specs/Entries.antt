@@ -56,6 +56,7 @@ shape_of _ = shape.Object
 abbrev pub cause_of : Route → Cause
 cause_of (Find told value) = cause.Query
 cause_of (Query told value) = cause.Query
+cause_of Tune = cause.Text
 cause_of _ = cause.Body
 
 -- the entry of a request of a route

@@ -53,6 +53,7 @@ word_of_cause cause.Length = codes "length"
 word_of_cause cause.Long = codes "long"
 word_of_cause cause.Route = codes "route"
 word_of_cause cause.Body = codes "body"
+word_of_cause cause.Text = codes "body"
 word_of_cause cause.Query = codes "query"
 
 -- an object that tells an error

@@ -167,6 +167,6 @@ fn tune<S: Service>(service: &mut S, body: &[u8]) -> Outcome
 {
     match str::from_utf8(body) {
         Ok(text) => Outcome::Replied(Shape::Object, service.call(&Request::Tune { text })),
-        Err(_) => Outcome::Refused(Cause::Body),
+        Err(_) => Outcome::Refused(Cause::Text),
     }
 }

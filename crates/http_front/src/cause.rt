@@ -14,6 +14,8 @@ pub enum Cause {
     Route,
     /// The body is no document.
     Body,
+    /// The body is no text, but bytes that are not UTF-8.
+    Text,
     /// The value of the query can't be decoded.
     Query,
 }

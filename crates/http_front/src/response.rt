@@ -21,6 +21,9 @@ pub(crate) fn render(told: &Outcome, closing: bool, body: &mut Vec<u8>, text: &m
     requires body { TEXT_ROOM ≤ vec_capacity body.old }
     requires text { TEXT_ROOM ≤ vec_capacity text.old }
     ensures text { IsRendered closing told.now text.new.items }
+    // A want of memory is told only where the body, or the response, has more bytes than there was room for.
+    ensures enough { length (body_of told.now) ≤ vec_capacity body.old → length (text_of closing told.now) ≤ vec_capacity text.old
+        → text.new.items ≡ text_of closing told.now }
     ensures body_room { TEXT_ROOM ≤ vec_capacity body.new }
     ensures text_room { TEXT_ROOM ≤ vec_capacity text.new }
 {
@@ -47,6 +50,7 @@ fn write_response(
     text: &mut Vec<u8>,
 ) -> Result<(), AllocError>
     ensures ok { OnOk result (text.new.items ≡ text_of closing told.now) }
+    ensures enough { length (body_of told.now) ≤ vec_capacity body.old → length (text_of closing told.now) ≤ vec_capacity text.old → IsOk result }
     ensures room { is_long told.now ≡ false → TEXT_ROOM ≤ vec_capacity body.old → TEXT_ROOM ≤ vec_capacity text.old → IsOk result }
     ensures body_capacity { vec_capacity body.old ≤ vec_capacity body.new }
     ensures text_capacity { vec_capacity text.old ≤ vec_capacity text.new }
@@ -209,7 +213,7 @@ fn word(cause: Cause) -> &'static [u8]
         Cause::Length => b"length",
         Cause::Long => b"long",
         Cause::Route => b"route",
-        Cause::Body => b"body",
+        Cause::Body | Cause::Text => b"body",
         Cause::Query => b"query",
     }
 }

@@ -24,7 +24,8 @@ use std::alloc::{AllocError, Global};
 /// Answers the requests of a connection, until a response closes it, its input is at its end, `limit` bytes were taken, or
 /// a read or a write fails. A read may bring several requests: each is answered, and its response goes out whole, before
 /// the next read. A request that the end of the input cuts isn't answered. No read or write that failed is tried again.
-/// Want of memory ends it at the start alone; later only the response to a `POST /documents` or a `GET /find` tells it.
+/// Want of memory ends it at the start alone; later only a response tells it, where a document in a body or its call finds none, or in
+/// place of a response that does.
 pub fn serve_http<S: Service, C: Connection>(
     alloc: Global,
     service: &mut S,
