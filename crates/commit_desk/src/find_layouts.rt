@@ -41,9 +41,10 @@ impl FindLayouts {
         })
     }
 
-    // One more entry.
+    // One more entry. It never has less room than before.
     pub(crate) fn push(&mut self, entry: FindLayout) -> Result<(), Memory>
-        ensures { IfOk result (λ _. self.new.entries.items ≡ self.old.entries.items ++ entry ∷ []) }
+        ensures pushed { IfOk result (λ _. self.new.entries.items ≡ self.old.entries.items ++ entry ∷ []) }
+        ensures room { vec_capacity self.old.entries ≤ vec_capacity self.new.entries }
     {
         self.entries.push(entry)?;
         Ok(())

@@ -1,4 +1,4 @@
-ghost use Rattle.std.specs.Prelude.{◌≡◌, ℕ, ◌+◌, ◌<◌, ◌≤◌, ◌↔◌, [], ◌∷◌, length, Contains, IfOk, Ok};
+ghost use Rattle.std.specs.Prelude.{◌≡◌, ℕ, ◌+◌, ◌<◌, ◌≤◌, ◌↔◌, [], ◌∷◌, length, Contains, IfOk, Ok, vec_capacity};
 ghost use Rattle.funnel_model.specs.declared.event.Event.TheVariants as event;
 ghost use Rattle.funnel_model.specs.declared.claim.Token.{Token};
 ghost use Rattle.funnel_model.specs.Legal.{IsIdle};
@@ -32,7 +32,7 @@ pub struct Part<'a, J> {
 impl Desk {
     /// Begins a find. Its token lets it read the slices that are in use, until the find ends. Before the event is made `layouts` gets
     /// their layouts in place of what it had: an entry for each treatment that some of them has. Where it has no room for these, it
-    /// takes memory.
+    /// takes memory, and never has less room afterwards.
     pub fn open_find(
         &mut self,
         pool: &Pool,
@@ -46,6 +46,7 @@ impl Desk {
         ensures answer { AnswersFind self.old.events_limit self.old.pool.limits self.old.history result }
         ensures token { IfOk result (λ token. HoldsToken seat.new token) }
         ensures layouts { IfOk result (λ token. AreFindLayouts self.old.pool self.old.history token layouts.new.entries.items) }
+        ensures room { vec_capacity layouts.old.entries ≤ vec_capacity layouts.new.entries }
         ensures sound { IsSound self.old.pool.config self.old.history }
         ensures events { Makes (events_of_find seat.old.number query.now result) self.old self.new seat.old seat.new }
         ensures none_outstanding { HasNoneOutstanding seat.new }
@@ -115,10 +116,11 @@ impl Desk {
 
     // Puts the slices that a find may read into entries with their layouts, in place of what there was.
     fn share_layouts(&self, layouts: &mut FindLayouts) -> Result<(), Memory>
-        ensures { IfOk result (λ _. (token : Token) →
+        ensures shared { IfOk result (λ _. (token : Token) →
             ((slice : ℕ) → Contains token.slices slice ↔
             ((slice < self.now.pool.limits.slices) × IsInUse self.now.pool.limits.columns slice self.now.history)) →
             AreFindLayouts self.now.pool self.now.history token layouts.new.entries.items) }
+        ensures room { vec_capacity layouts.old.entries ≤ vec_capacity layouts.new.entries }
     {
         let slices = self.stages.in_use();
         layouts.entries.clear();

@@ -134,7 +134,8 @@ impl SliceLayouts {
         layouts: &mut FindLayouts,
     ) -> Result<(), Memory>
         requires { layouts.old.entries.items ≡ [] }
-        ensures { IfOk result (λ _. AreShared self.now.treatments slices.now layouts.new.entries.items) }
+        ensures shared { IfOk result (λ _. AreShared self.now.treatments slices.now layouts.new.entries.items) }
+        ensures room { vec_capacity layouts.old.entries ≤ vec_capacity layouts.new.entries }
     {
         for index in 0..self.treatments.len() {
             share_one(&self.treatments[index], slices, layouts)?;
@@ -196,7 +197,8 @@ fn take_current(
 
 // Adds an entry with those slices of the set that have this treatment, where some have it.
 fn share_one(whole: &FindLayout, slices: &SliceSet, layouts: &mut FindLayouts) -> Result<(), Memory>
-    ensures { IfOk result (λ _. AddsShare slices.now whole.now layouts.old.entries.items layouts.new.entries.items) }
+    ensures adds { IfOk result (λ _. AddsShare slices.now whole.now layouts.old.entries.items layouts.new.entries.items) }
+    ensures room { vec_capacity layouts.old.entries ≤ vec_capacity layouts.new.entries }
 {
     let slices = whole.slices.both(slices);
     if slices.lowest().is_none() {

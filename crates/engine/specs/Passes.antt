@@ -1,11 +1,14 @@
 -- What contracts see of a pass of an engine between its calls, and what a call makes of it.
-use Rattle.std.specs.Prelude.{◌≡◌, ℕ, List, []}
+use Rattle.std.specs.Prelude.{◌≡◌, ℕ, ◌≤◌, List, [], vec_capacity}
 use Rattle.funnel_model.specs.declared.call.Call.{Call}
 use Rattle.funnel_model.specs.declared.event.Event.{Event}
 use Rattle.funnel_model.specs.declared.reply.Reply.{Reply}
 use Rattle.funnel_model.specs.Legal.{IsLegal, Limits}
 use Rattle.funnel_model.specs.Steps.{AddsCall, AddsNone, Step}
+use Rattle.slice_rule.specs.Pools.{PoolId}
 use Rattle.slice_rule.specs.Seats.{PassState}
+use Rattle.commit_desk.specs.declared.find_layouts.FindLayouts.{FindLayouts}
+use Rattle.commit_desk.specs.Passes.{IsResting}
 
 -- a pass by its number, and the part of the history that it has seen
 pub record PassView : Type 0 where
@@ -15,6 +18,16 @@ pub record PassView : Type 0 where
 -- what its seat tells of it
 abbrev pub view_of : PassState → PassView
 view_of seat = record { number = seat.number; front = seat.front }
+
+-- there is room for an entry of each slice
+abbrev pub HasRoomForEach : PoolId → FindLayouts → Type 0
+HasRoomForEach pool layouts = pool.limits.slices ≤ vec_capacity layouts.entries
+
+-- A pass of the engine between its calls: it rests, and keeps no layout, but room for one of each slice.
+pub record IsBetweenCalls (pool : PoolId) (seat : PassState) (layouts : FindLayouts) : Type 0 where
+  pub rests : IsResting pool seat
+  pub none : layouts.entries.items ≡ []
+  pub room : HasRoomForEach pool layouts
 
 -- a pass of a new engine, which has seen nothing
 abbrev pub new_pass : ℕ → PassView

@@ -1,5 +1,5 @@
 //! Finds.
-ghost use Rattle.std.specs.Prelude.{◌≡◌, ℕ, List, ◌≤◌, ◌++◌, [], IfErr, IfOk, MatchResult, length};
+ghost use Rattle.std.specs.Prelude.{◌≡◌, ℕ, List, ◌≤◌, ◌++◌, [], IfErr, IfOk, MatchResult, length, vec_capacity};
 ghost use Rattle.funnel_model.specs.declared.call.Call.TheVariants as call;
 ghost use Rattle.funnel_model.specs.declared.event.Event.{Event};
 ghost use Rattle.funnel_model.specs.History.{answer};
@@ -122,7 +122,10 @@ impl<N: PoolName> Engine<N> {
         layouts: &mut FindLayouts,
     ) -> Result<Begun, FindFault>
         requires pass { IsResting N.pool pass.old }
+        requires none { layouts.old.entries.items ≡ [] }
         ensures begun { IfOk result (λ begun. IsScanFor N.pool pass.new begun.token begun.search layouts.new.entries.items) }
+        ensures none { IfErr result (λ _. layouts.new.entries.items ≡ []) }
+        ensures room { vec_capacity layouts.old.entries ≤ vec_capacity layouts.new.entries }
         ensures turns { MatchResult result (λ _. FindBegins N.pool.limits pass.old.number query.now pass.old.front pass.new.front)
             (λ fault. RefusedTurns N.pool.limits pass.old.number pass.old.front pass.new.front fault) }
         ensures rests { IfErr result (λ _. IsResting N.pool pass.new) }
@@ -148,6 +151,8 @@ impl<N: PoolName> Engine<N> {
     ) -> Result<Token, FindFault>
         requires pass { IsResting N.pool pass.old }
         ensures begun { IfOk result (λ token. IsJustFinding N.pool token pass.new layouts.new.entries.items) }
+        ensures none { IfErr result (λ _. layouts.new.entries.items ≡ []) }
+        ensures room { vec_capacity layouts.old.entries ≤ vec_capacity layouts.new.entries }
         ensures turns { MatchResult result (λ _. FindBegins N.pool.limits pass.old.number query.now pass.old.front pass.new.front)
             (λ fault. RefusedTurn N.pool.limits pass.old.number pass.old.front pass.new.front fault) }
         ensures rests { IfErr result (λ _. IsResting N.pool pass.new) }
@@ -174,6 +179,8 @@ impl<N: PoolName> Engine<N> {
     ) -> Result<Ids, Memory>
         requires begun { IsJustFinding N.pool begun.token pass.old layouts.old.entries.items }
         ensures found { IfOk result (IsAnswerWhere (is_kept_by begun.search) pass.old) }
+        ensures none { layouts.new.entries.items ≡ [] }
+        ensures room { vec_capacity layouts.old.entries ≤ vec_capacity layouts.new.entries }
         ensures ended { FindEnds pass.old.number pass.old.front pass.new.front }
         ensures rests { IsResting N.pool pass.new }
         ensures legal { IsLegal N.pool.limits pass.new.front }
@@ -200,6 +207,8 @@ impl<N: PoolName> Engine<N> {
         requires begun { IsJustFinding N.pool begun.token pass.old layouts.old.entries.items }
         requires none { out.old.found ≡ [] }
         ensures found { IfOk result (λ _. IsFoundBut (is_kept_by begun.search) pass.old begun.token [] out.new.found) }
+        ensures emptied { layouts.new.entries.items ≡ [] }
+        ensures room { vec_capacity layouts.old.entries ≤ vec_capacity layouts.new.entries }
         ensures ended { FindEnds pass.old.number pass.old.front pass.new.front }
         ensures rests { IsResting N.pool pass.new }
         ensures legal { IsLegal N.pool.limits pass.new.front }

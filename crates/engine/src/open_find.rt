@@ -8,7 +8,7 @@ use std::marker::{Model, PhantomData};
 /// on another thread. Contracts see the pass, whose last event began the find.
 pub struct OpenFind<N: PoolName> {
     pub(crate) seat: PassSeat,
-    /// The layouts by which its slices are read.
+    /// The layouts by which its slices are read, with room for an entry for each slice.
     pub(crate) layouts: FindLayouts,
     pub(crate) begun: Begun,
     pub(crate) of: PhantomData<N>,
@@ -18,7 +18,7 @@ impl<N: PoolName> Model for OpenFind<N> {
     ghost use Rattle.std.specs.Coded.{codes};
     ghost use Rattle.funnel_model.specs.contracts.expr.Expr as e;
     ghost use Rattle.engine.specs.Finds.{IsScanFor};
-    ghost use Rattle.engine.specs.Passes.{PassView, view_of};
+    ghost use Rattle.engine.specs.Passes.{HasRoomForEach, PassView, view_of};
 
     ghost Value = { PassView };
 
@@ -26,7 +26,7 @@ impl<N: PoolName> Model for OpenFind<N> {
 
     ghost view = { λ f. view_of f.seat };
 
-    ghost invariant = { λ f. IsScanFor N.pool f.seat f.begun.token f.begun.search f.layouts.entries.items };
+    ghost invariant = { λ f. IsScanFor N.pool f.seat f.begun.token f.begun.search f.layouts.entries.items × HasRoomForEach N.pool f.layouts };
 }
 
 // A find that has begun: its token, and what it looks for.

@@ -24,8 +24,7 @@ pub struct Pass<N: PoolName> {
 impl<N: PoolName> Model for Pass<N> {
     ghost use Rattle.std.specs.Coded.{codes};
     ghost use Rattle.funnel_model.specs.contracts.expr.Expr as e;
-    ghost use Rattle.commit_desk.specs.Passes.{IsResting};
-    ghost use Rattle.engine.specs.Passes.{PassView, view_of};
+    ghost use Rattle.engine.specs.Passes.{IsBetweenCalls, PassView, view_of};
 
     ghost Value = { PassView };
 
@@ -33,7 +32,7 @@ impl<N: PoolName> Model for Pass<N> {
 
     ghost view = { λ p. view_of p.seat };
 
-    ghost invariant = { λ p. IsResting N.pool p.seat };
+    ghost invariant = { λ p. IsBetweenCalls N.pool p.seat p.layouts };
 }
 
 impl<N: PoolName> Pass<N> {
@@ -80,6 +79,7 @@ pub(crate) fn name_passes<N: PoolName>(
     slices: u32,
 ) -> Result<Vec<Pass<N>>, Memory>
     requires rest { All (IsResting N.pool) seats.items }
+    requires slices { slices ≡ N.pool.limits.slices }
     ensures { IfOk result (λ passes. passes.items ≡ map view_of seats.items) }
 {
     let mut passes = Vec::with_capacity(alloc, seats.len())?;

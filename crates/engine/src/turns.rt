@@ -215,6 +215,7 @@ impl<N: PoolName> Engine<N> {
         ensures next { MatchResult result (λ token. IsFinding N.pool token pass.new) (λ _. IsResting N.pool pass.new) }
         ensures layouts { IfOk result (λ token. (begun : HasToken pass.new.front pass.new.number token.opened_at) →
             AreFindLayouts N.pool begun.earlier token layouts.new.entries.items) }
+        ensures room { vec_capacity layouts.old.entries ≤ vec_capacity layouts.new.entries }
         ensures sound { IfOk result (λ token. (begun : HasToken pass.new.front pass.new.number token.opened_at) → IsSound N.pool.config begun.earlier) }
         ensures number { pass.new.number ≡ pass.old.number }
         ensures legal { IsLegal N.pool.limits pass.new.front }

@@ -23,7 +23,7 @@ pub returns-clause-layouts : goal.returns-clause-layouts
 returns-clause-layouts c =
     let same = desk_is c.args.self.now c.self.inside.home c.catch_up.new.home c.self.inside.events_limit c.self.view_is c.catch_up.ensures.home in
     subst (λ (d : DeskState). AreFindLayouts d.pool d.history c.make_find.result c.share_layouts.new.layouts.entries.items) same
-    (c.in-Ok.ensures c.make_find.result c.make_find.ensures.answer.3)
+    (c.in-Ok.ensures.shared c.make_find.result c.make_find.ensures.answer.3)
 
 -- what the desk keeps is of a history whose adds and moves have their bits
 pub returns-clause-sound : goal.returns-clause-sound

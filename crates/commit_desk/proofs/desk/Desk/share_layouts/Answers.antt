@@ -8,8 +8,8 @@ use Rattle.commit_desk.proofs.LayoutsKept.{find_layouts, ok_then}
 use Rattle.commit_desk.proofs.StageFacts.{used_slices}
 use Rattle.commit_desk.proofs.desk.Desk.share_layouts.Goals as goal
 
-pub returns : goal.returns
-returns c =
+pub returns-clause-shared : goal.returns-clause-shared
+returns-clause-shared c =
     let i = c.self.inside in
     let kept = c.self.invariant.kept in
     let limits = i.home.pool.limits in
@@ -24,4 +24,4 @@ returns c =
     (find_layouts i.home.pool i.home.history i.layouts kept.layouts_are rows token c.in_use-slices.result
     (λ slice. (λ has. (used slice).1 ((same_then slice).0 has), λ has. (same_then slice).1 ((used slice).0 has))) c.share_out.new.layouts.entries.items shared
     (λ slice has. ((used slice).0 has).0)))
-    c.share_out.ensures
+    c.share_out.ensures.shared

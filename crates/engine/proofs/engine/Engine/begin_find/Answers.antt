@@ -21,6 +21,6 @@ returns-in-Err-clause-refused g c =
     let did = c.in-Err.ensures in
     rw (← c.pass.view_is)
     (record {
-      step = refused_step limits seat.number query seat.front next.front c.pass.invariant.idle did.legal (subst (λ n. IsIdle n next.front) did.number did.rests.idle) c.in-Err.fault did.turns;
+      step = refused_step limits seat.number query seat.front next.front c.pass.invariant.rests.idle did.legal (subst (λ n. IsIdle n next.front) did.number did.rests.idle) c.in-Err.fault did.turns;
       number = did.number;
     })

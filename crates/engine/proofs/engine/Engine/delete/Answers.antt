@@ -9,7 +9,7 @@ returns-clause-call g c =
     let did = c.delete.ensures in
     rw (← c.pass.view_is)
     (record {
-      step = delete_made g.N.PoolName.pool named.desk c.delete.new.self c.pass.inside.seat c.delete.new.seat named.of_pool named.limit named.pool_limit c.pass.invariant.idle
+      step = delete_made g.N.PoolName.pool named.desk c.delete.new.self c.pass.inside.seat c.delete.new.seat named.of_pool named.limit named.pool_limit c.pass.invariant.rests.idle
           c.args.id c.delete.result did.answer did.events;
       number = did.events.number;
     })
@@ -19,6 +19,10 @@ returns-clause-turn g c = rw (← c.pass.view_is) (search rules)
 
 pub invariant_of-pass : goal.invariant_of-pass
 invariant_of-pass g c =
-    let rests = c.pass.invariant in
+    let rests = c.pass.invariant.rests in
     let did = c.delete.ensures in
-    rests_delete g.N.PoolName.pool c.deref_mut.result.now.desk c.delete.new.self c.pass.inside.seat c.delete.new.seat rests.seated.same did.none_outstanding rests.idle c.args.id c.delete.result did.events
+    record {
+      rests = rests_delete g.N.PoolName.pool c.deref_mut.result.now.desk c.delete.new.self c.pass.inside.seat c.delete.new.seat rests.seated.same did.none_outstanding rests.idle c.args.id c.delete.result did.events;
+      none = c.pass.invariant.none;
+      room = c.pass.invariant.room;
+    }

@@ -16,7 +16,7 @@ returns-in_err-begun-clause-call g c =
     rw (p.1, p.2)
     (rw (← c.pass.view_is)
     (record {
-      step = refused_step limits seat.number query seat.front next.front c.pass.invariant.idle did.legal (subst (λ n. IsIdle n next.front) did.number did.rests.idle) c.in_err-begun.field-0.0 did.turns;
+      step = refused_step limits seat.number query seat.front next.front c.pass.invariant.rests.idle did.legal (subst (λ n. IsIdle n next.front) did.number did.rests.idle) c.in_err-begun.field-0.0 did.turns;
       number = did.number;
     }))
 
@@ -32,7 +32,7 @@ returns-clause-call g c =
     let number = did.number ∙ began.number in
     rw (← c.pass.view_is)
     (record {
-      step = found_step limits seat.number query seat.front end.front c.pass.invariant.idle did.legal (subst (λ n. IsIdle n end.front) number did.rests.idle) c.in-Ok.ids
+      step = found_step limits seat.number query seat.front end.front c.pass.invariant.rests.idle did.legal (subst (λ n. IsIdle n end.front) number did.rests.idle) c.in-Ok.ids
           (found_turns limits seat.number query seat.front middle began.number began.turns end.front did.ended c.in-Ok.ids
           (found_words g.N.PoolName.pool c.begin_words.new.pass c.in_ok-begun.begun.token c.in_ok-begun.begun.search c.begin_words.new.layouts.entries.items began.begun c.in-Ok.ids did.found));
       number = number;
@@ -61,7 +61,7 @@ returns-in_default-clause-call g c =
     let number = did.number ∙ began.number in
     rw (← c.pass.view_is)
     (record {
-      step = dropped_step limits seat.number query seat.front end.front c.pass.invariant.idle did.legal (subst (λ n. IsIdle n end.front) number did.rests.idle)
+      step = dropped_step limits seat.number query seat.front end.front c.pass.invariant.rests.idle did.legal (subst (λ n. IsIdle n end.front) number did.rests.idle)
           (ended_turns limits seat.number query seat.front c.begin_words.new.pass began.number began.turns end.front did.ended);
       number = number;
     })

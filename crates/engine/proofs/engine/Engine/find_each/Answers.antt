@@ -24,6 +24,7 @@ loop-entry-init g c =
       finding = just.finding;
       same = refl;
       seen = front_refl c.args.pass.now.number c.args.pass.now.front;
+      room = omega arith;
       number = refl;
     }
 
@@ -55,6 +56,8 @@ loop-entry-preserved g c =
     let popped : left ≡ rest ++ entry ∷ [] = c.in-Some.ensures.items in
     let on = subst (λ (o : Option Token). IsOpenOrEnded pool c.loop-entry.token c.is_empty.result before next o) c.in-Ok-Some.field-0-is did.goes_on in
     let same = on.1 ∙ inv.same in
+    let kept = c.pop.ensures.capacity in
+    let room = inv.room in
     record {
       found = found_more (is_kept_by c.args.begun.search) pass token rest left entry popped inv.apart c.loop-entry.out.found c.look_in.new.out.found inv.found
           (adds_later (is_kept_by c.args.begun.search) pass before token c.loop-entry.token entry.slices c.loop-entry.out.found c.look_in.new.out.found inv.same inv.number inv.seen did.found);
@@ -63,6 +66,7 @@ loop-entry-preserved g c =
       finding = subst (λ (t : Token). IsFinding pool t next) inv.same on.2;
       same = same;
       seen = front_goes_on pass.number pass.front before.front next.front inv.seen (subst (λ n. IsFrontOf n before.front next.front) inv.number on.3);
+      room = omega (arith, kept, room);
       number = c.look_in.ensures.number ∙ inv.number;
     }
 
@@ -98,6 +102,13 @@ returns-in-Ok-None-clause-found g c =
     (found_more (is_kept_by c.args.begun.search) pass token rest left entry popped inv.apart c.loop-entry.out.found c.look_in.new.out.found inv.found
     (adds_later (is_kept_by c.args.begun.search) pass before token c.loop-entry.token entry.slices c.loop-entry.out.found c.look_in.new.out.found inv.same inv.number inv.seen did.found))
 
+pub returns-in-Ok-None-clause-emptied : goal.returns-in-Ok-None-clause-emptied
+returns-in-Ok-None-clause-emptied g c =
+    let on = subst (λ (o : Option Token). IsOpenOrEnded g.N.PoolName.pool c.loop-entry.token c.is_empty.result c.loop-entry.pass c.look_in.new.pass o) c.in-Ok-None.field-0-is c.in-Ok-None.ensures.goes_on in
+    let none = eqb-true _ 0 (sym c.is_empty.ensures ∙ on.0) in
+    let count : length c.pop.new.self.items ≡ 0 = search (rules, none) in
+    empty_by_length c.pop.new.self.items count
+
 pub returns-in-Ok-None-clause-ended : goal.returns-in-Ok-None-clause-ended
 returns-in-Ok-None-clause-ended g c =
     let inv = c.loop-entry.invariant in
@@ -123,6 +134,12 @@ returns-clause-found g c =
     let none = c.in_default.ensures.cases.0 in
     let count : length c.loop-entry.layouts.entries.items ≡ 0 = search (rules, none) in
     subst (λ (es : List FindLayout). IsFoundBut (is_kept_by c.args.begun.search) c.args.pass.now c.args.begun.token es c.loop-entry.out.found) (empty_by_length c.loop-entry.layouts.entries.items count) c.loop-entry.invariant.found
+
+pub returns-clause-emptied : goal.returns-clause-emptied
+returns-clause-emptied g c =
+    let none = c.in_default.ensures.cases.1 in
+    let count : length c.pop.new.self.items ≡ 0 = search (rules, none) in
+    empty_by_length c.pop.new.self.items count
 
 pub returns-clause-ended : goal.returns-clause-ended
 returns-clause-ended g c =

@@ -1,4 +1,4 @@
-use Rattle.std.proofs.Common.{◌≡◌, ℕ, AllPairs, Contains, length}
+use Rattle.std.proofs.Common.{◌≡◌, ◌≤◌, ℕ, AllPairs, Contains, length, vec_capacity}
 use Rattle.commit_desk.specs.declared.find_layouts.FindLayout.{FindLayout}
 use Rattle.commit_desk.specs.Passes.{IsFinding}
 use Rattle.engine.specs.Finds.{IsFoundBut}
@@ -15,6 +15,7 @@ invariant-loop-entry g l = record {
   finding : IsFinding g.N.PoolName.pool l.fn.begun.token l.pass;
   same : l.token ≡ l.fn.begun.token;
   seen : IsFrontOf l.fn.pass.number l.fn.pass.front l.pass.front;
+  room : vec_capacity l.fn.layouts.entries ≤ vec_capacity l.layouts.entries;
   number : l.pass.number ≡ l.fn.pass.number;
 }
 

@@ -19,4 +19,4 @@ pub returns-clause-found : goal.returns-clause-found
 returns-clause-found g c =
     let find = c.find.inside in
     rw (← c.find.view_is)
-    (answers_words g.N.PoolName.pool find.seat find.begun.token find.begun.search find.layouts.entries.items c.find.invariant c.finish-answer.result c.finish-answer.ensures.found)
+    (answers_words g.N.PoolName.pool find.seat find.begun.token find.begun.search find.layouts.entries.items c.find.invariant.0 c.finish-answer.result c.finish-answer.ensures.found)

@@ -6,7 +6,7 @@ returns-clause-call g c =
     let did = c.read_text.ensures in
     rw (← c.pass.view_is)
     (record {
-      step = get_step g.N.PoolName.pool.limits c.pass.inside.seat.number c.args.id c.pass.inside.seat.front c.read_text.new.pass.front c.read_text.result did.turn c.pass.invariant.idle did.legal;
+      step = get_step g.N.PoolName.pool.limits c.pass.inside.seat.number c.args.id c.pass.inside.seat.front c.read_text.new.pass.front c.read_text.result did.turn c.pass.invariant.rests.idle did.legal;
       number = did.number;
     })
 

@@ -32,7 +32,11 @@ invariant_of-new g c =
 pub name_passes-requires : goal.name_passes-requires
 name_passes-requires g c =
     let pool_is : c.blank.inside.pool ≡ g.N.PoolName.pool = c.blank.view_is ∙ c.requires.named in
-    record { rest = new_seats_rest g.N.PoolName.pool c.blank.inside.pool c.blank.inside.passes.items pool_is c.blank.invariant.new_passes }
+    let config_is : c.args.config.now ≡ c.blank.inside.pool.config = sym (ap (λ (p : PoolId). p.config) c.blank.view_is ∙ c.requires.made_with) in
+    record {
+      rest = new_seats_rest g.N.PoolName.pool c.blank.inside.pool c.blank.inside.passes.items pool_is c.blank.invariant.new_passes;
+      slices = ap (λ (k : Config). k.slices) config_is ∙ sym (ap (λ (l : Limits). l.slices) c.blank.invariant.of_config.limits) ∙ ap (λ (p : PoolId). p.limits.slices) pool_is;
+    }
 
 pub returns-clause-passes : goal.returns-clause-passes
 returns-clause-passes g c =

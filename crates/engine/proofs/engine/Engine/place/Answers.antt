@@ -9,7 +9,7 @@ returns-clause-call g c =
     let did = c.read_place.ensures in
     rw (← c.pass.view_is)
     (record {
-      step = place_made g.N.PoolName.pool named.desk c.read_place.new.self c.pass.inside.seat c.read_place.new.seat named.of_pool named.limit named.pool_limit c.pass.invariant.idle
+      step = place_made g.N.PoolName.pool named.desk c.read_place.new.self c.pass.inside.seat c.read_place.new.seat named.of_pool named.limit named.pool_limit c.pass.invariant.rests.idle
           c.read_place.result did.answer did.events;
       number = did.events.number;
     })
@@ -19,6 +19,10 @@ returns-clause-turn g c = rw (← c.pass.view_is) (search rules)
 
 pub invariant_of-pass : goal.invariant_of-pass
 invariant_of-pass g c =
-    let rests = c.pass.invariant in
+    let rests = c.pass.invariant.rests in
     let did = c.read_place.ensures in
-    rests_place g.N.PoolName.pool c.deref_mut.result.now.desk c.read_place.new.self c.pass.inside.seat c.read_place.new.seat rests.seated.same did.none_outstanding rests.idle c.read_place.result did.events
+    record {
+      rests = rests_place g.N.PoolName.pool c.deref_mut.result.now.desk c.read_place.new.self c.pass.inside.seat c.read_place.new.seat rests.seated.same did.none_outstanding rests.idle c.read_place.result did.events;
+      none = c.pass.invariant.none;
+      room = c.pass.invariant.room;
+    }

@@ -37,7 +37,7 @@ returns-in-Ok-clause-call g c =
     rw (← c.pass.view_is)
     (record {
       step = moved_put_step pool.limits seat.number c.args.id c.args.text.now pool.config seat.front start.front next.front moved c.put_prepared.result (own_turns g c)
-          c.pass.invariant.idle (subst (λ (n : ℕ). IsIdle n start.front) c.move_some.ensures.number c.move_some.ensures.rests.idle) c.put_prepared.ensures.legal;
+          c.pass.invariant.rests.idle (subst (λ (n : ℕ). IsIdle n start.front) c.move_some.ensures.number c.move_some.ensures.rests.idle) c.put_prepared.ensures.legal;
       number = c.put_prepared.ensures.number ∙ c.move_some.ensures.number;
     })
 

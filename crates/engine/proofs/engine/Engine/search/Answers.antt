@@ -45,7 +45,7 @@ returns-clause-call g c told =
     let kept = kept_as limits seat.number (is_kept_by search) (keeps (tree_of read.0)) seat.front end.front c.in-Ok.ids read.2.kept
     (kept_turns limits seat.number (is_kept_by search) seat.front c.begin.new.pass began.number began.turns end.front did.ended c.in-Ok.ids did.found) in
     rw (← c.pass.view_is)
-    (found_call limits seat.number end.number number told (sought c.args.kept) read.0 read.1 seat.front end.front c.pass.invariant.idle did.legal (subst (λ n. IsIdle n end.front) number did.rests.idle) c.in-Ok.ids kept)
+    (found_call limits seat.number end.number number told (sought c.args.kept) read.0 read.1 seat.front end.front c.pass.invariant.rests.idle did.legal (subst (λ n. IsIdle n end.front) number did.rests.idle) c.in-Ok.ids kept)
 
 -- no memory was found after it had begun
 pub returns-in_default-clause-turns : goal.returns-in_default-clause-turns
@@ -67,7 +67,7 @@ returns-in_default-clause-call g c told =
     let did = c.finish.ensures in
     let number = did.number ∙ began.number in
     rw (← c.pass.view_is)
-    (dropped_call limits seat.number end.number number told (sought c.args.kept) read.0 read.1 seat.front end.front c.pass.invariant.idle did.legal (subst (λ n. IsIdle n end.front) number did.rests.idle)
+    (dropped_call limits seat.number end.number number told (sought c.args.kept) read.0 read.1 seat.front end.front c.pass.invariant.rests.idle did.legal (subst (λ n. IsIdle n end.front) number did.rests.idle)
     (ended_turns limits seat.number [] seat.front c.begin.new.pass began.number began.turns end.front did.ended))
 
 -- the desk refused it
@@ -94,7 +94,7 @@ returns-in_err-token-clause-call g c told =
     let why = c.in_err-token.field-0.0 in
     rw (p.1, p.2)
     (rw (← c.pass.view_is)
-    (refused_call limits seat.number next.number did.number told (sought c.args.kept) read.0 read.1 seat.front next.front c.pass.invariant.idle did.legal (subst (λ n. IsIdle n next.front) did.number did.rests.idle) why
+    (refused_call limits seat.number next.number did.number told (sought c.args.kept) read.0 read.1 seat.front next.front c.pass.invariant.rests.idle did.legal (subst (λ n. IsIdle n next.front) did.number did.rests.idle) why
     did.turns))
 
 -- its text was refused
