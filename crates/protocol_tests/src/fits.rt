@@ -54,7 +54,10 @@ fn what_is_written_is_a_configuration(rt: HostRuntime) -> Result<(), Fail> {
     fit(alloc, 100, 1_000, &mut input, &mut output);
     let mut written = source(alloc, output.bytes(), 7, &[])?;
     let answer = told(alloc, &read_config(alloc, &mut written))?;
-    assert_eq!(rt; answer.as_str(), "64 3 1 0 1024 64 10 10 2 1 65536 6 a:2 b:1");
+    assert_eq!(rt;
+        answer.as_str(),
+        "64 3 1 0 1024 64 10 10 2 1 65536 6 a:2 b:1"
+    );
     Ok(())
 }
 

@@ -28,13 +28,14 @@ HTTP/1.1 503 Service Unavailable\r\nContent-Type: application/json\r\nContent-Le
 HTTP/1.1 404 Not Found\r\nContent-Type: application/json\r\nContent-Length: 17\r\n\r\n{\"error\":\"route\"}\
 HTTP/1.1 400 Bad Request\r\nContent-Type: application/json\r\nContent-Length: 16\r\nConnection: close\r\n\r\n{\"error\":\"head\"}";
 
-// The requests in pieces of one size.
+// The requests in pieces of one size, each of which is read at once: a read more would fail.
 fn requests(alloc: Global, size: usize) -> Result<MemConn, Fail> {
     let mut pieces = Vec::new(alloc);
     for piece in REQUESTS.chunks(size.max(1)) {
         pieces.push(piece)?;
     }
-    conn_of(alloc, pieces.as_slice(), &[], &[])
+    let one_more = (pieces.len() as u64).saturating_add(1);
+    conn_of(alloc, pieces.as_slice(), &[one_more], &[])
 }
 
 fn expect_responses(rt: &impl Abort, alloc: Global, conn: &mut MemConn) {
