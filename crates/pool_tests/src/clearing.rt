@@ -7,7 +7,7 @@ ghost use Rattle.slice_rule.specs.declared.view.Fact.TheVariants as fact;
 ghost use Rattle.slice_rule.specs.Seats.{HasNoneOutstanding};
 ghost use Rattle.slice_rule.specs.Worlds.{made_by};
 
-use crate::setting::{close_two, open_two};
+use crate::setting::{close_two, make_event, open_two};
 use funnel_model::{Bit, BitList, Claim, ClearJob, Event, SliceSet, Text, Token};
 use slice_rule::{Home, PassSeat, Pool};
 use std::alloc::Global;
@@ -38,7 +38,7 @@ fn take_first(pool: &Pool, home: &mut Home, seat: &mut PassSeat)
         slice: 0,
         column: 0,
     };
-    pool.make_event(home, seat, &entry);
+    make_event(pool, home, seat, entry);
 }
 
 /// It adds its document.
@@ -59,7 +59,7 @@ fn add_first(pool: &Pool, home: &mut Home, seat: &mut PassSeat, text: Text, bits
         column: 0,
         bits,
     };
-    pool.make_event(home, seat, &entry);
+    make_event(pool, home, seat, entry);
 }
 
 /// It takes the next column of slice 0.
@@ -75,7 +75,7 @@ fn take_next(pool: &Pool, home: &mut Home, seat: &mut PassSeat, k: u32)
         slice: 0,
         column: k + 1,
     };
-    pool.make_event(home, seat, &entry);
+    make_event(pool, home, seat, entry);
 }
 
 /// It drops the document for it.
@@ -95,7 +95,7 @@ fn drop_next(pool: &Pool, home: &mut Home, seat: &mut PassSeat, text: Text, k: u
         slice: 0,
         column: k + 1,
     };
-    pool.make_event(home, seat, &entry);
+    make_event(pool, home, seat, entry);
 }
 
 /// It fills slice 0.
@@ -125,7 +125,7 @@ fn take_second(pool: &Pool, home: &mut Home, seat: &mut PassSeat)
         slice: 1,
         column: 0,
     };
-    pool.make_event(home, seat, &entry);
+    make_event(pool, home, seat, entry);
     let claim = Claim {
         slice: 1,
         column: 0,
@@ -154,7 +154,7 @@ fn add_second(pool: &Pool, home: &mut Home, seat: &mut PassSeat, text: Text, bit
         column: 0,
         bits,
     };
-    pool.make_event(home, seat, &entry);
+    make_event(pool, home, seat, entry);
 }
 
 /// It deletes the first one.
@@ -163,7 +163,7 @@ fn delete_first(pool: &Pool, home: &mut Home, seat: &mut PassSeat)
     ensures at { AreAt pool.now 1 deleted home.new seat.new }
 {
     let entry = Event::Del { pass: 1, id: 4 };
-    pool.make_event(home, seat, &entry);
+    make_event(pool, home, seat, entry);
 }
 
 /// It begins to clear slice 0.
@@ -172,7 +172,7 @@ fn begin_clear(pool: &Pool, home: &mut Home, seat: &mut PassSeat)
     ensures at { AreAt pool.now 1 clearing home.new seat.new }
 {
     let entry = Event::Clear { pass: 1, slice: 0 };
-    pool.make_event(home, seat, &entry);
+    make_event(pool, home, seat, entry);
 }
 
 /// Pass 0 begins a find.
@@ -187,7 +187,7 @@ fn begin_find(pool: &Pool, home: &mut Home, seat: &mut PassSeat, query: Text) ->
 {
     pool.catch_up(home, seat);
     let entry = Event::Find { pass: 0, query };
-    pool.make_event(home, seat, &entry)
+    make_event(pool, home, seat, entry)
 }
 
 /// A find reads the word of slice 1.
@@ -243,6 +243,7 @@ fn ask_opened(pool: &Pool, seat: &mut PassSeat)
         alone: true,
     };
     pool.ask(seat, &entry);
+    drop(entry);
 }
 
 /// The find of pass 0 ends.
@@ -253,7 +254,7 @@ fn end_find(pool: &Pool, home: &mut Home, seat: &mut PassSeat) -> u64
     ensures number { result ≡ 134 }
 {
     let entry = Event::End { pass: 0 };
-    pool.make_event(home, seat, &entry)
+    make_event(pool, home, seat, entry)
 }
 
 /// The home learns what pass 1 asked, appends it, and tells the pass.
@@ -276,6 +277,7 @@ fn append_opened(pool: &Pool, home: &mut Home, seat: &mut PassSeat) -> u64
         alone: true,
     };
     let number = pool.append(home, &entry);
+    drop(entry);
     let note = pool.split_home(home);
     pool.join(seat, note);
     number

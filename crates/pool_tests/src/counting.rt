@@ -4,7 +4,7 @@ ghost use Rattle.funnel_model.specs.Legal.{awaited};
 ghost use Rattle.pool_tests.specs.Resting.{AreAtRest};
 ghost use Rattle.slice_rule.specs.Seats.{IsAtRest};
 
-use crate::setting::{close_two, open_two};
+use crate::setting::{close_two, make_event, open_two};
 use funnel_model::{Call, Event};
 use slice_rule::{Home, PassSeat, Pool};
 use std::alloc::Global;
@@ -44,7 +44,7 @@ fn read_place(pool: &Pool, home: &mut Home, seat: &mut PassSeat) -> u64
         pass: seat.number(),
         call: Call::Place,
     };
-    pool.make_event(home, seat, &entry)
+    make_event(pool, home, seat, entry)
 }
 
 /// Two passes read the place, the second one twice.

@@ -1,12 +1,14 @@
 //! Configurations and pools of the tests.
-ghost use Rattle.std.specs.Prelude.{◌≡◌, ◌*◌, ◌≤◌, IfOk, []};
+ghost use Rattle.std.specs.Prelude.{◌≡◌, ◌-◌, ◌*◌, ◌^◌, ◌<◌, ◌≤◌, IfOk, [], length};
 ghost use Rattle.funnel_model.specs.Configuration.{IsBetween, IsInRange};
+ghost use Rattle.funnel_model.specs.Events.{pass_of};
+ghost use Rattle.funnel_model.specs.Legal.{IsAllowed};
 ghost use Rattle.funnel_model.specs.Sizes.{columns_of_slice};
 ghost use Rattle.funnel_model.specs.declared.config.TheConstants.{MOST_ROW_WORDS};
 ghost use Rattle.pool_tests.specs.Sizes.{sizes_of};
-ghost use Rattle.slice_rule.specs.Seats.{IsSeated, new_home_state, new_pass_state};
+ghost use Rattle.slice_rule.specs.Seats.{HasMade, HasNoneOutstanding, IsReady, IsSameHome, IsSeated, after_append, new_home_state, new_pass_state};
 
-use funnel_model::{Config, Listed};
+use funnel_model::{Config, Event, Listed};
 use slice_rule::{Ended, Home, PassSeat, Pool};
 use std::alloc::Global;
 use std::test::Fail;
@@ -76,4 +78,25 @@ pub(crate) fn close_two(pool: Pool, mut home: Home, first: PassSeat, second: Pas
     pool.end_pass(&mut home, first);
     pool.end_pass(&mut home, second);
     pool.close(home)
+}
+
+/// Makes one event of a pass that has seen the whole history, and answers the event's number.
+pub(crate) fn make_event(pool: &Pool, home: &mut Home, seat: &mut PassSeat, entry: Event) -> u64
+    requires home { home.old.pool ≡ pool.now }
+    requires seat { seat.old.pool ≡ pool.now }
+    requires front { seat.old.front ≡ home.old.history }
+    requires none_outstanding { HasNoneOutstanding seat.old }
+    requires own { pass_of entry ≡ seat.old.number }
+    requires allowed { IsAllowed pool.now.limits home.old.history entry }
+    requires room { length home.old.history < 2 ^ 63 - 1 }
+    requires ready { IsReady pool.now.limits seat.old entry }
+    ensures home { IsSameHome (after_append home.old entry) home.new }
+    ensures seat { HasMade entry seat.old seat.new }
+    ensures none_outstanding { HasNoneOutstanding seat.new }
+    ensures number { result ≡ length home.new.history }
+{
+    let number = pool.make_event(home, seat, &entry);
+    // A call drops it, since to prove a drop in place goes through all kinds of events.
+    drop(entry);
+    number
 }

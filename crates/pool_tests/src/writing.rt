@@ -10,7 +10,7 @@ ghost use Rattle.pool_tests.specs.Written.{KnowsJust};
 ghost use Rattle.slice_rule.specs.Numbers.{last_number};
 ghost use Rattle.slice_rule.specs.Seats.{HasNoneOutstanding, HoldsToken, new_home_state, new_pass_state};
 
-use crate::setting::{Opened, config, open_two};
+use crate::setting::{Opened, config, make_event, open_two};
 use column_writer::write_column;
 use funnel_model::{Bit, Claim, Event, MOST_ROW_WORDS, SliceSet, Text, Token};
 use row_layout::{Bits, Layout, fill_bits};
@@ -37,7 +37,7 @@ fn take_first(pool: &Pool, home: &mut Home, seat: &mut PassSeat)
         slice: 0,
         column: 0,
     };
-    pool.make_event(home, seat, &entry);
+    make_event(pool, home, seat, entry);
 }
 
 /// Pass 1 takes column 1.
@@ -56,7 +56,7 @@ fn take_second(pool: &Pool, home: &mut Home, seat: &mut PassSeat)
         slice: 0,
         column: 1,
     };
-    pool.make_event(home, seat, &entry);
+    make_event(pool, home, seat, entry);
 }
 
 /// A pass adds a document in slice 0.
@@ -153,7 +153,7 @@ fn find_both(pool: &Pool, home: &mut Home, seat: &mut PassSeat, query: Text, bit
 {
     pool.catch_up(home, seat);
     let entry = Event::Find { pass: 0, query };
-    let opened_at = pool.make_event(home, seat, &entry);
+    let opened_at = make_event(pool, home, seat, entry);
     let mut slices = SliceSet::new();
     slices.add(0);
     let token = Token {
