@@ -1,5 +1,6 @@
 """Runs the program with so many words that it has to take memory for them, by more and more memory: little_memory.py PROGRAM.
-Prints each end that is another than the one before, from the first that the program told itself."""
+Prints each end that the program told itself and that is another than the one before. Where nothing is left for the stack to grow into, which
+differs from run to run, the system ends it; that is left out."""
 
 import resource
 import subprocess
@@ -23,14 +24,14 @@ def ended(words, most):
 
 
 def main():
-    usage, ends = "funnel: usage status 1", [None]
+    usage, ends = "funnel: usage status 1", []
     for most in range(STEP, MOST, STEP):
         end = ended(WORDS, most)
-        if end != ends[-1]:
+        if end is not None and ends[-1:] != [end]:
             ends.append(end)
         if end == usage:
             break
-    print("\n".join(map(str, ends[1:])))
+    print("\n".join(ends))
 
 
 main()
