@@ -1,5 +1,5 @@
 -- The step of an add, from its turns.
-use Rattle.std.proofs.Common.{◌≡◌, ℕ, ◌+◌, ◌≤◌, Bool, false, List, [], ◌∷◌, Some, Result, Ok, Err, refl, sym, ap, ◌∙◌, ⊎_elim, inl, inr, arith}
+use Rattle.std.proofs.Common.{◌≡◌, ℕ, ◌+◌, Bool, false, List, [], ◌∷◌, Some, Result, Ok, Err, refl, sym, ap, ◌∙◌, ⊎_elim, inl, inr, arith}
 use Rattle.std.specs.Option.{option_map, option_map_or}
 use Rattle.funnel_model.specs.declared.bit_list.Bit.{Bit}
 use Rattle.funnel_model.specs.declared.call.Call.TheVariants as call
@@ -19,10 +19,9 @@ use Rattle.commit_desk.specs.declared.answers.AddFault.{AddFault}
 use Rattle.commit_desk.specs.declared.answers.AddFault.TheVariants as add
 use Rattle.commit_desk.specs.declared.answers.CommitFault.{CommitFault}
 use Rattle.commit_desk.specs.declared.answers.CommitFault.TheVariants as commit
-use Rattle.commit_desk.specs.declared.answers.Taken.TheVariants as taken
 use Rattle.slice_recycler.specs.Turns.{IsTurn}
 use Rattle.slice_recycler.proofs.Steps.{IsQuiet, idle_still, own-unanswered, quiet_trans, quiet_turn, quiet_weaker, step_add_without_memory, step_made_after, step_spent_after}
-use Rattle.engine.specs.Adds.{AddTurns, ClaimTurns, CommitTurns, MovesFirst, OwnTurns, RefusedTurn, TurnOfTake, fault_of_drop}
+use Rattle.engine.specs.Adds.{AddTurns, ClaimTurns, CommitTurns, MovesFirst, OwnTurns, RefusedTurn, fault_of_drop}
 use Rattle.engine.specs.Moves.{MovesAll}
 use Rattle.engine.specs.Replies.{reply_of_add}
 use Rattle.engine.proofs.Moves.{all_moved, moves_are_quiet}

@@ -1,5 +1,5 @@
--- What a call at the desk, under the engine's lock, is as a turn of its pass.
-use Rattle.std.proofs.Common.{◌≡◌, ℕ, ◌^◌, ◌<◌, ◌≤◌, List, [], Result, Ok, Err, sym, refl, ap, ◌∙◌, subst, ⊎_elim, arith}
+-- What a call of one turn at the desk is as a step of its pass.
+use Rattle.std.proofs.Common.{◌≡◌, ℕ, ◌<◌, ◌≤◌, List, [], Result, Ok, Err, sym, refl, ap, subst, ⊎_elim, arith}
 use Rattle.std.proofs.lemmas.Bool.{cases_lt}
 use Rattle.funnel_model.specs.declared.call.Call.TheVariants as call
 use Rattle.funnel_model.specs.declared.commit.Commit.{Commit}
@@ -11,15 +11,12 @@ use Rattle.funnel_model.specs.Legal.{IsIdle, IsLegal, Limits}
 use Rattle.funnel_model.specs.Steps.{Step}
 use Rattle.funnel_model.proofs.ReplyLemmas.{journal_read, journal_trimmed}
 use Rattle.funnel_model.proofs.StepLemmas.{call_by-own, step_without_memory}
-use Rattle.slice_rule.specs.Pools.{PoolId}
-use Rattle.slice_rule.specs.Seats.{PassState}
 use Rattle.commit_desk.specs.Answers.{AnswersDelete, AnswersJournal, AnswersPlace, AnswersStats, events_of_delete, events_of_journal, events_of_place, events_of_stats}
 use Rattle.commit_desk.specs.declared.answers.DeleteFault.{DeleteFault}
 use Rattle.commit_desk.specs.declared.answers.DeleteFault.TheVariants as delete
 use Rattle.commit_desk.specs.declared.answers.JournalFault.{JournalFault}
 use Rattle.commit_desk.specs.declared.answers.JournalFault.TheVariants as journal
 use Rattle.commit_desk.specs.declared.answers.Spent.{Spent}
-use Rattle.commit_desk.specs.Desks.{DeskState, Makes}
 use Rattle.funnel_model.specs.declared.config.Config.{Config}
 use Rattle.engine.specs.declared.retuning.TuneFault.{TuneFault}
 use Rattle.engine.specs.declared.retuning.TuneFault.TheVariants as tune
@@ -32,33 +29,23 @@ use Rattle.row_layout.specs.declared.fault.LayoutFault.TheVariants as layout
 use Rattle.slice_recycler.specs.Turns.{IsTurn}
 use Rattle.slice_recycler.proofs.Steps.{idle_still, quiet_turn, step_journal_without_memory, step_made_by_turn, step_spent_turn}
 
--- the turn of a call of the desk
-turn_made : {answers : List Event → Type 0} (events : List Event) (before after : DeskState) (seat next : PassState) → answers before.history → Makes events before after seat next →
-    IsTurn seat.number seat.front next.front answers events
-turn_made events before after seat next may made = record { earlier = before.history; seen = made.seen; answer = may; made = made.front ∙ made.history }
-
--- the pass has seen a legal history after it
-legal_made : (pool : PoolId) (events : List Event) (before after : DeskState) (seat next : PassState) → before.pool ≡ pool → Makes events before after seat next → IsLegal pool.limits next.front
-legal_made pool events before after seat next of made =
-    subst (IsLegal pool.limits) (sym made.front) (subst (λ (p : PoolId). IsLegal p.limits after.history) (made.pool ∙ of) made.legal)
-
 -- Calls of one turn, and their steps.
 module _ (limits : Limits) (pass : ℕ) (before after : List Event) (idle : IsIdle pass before) (legal : IsLegal limits after) where
-  place_step : (answer : Result ℕ Spent) → IsTurn pass before after (λ history. AnswersPlace limits.events history answer) (events_of_place pass answer) →
+  pub place_step : (answer : Result ℕ Spent) → IsTurn pass before after (λ history. AnswersPlace limits.events history answer) (events_of_place pass answer) →
       Step limits pass before after call.Place (reply_of_place answer)
   place_step (Ok count) turn =
       let e = event.Read pass call.Place in
       step_made_by_turn limits pass before after e call.Place (reply.Place count) idle turn refl (call_by-own pass e refl) refl refl (ap reply.Place turn.answer.1) refl legal
   place_step (Err spent) turn = step_spent_turn limits pass before after call.Place idle turn turn.answer.many legal
 
-  stats_step : (answer : Result Stats Spent) → IsTurn pass before after (λ history. AnswersStats limits.events limits history answer) (events_of_stats pass answer) →
+  pub stats_step : (answer : Result Stats Spent) → IsTurn pass before after (λ history. AnswersStats limits.events limits history answer) (events_of_stats pass answer) →
       Step limits pass before after call.Stats (reply_of_stats answer)
   stats_step (Ok stats) turn =
       let e = event.Read pass call.Stats in
       step_made_by_turn limits pass before after e call.Stats (reply.Stats stats) idle turn refl (call_by-own pass e refl) refl refl turn.answer.1 refl legal
   stats_step (Err spent) turn = step_spent_turn limits pass before after call.Stats idle turn turn.answer.many legal
 
-  journal_step : (from : ℕ) (answer : Result (List Commit) JournalFault) → IsTurn pass before after (λ history. AnswersJournal limits.events limits history from answer) (events_of_journal pass from answer) →
+  pub journal_step : (from : ℕ) (answer : Result (List Commit) JournalFault) → IsTurn pass before after (λ history. AnswersJournal limits.events limits history from answer) (events_of_journal pass from answer) →
       Step limits pass before after (call.Journal from) (reply_of_journal answer)
   journal_step from (Ok commits) turn =
       let e = event.Read pass (call.Journal from) in
@@ -72,7 +59,7 @@ module _ (limits : Limits) (pass : ℕ) (before after : List Event) (idle : IsId
   journal_step from (Err journal.Memory) turn =
       step_journal_without_memory limits pass before after idle legal (idle_still pass before after turn idle) (quiet_turn pass before after [] turn refl refl) from
 
-  delete_step : (id : ℕ) (answer : Result ℕ DeleteFault) → IsTurn pass before after (λ history. AnswersDelete limits.events history id answer) (events_of_delete pass id answer) →
+  pub delete_step : (id : ℕ) (answer : Result ℕ DeleteFault) → IsTurn pass before after (λ history. AnswersDelete limits.events history id answer) (events_of_delete pass id answer) →
       Step limits pass before after (call.Delete id) (reply_of_delete answer)
   delete_step id (Ok deleted) turn =
       let e = event.Del pass id in
@@ -117,38 +104,3 @@ unfit_turn limits config room is refused wide fits pass =
     (λ (enough : words_of_slice config ≤ room).
     subst (λ (f : LayoutFault). TuneTurn limits config (Err (fault_of_layout f)) pass pass) (sym (fits enough)) (omega (arith, enough, is), refl))
     (cases_lt room (words_of_slice config))
-
--- The steps of calls of the engine's desk.
-module _ (pool : PoolId) (before after : DeskState) (seat next : PassState) (of : before.pool ≡ pool) (limit : before.events_limit ≡ 2 ^ 62) (pool_limit : before.pool.limits.events ≡ 2 ^ 62)
-    (idle : IsIdle seat.number seat.front) where
-  same_limit : before.events_limit ≡ pool.limits.events
-  same_limit = limit ∙ sym pool_limit ∙ ap (λ (p : PoolId). p.limits.events) of
-
-  pub place_made : (answer : Result ℕ Spent) → AnswersPlace before.events_limit before.history answer → Makes (events_of_place seat.number answer) before after seat next →
-      Step pool.limits seat.number seat.front next.front call.Place (reply_of_place answer)
-  place_made answer may made =
-      let events = events_of_place seat.number answer in
-      place_step pool.limits seat.number seat.front next.front idle (legal_made pool events before after seat next of made) answer
-      (turn_made events before after seat next (subst (λ n. AnswersPlace n before.history answer) same_limit may) made)
-
-  pub stats_made : (answer : Result Stats Spent) → AnswersStats before.events_limit before.pool.limits before.history answer → Makes (events_of_stats seat.number answer) before after seat next →
-      Step pool.limits seat.number seat.front next.front call.Stats (reply_of_stats answer)
-  stats_made answer may made =
-      let events = events_of_stats seat.number answer in
-      stats_step pool.limits seat.number seat.front next.front idle (legal_made pool events before after seat next of made) answer
-      (turn_made events before after seat next (subst (λ (p : PoolId). AnswersStats pool.limits.events p.limits before.history answer) of (subst (λ n. AnswersStats n before.pool.limits before.history answer) same_limit may)) made)
-
-  pub journal_made : (from : ℕ) (answer : Result (List Commit) JournalFault) → AnswersJournal before.events_limit before.pool.limits before.history from answer →
-      Makes (events_of_journal seat.number from answer) before after seat next → Step pool.limits seat.number seat.front next.front (call.Journal from) (reply_of_journal answer)
-  journal_made from answer may made =
-      let events = events_of_journal seat.number from answer in
-      journal_step pool.limits seat.number seat.front next.front idle (legal_made pool events before after seat next of made) from answer
-      (turn_made events before after seat next (subst (λ (p : PoolId). AnswersJournal pool.limits.events p.limits before.history from answer) of (subst (λ n. AnswersJournal n before.pool.limits before.history from answer) same_limit may)) made)
-
-  pub delete_made : (id : ℕ) (answer : Result ℕ DeleteFault) → AnswersDelete before.events_limit before.history id answer →
-      Makes (events_of_delete seat.number id answer) before after seat next → Step pool.limits seat.number seat.front next.front (call.Delete id) (reply_of_delete answer)
-  delete_made id answer may made =
-      let events = events_of_delete seat.number id answer in
-      delete_step pool.limits seat.number seat.front next.front idle (legal_made pool events before after seat next of made) id answer
-      (turn_made events before after seat next
-      (subst (λ n. AnswersDelete n before.history id answer) same_limit may) made)

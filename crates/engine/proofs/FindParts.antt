@@ -1,50 +1,33 @@
 -- What a find has found of its slices, turn by turn and entry by entry.
 use Rattle.std.proofs.Common.{◌≡◌, ⊎_elim, false, ℕ, ◌-◌, ◌<◌, ◌≤◌, Bool, Option, None, Some, List, [], ◌∷◌, ◌++◌, length, get_or, take, map, inl, inr, refl, sym, ap, ◌∙◌, subst, arith, append-nil, append_assoc, AllPairs, Contains, IsSorted, IsPermutation, length-append}
-use Rattle.std.proofs.lemmas.Bool.{false_from_ne_true, or_from}
+use Rattle.std.proofs.lemmas.Bool.{false_from_ne_true}
 use Rattle.std.proofs.lemmas.List.{take_all}
 use Rattle.std.proofs.lemmas.List.Elements.{Contains-append_cases, Contains-append_left, Contains-append_right, Contains-push_cases}
-use Rattle.std.proofs.lemmas.List.Folds.{list_any-append}
 use Rattle.std.specs.List.{list_any, slice_range}
 use lib.ListN.{get_or-append}
 use lib.Seq.{get_or-append_right}
 use mathlib.Core.List.{IsPrefix}
 use Rattle.document_store.specs.Finding.{pair_cmp}
 use Rattle.funnel_model.proofs.AnswerLemmas.{kept_by_filter}
-use Rattle.funnel_model.proofs.Clears.{read_stays}
 use Rattle.funnel_model.proofs.Columns.{clearing_is_over, not_retired_by}
 use Rattle.funnel_model.proofs.Histories.{legal_before}
 use Rattle.funnel_model.proofs.LiveColumns.{live_has_column}
-use Rattle.funnel_model.proofs.OpenTokens.{token_is_silent}
-use Rattle.funnel_model.proofs.RowWords.{reader_sees}
-use Rattle.funnel_model.proofs.TuningLemmas.{treat_read}
-use Rattle.funnel_model.specs.declared.bit_list.Bit.{Bit}
 use Rattle.funnel_model.specs.declared.claim.Token.{Token}
-use Rattle.funnel_model.specs.declared.config.Config.{Config}
 use Rattle.funnel_model.specs.declared.event.Event.{Event}
 use Rattle.funnel_model.specs.declared.event.Event.TheVariants as event
-use Rattle.funnel_model.specs.Events.{clears, finds_or_ends}
+use Rattle.funnel_model.specs.Events.{finds_or_ends}
 use Rattle.funnel_model.specs.History.{Document, IsFrontOf, live}
 use Rattle.funnel_model.specs.Legal.{IsLegal, Limits}
 use Rattle.funnel_model.specs.Slices.{IsInUse, IsLiveOn, Live, is_clearing}
-use Rattle.funnel_model.specs.Tokens.{HasToken, MayRead}
-use Rattle.funnel_model.specs.RowWords.{IsCommitted}
-use Rattle.funnel_model.specs.Searches.{Searches}
-use Rattle.funnel_model.proofs.SearchLemmas.{each-weaker}
-use Rattle.row_layout.proofs.ReadSearches.{tells-weaker}
-use Rattle.row_layout.specs.AtomReads.{AtomPlan, AtomRead, BitRead, Tells}
-use Rattle.row_layout.specs.DocumentBits.{bit_of_row}
-use Rattle.row_layout.specs.Owners.{OwnsIn}
+use Rattle.funnel_model.specs.Tokens.{HasToken}
 use Rattle.row_layout.specs.Sound.{IsSound}
-use Rattle.row_layout.specs.declared.row.Row.{Row}
-use Rattle.std.proofs.lemmas.List.Elements.{All-weaker}
 use Rattle.slice_rule.specs.Pools.{PoolId}
-use Rattle.slice_rule.specs.Seats.{PassState, WasReadUnder}
+use Rattle.slice_rule.specs.Seats.{PassState}
 use Rattle.commit_desk.specs.declared.find_layouts.FindLayout.{FindLayout}
 use Rattle.commit_desk.specs.FindLayouts.{AreFindLayouts, IsFindLayout}
 use Rattle.commit_desk.specs.Judging.{AreGivenWhere, answer_where}
 use Rattle.commit_desk.specs.Passes.{IsFinding}
 use Rattle.commit_desk.specs.Resolving.{FindsUpTo}
-use Rattle.commit_desk.specs.Scans.{AreScannedFor, WasReadBy, token_of}
 use Rattle.commit_desk.proofs.FindEnds.{begun_once}
 use Rattle.commit_desk.proofs.FindTurns.{begun_later}
 use Rattle.commit_desk.proofs.Given.{GiveAllWhere, given_both, given_is_answer, numbers_are_answer, take_part}

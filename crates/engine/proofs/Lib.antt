@@ -16,6 +16,7 @@ pub mod OpenFinds
 pub mod PutSteps
 pub mod Scans
 pub mod Sizes
+pub mod Soles
 pub mod SearchCalls
 pub mod TuneCalls
 mod Waits

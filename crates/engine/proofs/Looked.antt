@@ -1,6 +1,6 @@
 -- What the candidates of scanned slices give by the history before the find: those where the search is sure by the rest of its words, and those
 -- where it is unsure by what else it asks too.
-use Rattle.std.proofs.Common.{◌≡◌, ℕ, ◌<◌, ◌↔◌, ◌&&◌, Bool, true, false, not, Option, Some, None, List, [], ◌∷◌, ◌++◌, refl, sym, ap, ◌∙◌, subst, arith, append-nil, append_assoc, Contains}
+use Rattle.std.proofs.Common.{◌≡◌, ℕ, ◌&&◌, Bool, not, Option, Some, None, List, [], ◌∷◌, ◌++◌, refl, sym, ap, ◌∙◌, subst, arith, append-nil, append_assoc, Contains}
 use Rattle.std.proofs.lemmas.Bool.{and_parts, false≢true}
 use Rattle.std.proofs.lemmas.List.Elements.{Contains-append_left}
 use Rattle.commit_desk.proofs.FindEnds.{begun_once}
@@ -10,7 +10,7 @@ use Rattle.commit_desk.specs.declared.find_layouts.FindLayout.{FindLayout}
 use Rattle.commit_desk.specs.Judging.{AreGivenWhere, GiveAllIn, GivesWhere}
 use Rattle.commit_desk.specs.Laws.{IsScanAfter}
 use Rattle.commit_desk.specs.Resolving.{IsRestOf}
-use Rattle.commit_desk.specs.Scans.{AreScannedFor, keeps_text, token_of}
+use Rattle.commit_desk.specs.Scans.{keeps_text, token_of}
 use Rattle.engine.proofs.CandidateParts.{pairs-append}
 use Rattle.engine.proofs.FindParts.{begun_at}
 use Rattle.engine.proofs.Finds.{rest_is}
@@ -22,10 +22,8 @@ use Rattle.engine.specs.Searches.{is_kept_by, residue_of}
 use Rattle.engine.specs.declared.scanning.Scanned.{Scanned}
 use Rattle.engine.specs.declared.search.Search.{Search}
 use Rattle.funnel_model.proofs.AnswerLemmas.{Contains-cons}
-use Rattle.funnel_model.proofs.Histories.{legal_before}
 use Rattle.funnel_model.specs.declared.claim.Token.{Token}
 use Rattle.funnel_model.specs.declared.event.Event.{Event}
-use Rattle.funnel_model.specs.declared.event.Event.TheVariants as event
 use Rattle.funnel_model.specs.History.{Document, IsFrontOf}
 use Rattle.funnel_model.specs.Legal.{IsLegal, Limits}
 use Rattle.funnel_model.specs.Searches.{has_all}

@@ -1,7 +1,5 @@
 -- A scan goes from slice to slice.
-use Rattle.std.proofs.Common.{◌≡◌, ℕ, ◌+◌, ◌<◌, ◌≤◌, ◌⊎◌, nat_lt, List, [], ◌++◌, All, AllPairs, Contains, ◌↔◌, None, ap, sym, subst, ◌∙◌, ⊎_elim, inl, inr, arith}
-use Rattle.std.specs.List.Sorted.{IsStrictlySortedBy}
-use Rattle.std.specs.Ordering.{nat_cmp}
+use Rattle.std.proofs.Common.{◌≡◌, ℕ, ◌+◌, ◌<◌, ◌≤◌, ◌⊎◌, nat_lt, List, [], AllPairs, Contains, ◌↔◌, None, ap, sym, subst, ◌∙◌, ⊎_elim, inl, inr, arith}
 use Rattle.std.proofs.lemmas.Bool.{cases_lt, lt-ltb, ltb-true}
 use Rattle.std.proofs.lemmas.List.Elements.{All-contains, All-weaker, Contains-append_cases, Contains-append_left, Contains-append_right}
 use Rattle.commit_desk.specs.declared.find_layouts.FindLayout.{FindLayout}
@@ -18,12 +16,11 @@ use Rattle.funnel_model.specs.declared.bit_list.Bit.{Bit}
 use Rattle.funnel_model.specs.declared.claim.Token.{Token}
 use Rattle.funnel_model.specs.declared.config.Config.{Config}
 use Rattle.funnel_model.specs.declared.config.TheConstants.{MOST_SLICES}
-use Rattle.funnel_model.specs.declared.event.Event.{Event}
 use Rattle.funnel_model.specs.RowWords.{IsCommitted}
 use Rattle.funnel_model.specs.Sizes.{columns_of_slice}
 use Rattle.funnel_model.specs.SliceSets.{HasNoneFrom}
 use Rattle.rank_matcher.proofs.DocumentHits.{plan-bits}
-use Rattle.rank_matcher.specs.Appended.{AppendsColumns, HasBits, HasEachWithBits, appended, candidates_of}
+use Rattle.rank_matcher.specs.Appended.{AppendsColumns, appended, candidates_of}
 use Rattle.funnel_model.proofs.SearchLemmas.{each-weaker}
 use Rattle.rank_matcher.specs.Evaluation.{WasReadAt, WasReadSet, WasReadZero}
 use Rattle.rank_matcher.specs.SearchScans.{CanSearch, ScansFor}
@@ -34,7 +31,6 @@ use Rattle.funnel_model.specs.Legal.{IsInSlice, Limits}
 use Rattle.row_layout.specs.declared.row.Row.{Row}
 use Rattle.row_layout.specs.DocumentBits.{IsDocumentBitIn, bit_of_row, slice_start}
 use Rattle.row_layout.specs.Layouts.{LayoutId}
-use Rattle.row_layout.specs.Orders.{HasRowsOf}
 use Rattle.row_read.specs.declared.shared.Shared.{Shared}
 use Rattle.row_read.specs.SharedRows.{CanRead, IsCommittedUnder, IsInReach, SharedKept, kept_of}
 use Rattle.row_read.specs.SharedRows as shared

@@ -1,5 +1,5 @@
 -- How a find of the empty query answers a search by an expression.
-use Rattle.std.proofs.Common.{◌≡◌, ℕ, Bool, ◌≤◌, ◌⊎◌, List, [], ◌∷◌, ◌++◌, length, Option, Some, Result, Ok, Err, refl, sym, ap, subst, ◌∙◌, append_assoc, inl, inr, arith}
+use Rattle.std.proofs.Common.{◌≡◌, ℕ, ◌≤◌, ◌⊎◌, List, [], ◌∷◌, ◌++◌, length, Some, Result, Ok, Err, refl, sym, ap, subst, ◌∙◌, append_assoc, inl, inr, arith}
 use Rattle.bool_query.specs.declared.fault.QueryFault.{QueryFault}
 use Rattle.bool_query.specs.declared.fault.QueryFault.TheVariants as syntax
 use Rattle.commit_desk.specs.declared.answers.FindFault.{FindFault}
@@ -8,7 +8,7 @@ use Rattle.engine.specs.declared.querying.SearchFault.{SearchFault}
 use Rattle.engine.specs.declared.querying.SearchFault.TheVariants as fault
 use Rattle.engine.specs.Faults.{of_find, of_text}
 use Rattle.engine.specs.Finds.{EndedTurns, RefusedTurn}
-use Rattle.engine.specs.Passes.{MakesCall, PassView}
+use Rattle.engine.specs.Passes.{PassView}
 use Rattle.engine.specs.Replies.{reply_of_query_fault, reply_of_search_fault}
 use Rattle.engine.specs.Searches.{KeptTurns, MakesCallOf, MakesSearch, MakesTold, SearchTurns, ToldTurns, reply_told}
 use Rattle.engine.proofs.Finds.{begins_call, dropped_step, end_is_quiet, found_step, refused_step}

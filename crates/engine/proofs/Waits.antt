@@ -1,5 +1,5 @@
 -- What an add came to that waited for slices that were being cleared.
-use Rattle.std.proofs.Common.{◌≡◌, ℕ, zero, suc, ◌+◌, Bool, true, false, List, [], Option, refl, sym, ◌∙◌, ⊎_elim, inl, inr, subst, append-nil, arith}
+use Rattle.std.proofs.Common.{◌≡◌, ℕ, zero, suc, ◌+◌, Bool, true, false, List, [], Option, refl, ◌∙◌, ⊎_elim, inl, inr, subst, append-nil, arith}
 use Rattle.funnel_model.specs.declared.event.Event.{Event}
 use Rattle.funnel_model.specs.History.{IsFrontOf}
 use Rattle.funnel_model.specs.Legal.{IsFull, Limits}

@@ -22,10 +22,9 @@ pub record IsBlank (pool : PoolId) (home : HomeState) (passes : List PassState) 
   pub new_home : home ≡ new_home_state pool
   pub new_passes : passes ≡ map (new_pass_state pool) (range_with_len 0 pool.config.passes)
 
--- the engine's pool is the one that its type names, and it has the row words of a slice, the slices and the reserve of the pool's
--- configuration; it keeps that configuration, but for its listed words
-pub record IsEngine (named pool : PoolId) (room slices reserve : ℕ) (base : Config) : Type 0 where
-  pub of_name : pool ≡ named
+-- what an engine keeps of its pool has the row words of a slice, the slices and the reserve of the pool's configuration; it keeps that
+-- configuration, but for its listed words
+pub record IsEnginePool (pool : PoolId) (room slices reserve : ℕ) (base : Config) : Type 0 where
   pub of_config : IsOfConfig pool
   pub room_is : room ≡ pool.limits.slice_words
   pub count : slices ≡ pool.config.slices

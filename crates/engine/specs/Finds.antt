@@ -1,5 +1,5 @@
 -- Finds: what an open one scans for, what it has found of its slices, and the turns of a find at the desk.
-use Rattle.std.specs.Prelude.{◌≡◌, ℕ, ◌+◌, ◌<◌, ◌≤◌, ◌⊎◌, Bool, true, false, List, [], ◌∷◌, ◌++◌, length, Contains, Option, None, Some, Result, Ok, Err}
+use Rattle.std.specs.Prelude.{◌≡◌, ℕ, ◌<◌, ◌⊎◌, Bool, true, false, List, [], ◌∷◌, ◌++◌, length, Contains, Option, None, Some, Result, Ok, Err}
 use Rattle.std.specs.List.{AllPairs}
 use Rattle.document_store.specs.Finding.{FoundState}
 use Rattle.row_layout.specs.Sound.{IsSound}

@@ -11,6 +11,7 @@ pub mod Puts
 pub mod Replies
 pub mod Scans
 pub mod Searches
+pub mod Solos
 pub mod Laws
 pub mod Turns
 pub mod WordExprs

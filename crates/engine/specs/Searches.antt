@@ -19,7 +19,7 @@ use Rattle.funnel_model.specs.Legal.{Limits}
 use Rattle.funnel_model.specs.Queries.{IsMalformed, IsTooDeep}
 use Rattle.funnel_model.specs.Searches.{Searches}
 use Rattle.funnel_model.specs.WordExprs.{each_searched}
-use Rattle.line_proto.specs.Forms.{Told, Ids, Amount, Last, First, Sought, ByQuery, ByWords}
+use Rattle.line_proto.specs.Forms.{Told, Ids, Amount, Last, First, Sought, ByQuery}
 use Rattle.line_proto.specs.Services.{IsSought, OfQuery, searched}
 
 -- what is asked of a document beside the required words

@@ -4,12 +4,14 @@ ghost use Rattle.funnel_model.specs.declared.call.Call.TheVariants as call;
 ghost use Rattle.funnel_model.specs.Legal.{IsLegal};
 ghost use Rattle.commit_desk.specs.Passes.{HasWritten, IsResting, IsToWrite};
 ghost use Rattle.engine.specs.Adds.{AddTurns, ClaimTurns, IsToBeAdded, OwnTurns, RefusedTurn, fault_of_drop};
-ghost use Rattle.engine.specs.Passes.{MakesCall};
+ghost use Rattle.engine.specs.Passes.{MakesCall, view_of};
 ghost use Rattle.engine.specs.Replies.{reply_of_add};
 ghost use Rattle.row_layout.specs.declared.row.TheConstants.{MOST_ROWS};
 
 use crate::engine::Engine;
+use crate::engine_pool::EnginePool;
 use crate::pass::Pass;
+use crate::turns::Turns;
 use crate::work::{Direct, Work};
 use commit_desk::{AddFault, CommitFault, SharedLayout, Taken, ToClear};
 use document_store::Doc;
@@ -65,88 +67,128 @@ impl<N: PoolName> Engine<N> {
         ensures call { MakesCall N.pool.limits (call.Add id text.now) (reply_of_add result) pass.old pass.new }
         ensures turns { AddTurns N.pool.config N.pool.limits pass.old.number id text.now pass.old.front pass.new.front result }
     {
-        let _ = pass.seat.number();
-        match self.prepare(alloc, id, text) {
-            Ok(prepared) => {
-                let (doc, bits, room) = prepared;
-                self.move_some(rt, alloc, &mut pass.seat, false, id, work);
-                self.add_prepared(rt, &mut pass.seat, doc, bits, room, work)
+        let mut turns = self.locked(rt);
+        self.pool
+            .add(&mut turns, alloc, &mut pass.seat, id, text, work)
+    }
+}
+
+impl EnginePool {
+    // An add, which takes the words of its text first.
+    pub(crate) fn add<T: Turns, W: Work>(
+        &self,
+        turns: &mut T,
+        alloc: Global,
+        pass: &mut PassSeat,
+        id: u64,
+        text: &str,
+        work: &mut W,
+    ) -> Result<u64, AddFault>
+        requires at { T.made_at turns.old ≡ self.now }
+        requires rests { IsResting self.now pass.old }
+        ensures call { MakesCall self.now.limits (call.Add id text.now) (reply_of_add result) (view_of pass.old) (view_of pass.new) }
+        ensures turns { AddTurns self.now.config self.now.limits pass.old.number id text.now pass.old.front pass.new.front result }
+        ensures rests { IsResting self.now pass.new }
+        ensures at { T.made_at turns.new ≡ self.now }
+    {
+        let _ = pass.number();
+        match document(alloc, id, text) {
+            Ok(doc) => self.add_doc(turns, alloc, pass, doc, work),
+            Err(Memory) => Err(AddFault::Memory),
+        }
+    }
+
+    // An add of a document whose words are taken.
+    pub(crate) fn add_doc<T: Turns, W: Work>(
+        &self,
+        turns: &mut T,
+        alloc: Global,
+        pass: &mut PassSeat,
+        doc: Doc,
+        work: &mut W,
+    ) -> Result<u64, AddFault>
+        requires at { T.made_at turns.old ≡ self.now }
+        requires rests { IsResting self.now pass.old }
+        ensures call { MakesCall self.now.limits (call.Add doc.id doc.text) (reply_of_add result) (view_of pass.old) (view_of pass.new) }
+        ensures turns { AddTurns self.now.config self.now.limits pass.old.number doc.id doc.text pass.old.front pass.new.front result }
+        ensures rests { IsResting self.now pass.new }
+        ensures at { T.made_at turns.new ≡ self.now }
+    {
+        let _ = pass.number();
+        match self.rooms(alloc, &doc) {
+            Ok(rooms) => {
+                let (bits, room) = rooms;
+                self.move_some(turns, alloc, pass, false, doc.id(), work);
+                self.add_prepared(turns, pass, doc, bits, room, work)
             }
             Err(Memory) => Err(AddFault::Memory),
         }
     }
 
     // The turns of an add for its own document.
-    fn add_prepared<R: Wait, W: Work>(
+    fn add_prepared<T: Turns, W: Work>(
         &self,
-        rt: &R,
+        turns: &mut T,
         pass: &mut PassSeat,
         doc: Doc,
         mut bits: Bits,
         room: Vec<Block>,
         work: &mut W,
     ) -> Result<u64, AddFault>
-        requires rests { IsResting N.pool pass.old }
+        requires at { T.made_at turns.old ≡ self.now }
+        requires rests { IsResting self.now pass.old }
         requires prepared { IsToBeAdded doc bits }
         requires empty { room.items ≡ [] }
-        requires enough { N.pool.limits.slices ≤ vec_capacity room }
-        ensures turns { OwnTurns N.pool.config N.pool.limits pass.old.number doc.id doc.text pass.old.front pass.new.front result }
-        ensures legal { IsLegal N.pool.limits pass.new.front }
-        ensures rests { IsResting N.pool pass.new }
+        requires enough { self.now.limits.slices ≤ vec_capacity room }
+        ensures turns { OwnTurns self.now.config self.now.limits pass.old.number doc.id doc.text pass.old.front pass.new.front result }
+        ensures legal { IsLegal self.now.limits pass.new.front }
+        ensures rests { IsResting self.now pass.new }
         ensures number { pass.new.number ≡ pass.old.number }
+        ensures at { T.made_at turns.new ≡ self.now }
     {
-        let claimed = self.claim(rt, pass, &doc, false, room, work)?;
+        let claimed = self.claim(turns, pass, &doc, false, room, work)?;
         let (claim, layout) = claimed;
         self.write(pass, &claim, &layout, doc.words(), &mut bits, work);
-        match self.commit(rt, pass, claim, doc, &bits) {
+        match turns.commit(self, pass, claim, doc, &bits) {
             Ok(place) => Ok(place),
             Err(fault) => Err(dropped(fault)),
         }
     }
 
-    // The document, room for its bits, and room for what the answer `Full` tells.
-    pub(crate) fn prepare(
-        &self,
-        alloc: Global,
-        id: u64,
-        text: &str,
-    ) -> Result<(Doc, Bits, Vec<Block>), Memory>
-        ensures id { IfOk result (λ prepared. prepared.0.id ≡ id) }
-        ensures text { IfOk result (λ prepared. prepared.0.text ≡ text.now) }
-        ensures prepared { IfOk result (λ prepared. IsToBeAdded prepared.0 prepared.1) }
-        ensures empty { IfOk result (λ prepared. prepared.2.items ≡ []) }
-        ensures enough { IfOk result (λ prepared. N.pool.limits.slices ≤ vec_capacity prepared.2) }
+    // Room for the bits of a document, and for what the answer `Full` tells.
+    pub(crate) fn rooms(&self, alloc: Global, doc: &Doc) -> Result<(Bits, Vec<Block>), Memory>
+        ensures prepared { IfOk result (λ rooms. IsToBeAdded doc.now rooms.0) }
+        ensures empty { IfOk result (λ rooms. rooms.1.items ≡ []) }
+        ensures enough { IfOk result (λ rooms. self.now.limits.slices ≤ vec_capacity rooms.1) }
     {
-        let Ok(words) = words(alloc, text) else {
-            return Err(Memory);
-        };
-        let bits = Bits::for_words(alloc, &words)?;
+        let bits = Bits::for_words(alloc, doc.words())?;
         let room = Vec::with_capacity(alloc, self.slices as usize)?;
-        let text = Text::new(String::from_str(alloc, text)?);
-        Ok((Doc::new(id, text, words), bits, room))
+        Ok((bits, room))
     }
 
     // Claims a column for a document that is added, or put where it replaces, after it cleared a slice where there is need to, and gives the
     // layout of its slice.
-    pub(crate) fn claim<R: Wait, W: Work>(
+    pub(crate) fn claim<T: Turns, W: Work>(
         &self,
-        rt: &R,
+        turns: &mut T,
         pass: &mut PassSeat,
         doc: &Doc,
         replaces: bool,
         room: Vec<Block>,
         work: &mut W,
     ) -> Result<(Claim, SharedLayout), AddFault>
-        requires rests { IsResting N.pool pass.old }
+        requires at { T.made_at turns.old ≡ self.now }
+        requires rests { IsResting self.now pass.old }
         requires empty { room.items ≡ [] }
-        requires enough { N.pool.limits.slices ≤ vec_capacity room }
-        ensures turns { MatchResult result (λ claimed. ClaimTurns N.pool.limits pass.old.number replaces doc.now.id doc.now.text pass.old.front pass.new.front
-            claimed.0) (λ fault. RefusedTurn N.pool.limits pass.old.number replaces doc.now.id doc.now.text pass.old.front pass.new.front fault) }
-        ensures next { MatchResult result (λ claimed. IsToWrite N.pool claimed.0 claimed.1 pass.new) (λ _. IsResting N.pool pass.new) }
-        ensures legal { IsLegal N.pool.limits pass.new.front }
+        requires enough { self.now.limits.slices ≤ vec_capacity room }
+        ensures turns { MatchResult result (λ claimed. ClaimTurns self.now.limits pass.old.number replaces doc.now.id doc.now.text pass.old.front pass.new.front
+            claimed.0) (λ fault. RefusedTurn self.now.limits pass.old.number replaces doc.now.id doc.now.text pass.old.front pass.new.front fault) }
+        ensures next { MatchResult result (λ claimed. IsToWrite self.now claimed.0 claimed.1 pass.new) (λ _. IsResting self.now pass.new) }
+        ensures legal { IsLegal self.now.limits pass.new.front }
         ensures number { pass.new.number ≡ pass.old.number }
+        ensures at { T.made_at turns.new ≡ self.now }
     {
-        match self.take(rt, pass, doc, replaces, room) {
+        match self.take(turns, pass, doc, replaces, room) {
             Taken::Claim(claim, layout) => Ok((claim, layout)),
             Taken::Clear(to_clear, layout) => {
                 let ToClear {
@@ -156,7 +198,7 @@ impl<N: PoolName> Engine<N> {
                 } = to_clear;
                 drop(old_layout);
                 work.clear(&self.pool, pass, self.room, &job);
-                Ok((self.opened_take(rt, pass, job, slots.empty()), layout))
+                Ok((turns.opened_take(self, pass, job, slots.empty()), layout))
             }
             Taken::Refused(fault) => Err(fault),
             Taken::Wait(_) => unreachable!(),
@@ -174,16 +216,28 @@ impl<N: PoolName> Engine<N> {
         bits: &mut Bits,
         work: &mut W,
     )
-        requires claimed { IsToWrite N.pool claim.now layout.now pass.old }
+        requires claimed { IsToWrite self.now claim.now layout.now pass.old }
         requires no_bits { bits.old.bits ≡ [] }
         requires room { MOST_ROWS * length words.now ≤ bits.old.room }
-        ensures written { HasWritten N.pool claim.now words.now bits.new.bits pass.new }
+        ensures written { HasWritten self.now claim.now words.now bits.new.bits pass.new }
         ensures seat { pass.new ≡ record pass.old { own = pass.new.own } }
     {
         let _ = &self.pool;
         fill_bits(layout.layout(), words, claim.slice, claim.column, bits);
         work.write(&self.pool, pass, claim, bits);
     }
+}
+
+// A document of the text, with its words.
+pub(crate) fn document(alloc: Global, id: u64, text: &str) -> Result<Doc, Memory>
+    ensures id { IfOk result (λ doc. doc.id ≡ id) }
+    ensures text { IfOk result (λ doc. doc.text ≡ text.now) }
+{
+    let Ok(words) = words(alloc, text) else {
+        return Err(Memory);
+    };
+    let text = Text::new(String::from_str(alloc, text)?);
+    Ok(Doc::new(id, text, words))
 }
 
 // What an add is answered whose document was dropped.

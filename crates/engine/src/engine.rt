@@ -13,14 +13,14 @@ ghost use Rattle.slice_recycler.specs.Recycles.{RecycleTurns, reply_of_recycle};
 
 use crate::blank::Blank;
 use crate::closed::Closed;
+use crate::engine_pool::EnginePool;
+use crate::locked::Locked;
 use crate::pass::{Note, Pass, end_passes, name_passes};
-use crate::reading::without_words;
 use crate::work::{Direct, Work};
-use commit_desk::{DeleteFault, Desk, JournalFault, Named, Spent};
+use commit_desk::{DeleteFault, JournalFault, Named, Spent};
 use funnel_model::{Commits, Config, Memory};
-use row_layout::Layout;
-use slice_recycler::{Recycled, recycle_by};
-use slice_rule::{Pool, PoolName};
+use slice_recycler::Recycled;
+use slice_rule::PoolName;
 use std::alloc::Global;
 use std::marker::{Model, PhantomData};
 use std::sync::{Condvar, Mutex, Wait};
@@ -28,27 +28,21 @@ use std::sync::{Condvar, Mutex, Wait};
 /// An index that threads share: the one over the pool that `N` names. Contracts see this pool, by its sizes and its configuration.
 #[derive(Drop)]
 pub struct Engine<N: PoolName> {
-    pub(crate) pool: Pool,
-    /// The row words of each slice.
-    pub(crate) room: u32,
-    pub(crate) slices: u32,
-    pub(crate) reserve: u32,
-    /// The configuration that it was opened with, without its listed words.
-    pub(crate) base: Config,
+    pub(crate) pool: EnginePool,
     pub(crate) desk: Mutex<Named<N>>,
     /// Told of each slice that was cleared and is open again. An add waits for it with the desk's lock given up.
     pub(crate) opened: Condvar,
 }
 
 impl<N: PoolName> Model for Engine<N> {
-    ghost use Rattle.engine.specs.Engines.{IsEngine};
+    ghost use Rattle.std.specs.Prelude.{◌≡◌};
     ghost use Rattle.slice_rule.specs.Pools.{PoolId};
 
     ghost Value = { PoolId };
 
     ghost view = { λ e. e.pool };
 
-    ghost invariant = { λ e. IsEngine N.pool e.pool e.room e.slices e.reserve e.base };
+    ghost invariant = { λ e. e.pool ≡ N.pool };
 }
 
 impl<N: PoolName> Engine<N> {
@@ -64,20 +58,13 @@ impl<N: PoolName> Engine<N> {
         ensures engine { IfOk result (λ opened. opened.0 ≡ blank) }
         ensures passes { IfOk result (λ opened. opened.1.items ≡ map new_pass (range_with_len 0 config.now.passes)) }
     {
-        let layout = Layout::new(alloc, config)?;
-        let range = layout.slice_range(0);
-        let base = without_words(alloc, config);
         let Blank { pool, home, passes } = blank;
-        let made = Desk::new(alloc, config, home, 1 << 62, layout)?;
-        let (desk, looks) = made;
+        let opened = EnginePool::open(alloc, config, pool, home)?;
+        let (pool, desk, looks) = opened;
         let passes = name_passes(alloc, passes, config.slices)?;
         let of = PhantomData;
         let engine = Engine {
             pool,
-            room: range.1,
-            slices: config.slices,
-            reserve: config.reserve,
-            base,
             desk: Mutex::new(Named { desk, looks, of }),
             opened: Condvar::new(),
         };
@@ -90,11 +77,8 @@ impl<N: PoolName> Engine<N> {
         ensures call { MakesCall N.pool.limits (call.Delete id) (reply_of_delete result) pass.old pass.new }
         ensures turn { DeleteTurn N.pool.limits id result pass.old pass.new }
     {
-        let _ = &self.pool;
-        self.desk
-            .lock(rt)
-            .desk
-            .delete(&self.pool, &mut pass.seat, id)
+        let mut turns = self.locked(rt);
+        self.pool.delete(&mut turns, &mut pass.seat, id)
     }
 
     /// The number of commits so far. It is refused where the engine is spent alone. It waits for the lock once, and takes no
@@ -103,11 +87,8 @@ impl<N: PoolName> Engine<N> {
         ensures call { MakesCall N.pool.limits call.Place (reply_of_place result) pass.old pass.new }
         ensures turn { PlaceTurn N.pool.limits result pass.old pass.new }
     {
-        let _ = &self.pool;
-        self.desk
-            .lock(rt)
-            .desk
-            .read_place(&self.pool, &mut pass.seat)
+        let mut turns = self.locked(rt);
+        self.pool.place(&mut turns, &mut pass.seat)
     }
 
     /// The commits after the first so many, in order, or how many are no longer kept where one of these is asked for. It takes
@@ -123,11 +104,8 @@ impl<N: PoolName> Engine<N> {
         ensures call { MakesCall N.pool.limits (call.Journal from) (reply_of_journal result) pass.old pass.new }
         ensures turn { JournalTurn N.pool.limits from result pass.old pass.new }
     {
-        let _ = &self.pool;
-        self.desk
-            .lock(rt)
-            .desk
-            .read_journal(alloc, &self.pool, &mut pass.seat, from)
+        let mut turns = self.locked(rt);
+        self.pool.journal(&mut turns, alloc, &mut pass.seat, from)
     }
 
     /// Clears the lowest slice that is retired and that no running find guards, and makes it ready for new documents. It
@@ -144,7 +122,7 @@ impl<N: PoolName> Engine<N> {
         ensures call { MakesCall N.pool.limits call.Recycle (reply_of_recycle result) pass.old pass.new }
         ensures turns { RecycleTurns N.pool.limits pass.old.number pass.old.front pass.new.front result }
     {
-        let recycled = recycle_by(rt, &self.pool, &self.desk, self.room, &mut pass.seat, work);
+        let recycled = self.pool.recycle(rt, &self.desk, &mut pass.seat, work);
         self.opened.notify_all();
         recycled
     }
@@ -155,7 +133,7 @@ impl<N: PoolName> Engine<N> {
         ensures front { result ≡ pass.old.front }
     {
         Note {
-            note: self.pool.split_pass(&mut pass.seat),
+            note: self.pool.shared().split_pass(&mut pass.seat),
             of: PhantomData,
         }
     }
@@ -167,7 +145,7 @@ impl<N: PoolName> Engine<N> {
         ensures pass { MakesNoCall N.pool.limits pass.old pass.new }
     {
         let Note { note, of: _ } = note;
-        self.pool.join(&mut pass.seat, note)
+        self.pool.shared().join(&mut pass.seat, note)
     }
 
     /// Ends the engine, to which its passes come back: of each that does, the history has its calls, each once. It waits for nobody, and
@@ -184,13 +162,10 @@ impl<N: PoolName> Engine<N> {
     {
         let Engine {
             pool,
-            room: _,
-            slices: _,
-            reserve: _,
-            base: _,
             desk,
             opened: _,
         } = self;
+        let pool = pool.into_shared();
         let Named {
             desk,
             looks: _,
@@ -204,6 +179,15 @@ impl<N: PoolName> Engine<N> {
             commits,
             events: ended.events,
             ended,
+        }
+    }
+
+    // The turns of a call that take the engine's lock.
+    pub(crate) fn locked<'a, R: Wait>(&'a self, rt: &'a R) -> Locked<'a, N, R> {
+        Locked {
+            desk: &self.desk,
+            opened: &self.opened,
+            rt,
         }
     }
 }

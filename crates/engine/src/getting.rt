@@ -4,12 +4,14 @@ ghost use Rattle.funnel_model.specs.declared.call.Call.TheVariants as call;
 ghost use Rattle.funnel_model.specs.Legal.{IsLegal};
 ghost use Rattle.commit_desk.specs.Passes.{IsResting};
 ghost use Rattle.engine.specs.Gets.{GetTurn, answer_of_read};
-ghost use Rattle.engine.specs.Passes.{MakesCall};
+ghost use Rattle.engine.specs.Passes.{MakesCall, view_of};
 ghost use Rattle.engine.specs.Replies.{reply_of_get, reply_of_stats};
 ghost use Rattle.engine.specs.Turns.{StatsTurn};
 
 use crate::engine::Engine;
+use crate::engine_pool::EnginePool;
 use crate::pass::Pass;
+use crate::turns::Turns;
 use commit_desk::{Spent, TextRead};
 use funnel_model::{Stats, Text};
 use slice_rule::{PassSeat, PoolName};
@@ -40,27 +42,57 @@ impl<N: PoolName> Engine<N> {
         ensures call { MakesCall N.pool.limits (call.Get id) (reply_of_get result) pass.old pass.new }
         ensures turn { GetTurn N.pool.limits pass.old.number id pass.old.front pass.new.front result }
     {
-        let _ = &self.pool;
-        self.read_text(rt, alloc, &mut pass.seat, id)
+        let mut turns = self.locked(rt);
+        self.pool.get(&mut turns, alloc, &mut pass.seat, id)
     }
 
-    // The turns of a get, of which all but the last make no event.
-    fn read_text<R: Wait>(
+    /// How full the engine is. It waits for the lock once, and takes no memory.
+    pub fn stats<R: Wait>(&self, rt: &R, pass: &mut Pass<N>) -> Result<Stats, Spent>
+        ensures call { MakesCall N.pool.limits call.Stats (reply_of_stats result) pass.old pass.new }
+        ensures turn { StatsTurn N.pool.limits result pass.old pass.new }
+    {
+        let mut turns = self.locked(rt);
+        self.pool.stats(&mut turns, &mut pass.seat)
+    }
+}
+
+impl EnginePool {
+    pub(crate) fn get<T: Turns>(
         &self,
-        rt: &R,
+        turns: &mut T,
         alloc: Global,
         pass: &mut PassSeat,
         id: u64,
     ) -> Result<(u64, Text), GetFault>
-        requires rests { IsResting N.pool pass.old }
-        ensures turn { GetTurn N.pool.limits pass.old.number id pass.old.front pass.new.front result }
-        ensures rests { IsResting N.pool pass.new }
+        requires at { T.made_at turns.old ≡ self.now }
+        requires rests { IsResting self.now pass.old }
+        ensures call { MakesCall self.now.limits (call.Get id) (reply_of_get result) (view_of pass.old) (view_of pass.new) }
+        ensures turn { GetTurn self.now.limits pass.old.number id pass.old.front pass.new.front result }
+        ensures rests { IsResting self.now pass.new }
+        ensures at { T.made_at turns.new ≡ self.now }
+    {
+        self.read_text(turns, alloc, pass, id)
+    }
+
+    // The turns of a get, of which all but the last make no event.
+    fn read_text<T: Turns>(
+        &self,
+        turns: &mut T,
+        alloc: Global,
+        pass: &mut PassSeat,
+        id: u64,
+    ) -> Result<(u64, Text), GetFault>
+        requires at { T.made_at turns.old ≡ self.now }
+        requires rests { IsResting self.now pass.old }
+        ensures turn { GetTurn self.now.limits pass.old.number id pass.old.front pass.new.front result }
+        ensures rests { IsResting self.now pass.new }
         ensures number { pass.new.number ≡ pass.old.number }
-        ensures legal { IsLegal N.pool.limits pass.new.front }
+        ensures legal { IsLegal self.now.limits pass.new.front }
+        ensures at { T.made_at turns.new ≡ self.now }
     {
         let mut room = String::new(alloc);
         for _ in 0..self.base.passes {
-            match self.look_for_text(rt, pass, id, &mut room) {
+            match turns.look_for_text(self, pass, id, &mut room) {
                 TextRead::Short(bytes) => {
                     let Ok(more) = String::with_capacity(alloc, bytes) else {
                         return Err(GetFault::Memory);
@@ -70,20 +102,8 @@ impl<N: PoolName> Engine<N> {
                 read => return text_read(read, room),
             }
         }
-        let read = self.look_for_text(rt, pass, id, &mut room);
+        let read = turns.look_for_text(self, pass, id, &mut room);
         text_read(read, room)
-    }
-
-    /// How full the engine is. It waits for the lock once, and takes no memory.
-    pub fn stats<R: Wait>(&self, rt: &R, pass: &mut Pass<N>) -> Result<Stats, Spent>
-        ensures call { MakesCall N.pool.limits call.Stats (reply_of_stats result) pass.old pass.new }
-        ensures turn { StatsTurn N.pool.limits result pass.old pass.new }
-    {
-        let _ = &self.pool;
-        self.desk
-            .lock(rt)
-            .desk
-            .read_stats(&self.pool, &mut pass.seat)
     }
 }
 

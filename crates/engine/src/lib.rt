@@ -89,6 +89,9 @@
 //! This program is a proved test (`example.rt` of the crate `engine_tests`); docs/library.md has it whole, with its `main`, and a
 //! table of the calls.
 //!
+//! A program that uses an index by itself may have a `Solo`: an engine with one pass, which makes the same calls without a lock. It needs
+//! neither a name nor the runtime.
+//!
 //! What a user should know:
 //!
 //! - An engine has as many passes as its configuration says, at most 64. A pass makes one call at a time; a find that is open
@@ -98,7 +101,7 @@
 //!   for 256 words; where a query looks for more than words, each document counts as 8 words at least. It sorts its answer
 //!   afterwards. What else is done there takes the longer the more there is of it: a journal copies its commits, an add that is
 //!   refused as full looks through the slices, and one that moves a document copies it. `Blank::new`, `open`, `read_tuning`, `note`,
-//!   `meet` and `close` wait for nobody.
+//!   `meet` and `close` wait for nobody, and no call of a `Solo` does.
 //! - `use_engine`, `share_engine`, `Blank::new`, `open`, `add`, `put`, `find` and `query` (and their `.._by`), `get`, `count`, `newest`,
 //!   `oldest`, `begin_find`, `finish_find`, `journal`, `read_tuning` and `retune` take memory, and answer so where there is none; the others take none.
 //! - A deleted document keeps its column until all columns of its slice are done with, and the slice is cleared. So one live
@@ -117,9 +120,12 @@ mod client;
 mod closed;
 mod doubt;
 mod engine;
+mod engine_pool;
 mod finding;
 mod getting;
 pub mod laws;
+mod locked;
+mod lone;
 mod moving;
 mod open_find;
 mod pass;
@@ -129,6 +135,8 @@ mod reading;
 mod retuning;
 mod scanning;
 mod search;
+mod solo;
+mod taking;
 mod turns;
 mod using;
 mod work;
@@ -138,6 +146,7 @@ pub use client::Client;
 pub use closed::Closed;
 pub use column_writer::write_column;
 pub use commit_desk::{AddFault, DeleteFault, FindFault, JournalFault, Put, Spent};
+pub use document_store::Doc;
 pub use engine::Engine;
 pub use funnel_model::{
     Block, Blocked, Candidates, Claim, ClearJob, Commit, Commits, Config, Ids, Listed, Memory,
@@ -156,5 +165,6 @@ pub use row_layout::{Bits, Layout, Plan, SearchPlan};
 pub use row_read::Shared;
 pub use slice_recycler::{Clearer, Recycled, clear_slice};
 pub use slice_rule::{PassSeat, Pool, PoolName};
+pub use solo::Solo;
 pub use using::{ShareEngine, UseEngine, share_engine, use_engine};
 pub use work::{Direct, Work};

@@ -1,15 +1,18 @@
 //! Puts.
-ghost use Rattle.std.specs.Prelude.{◌≡◌, ◌≤◌, [], vec_capacity};
+ghost use Rattle.std.specs.Prelude.{◌≡◌, ◌≤◌, [], IfOk, vec_capacity};
 ghost use Rattle.funnel_model.specs.declared.call.Call.TheVariants as call;
 ghost use Rattle.funnel_model.specs.Legal.{IsLegal};
 ghost use Rattle.commit_desk.specs.Passes.{IsResting};
 ghost use Rattle.engine.specs.Adds.{IsToBeAdded};
-ghost use Rattle.engine.specs.Passes.{MakesCall};
+ghost use Rattle.engine.specs.Passes.{MakesCall, view_of};
 ghost use Rattle.engine.specs.Puts.{OwnPutTurns, PutTurns};
 ghost use Rattle.engine.specs.Replies.{reply_of_put};
 
+use crate::adding::document;
 use crate::engine::Engine;
+use crate::engine_pool::EnginePool;
 use crate::pass::Pass;
+use crate::turns::Turns;
 use crate::work::{Direct, Work};
 use commit_desk::{AddFault, Put};
 use document_store::Doc;
@@ -64,37 +67,77 @@ impl<N: PoolName> Engine<N> {
         ensures call { MakesCall N.pool.limits (call.Put id text.now) (reply_of_put result) pass.old pass.new }
         ensures turns { PutTurns N.pool.config N.pool.limits pass.old.number id text.now pass.old.front pass.new.front result }
     {
-        let _ = pass.seat.number();
+        let mut turns = self.locked(rt);
+        self.pool
+            .put(&mut turns, alloc, &mut pass.seat, id, text, work)
+    }
+}
+
+impl EnginePool {
+    // A put.
+    pub(crate) fn put<T: Turns, W: Work>(
+        &self,
+        turns: &mut T,
+        alloc: Global,
+        pass: &mut PassSeat,
+        id: u64,
+        text: &str,
+        work: &mut W,
+    ) -> Result<Put, PutFault>
+        requires at { T.made_at turns.old ≡ self.now }
+        requires rests { IsResting self.now pass.old }
+        ensures call { MakesCall self.now.limits (call.Put id text.now) (reply_of_put result) (view_of pass.old) (view_of pass.new) }
+        ensures turns { PutTurns self.now.config self.now.limits pass.old.number id text.now pass.old.front pass.new.front result }
+        ensures rests { IsResting self.now pass.new }
+        ensures at { T.made_at turns.new ≡ self.now }
+    {
+        let _ = pass.number();
         match self.prepare(alloc, id, text) {
             Ok(prepared) => {
                 let (doc, bits, room) = prepared;
-                self.move_some(rt, alloc, &mut pass.seat, true, id, work);
-                self.put_prepared(rt, &mut pass.seat, doc, bits, room, work)
+                self.move_some(turns, alloc, pass, true, id, work);
+                self.put_prepared(turns, pass, doc, bits, room, work)
             }
             Err(Memory) => Err(PutFault::Memory),
         }
     }
 
+    // The document, and room for its bits and for what `Full` tells.
+    fn prepare(&self, alloc: Global, id: u64, text: &str) -> Result<(Doc, Bits, Vec<Block>), Memory>
+        ensures id { IfOk result (λ prepared. prepared.0.id ≡ id) }
+        ensures text { IfOk result (λ prepared. prepared.0.text ≡ text.now) }
+        ensures prepared { IfOk result (λ prepared. IsToBeAdded prepared.0 prepared.1) }
+        ensures empty { IfOk result (λ prepared. prepared.2.items ≡ []) }
+        ensures enough { IfOk result (λ prepared. self.now.limits.slices ≤ vec_capacity prepared.2) }
+    {
+        let doc = document(alloc, id, text)?;
+        let rooms = self.rooms(alloc, &doc)?;
+        let (bits, room) = rooms;
+        Ok((doc, bits, room))
+    }
+
     // The turns of a put for its own document.
-    fn put_prepared<R: Wait, W: Work>(
+    fn put_prepared<T: Turns, W: Work>(
         &self,
-        rt: &R,
+        turns: &mut T,
         pass: &mut PassSeat,
         doc: Doc,
         mut bits: Bits,
         room: Vec<Block>,
         work: &mut W,
     ) -> Result<Put, PutFault>
-        requires rests { IsResting N.pool pass.old }
+        requires at { T.made_at turns.old ≡ self.now }
+        requires rests { IsResting self.now pass.old }
         requires prepared { IsToBeAdded doc bits }
         requires empty { room.items ≡ [] }
-        requires enough { N.pool.limits.slices ≤ vec_capacity room }
-        ensures turns { OwnPutTurns N.pool.config N.pool.limits pass.old.number doc.id doc.text pass.old.front pass.new.front result }
-        ensures legal { IsLegal N.pool.limits pass.new.front }
-        ensures rests { IsResting N.pool pass.new }
+        requires enough { self.now.limits.slices ≤ vec_capacity room }
+        ensures turns { OwnPutTurns self.now.config self.now.limits pass.old.number doc.id doc.text pass.old.front pass.new.front result }
+        ensures legal { IsLegal self.now.limits pass.new.front }
+        ensures rests { IsResting self.now pass.new }
         ensures number { pass.new.number ≡ pass.old.number }
+        ensures at { T.made_at turns.new ≡ self.now }
     {
-        let claimed = match self.claim(rt, pass, &doc, true, room, work) {
+        let claimed = match self.claim(turns, pass, &doc, true, room, work) {
             Ok(claimed) => claimed,
             Err(AddFault::Full(blocks)) => return Err(PutFault::Full(blocks)),
             Err(AddFault::Spent(events)) => return Err(PutFault::Spent(events)),
@@ -103,6 +146,6 @@ impl<N: PoolName> Engine<N> {
         };
         let (claim, layout) = claimed;
         self.write(pass, &claim, &layout, doc.words(), &mut bits, work);
-        Ok(self.put_last(rt, pass, claim, doc, &bits))
+        Ok(turns.put_last(self, pass, claim, doc, &bits))
     }
 }

@@ -1,21 +1,25 @@
 //! Searches by boolean queries, or by words: for the numbers of what they keep, for how many these are, or for some of them.
-ghost use Rattle.std.specs.Prelude.{◌≡◌, length};
+ghost use Rattle.std.specs.Prelude.{◌≡◌, ◌≤◌, [], length, vec_capacity};
+ghost use Rattle.commit_desk.specs.Passes.{IsResting};
 ghost use Rattle.engine.specs.Faults.{of_find, of_text};
+ghost use Rattle.engine.specs.Passes.{view_of};
 ghost use Rattle.engine.specs.Searches.{MakesQuery, MakesSearch, MakesTold, QueryTurns, SearchTurns, ToldTurns, first_of, last_of, reply_to_some};
 ghost use Rattle.funnel_model.specs.declared.reply.Reply.TheVariants as reply;
 ghost use Rattle.line_proto.specs.Forms.{Amount, First, Last, Told};
 ghost use Rattle.line_proto.specs.Requests.{sought};
 
 use crate::engine::Engine;
+use crate::engine_pool::EnginePool;
 use crate::open_find::Begun;
 use crate::pass::Pass;
 use crate::search::read_sought;
+use crate::turns::Turns;
 use crate::work::{Direct, Work};
 use bool_query::QueryFault;
-use commit_desk::FindFault;
+use commit_desk::{FindFault, FindLayouts};
 use funnel_model::Ids;
 use line_proto::Search as Sought;
-use slice_rule::PoolName;
+use slice_rule::{PassSeat, PoolName};
 use std::alloc::Global;
 use std::error::Error;
 use std::fmt;
@@ -107,7 +111,15 @@ impl<N: PoolName> Engine<N> {
         ensures call { MakesQuery N.pool.limits text.now result pass.old pass.new }
         ensures turns { QueryTurns N.pool.limits pass.old.number text.now pass.old.front pass.new.front result }
     {
-        self.search(rt, alloc, pass, Sought::Query(text), work)
+        let mut turns = self.locked(rt);
+        self.pool.query(
+            &mut turns,
+            alloc,
+            &mut pass.seat,
+            &mut pass.layouts,
+            text,
+            work,
+        )
     }
 
     /// How many documents are live when the search begins that it keeps: by a boolean query, or by words, as each document has each word of
@@ -122,10 +134,9 @@ impl<N: PoolName> Engine<N> {
         ensures call { MakesTold Amount reply.Count N.pool.limits (sought kept.entry) result pass.old pass.new }
         ensures turns { ToldTurns length N.pool.limits pass.old.number (sought kept.entry) pass.old.front pass.new.front result }
     {
-        match self.search(rt, alloc, pass, kept, &mut Direct) {
-            Ok(ids) => Ok(ids.len() as u64),
-            Err(fault) => Err(fault),
-        }
+        let mut turns = self.locked(rt);
+        self.pool
+            .count(&mut turns, alloc, &mut pass.seat, &mut pass.layouts, kept)
     }
 
     /// How many documents the search keeps, and the numbers of at most so many of them, of those that were added last, the newest first. It
@@ -141,10 +152,15 @@ impl<N: PoolName> Engine<N> {
         ensures call { MakesTold (Last most) reply_to_some N.pool.limits (sought kept.entry) result pass.old pass.new }
         ensures turns { ToldTurns (last_of most) N.pool.limits pass.old.number (sought kept.entry) pass.old.front pass.new.front result }
     {
-        match self.search(rt, alloc, pass, kept, &mut Direct) {
-            Ok(ids) => Ok(last_of(ids, most)),
-            Err(fault) => Err(fault),
-        }
+        let mut turns = self.locked(rt);
+        self.pool.newest(
+            &mut turns,
+            alloc,
+            &mut pass.seat,
+            &mut pass.layouts,
+            most,
+            kept,
+        )
     }
 
     /// How many documents the search keeps, and the numbers of at most so many of them, of those that were added first, the oldest first. It
@@ -160,29 +176,145 @@ impl<N: PoolName> Engine<N> {
         ensures call { MakesTold (First most) reply_to_some N.pool.limits (sought kept.entry) result pass.old pass.new }
         ensures turns { ToldTurns (first_of most) N.pool.limits pass.old.number (sought kept.entry) pass.old.front pass.new.front result }
     {
-        match self.search(rt, alloc, pass, kept, &mut Direct) {
+        let mut turns = self.locked(rt);
+        self.pool.oldest(
+            &mut turns,
+            alloc,
+            &mut pass.seat,
+            &mut pass.layouts,
+            most,
+            kept,
+        )
+    }
+}
+
+impl EnginePool {
+    pub(crate) fn query<T: Turns, W: Work>(
+        &self,
+        turns: &mut T,
+        alloc: Global,
+        pass: &mut PassSeat,
+        layouts: &mut FindLayouts,
+        text: &str,
+        work: &mut W,
+    ) -> Result<Ids, SearchFault>
+        requires at { T.made_at turns.old ≡ self.now }
+        requires rests { IsResting self.now pass.old }
+        requires none { layouts.old.entries.items ≡ [] }
+        ensures call { MakesQuery self.now.limits text.now result (view_of pass.old) (view_of pass.new) }
+        ensures turns { QueryTurns self.now.limits pass.old.number text.now pass.old.front pass.new.front result }
+        ensures rests { IsResting self.now pass.new }
+        ensures none { layouts.new.entries.items ≡ [] }
+        ensures room { vec_capacity layouts.old.entries ≤ vec_capacity layouts.new.entries }
+        ensures number { pass.new.number ≡ pass.old.number }
+        ensures at { T.made_at turns.new ≡ self.now }
+    {
+        self.search(turns, alloc, pass, layouts, Sought::Query(text), work)
+    }
+
+    pub(crate) fn count<T: Turns>(
+        &self,
+        turns: &mut T,
+        alloc: Global,
+        pass: &mut PassSeat,
+        layouts: &mut FindLayouts,
+        kept: Sought<'_>,
+    ) -> Result<u64, SearchFault>
+        requires at { T.made_at turns.old ≡ self.now }
+        requires rests { IsResting self.now pass.old }
+        requires none { layouts.old.entries.items ≡ [] }
+        ensures call { MakesTold Amount reply.Count self.now.limits (sought kept.entry) result (view_of pass.old) (view_of pass.new) }
+        ensures turns { ToldTurns length self.now.limits pass.old.number (sought kept.entry) pass.old.front pass.new.front result }
+        ensures rests { IsResting self.now pass.new }
+        ensures none { layouts.new.entries.items ≡ [] }
+        ensures room { vec_capacity layouts.old.entries ≤ vec_capacity layouts.new.entries }
+        ensures number { pass.new.number ≡ pass.old.number }
+        ensures at { T.made_at turns.new ≡ self.now }
+    {
+        match self.search(turns, alloc, pass, layouts, kept, &mut Direct) {
+            Ok(ids) => Ok(ids.len() as u64),
+            Err(fault) => Err(fault),
+        }
+    }
+
+    pub(crate) fn newest<T: Turns>(
+        &self,
+        turns: &mut T,
+        alloc: Global,
+        pass: &mut PassSeat,
+        layouts: &mut FindLayouts,
+        most: u64,
+        kept: Sought<'_>,
+    ) -> Result<SomeFound, SearchFault>
+        requires at { T.made_at turns.old ≡ self.now }
+        requires rests { IsResting self.now pass.old }
+        requires none { layouts.old.entries.items ≡ [] }
+        ensures call { MakesTold (Last most) reply_to_some self.now.limits (sought kept.entry) result (view_of pass.old) (view_of pass.new) }
+        ensures turns { ToldTurns (last_of most) self.now.limits pass.old.number (sought kept.entry) pass.old.front pass.new.front result }
+        ensures rests { IsResting self.now pass.new }
+        ensures none { layouts.new.entries.items ≡ [] }
+        ensures room { vec_capacity layouts.old.entries ≤ vec_capacity layouts.new.entries }
+        ensures number { pass.new.number ≡ pass.old.number }
+        ensures at { T.made_at turns.new ≡ self.now }
+    {
+        match self.search(turns, alloc, pass, layouts, kept, &mut Direct) {
+            Ok(ids) => Ok(last_of(ids, most)),
+            Err(fault) => Err(fault),
+        }
+    }
+
+    pub(crate) fn oldest<T: Turns>(
+        &self,
+        turns: &mut T,
+        alloc: Global,
+        pass: &mut PassSeat,
+        layouts: &mut FindLayouts,
+        most: u64,
+        kept: Sought<'_>,
+    ) -> Result<SomeFound, SearchFault>
+        requires at { T.made_at turns.old ≡ self.now }
+        requires rests { IsResting self.now pass.old }
+        requires none { layouts.old.entries.items ≡ [] }
+        ensures call { MakesTold (First most) reply_to_some self.now.limits (sought kept.entry) result (view_of pass.old) (view_of pass.new) }
+        ensures turns { ToldTurns (first_of most) self.now.limits pass.old.number (sought kept.entry) pass.old.front pass.new.front result }
+        ensures rests { IsResting self.now pass.new }
+        ensures none { layouts.new.entries.items ≡ [] }
+        ensures room { vec_capacity layouts.old.entries ≤ vec_capacity layouts.new.entries }
+        ensures number { pass.new.number ≡ pass.old.number }
+        ensures at { T.made_at turns.new ≡ self.now }
+    {
+        match self.search(turns, alloc, pass, layouts, kept, &mut Direct) {
             Ok(ids) => Ok(first_of(ids, most)),
             Err(fault) => Err(fault),
         }
     }
 
     // The numbers of what a search keeps. Whatever is told of them, it is the call that tells so.
-    fn search<R: Wait, W: Work>(
+    fn search<T: Turns, W: Work>(
         &self,
-        rt: &R,
+        turns: &mut T,
         alloc: Global,
-        pass: &mut Pass<N>,
+        pass: &mut PassSeat,
+        layouts: &mut FindLayouts,
         kept: Sought<'_>,
         work: &mut W,
     ) -> Result<Ids, SearchFault>
-        ensures call { (told : Told) → MakesSearch told N.pool.limits (sought kept.entry) result pass.old pass.new }
-        ensures turns { SearchTurns N.pool.limits pass.old.number (sought kept.entry) pass.old.front pass.new.front result }
+        requires at { T.made_at turns.old ≡ self.now }
+        requires rests { IsResting self.now pass.old }
+        requires none { layouts.old.entries.items ≡ [] }
+        ensures call { (told : Told) → MakesSearch told self.now.limits (sought kept.entry) result (view_of pass.old) (view_of pass.new) }
+        ensures turns { SearchTurns self.now.limits pass.old.number (sought kept.entry) pass.old.front pass.new.front result }
+        ensures rests { IsResting self.now pass.new }
+        ensures none { layouts.new.entries.items ≡ [] }
+        ensures room { vec_capacity layouts.old.entries ≤ vec_capacity layouts.new.entries }
+        ensures number { pass.new.number ≡ pass.old.number }
+        ensures at { T.made_at turns.new ≡ self.now }
     {
         let _ = pass.number();
         let search = read_sought(alloc, kept)?;
-        let token = self.begin(rt, &mut pass.seat, "", &mut pass.layouts)?;
+        let token = self.begin(turns, pass, "", layouts)?;
         let begun = Begun { token, search };
-        let Ok(ids) = self.finish(rt, &mut pass.seat, begun, &mut pass.layouts, work) else {
+        let Ok(ids) = self.finish(turns, pass, begun, layouts, work) else {
             return Err(SearchFault::Memory);
         };
         Ok(ids)

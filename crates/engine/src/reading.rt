@@ -7,7 +7,7 @@ ghost use Rattle.funnel_stats.specs.Tunings.{tuning};
 
 use crate::engine::Engine;
 use funnel_model::{Config, Listed};
-use funnel_stats::{ConfigFault, read_tuning};
+use funnel_stats::ConfigFault;
 use slice_rule::PoolName;
 use std::alloc::Global;
 
@@ -22,7 +22,7 @@ impl<N: PoolName> Engine<N> {
         // A slice has room for the rows of the opening configuration.
         ensures room { N.pool.limits.slice_words ≡ words_of_slice N.pool.config }
     {
-        read_tuning(alloc, text, &self.base)
+        self.pool.read_tuning(alloc, text)
     }
 }
 

@@ -1,14 +1,19 @@
 //! Tunings: an engine gets new statistics while it serves.
 ghost use Rattle.std.specs.Prelude.{◌≡◌};
 ghost use Rattle.funnel_model.specs.Configuration.{IsTuning};
-ghost use Rattle.engine.specs.Turns.{HasRoomFor, MakesTuneCall, TuneTurn, fault_of_layout};
+ghost use Rattle.funnel_model.specs.Legal.{IsLegal};
+ghost use Rattle.commit_desk.specs.Answers.{events_of_tune};
+ghost use Rattle.commit_desk.specs.Layouts.{TunesWith};
+ghost use Rattle.commit_desk.specs.Passes.{IsResting};
+ghost use Rattle.engine.specs.Turns.{AnswersTuning, HasRoomFor, MakesTuneCall, TuneTurn, fault_of_layout};
+ghost use Rattle.slice_recycler.specs.Turns.{IsTurn};
 
 use crate::engine::Engine;
 use crate::pass::Pass;
-use commit_desk::SharedLayout;
+use commit_desk::{SharedLayout, Spent};
 use funnel_model::Config;
 use row_layout::{Layout, LayoutFault};
-use slice_rule::PoolName;
+use slice_rule::{PassSeat, PoolName};
 use std::alloc::Global;
 use std::sync::Wait;
 
@@ -40,7 +45,7 @@ impl<N: PoolName> Engine<N> {
         ensures turn { TuneTurn N.pool.limits config.now result pass.old pass.new }
     {
         let _ = pass.seat.number();
-        match Layout::within(alloc, config, self.room) {
+        match self.pool.lay_out(alloc, config) {
             Ok(layout) => self.tune_by(rt, alloc, pass, config, layout),
             Err(fault) => Err(unfit(fault)),
         }
@@ -70,6 +75,27 @@ impl<N: PoolName> Engine<N> {
             Ok(count) => Ok(count),
             Err(spent) => Err(TuneFault::Spent(spent.events)),
         }
+    }
+
+    // The turn of a tuning, with the layout that each slice gets when it is cleared. Unless it is refused, the one that was
+    // current before comes back in its place where no slice has its treatment, so that it is dropped when the lock is free again.
+    fn tune_turn<R: Wait>(
+        &self,
+        rt: &R,
+        pass: &mut PassSeat,
+        config: &Config,
+        layout: &mut Option<SharedLayout>,
+    ) -> Result<u64, Spent>
+        requires rests { IsResting N.pool pass.old }
+        requires tunes { TunesWith N.pool config.now layout.old }
+        ensures turn { IsTurn pass.old.number pass.old.front pass.new.front (AnswersTuning N.pool layout.old layout.new result)
+            (events_of_tune pass.old.number config.now result) }
+        ensures rests { IsResting N.pool pass.new }
+        ensures number { pass.new.number ≡ pass.old.number }
+        ensures legal { IsLegal N.pool.limits pass.new.front }
+    {
+        let pool = self.pool.shared();
+        self.desk.lock(rt).desk.tune(pool, pass, config, layout)
     }
 }
 

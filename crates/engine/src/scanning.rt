@@ -4,7 +4,7 @@ ghost use Rattle.engine.specs.Finds.{CanLookIn};
 ghost use Rattle.engine.specs.Scans.{AreScanned, CanScan, IsPlannedFor, IsScannedEntry, part_of};
 ghost use Rattle.row_read.specs.SharedRows.{kept_of};
 
-use crate::engine::Engine;
+use crate::engine_pool::EnginePool;
 use crate::search::Search;
 use crate::work::Work;
 use commit_desk::FindLayout;
@@ -13,7 +13,7 @@ use plan_rows::{Rest, plan, plan_search};
 use rank_matcher::Hits;
 use row_layout::{Layout, Plan, SearchPlan};
 use row_read::Shared;
-use slice_rule::{PassSeat, PoolName};
+use slice_rule::PassSeat;
 
 // How a search goes by a layout: by the rows of the words that it requires, of which this rest is left to look for, and by the plan of what
 // else it asks.
@@ -48,7 +48,7 @@ pub(crate) struct Scanned<'a> {
     pub rest: Rest,
 }
 
-impl<N: PoolName> Engine<N> {
+impl EnginePool {
     // Scans the slices of an entry for a search, by their layout.
     pub(crate) fn scan_entry<'a, W: Work>(
         &self,
@@ -58,7 +58,7 @@ impl<N: PoolName> Engine<N> {
         search: &'a Search,
         work: &mut W,
     ) -> Result<Scanned<'a>, Memory>
-        requires can { CanLookIn N.pool pass.old token.now entry.now }
+        requires can { CanLookIn self.now pass.old token.now entry.now }
         ensures scanned { IfOk result (λ scanned. IsScannedEntry entry.now pass.new token.now scanned) }
         ensures search { IfOk result (λ scanned. scanned.search.now ≡ search.now) }
         ensures seat { pass.new ≡ record pass.old { own = pass.new.own; told = pass.new.told } }
@@ -83,7 +83,7 @@ impl<N: PoolName> Engine<N> {
         work: &mut W,
         hits: &mut Hits,
     ) -> Result<(), Memory>
-        requires scan { (search : Search) × CanScan N.pool rows.old entry.now search planned.now }
+        requires scan { (search : Search) × CanScan self.now rows.old entry.now search planned.now }
         requires none_sure { hits.old.sure ≡ [] }
         requires none_unsure { hits.old.unsure ≡ [] }
         ensures scanned { (search : Search) → IsPlannedFor entry.now.layout.config search planned.now →

@@ -38,6 +38,8 @@ mod retuning;
 #[cfg(test)]
 mod setting;
 #[cfg(test)]
+mod solo;
+#[cfg(test)]
 mod steps;
 #[cfg(test)]
 mod threads;

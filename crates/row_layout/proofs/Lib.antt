@@ -13,3 +13,4 @@ pub mod ReadSearches
 pub mod Standing
 pub mod OneList
 pub mod InOrder
+pub mod HashedRows

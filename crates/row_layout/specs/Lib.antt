@@ -1,6 +1,7 @@
 pub mod Rows
 pub mod Orders
 pub mod Owners
+pub mod ColumnPlaces
 pub mod DocumentBits
 pub mod SearchPlans
 pub mod Sound

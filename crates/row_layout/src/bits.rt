@@ -70,7 +70,8 @@ pub fn fill_bits(layout: &Layout, words: &WordSet, slice: u32, column: u32, bits
     ensures own { All (IsOwnedOnlyAt layout.now.room layout.now.config slice column) bits.new.bits }
 {
     let (first, _) = layout.slice_range(slice);
+    let places = layout.places(first, column);
     for word in words.iter() {
-        layout.push_bits(word, first, column, &mut bits.bits);
+        layout.push_bits(word, &places, &mut bits.bits);
     }
 }

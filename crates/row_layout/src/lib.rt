@@ -8,6 +8,7 @@
 
 mod bits;
 mod class_table;
+mod column_places;
 mod fault;
 mod laws;
 mod layout;

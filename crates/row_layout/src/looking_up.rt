@@ -7,12 +7,14 @@ ghost use Rattle.funnel_model.specs.Treatment.{row_count_of_class};
 ghost use Rattle.funnel_model.specs.Words.{IsRising};
 ghost use Rattle.row_layout.specs.declared.row.Row.{Row};
 ghost use Rattle.row_layout.specs.declared.row.TheConstants.{MOST_ROWS};
+ghost use Rattle.row_layout.specs.ColumnPlaces.{ArePlaces};
 ghost use Rattle.row_layout.specs.DocumentBits.{bit_from, bits_of_word};
 ghost use Rattle.row_layout.specs.Layouts.{word_rows};
 ghost use Rattle.row_layout.specs.Owners.{is_exact};
 ghost use Rattle.row_layout.specs.Rows.{IsRowOf, IsSharedRow, hashed_row, hashed_rows, private_row, row_count_of_word, row_of_word, rows_of_word, rows_of_words};
 ghost use Rattle.term_hash.specs.Hash.{fnv_1a};
 
+use crate::column_places::ColumnPlaces;
 use crate::layout::Layout;
 use crate::listed_rows::width_of;
 use crate::row::Row;
@@ -114,21 +116,21 @@ impl Layout {
         Ok(())
     }
 
-    /// Adds the bits of a folded word, which is hashed once and looked up once, at a column of the slice that begins at the pool's word
-    /// `first`. There is room for them.
-    pub(crate) fn push_bits(&self, word: &[u8], first: u32, column: u32, bits: &mut Vec<Bit>)
-        requires fits { (row : Row) → IsRowOf self.now.config row → first + row.start + column / (64 * 2 ^ row.rank) < 2 ^ 32 }
+    /// Adds the bits of a folded word, which is hashed once and looked up once, at these places of a column. There is room for them.
+    pub(crate) fn push_bits(&self, word: &[u8], places: &ColumnPlaces, bits: &mut Vec<Bit>)
+        requires places { ArePlaces self.now.config places.now }
+        requires fits { (row : Row) → IsRowOf self.now.config row → places.now.first + row.start + places.now.column / (64 * 2 ^ row.rank) < 2 ^ 32 }
         requires room { vec_len bits.old + MOST_ROWS ≤ vec_capacity bits.old }
-        ensures bits { bits.new.items ≡ bits.old.items ++ bits_of_word self.now.config first column word.now }
+        ensures bits { bits.new.items ≡ bits.old.items ++ bits_of_word self.now.config places.now.first places.now.column word.now }
         ensures few { vec_len bits.new ≤ vec_len bits.old + MOST_ROWS }
         ensures capacity { vec_capacity bits.new ≡ vec_capacity bits.old }
     {
         let hash = WordHash::new(word);
         match self.look_up(&hash, word) {
             WordRows::Private(number) => {
-                bits.push_reserved(self.private(number).bit(first, column))
+                bits.push_reserved(self.private(number).bit(places.first, places.column))
             }
-            WordRows::Shared(class) => self.push_hashed_bits(&hash, class, first, column, bits),
+            WordRows::Shared(class) => self.push_hashed_bits(&hash, class, places, bits),
         }
     }
 
@@ -137,20 +139,37 @@ impl Layout {
         &self,
         hash: &WordHash,
         class: u8,
-        first: u32,
-        column: u32,
+        places: &ColumnPlaces,
         bits: &mut Vec<Bit>,
     )
-        requires fits { (row : Row) → IsRowOf self.now.config row → first + row.start + column / (64 * 2 ^ row.rank) < 2 ^ 32 }
+        requires places { ArePlaces self.now.config places.now }
+        requires fits { (row : Row) → IsRowOf self.now.config row → places.now.first + row.start + places.now.column / (64 * 2 ^ row.rank) < 2 ^ 32 }
         requires room { vec_len bits.old + MOST_ROWS ≤ vec_capacity bits.old }
         requires class { class ≤ 15 }
         ensures bits { (word : List ℕ) → hash.now ≡ fnv_1a word →
-            bits.new.items ≡ bits.old.items ++ map (bit_from first column) (hashed_rows self.now.config word class) }
+            bits.new.items ≡ bits.old.items ++ map (bit_from places.now.first places.now.column) (hashed_rows self.now.config word class) }
         ensures few { vec_len bits.new ≤ vec_len bits.old + MOST_ROWS }
         ensures capacity { vec_capacity bits.new ≡ vec_capacity bits.old }
     {
         for j in 0..self.classes.counts[class as usize] {
-            bits.push_reserved(self.hashed(hash, class, j).bit(first, column));
+            bits.push_reserved(self.hashed_bit(hash, class, j, places));
+        }
+    }
+
+    /// The bit of row `j` of a word with this hash and of this class.
+    fn hashed_bit(&self, hash: &WordHash, class: u8, j: u8, places: &ColumnPlaces) -> Bit
+        requires class { class ≤ 15 }
+        requires j { j < row_count_of_class self.now.config.one_in self.now.config.snr class }
+        requires places { ArePlaces self.now.config places.now }
+        requires fits { (row : Row) → IsRowOf self.now.config row → places.now.first + row.start + places.now.column / (64 * 2 ^ row.rank) < 2 ^ 32 }
+        ensures { (word : List ℕ) → hash.now ≡ fnv_1a word →
+            result ≡ bit_from places.now.first places.now.column (hashed_row self.now.config word class j) }
+    {
+        let rank = self.classes.ranks[class as usize][j as usize] as usize;
+        let number = hash.row(j, &self.rows[rank]);
+        Bit {
+            word: places.words[rank] + number * places.widths[rank],
+            bit: places.column % 64,
         }
     }
 

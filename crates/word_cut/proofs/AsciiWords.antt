@@ -48,7 +48,7 @@ value_small c below =
     (cases_lt 90 c))
     (cases_lt c 65)
 
-not_pictographic : (c : ℕ) → c < 128 → is_extended_pictographic c ≡ false
+pub not_pictographic : (c : ℕ) → c < 128 → is_extended_pictographic c ≡ false
 unfolding ucd_emoji
 not_pictographic c below = not-true _ (Stepped-below is_extended_pictographic is_extended_pictographic_stepped (λ x v. not v) 128 refl c below)
 

@@ -1,9 +1,9 @@
 -- Numbers of first bytes are in the order of their words.
-use Rattle.std.proofs.Common.{◌≡◌, ℕ, zero, suc, ◌+◌, ◌-◌, ◌*◌, ◌%◌, ◌^◌, ◌<◌, ◌≤◌, List, [], ◌∷◌, length, take, get_or, refl, ap, ap₂, sym, ◌∙◌, subst, ⊎_elim, arith}
+use Rattle.std.proofs.Common.{◌≡◌, ℕ, zero, suc, ◌+◌, ◌-◌, ◌*◌, ◌/◌, ◌%◌, ◌^◌, ◌<◌, ◌≤◌, List, [], ◌∷◌, length, take, drop, get_or, refl, ap, ap₂, sym, ◌∙◌, subst, ⊎_elim, arith}
 use Rattle.std.proofs.lemmas.Bool.{cases_order}
 use Rattle.std.proofs.lemmas.Cmp.{nat_list_cmp_total, ranked}
-use Rattle.std.proofs.lemmas.List.{get_or_past}
-use Rattle.std.proofs.lemmas.Nat.{mul-le, pow-add}
+use Rattle.std.proofs.lemmas.List.{get_or_past, get_or-drop, length-take, take-take}
+use Rattle.std.proofs.lemmas.Nat.{div-mul-add, mul-le, pow-add}
 use Rattle.std.proofs.Math.Nat.{one-le-pow, pow-suc}
 use Rattle.std.specs.Cmp.{nat_cmp_is}
 use Rattle.std.specs.Cmp.Lexicographic.{slice_cmp}
@@ -132,3 +132,58 @@ unfolding first_bytes
 first-take zero bytes = refl
 first-take (suc n) [] = refl
 first-take (suc n) (byte ∷ bytes) = ap (λ (m : ℕ). byte * 256 ^ n + m) (first-take n bytes)
+
+pub AreBytes-drop : (n : ℕ) (bytes : List ℕ) → AreBytes bytes → AreBytes (drop n bytes)
+AreBytes-drop n bytes small i = subst (λ (b : ℕ). b < 256) (sym (get_or-drop n bytes i 0)) (small (n + i))
+
+-- the digits before a place and those behind it
+first-split : (n k : ℕ) (bytes : List ℕ) → first_bytes (n + k) bytes ≡ first_bytes n bytes * 256 ^ k + first_bytes k (drop n bytes)
+unfolding first_bytes
+first-split n zero bytes = ap (λ (m : ℕ). first_bytes m bytes) (let h : n + 0 ≡ n = omega arith in h) ∙ (let h : first_bytes n bytes ≡ first_bytes n bytes * 256 ^ 0 + 0 = omega arith in h)
+first-split n (suc k) bytes =
+    let before = first-split n k bytes in
+    let digit : get_or (drop n bytes) k 0 ≡ get_or bytes (n + k) 0 = get_or-drop n bytes k 0 in
+    let behind = more k (drop n bytes) in
+    let p : 256 ^ suc k ≡ 256 ^ k * 256 = pow-suc 256 k in
+    let q : first_bytes n bytes * 256 ^ suc k ≡ first_bytes n bytes * (256 ^ k * 256) = ap (λ (m : ℕ). first_bytes n bytes * m) p in
+    let e : n + suc k ≡ n + k + 1 = omega arith in
+    ap (λ (m : ℕ). first_bytes m bytes) e ∙ first-more (n + k) bytes
+    ∙ (let h : first_bytes (n + k) bytes * 256 + get_or bytes (n + k) 0 ≡ first_bytes n bytes * 256 ^ suc k + first_bytes (suc k) (drop n bytes) = omega arith in h)
+
+-- the first of eight bytes as one number, the others made 0
+pub first-part : (n k : ℕ) (bytes : List ℕ) → AreBytes bytes → n + k ≡ 8 → first_bytes 8 bytes / 2 ^ (8 * k) * 2 ^ (8 * k) ≡ first_bytes 8 (take n bytes)
+first-part n k bytes small eight =
+    let power = two-power k in
+    let front : first_bytes (n + k) bytes / 256 ^ k ≡ first_bytes n bytes =
+    ap (λ (m : ℕ). m / 256 ^ k) (first-split n k bytes) ∙ div-mul-add (first_bytes n bytes) (256 ^ k) (first_bytes k (drop n bytes)) (first-below k (drop n bytes) (AreBytes-drop n bytes small)) in
+    ap (λ (m : ℕ). first_bytes 8 bytes / m * m) power ∙ ap (λ (m : ℕ). first_bytes m bytes / 256 ^ k * 256 ^ k) (sym eight)
+    ∙ ap (λ (m : ℕ). m * 256 ^ k) (front ∙ sym (first-take n bytes))
+    ∙ sym (first-padded n k (take n bytes) (let h : length (take n bytes) ≤ n = omega (arith, length-take n bytes) in h))
+    ∙ ap (λ (m : ℕ). first_bytes m (take n bytes)) eight
+
+-- a number of eight bytes is told by them, however many follow
+pub first-long : (n : ℕ) (bytes : List ℕ) → 8 ≤ n → first_bytes 8 bytes ≡ first_bytes 8 (take n bytes)
+first-long n bytes long = sym (first-take 8 bytes) ∙ ap (first_bytes 8) (sym (take-take 8 n bytes long)) ∙ first-take 8 (take n bytes)
+
+-- short words of one length that have one number are the same
+pub first-same : (n : ℕ) (a b : List ℕ) → AreBytes a → AreBytes b → length a ≡ length b → length a ≤ n → first_bytes n a ≡ first_bytes n b → a ≡ b
+unfolding first_bytes
+first-same n [] [] small small' long short same = refl
+first-same n [] (y ∷ ys) small small' long short same = absurd (omega arith)
+first-same n (x ∷ xs) [] small small' long short same = absurd (omega arith)
+first-same zero (x ∷ xs) (y ∷ ys) small small' long short same = absurd (omega arith)
+first-same (suc n) (x ∷ xs) (y ∷ ys) small small' long short same =
+    let u = first-below n xs (λ i. small (suc i)) in
+    let v = first-below n ys (λ i. small' (suc i)) in
+    ⊎_elim
+    (λ (here : x ≡ y).
+    let product : x * 256 ^ n ≡ y * 256 ^ n = ap (λ (k : ℕ). k * 256 ^ n) here in
+    ap₂ (λ (z : ℕ) (zs : List ℕ). z ∷ zs) here (first-same n xs ys (λ i. small (suc i)) (λ i. small' (suc i)) (omega arith) (omega arith) (omega arith)))
+    (⊎_elim
+    (λ (below : x < y).
+    let product : (x + 1) * 256 ^ n ≤ y * 256 ^ n = mul-le (x + 1) (256 ^ n) y (256 ^ n) (omega arith) (omega arith) in
+    absurd (omega arith))
+    (λ (above : y < x).
+    let product : (y + 1) * 256 ^ n ≤ x * 256 ^ n = mul-le (y + 1) (256 ^ n) x (256 ^ n) (omega arith) (omega arith) in
+    absurd (omega arith)))
+    (cases_order x y)

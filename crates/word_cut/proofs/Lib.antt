@@ -1,5 +1,9 @@
 pub mod AsciiWords
 pub mod Taking
 pub mod KeyLemmas
+pub mod KindLemmas
 pub mod FoldLemmas
 pub mod OrderLemmas
+pub mod Places
+pub mod RuleLemmas
+pub mod Walks

@@ -4,12 +4,12 @@ ghost use Rattle.std.specs.Str.{IsAscii};
 ghost use Rattle.funnel_model.specs.Words.{words};
 ghost use Rattle.unicode_segmentation.specs.Word.{words as unicode_words};
 
+use crate::ascii_words::next_word;
 use crate::fault::WordFault;
 use crate::folding::fold_words;
 use crate::found_words::FoundWords;
 use funnel_model::WordSet;
 use std::alloc::{AllocError, Global};
-use unicode_segmentation::UnicodeSegmentation;
 
 /// The set of a text's words. The text is cut first and each word is folded then, so a word of the set may hold a
 /// boundary of words itself.
@@ -20,8 +20,7 @@ pub fn words(alloc: Global, text: &str) -> Result<WordSet, WordFault>
         return words_of_ascii(alloc, text);
     }
     let folded = fold_words(alloc, text)?;
-    let found = folded.found(alloc)?;
-    set_of(alloc, found)
+    folded.found(alloc)?.into_set(alloc)
 }
 
 /// The set of the words of a text that is ASCII. It is folded as a whole, since no boundary depends on the case of a letter.
@@ -30,28 +29,22 @@ fn words_of_ascii(alloc: Global, text: &str) -> Result<WordSet, WordFault>
     ensures { IfOk result (λ found. (word : List ℕ) → Contains found word ↔ Contains (words text.now) word) }
 {
     let folded = text.to_ascii_lowercase(alloc)?;
-    let found = cut(alloc, folded.as_str())?;
-    set_of(alloc, found)
+    cut(alloc, folded.as_bytes())?.into_set(alloc)
 }
 
-/// The words of a text as they stand in it.
-fn cut<'a>(alloc: Global, text: &'a str) -> Result<FoundWords<'a>, AllocError>
+/// The words of a text of ASCII as they stand in it.
+fn cut<'a>(alloc: Global, text: &'a [u8]) -> Result<FoundWords<'a>, AllocError>
+    requires { IsAscii text.now }
     ensures { IfOk result (λ found. (word : List ℕ) → Contains found word ↔ Contains (unicode_words text.now) word) }
 {
     let mut found = FoundWords::new(alloc, text.len() / USUAL_LEN + 1)?;
-    for word in text.unicode_words() {
-        found.take_in(word.as_bytes())?;
+    let mut at = 0;
+    while let Some((start, end)) = next_word(text, at) {
+        found.take_in(text, start, end)?;
+        at = end;
     }
     Ok(found)
 }
 
 /// Few texts have a word for fewer bytes than this.
 const USUAL_LEN: usize = 4;
-
-/// The set of the words that were found.
-fn set_of(alloc: Global, found: FoundWords<'_>) -> Result<WordSet, WordFault>
-    ensures { IfOk result (λ set. (word : List ℕ) → Contains set word ↔ Contains found.entry word) }
-{
-    let distinct = found.into_order(alloc)?;
-    Ok(WordSet::from_sorted(alloc, distinct.as_slice())?)
-}

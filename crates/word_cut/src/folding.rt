@@ -47,7 +47,7 @@ impl FoldedWords {
         let mut found = FoundWords::new(alloc, self.ends.len())?;
         let mut start = 0;
         for end in self.ends.as_slice() {
-            found.take_in(&buffer[start..*end])?;
+            found.take_in(buffer, start, *end)?;
             start = *end;
         }
         Ok(found)

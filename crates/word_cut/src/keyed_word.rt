@@ -1,4 +1,4 @@
-ghost use Rattle.std.specs.Prelude.{◌≡◌, ℕ, ◌<◌, slice_index};
+ghost use Rattle.std.specs.Prelude.{◌≡◌, ℕ, ◌-◌, ◌*◌, ◌/◌, ◌^◌, ◌<◌, ◌≤◌, length, slice_index, slice_range};
 ghost use Rattle.std.specs.Ordering.{nat_cmp};
 ghost use Rattle.std.specs.Cmp.Lexicographic.{slice_cmp};
 ghost use Rattle.std.specs.Str.{bytes_eq};
@@ -17,12 +17,15 @@ pub(crate) struct KeyedWord<'a> {
 }
 
 impl<'a> KeyedWord<'a> {
-    pub(crate) fn new(bytes: &'a [u8]) -> KeyedWord<'a>
-        ensures { result.bytes.now ≡ bytes.now }
+    /// The word that stands there in a text.
+    pub(crate) fn at(text: &'a [u8], start: usize, end: usize) -> KeyedWord<'a>
+        requires in_order { start ≤ end }
+        requires within { end ≤ length text.now }
+        ensures { result.bytes.now ≡ slice_range text.now start end }
     {
         KeyedWord {
-            first: first_of(bytes),
-            bytes,
+            first: first_at(text, start, end),
+            bytes: &text[start..end],
         }
     }
 
@@ -45,12 +48,42 @@ impl<'a> KeyedWord<'a> {
     pub(crate) fn is(&self, other: &KeyedWord<'a>) -> bool
         ensures { result ≡ bytes_eq self.now.bytes.now other.now.bytes.now }
     {
-        self.first == other.first && self.bytes == other.bytes
+        if self.first != other.first || self.bytes.len() != other.bytes.len() {
+            return false;
+        }
+        // The numbers tell all bytes of a short word.
+        self.bytes.len() <= 8 || self.bytes == other.bytes
     }
 }
 
 /// 2^64 divided by the golden ratio, by which numbers are spread over the highest bits of their products (Knuth).
 const MULTIPLIER: u64 = 0x9e37_79b9_7f4a_7c15;
+
+/// The first 8 bytes of the piece that stands there in a text, as one number. Where the text goes on for 8 bytes from there they are read
+/// at once.
+fn first_at(text: &[u8], start: usize, end: usize) -> u64
+    requires in_order { start ≤ end }
+    requires within { end ≤ length text.now }
+    ensures { result ≡ first_bytes 8 (slice_range text.now start end) }
+{
+    let Some(next) = text[start..].first_chunk::<8>() else {
+        return first_of(&text[start..end]);
+    };
+    let number = u64::from_be_bytes(*next);
+    if end - start < 8 {
+        first_part(number, end - start)
+    } else {
+        number
+    }
+}
+
+/// The number with all but its first bytes made 0.
+fn first_part(number: u64, bytes: usize) -> u64
+    requires { bytes < 8 }
+    ensures { result ≡ number / 2 ^ (8 * (8 - bytes)) * 2 ^ (8 * (8 - bytes)) }
+{
+    number & !(u64::MAX >> (8 * bytes))
+}
 
 /// The first 8 bytes as one number.
 fn first_of(bytes: &[u8]) -> u64

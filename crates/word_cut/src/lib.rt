@@ -2,11 +2,13 @@
 //! words that differ in case alone are one word. Documents and queries are both cut here.
 #![tactic(auto)]
 
+mod ascii_words;
 mod cut;
 mod fault;
 mod folding;
 mod found_words;
 mod keyed_word;
+mod kind;
 
 pub use cut::words;
 pub use fault::WordFault;

@@ -1,15 +1,24 @@
-use Rattle.std.proofs.Common.{◌≡◌, ◌*◌, ℕ, List, [], ◌++◌, append-nil, append_assoc, length, flat_map, map, ap, sym, subst, ◌∙◌, arith}
+use Rattle.std.proofs.Common.{◌≡◌, ◌+◌, ◌*◌, ◌/◌, ◌^◌, ◌<◌, ℕ, List, [], ◌++◌, append-nil, append_assoc, length, flat_map, map, ap, ap₂, sym, subst, subst₂, ◌∙◌, arith}
 use Rattle.funnel_model.specs.declared.bit_list.Bit.{Bit}
 use Rattle.row_layout.specs.DocumentBits.{AreDocumentBitsIn, BitsState, bit_from, bits_of_word, in_order}
-use Rattle.row_layout.specs.Rows.{rows_of_words}
+use Rattle.row_layout.specs.Rows.{IsRowOf, rows_of_words}
+use Rattle.row_layout.specs.declared.row.Row.{Row}
 use Rattle.row_layout.proofs.BitLemmas.{bit-fits, bits-in_slice, bits-of_words, bits-own, bits_by_word, bits_of_rows}
 use Rattle.row_layout.proofs.InOrder.{none_in_order}
 use Rattle.row_layout.proofs.bits.fill_bits.Goals as goal
 
+pub places-places-requires : goal.places-places-requires
+places-places-requires c =
+    let range = c.slice_range-first.ensures in
+    bit-fits c.args.layout.now.room c.args.layout.now.config range.fits range.small_pool c.args.slice c.args.column c.slice_range-first.result.0 c.requires.slice c.requires.column range.first
+
+-- the places are those of the column
 pub push_bits-requires-clause-fits : goal.push_bits-requires-clause-fits
 push_bits-requires-clause-fits c =
     let range = c.slice_range-first.ensures in
-    bit-fits c.args.layout.now.room c.args.layout.now.config range.fits range.small_pool c.args.slice c.args.column c.slice_range-first.result.0 c.requires.slice c.requires.column range.first
+    subst₂ (λ (first column : ℕ). (row : Row) → IsRowOf c.args.layout.now.config row → first + row.start + column / (64 * 2 ^ row.rank) < 2 ^ 32)
+    (sym c.places-places.ensures.first) (sym c.places-places.ensures.column)
+    (bit-fits c.args.layout.now.room c.args.layout.now.config range.fits range.small_pool c.args.slice c.args.column c.slice_range-first.result.0 c.requires.slice c.requires.column range.first)
 
 pub push_bits-requires-clause-room : goal.push_bits-requires-clause-room
 push_bits-requires-clause-room c = omega (arith, c.loop-word.invariant.room, ap length c.in-Some.ensures.steps)
@@ -33,6 +42,7 @@ loop-word-preserved c =
     record {
       bits =
           ap (λ (items : List Bit). items ++ rest) c.push_bits.ensures.bits
+          ∙ ap₂ (λ (first column : ℕ). (old ++ bits_of_word c.args.layout.now.config first column c.in-Some.word.now) ++ rest) c.places-places.ensures.first c.places-places.ensures.column
           ∙ append_assoc old (bits c.in-Some.word.now) rest
           ∙ ap (λ (words : List (List ℕ)). old ++ flat_map bits words) (sym c.in-Some.ensures.steps)
           ∙ c.loop-word.invariant.bits;

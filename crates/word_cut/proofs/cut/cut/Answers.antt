@@ -1,30 +1,36 @@
 -- One word more.
-use Rattle.std.proofs.Common.{◌↔◌, ⊎_elim, inl, inr, ℕ, List, [], Bor, ap, sym, ◌∙◌, subst, refl}
-use Rattle.std.proofs.lemmas.Iterator.{items_from_drains}
-use Rattle.std.specs.List.{Contains}
-use Rattle.unicode_segmentation.specs.Iter.{unicode_words_left}
-use Rattle.unicode_segmentation.proofs.SegmentsLemmas.{YieldsList-from_gives}
-use Rattle.word_cut.proofs.OrderLemmas.{bytes-push}
+use Rattle.std.proofs.Common.{ℕ, List, slice_range, sym, subst, arith}
+use Rattle.unicode_segmentation.specs.Word.{words as unicode_words}
+use Rattle.word_cut.specs.Pieces.{words_from}
+use Rattle.word_cut.proofs.Taking.{AreSplit, split_start, split_more, split_end}
+use Rattle.word_cut.proofs.Walks.{words_from_start}
 use Rattle.word_cut.proofs.cut.cut.Goals as goal
 
-pub loop-word-init : goal.loop-word-init
-loop-word-init c word = subst (λ (ws : List (List ℕ)). Contains ws word ↔ Contains {X = List ℕ} [] word) (sym c.in_ok-found.ensures) (λ has. has, λ has. has)
+pub loop-start-init : goal.loop-start-init
+loop-start-init c =
+    let s = c.args.text.now in
+    record {
+      within = omega arith;
+      apart = λ last same. absurd (omega arith);
+      words =
+          subst (λ (left : List (List ℕ)). AreSplit c.in_ok-found.found left (unicode_words s)) (sym (words_from_start s c.requires))
+          (split_start c.in_ok-found.found (unicode_words s) c.in_ok-found.ensures);
+    }
 
-pub loop-word-preserved : goal.loop-word-preserved
-loop-word-preserved c word =
-    let more = bytes-push (λ w. w.now) c.loop-word.yielded _ c.in-Some.word word refl in
-    let taken = c.in_ok-take_in.ensures word in
-    let before = c.loop-word.invariant word in
-    let bytes = c.as_bytes.ensures.value in (
-      λ has. more.1 (⊎_elim (λ h. inl (before.0 h)) (λ same. inr (same ∙ bytes)) (taken.0 has)),
-      λ has. taken.1 (⊎_elim (λ h. inl (before.1 h)) (λ same. inr (same ∙ sym bytes)) (more.0 has)),
-    )
+pub loop-start-preserved : goal.loop-start-preserved
+loop-start-preserved c =
+    let s = c.args.text.now in
+    let next = c.in-Some.ensures in
+    record {
+      within = next.within.2;
+      apart = next.apart;
+      words =
+          split_more c.loop-start.found c.take_in.new.self (slice_range s c.in-Some.start c.in-Some.end) (words_from s c.in-Some.end) (unicode_words s)
+          (subst (λ (left : List (List ℕ)). AreSplit c.loop-start.found left (unicode_words s)) next.word c.loop-start.invariant.words) c.in_ok-take_in.ensures;
+    }
 
 pub returns : goal.returns
-returns c word =
-    let from_start = YieldsList-from_gives (λ (piece : Bor (List ℕ)). piece.now) unicode_words_left c.into_iter-word-iterator.result in
-    let all =
-    items_from_drains c.loop-word.yielded (c.loop-word.word-iterator, c.loop-word.yielded_by, λ _. (c.next.new.self, c.in-None.ensures.steps)) from_start
-    ∙ ap unicode_words_left c.into_iter-word-iterator.ensures.into_iter_gives
-    ∙ c.unicode_words-word-items.ensures.left in
-    subst (λ (ws : List (List ℕ)). Contains c.loop-word.found word ↔ Contains ws word) all (c.loop-word.invariant word)
+returns c =
+    let s = c.args.text.now in
+    split_end c.loop-start.found (unicode_words s)
+    (subst (λ (left : List (List ℕ)). AreSplit c.loop-start.found left (unicode_words s)) c.in_default.ensures.word c.loop-start.invariant.words)

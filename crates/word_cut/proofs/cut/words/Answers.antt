@@ -7,8 +7,8 @@ use Rattle.word_cut.proofs.cut.words.Goals as goal
 
 pub returns : goal.returns
 returns c =
-    IfOk-weaker c.set_of.result (λ set. (word : List ℕ) → Contains set word ↔ Contains c.in_ok-found.found word) (λ set. (word : List ℕ) → Contains set word ↔ Contains (words c.args.text.now) word)
+    IfOk-weaker c.into_set.result (λ set. (word : List ℕ) → Contains set word ↔ Contains c.in_ok-found.field-0 word) (λ set. (word : List ℕ) → Contains set word ↔ Contains (words c.args.text.now) word)
     (λ set is word.
     subst (λ (ws : List (List ℕ)). Contains set word ↔ Contains ws word) c.in_ok-folded.ensures
     (λ has. (c.in_ok-found.ensures word).0 ((is word).0 has), λ has. (is word).1 ((c.in_ok-found.ensures word).1 has)))
-    c.set_of.ensures
+    c.into_set.ensures

@@ -1,28 +1,28 @@
-use Rattle.std.proofs.Common.{rules}
-use Rattle.commit_desk.proofs.CallEnds.{rests_delete}
-use Rattle.engine.proofs.DeskTurns.{delete_made}
+use Rattle.engine.specs.Passes.{MakesCall, view_of}
+use Rattle.engine.specs.Turns.{DeleteTurn}
+use Rattle.commit_desk.specs.Passes.{IsResting}
+use Rattle.slice_rule.specs.Pools.{PoolId}
+use Rattle.std.proofs.Common.{subst, sym}
+use Rattle.engine.specs.Replies.{reply_of_delete}
+use Rattle.funnel_model.specs.declared.call.Call.TheVariants as call
 use Rattle.engine.proofs.engine.Engine.delete.Goals as goal
+
+pub delete-requires-clause-rests : goal.delete-requires-clause-rests
+delete-requires-clause-rests g c = subst (λ (p : PoolId). IsResting p c.pass.inside.seat) (sym c.self.invariant) c.pass.invariant.rests
 
 pub returns-clause-call : goal.returns-clause-call
 returns-clause-call g c =
-    let named = c.deref_mut.result.now in
-    let did = c.delete.ensures in
     rw (← c.pass.view_is)
-    (record {
-      step = delete_made g.N.PoolName.pool named.desk c.delete.new.self c.pass.inside.seat c.delete.new.seat named.of_pool named.limit named.pool_limit c.pass.invariant.rests.idle
-          c.args.id c.delete.result did.answer did.events;
-      number = did.events.number;
-    })
+    (subst (λ (p : PoolId). MakesCall p.limits (call.Delete c.args.id) (reply_of_delete c.delete.result) (view_of c.pass.inside.seat) (view_of c.delete.new.pass)) c.self.invariant c.delete.ensures.call)
 
 pub returns-clause-turn : goal.returns-clause-turn
-returns-clause-turn g c = rw (← c.pass.view_is) (search rules)
+returns-clause-turn g c =
+    rw (← c.pass.view_is)
+    (subst (λ (p : PoolId). DeleteTurn p.limits c.args.id c.delete.result (view_of c.pass.inside.seat) (view_of c.delete.new.pass)) c.self.invariant c.delete.ensures.turn)
 
 pub invariant_of-pass : goal.invariant_of-pass
-invariant_of-pass g c =
-    let rests = c.pass.invariant.rests in
-    let did = c.delete.ensures in
-    record {
-      rests = rests_delete g.N.PoolName.pool c.deref_mut.result.now.desk c.delete.new.self c.pass.inside.seat c.delete.new.seat rests.seated.same did.none_outstanding rests.idle c.args.id c.delete.result did.events;
-      none = c.pass.invariant.none;
-      room = c.pass.invariant.room;
-    }
+invariant_of-pass g c = record {
+  rests = subst (λ (p : PoolId). IsResting p c.delete.new.pass) c.self.invariant c.delete.ensures.rests;
+  none = c.pass.invariant.none;
+  room = c.pass.invariant.room;
+}

@@ -1,77 +1,31 @@
-use Rattle.std.proofs.Common.{◌∙◌, subst, inr}
-use Rattle.std.proofs.lemmas.Result.{err_from_is_err_and}
-use Rattle.engine.proofs.Answered.{found_words}
-use Rattle.engine.proofs.Finds.{dropped_step, ended_turns, found_step, found_turns, refused_step}
-use Rattle.funnel_model.specs.Legal.{IsIdle}
+use Rattle.engine.specs.Passes.{MakesCall, view_of}
+use Rattle.engine.specs.Finds.{FindTurns}
+use Rattle.commit_desk.specs.Passes.{IsResting}
+use Rattle.slice_rule.specs.Pools.{PoolId}
+use Rattle.std.proofs.Common.{subst, sym, arith}
+use Rattle.engine.specs.Replies.{reply_of_find}
+use Rattle.funnel_model.specs.declared.call.Call.TheVariants as call
 use Rattle.engine.proofs.engine.Engine.find_by.Goals as goal
 
-pub returns-in_err-begun-clause-call : goal.returns-in_err-begun-clause-call
-returns-in_err-begun-clause-call g c =
-    let p = err_from_is_err_and c.from_residual.result c.from_residual.ensures.1 in
-    let limits = g.N.PoolName.pool.limits in
-    let query = c.args.query.now in
-    let seat = c.pass.inside.seat in
-    let next = c.begin_words.new.pass in
-    let did = c.in_err-begun.ensures in
-    rw (p.1, p.2)
-    (rw (← c.pass.view_is)
-    (record {
-      step = refused_step limits seat.number query seat.front next.front c.pass.invariant.rests.idle did.legal (subst (λ n. IsIdle n next.front) did.number did.rests.idle) c.in_err-begun.field-0.0 did.turns;
-      number = did.number;
-    }))
+pub find-requires-clause-rests : goal.find-requires-clause-rests
+find-requires-clause-rests g c = subst (λ (p : PoolId). IsResting p c.pass.inside.seat) (sym c.self.invariant) c.pass.invariant.rests
 
 pub returns-clause-call : goal.returns-clause-call
 returns-clause-call g c =
-    let limits = g.N.PoolName.pool.limits in
-    let seat = c.pass.inside.seat in
-    let query = c.args.query.now in
-    let middle = c.begin_words.new.pass in
-    let end = c.finish.new.pass in
-    let began = c.in_ok-begun.ensures in
-    let did = c.in-Ok.ensures in
-    let number = did.number ∙ began.number in
     rw (← c.pass.view_is)
-    (record {
-      step = found_step limits seat.number query seat.front end.front c.pass.invariant.rests.idle did.legal (subst (λ n. IsIdle n end.front) number did.rests.idle) c.in-Ok.ids
-          (found_turns limits seat.number query seat.front middle began.number began.turns end.front did.ended c.in-Ok.ids
-          (found_words g.N.PoolName.pool c.begin_words.new.pass c.in_ok-begun.begun.token c.in_ok-begun.begun.search c.begin_words.new.layouts.entries.items began.begun c.in-Ok.ids did.found));
-      number = number;
-    })
+    (subst (λ (p : PoolId). MakesCall p.limits (call.Find c.args.query.now) (reply_of_find c.find.result) (view_of c.pass.inside.seat) (view_of c.find.new.pass)) c.self.invariant c.find.ensures.call)
 
 pub returns-clause-turns : goal.returns-clause-turns
 returns-clause-turns g c =
-    let limits = g.N.PoolName.pool.limits in
-    let seat = c.pass.inside.seat in
-    let query = c.args.query.now in
-    let after = c.finish.new.pass.front in
-    let began = c.in_ok-begun.ensures in
-    let did = c.in-Ok.ensures in
     rw (← c.pass.view_is)
-    (found_turns limits seat.number query seat.front c.begin_words.new.pass began.number began.turns after did.ended c.in-Ok.ids
-    (found_words g.N.PoolName.pool c.begin_words.new.pass c.in_ok-begun.begun.token c.in_ok-begun.begun.search c.begin_words.new.layouts.entries.items began.begun c.in-Ok.ids did.found))
+    (subst (λ (p : PoolId). FindTurns p.limits c.pass.inside.seat.number c.args.query.now c.pass.inside.seat.front c.find.new.pass.front c.find.result) c.self.invariant c.find.ensures.turns)
 
-pub returns-in_default-clause-call : goal.returns-in_default-clause-call
-returns-in_default-clause-call g c =
-    let limits = g.N.PoolName.pool.limits in
-    let seat = c.pass.inside.seat in
-    let query = c.args.query.now in
-    let end = c.finish.new.pass in
-    let began = c.in_ok-begun.ensures in
-    let did = c.finish.ensures in
-    let number = did.number ∙ began.number in
-    rw (← c.pass.view_is)
-    (record {
-      step = dropped_step limits seat.number query seat.front end.front c.pass.invariant.rests.idle did.legal (subst (λ n. IsIdle n end.front) number did.rests.idle)
-          (ended_turns limits seat.number query seat.front c.begin_words.new.pass began.number began.turns end.front did.ended);
-      number = number;
-    })
-
-pub returns-in_default-clause-turns : goal.returns-in_default-clause-turns
-returns-in_default-clause-turns g c =
-    let limits = g.N.PoolName.pool.limits in
-    let seat = c.pass.inside.seat in
-    let query = c.args.query.now in
-    let after = c.finish.new.pass.front in
-    let began = c.in_ok-begun.ensures in
-    rw (← c.pass.view_is)
-    (inr (ended_turns limits seat.number query seat.front c.begin_words.new.pass began.number began.turns after c.finish.ensures.ended))
+pub invariant_of-pass : goal.invariant_of-pass
+invariant_of-pass g c =
+    let had = c.pass.invariant.room in
+    let kept = c.find.ensures.room in
+    record {
+      rests = subst (λ (p : PoolId). IsResting p c.find.new.pass) c.self.invariant c.find.ensures.rests;
+      none = c.find.ensures.none;
+      room = omega (arith, had, kept);
+    }

@@ -1,6 +1,9 @@
+use Rattle.std.proofs.Common.{subst}
 use Rattle.engine.proofs.Answered.{answers_words}
 use Rattle.engine.proofs.Finds.{end_is_quiet}
+use Rattle.funnel_model.specs.Legal.{IsLegal}
 use Rattle.slice_recycler.proofs.Steps.{quiet_adds_none}
+use Rattle.slice_rule.specs.Pools.{PoolId}
 use Rattle.engine.proofs.engine.Engine.finish_find.Goals as goal
 
 pub returns-clause-pass : goal.returns-clause-pass
@@ -11,7 +14,7 @@ returns-clause-pass g c =
     rw (← c.find.view_is)
     (record {
       calls = quiet_adds_none seat.number 0 seat.front next.front (end_is_quiet seat.number seat.front next.front did.ended);
-      legal = did.legal;
+      legal = subst (λ (p : PoolId). IsLegal p.limits next.front) c.self.invariant did.legal;
       number = did.number;
     })
 

@@ -1,28 +1,28 @@
-use Rattle.std.proofs.Common.{rules}
-use Rattle.commit_desk.proofs.CallEnds.{rests_journal}
-use Rattle.engine.proofs.DeskTurns.{journal_made}
+use Rattle.engine.specs.Passes.{MakesCall, view_of}
+use Rattle.engine.specs.Turns.{JournalTurn}
+use Rattle.commit_desk.specs.Passes.{IsResting}
+use Rattle.slice_rule.specs.Pools.{PoolId}
+use Rattle.std.proofs.Common.{subst, sym}
+use Rattle.engine.specs.Replies.{reply_of_journal}
+use Rattle.funnel_model.specs.declared.call.Call.TheVariants as call
 use Rattle.engine.proofs.engine.Engine.journal.Goals as goal
+
+pub journal-requires-clause-rests : goal.journal-requires-clause-rests
+journal-requires-clause-rests g c = subst (λ (p : PoolId). IsResting p c.pass.inside.seat) (sym c.self.invariant) c.pass.invariant.rests
 
 pub returns-clause-call : goal.returns-clause-call
 returns-clause-call g c =
-    let named = c.deref_mut.result.now in
-    let did = c.read_journal.ensures in
     rw (← c.pass.view_is)
-    (record {
-      step = journal_made g.N.PoolName.pool named.desk c.read_journal.new.self c.pass.inside.seat c.read_journal.new.seat named.of_pool named.limit named.pool_limit c.pass.invariant.rests.idle
-          c.args.from c.read_journal.result did.answer did.events;
-      number = did.events.number;
-    })
+    (subst (λ (p : PoolId). MakesCall p.limits (call.Journal c.args.from) (reply_of_journal c.journal.result) (view_of c.pass.inside.seat) (view_of c.journal.new.pass)) c.self.invariant c.journal.ensures.call)
 
 pub returns-clause-turn : goal.returns-clause-turn
-returns-clause-turn g c = rw (← c.pass.view_is) (search rules)
+returns-clause-turn g c =
+    rw (← c.pass.view_is)
+    (subst (λ (p : PoolId). JournalTurn p.limits c.args.from c.journal.result (view_of c.pass.inside.seat) (view_of c.journal.new.pass)) c.self.invariant c.journal.ensures.turn)
 
 pub invariant_of-pass : goal.invariant_of-pass
-invariant_of-pass g c =
-    let rests = c.pass.invariant.rests in
-    let did = c.read_journal.ensures in
-    record {
-      rests = rests_journal g.N.PoolName.pool c.deref_mut.result.now.desk c.read_journal.new.self c.pass.inside.seat c.read_journal.new.seat rests.seated.same did.none_outstanding rests.idle c.args.from c.read_journal.result did.events;
-      none = c.pass.invariant.none;
-      room = c.pass.invariant.room;
-    }
+invariant_of-pass g c = record {
+  rests = subst (λ (p : PoolId). IsResting p c.journal.new.pass) c.self.invariant c.journal.ensures.rests;
+  none = c.pass.invariant.none;
+  room = c.pass.invariant.room;
+}

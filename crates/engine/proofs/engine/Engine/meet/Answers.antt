@@ -1,4 +1,4 @@
-use Rattle.std.proofs.Common.{◌++◌, subst}
+use Rattle.std.proofs.Common.{◌++◌, ◌∙◌, subst}
 use Rattle.funnel_model.specs.Legal.{IsLegal}
 use Rattle.slice_rule.specs.Pools.{PoolId}
 use Rattle.slice_rule.specs.Views.{longer}
@@ -22,7 +22,7 @@ returns-clause-pass g c =
     rw (← c.pass.view_is)
     (record {
       calls = meets_no_call seat next (longer seat.front note.front) (note.facts ++ seat.told) met.seat (met.none_since c.pass.invariant.rests.seated.none_outstanding);
-      legal = subst (λ (p : PoolId). IsLegal p.limits next.front) c.self.invariant.of_name met.legal;
+      legal = subst (λ (p : PoolId). IsLegal p.limits next.front) (c.shared.ensures ∙ c.self.invariant) met.legal;
       number = same_number seat next (longer seat.front note.front) (note.facts ++ seat.told) met.seat (met.none_since c.pass.invariant.rests.seated.none_outstanding);
     })
 

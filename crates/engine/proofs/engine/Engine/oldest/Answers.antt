@@ -1,18 +1,31 @@
-use Rattle.std.proofs.Common.{subst, sym}
-use Rattle.engine.specs.Passes.{MakesCall}
-use Rattle.engine.specs.declared.querying.SomeFound.{SomeFound}
-use Rattle.engine.specs.Searches.{reply_to_some}
+use Rattle.engine.specs.Passes.{view_of}
+use Rattle.engine.specs.Searches.{MakesTold, ToldTurns, first_of, reply_to_some}
 use Rattle.line_proto.specs.Forms.{First}
-use Rattle.line_proto.specs.Services.{searched}
+use Rattle.line_proto.specs.Requests.{sought}
+use Rattle.commit_desk.specs.Passes.{IsResting}
+use Rattle.slice_rule.specs.Pools.{PoolId}
+use Rattle.std.proofs.Common.{subst, sym, arith}
 use Rattle.engine.proofs.engine.Engine.oldest.Goals as goal
 
-pub returns-in-Ok-clause-call : goal.returns-in-Ok-clause-call
-returns-in-Ok-clause-call g c =
-    let call = c.in-Ok.ensures.call (First c.args.most) in
-    (call.0, call.1, subst (λ (s : SomeFound). MakesCall g.N.PoolName.pool.limits (searched (First c.args.most) call.0) (reply_to_some s) c.args.pass.now c.search.new.pass) (sym c.first_of.ensures) call.2)
+pub oldest-requires-clause-rests : goal.oldest-requires-clause-rests
+oldest-requires-clause-rests g c = subst (λ (p : PoolId). IsResting p c.pass.inside.seat) (sym c.self.invariant) c.pass.invariant.rests
 
-pub returns-in-Ok-clause-turns : goal.returns-in-Ok-clause-turns
-returns-in-Ok-clause-turns g c = (c.in-Ok.ids, c.first_of.ensures, c.in-Ok.ensures.turns)
+pub returns-clause-call : goal.returns-clause-call
+returns-clause-call g c =
+    rw (← c.pass.view_is)
+    (subst (λ (p : PoolId). MakesTold (First c.args.most) reply_to_some p.limits (sought c.args.kept) c.oldest.result (view_of c.pass.inside.seat) (view_of c.oldest.new.pass)) c.self.invariant c.oldest.ensures.call)
 
-pub returns-in-Err-clause-call : goal.returns-in-Err-clause-call
-returns-in-Err-clause-call g c = c.in-Err.ensures.call (First c.args.most)
+pub returns-clause-turns : goal.returns-clause-turns
+returns-clause-turns g c =
+    rw (← c.pass.view_is)
+    (subst (λ (p : PoolId). ToldTurns (first_of c.args.most) p.limits c.pass.inside.seat.number (sought c.args.kept) c.pass.inside.seat.front c.oldest.new.pass.front c.oldest.result) c.self.invariant c.oldest.ensures.turns)
+
+pub invariant_of-pass : goal.invariant_of-pass
+invariant_of-pass g c =
+    let had = c.pass.invariant.room in
+    let kept = c.oldest.ensures.room in
+    record {
+      rests = subst (λ (p : PoolId). IsResting p c.oldest.new.pass) c.self.invariant c.oldest.ensures.rests;
+      none = c.oldest.ensures.none;
+      room = omega (arith, had, kept);
+    }

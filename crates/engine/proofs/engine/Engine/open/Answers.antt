@@ -1,12 +1,10 @@
-use Rattle.std.proofs.Common.{◌≡◌, [], None, length, map, sym, ap, ◌∙◌, arith}
+use Rattle.std.proofs.Common.{◌≡◌, None, length, map, sym, ap, ◌∙◌}
 use Rattle.std.proofs.lemmas.List.{length-replicate}
 use Rattle.std.specs.List.{range_with_len}
-use Rattle.row_layout.specs.Layouts.{LayoutId, own_layout}
 use Rattle.slice_rule.specs.Pools.{PoolId, limits_of}
-use Rattle.slice_rule.specs.Seats.{HomeState}
 use Rattle.commit_desk.specs.Desks.{DeskState}
 use Rattle.funnel_model.specs.Legal.{Limits}
-use Rattle.funnel_model.specs.Sizes.{columns_of_slice, words_of_slice}
+use Rattle.funnel_model.specs.Sizes.{words_of_slice}
 use Rattle.funnel_model.specs.declared.config.Config.{Config}
 use Rattle.engine.specs.Passes.{new_pass, view_of}
 use Rattle.engine.proofs.NewPasses.{new_seats_rest, new_views}
@@ -14,10 +12,10 @@ use Rattle.engine.proofs.engine.Engine.open.Goals as goal
 
 pub invariant_of-new : goal.invariant_of-new
 invariant_of-new g c =
-    let made = c.in_ok-made.ensures in
-    let desk = c.in_ok-made.made.0 in
+    let made = c.in_ok-opened.ensures in
+    let desk = c.in_ok-opened.opened.1 in
     let blank = c.blank.invariant in
-    let of : desk.pool ≡ c.blank.inside.pool = ap (λ (d : DeskState). d.pool) made.desk ∙ ap (λ (h : HomeState). h.pool) blank.new_home in
+    let of : desk.pool ≡ c.blank.inside.pool = ap (λ (d : DeskState). d.pool) made.desk in
     let limits : desk.pool.limits ≡ limits_of c.blank.inside.pool.config (words_of_slice c.blank.inside.pool.config) =
     ap (λ (p : PoolId). p.limits) of ∙ blank.of_config.limits in
     let config : c.args.config.now ≡ c.blank.inside.pool.config = sym (ap (λ (p : PoolId). p.config) c.blank.view_is ∙ c.requires.made_with) in
@@ -43,22 +41,3 @@ returns-clause-passes g c =
     let config_is : c.blank.inside.pool.config ≡ c.args.config.now = ap (λ (p : PoolId). p.config) c.blank.view_is ∙ c.requires.made_with in
     c.in_ok-passes.ensures ∙ ap (map view_of) c.blank.invariant.new_passes ∙ new_views c.blank.inside.pool (range_with_len 0 c.blank.inside.pool.config.passes)
     ∙ ap (λ (k : Config). map new_pass (range_with_len 0 k.passes)) config_is
-
-pub slice_range-range-requires : goal.slice_range-range-requires
-slice_range-range-requires g c =
-    let config_is : c.args.config.now ≡ c.blank.inside.pool.config = sym (ap (λ (p : PoolId). p.config) c.blank.view_is ∙ c.requires.made_with) in
-    let slices : c.in_ok-layout.layout.config.slices ≡ c.blank.inside.pool.config.slices = ap (λ (l : LayoutId). l.config.slices) c.in_ok-layout.ensures ∙ ap (λ (k : Config). k.slices) config_is in
-    omega (arith, slices, c.blank.invariant.of_config.valid.in_range.slices.0)
-
-pub invariant_of-engine : goal.invariant_of-engine
-invariant_of-engine g c =
-    let of_config = c.blank.invariant.of_config in
-    let config_is : c.args.config.now ≡ c.blank.inside.pool.config = sym (ap (λ (p : PoolId). p.config) c.blank.view_is ∙ c.requires.made_with) in
-    record {
-      of_name = c.blank.view_is ∙ c.requires.named;
-      of_config = of_config;
-      room_is = c.slice_range-range.ensures.words ∙ ap (λ (l : LayoutId). l.room) (c.in_ok-layout.ensures ∙ ap own_layout config_is) ∙ sym (ap (λ (l : Limits). l.slice_words) of_config.limits);
-      count = ap (λ (k : Config). k.slices) config_is;
-      kept_free = ap (λ (k : Config). k.reserve) config_is;
-      based = c.without_words-base.ensures ∙ ap (λ (k : Config). record k { words = [] }) config_is;
-    }

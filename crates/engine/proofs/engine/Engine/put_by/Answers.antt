@@ -1,46 +1,28 @@
-use Rattle.std.proofs.Common.{ℕ, List, inl, refl, subst, ◌∙◌}
-use Rattle.funnel_model.specs.Legal.{IsIdle}
-use Rattle.engine.specs.Puts.{OwnPutTurns}
-use Rattle.engine.proofs.PutSteps.{moved_put_step, moved_put_turns}
-use Rattle.engine.proofs.engine.Engine.put_by.Given.{Over}
+use Rattle.engine.specs.Passes.{MakesCall, view_of}
+use Rattle.engine.specs.Puts.{PutTurns}
+use Rattle.commit_desk.specs.Passes.{IsResting}
+use Rattle.slice_rule.specs.Pools.{PoolId}
+use Rattle.std.proofs.Common.{subst, sym}
+use Rattle.engine.specs.Replies.{reply_of_put}
+use Rattle.funnel_model.specs.declared.call.Call.TheVariants as call
 use Rattle.engine.proofs.engine.Engine.put_by.Goals as goal
 
--- the turns after the moves are those of this put
-own_turns : (g : Over) (c : goal.After-put_prepared g) →
-    OwnPutTurns g.N.PoolName.pool.config g.N.PoolName.pool.limits c.pass.inside.seat.number c.args.id c.args.text.now c.move_some.new.pass.front c.put_prepared.new.pass.front c.put_prepared.result
-own_turns g c =
-    let pool = g.N.PoolName.pool in
-    let doc = c.in-Ok.prepared.0 in
-    let start = c.move_some.new.pass in
-    let after = c.put_prepared.new.pass.front in
-    let answer = c.put_prepared.result in
-    subst (λ (n : ℕ). OwnPutTurns pool.config pool.limits n c.args.id c.args.text.now start.front after answer) c.move_some.ensures.number
-    (subst (λ (t : List ℕ). OwnPutTurns pool.config pool.limits start.number c.args.id t start.front after answer) c.in-Ok.ensures.text
-    (subst (λ (i : ℕ). OwnPutTurns pool.config pool.limits start.number i doc.text start.front after answer) c.in-Ok.ensures.id c.put_prepared.ensures.turns))
+pub put-requires-clause-rests : goal.put-requires-clause-rests
+put-requires-clause-rests g c = subst (λ (p : PoolId). IsResting p c.pass.inside.seat) (sym c.self.invariant) c.pass.invariant.rests
 
-pub returns-in-Ok-clause-turns : goal.returns-in-Ok-clause-turns
-returns-in-Ok-clause-turns g c =
-    let pool = g.N.PoolName.pool in
-    let seat = c.pass.inside.seat in
-    let after = c.put_prepared.new.pass.front in
-    let moved = c.move_some.ensures.moves in
+pub returns-clause-call : goal.returns-clause-call
+returns-clause-call g c =
     rw (← c.pass.view_is)
-    (moved_put_turns pool.limits seat.number c.args.id c.args.text.now pool.config seat.front c.move_some.new.pass.front after moved c.put_prepared.result (own_turns g c))
+    (subst (λ (p : PoolId). MakesCall p.limits (call.Put c.args.id c.args.text.now) (reply_of_put c.put.result) (view_of c.pass.inside.seat) (view_of c.put.new.pass)) c.self.invariant c.put.ensures.call)
 
-pub returns-in-Ok-clause-call : goal.returns-in-Ok-clause-call
-returns-in-Ok-clause-call g c =
-    let pool = g.N.PoolName.pool in
-    let seat = c.pass.inside.seat in
-    let start = c.move_some.new.pass in
-    let next = c.put_prepared.new.pass in
-    let moved = c.move_some.ensures.moves in
+pub returns-clause-turns : goal.returns-clause-turns
+returns-clause-turns g c =
     rw (← c.pass.view_is)
-    (record {
-      step = moved_put_step pool.limits seat.number c.args.id c.args.text.now pool.config seat.front start.front next.front moved c.put_prepared.result (own_turns g c)
-          c.pass.invariant.rests.idle (subst (λ (n : ℕ). IsIdle n start.front) c.move_some.ensures.number c.move_some.ensures.rests.idle) c.put_prepared.ensures.legal;
-      number = c.put_prepared.ensures.number ∙ c.move_some.ensures.number;
-    })
+    (subst (λ (p : PoolId). PutTurns p.config p.limits c.pass.inside.seat.number c.args.id c.args.text.now c.pass.inside.seat.front c.put.new.pass.front c.put.result) c.self.invariant c.put.ensures.turns)
 
--- no memory was found, and nothing was done
-pub returns-in-Err-clause-turns : goal.returns-in-Err-clause-turns
-returns-in-Err-clause-turns g c = inl refl
+pub invariant_of-pass : goal.invariant_of-pass
+invariant_of-pass g c = record {
+  rests = subst (λ (p : PoolId). IsResting p c.put.new.pass) c.self.invariant c.put.ensures.rests;
+  none = c.pass.invariant.none;
+  room = c.pass.invariant.room;
+}

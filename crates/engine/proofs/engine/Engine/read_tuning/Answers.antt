@@ -1,30 +1,18 @@
-use Rattle.std.proofs.Common.{◌≡◌, ◌∙◌, [], Result, Ok, MatchResult, ap, subst}
-use Rattle.funnel_model.specs.declared.config.Config.{Config}
-use Rattle.funnel_model.specs.Configuration.{IsInRange, IsTuning}
-use Rattle.funnel_model.specs.Legal.{Limits}
+use Rattle.std.proofs.Common.{◌≡◌, Ok, IfOk, MatchResult, subst}
+use Rattle.funnel_model.specs.Configuration.{IsTuning}
 use Rattle.funnel_model.specs.Sizes.{words_of_slice}
-use Rattle.funnel_stats.specs.declared.fault.ConfigFault.{ConfigFault}
 use Rattle.funnel_stats.specs.Reading.{IsFaultOfBytes}
-use Rattle.funnel_stats.proofs.TuningLemmas.{tuning-afresh}
+use Rattle.funnel_stats.specs.Tunings.{tuning}
 use Rattle.slice_rule.specs.Pools.{PoolId}
-use Rattle.engine.proofs.TuneCalls.{base_in_range, base_kept, if_ok-weaker, tunes_by_base}
 use Rattle.engine.proofs.engine.Engine.read_tuning.Goals as goal
 
 pub returns-clause-read : goal.returns-clause-read
 returns-clause-read g c =
-    let opening = g.N.PoolName.pool.config in
-    let is : c.self.inside.base ≡ record opening { words = [] } = c.self.invariant.based ∙ ap (λ (p : PoolId). record p.config { words = [] }) c.self.invariant.of_name in
-    subst (λ (answer : Result Config ConfigFault). MatchResult c.read_tuning.result (λ config. answer ≡ Ok config) (λ fault. IsFaultOfBytes fault answer))
-    (tuning-afresh opening c.self.inside.base c.args.text.now (base_kept opening c.self.inside.base is)) c.read_tuning.ensures.answer
+    let text = c.args.text.now in
+    subst (λ (p : PoolId). MatchResult c.read_tuning.result (λ config. tuning p.config text ≡ Ok config) (λ fault. IsFaultOfBytes fault (tuning p.config text))) c.self.invariant c.read_tuning.ensures.read
 
 pub returns-clause-tunes : goal.returns-clause-tunes
-returns-clause-tunes g c =
-    let opening = g.N.PoolName.pool.config in
-    let is : c.self.inside.base ≡ record opening { words = [] } = c.self.invariant.based ∙ ap (λ (p : PoolId). record p.config { words = [] }) c.self.invariant.of_name in
-    let range = subst (λ (p : PoolId). IsInRange p.config) c.self.invariant.of_name c.self.invariant.of_config.valid.in_range in
-    if_ok-weaker c.read_tuning.result (IsTuning c.self.inside.base) (IsTuning opening) (tunes_by_base opening c.self.inside.base is)
-    (c.read_tuning.ensures.tuning (base_in_range opening c.self.inside.base is range))
+returns-clause-tunes g c = subst (λ (p : PoolId). IfOk c.read_tuning.result (IsTuning p.config)) c.self.invariant c.read_tuning.ensures.tunes
 
 pub returns-clause-room : goal.returns-clause-room
-returns-clause-room g c =
-    subst (λ (p : PoolId). p.limits.slice_words ≡ words_of_slice p.config) c.self.invariant.of_name (ap (λ (l : Limits). l.slice_words) c.self.invariant.of_config.limits)
+returns-clause-room g c = subst (λ (p : PoolId). p.limits.slice_words ≡ words_of_slice p.config) c.self.invariant c.read_tuning.ensures.room

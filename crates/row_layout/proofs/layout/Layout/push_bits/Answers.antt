@@ -37,7 +37,7 @@ push_hashed_bits-requires-clause-class c =
 pub returns-in-Private-clause-bits : goal.returns-in-Private-clause-bits
 returns-in-Private-clause-bits c =
     let config = c.args.self.now.config in
-    let bit = bit_from c.args.first c.args.column in
+    let bit = bit_from c.args.places.now.first c.args.places.now.column in
     let private = word_rows-private config c.args.word.now c.in-Private.number c.in-Private.ensures.value in
     c.push_reserved.ensures.items
     ∙ ap (λ (b : Bit). c.args.bits.now.items ++ b ∷ []) (c.bit.ensures ∙ ap bit (c.private.ensures ∙ ap (private_row config) private.1))
@@ -47,7 +47,7 @@ pub returns-in-Shared-clause-bits : goal.returns-in-Shared-clause-bits
 returns-in-Shared-clause-bits c =
     let config = c.args.self.now.config in
     let word = c.args.word.now in
-    let bit = bit_from c.args.first c.args.column in
+    let bit = bit_from c.args.places.now.first c.args.places.now.column in
     let shared = word_rows-shared config word c.in-Shared.class c.in-Shared.ensures.value in
     c.push_hashed_bits.ensures.bits word c.new-hash.ensures
     ∙ ap (λ (rows : List Row). c.args.bits.now.items ++ map bit rows) (ap (hashed_rows config word) shared.1 ∙ sym (rows_of_word-shared config word shared.0))

@@ -1,24 +1,14 @@
 -- One more bit of the word.
-use Rattle.std.proofs.Common.{◌++◌, ◌∷◌, [], List, map, ap, sym, subst, ◌∙◌, append_assoc, inr, arith}
+use Rattle.std.proofs.Common.{◌++◌, ◌∷◌, [], List, map, ap, sym, ◌∙◌, append_assoc, arith}
 use Rattle.std.proofs.lemmas.List.{map-append}
 use Rattle.std.specs.List.{range_with_len}
 use Rattle.funnel_model.proofs.Ranges.{range_more}
 use Rattle.funnel_model.proofs.TreatmentLemmas.{row_count-is_small}
 use Rattle.funnel_model.specs.declared.bit_list.Bit.{Bit}
-use Rattle.funnel_model.specs.Configuration.{IsInRange}
 use Rattle.row_layout.specs.DocumentBits.{bit_from}
-use Rattle.row_layout.specs.Layouts.{LayoutId}
 use Rattle.row_layout.specs.Rows.{hashed_row}
 use Rattle.row_layout.specs.declared.row.Row.{Row}
-use Rattle.row_layout.proofs.BitLemmas.{rank-small}
 use Rattle.row_layout.proofs.layout.Layout.push_hashed_bits.Goals as goal
-
-pub bit-requires-clause-rank : goal.bit-requires-clause-rank
-bit-requires-clause-rank c =
-    rank-small c.args.self.now.config (subst (λ (l : LayoutId). IsInRange l.config) c.self.view_is c.self.invariant.in_range) c.hashed.result (inr c.hashed.ensures.laid)
-
-pub bit-requires-clause-fits : goal.bit-requires-clause-fits
-bit-requires-clause-fits c = c.requires.fits c.hashed.result (inr c.hashed.ensures.laid)
 
 pub push_reserved-requires : goal.push_reserved-requires
 push_reserved-requires c =
@@ -29,14 +19,14 @@ push_reserved-requires c =
 pub loop-j-preserved : goal.loop-j-preserved
 loop-j-preserved c =
     let before = c.args.bits.now.items in
-    let bit = bit_from c.args.first c.args.column in
+    let bit = bit_from c.args.places.now.first c.args.places.now.column in
     record {
       bits = λ word is.
           let row = hashed_row c.args.self.now.config word c.args.class in
           let so_far : List Row = map row (range_with_len 0 c.loop-j.j) in
           c.push_reserved.ensures.items
-          ∙ ap (λ (xs : List Bit). xs ++ c.bit.result ∷ []) (c.loop-j.invariant.bits word is)
-          ∙ ap (λ (x : Bit). (before ++ map bit so_far) ++ x ∷ []) (c.bit.ensures ∙ ap bit (c.hashed.ensures.value word is))
+          ∙ ap (λ (xs : List Bit). xs ++ c.hashed_bit.result ∷ []) (c.loop-j.invariant.bits word is)
+          ∙ ap (λ (x : Bit). (before ++ map bit so_far) ++ x ∷ []) (c.hashed_bit.ensures word is)
           ∙ append_assoc before (map bit so_far) (bit (row c.loop-j.j) ∷ [])
           ∙ ap (λ (xs : List Bit). before ++ xs) (sym (map-append bit so_far (row c.loop-j.j ∷ [])))
           ∙ ap (λ (rows : List Row). before ++ map bit rows) (sym (ap (map row) (range_more c.loop-j.j) ∙ map-append row (range_with_len 0 c.loop-j.j) (c.loop-j.j ∷ [])));

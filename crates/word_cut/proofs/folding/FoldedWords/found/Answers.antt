@@ -1,5 +1,5 @@
 -- The next word lies between the end before, or the start, and its own end.
-use Rattle.std.proofs.Common.{◌≤◌, ℕ, List, length, get_or, ap₂, sym, ◌∙◌, subst, rules}
+use Rattle.std.proofs.Common.{ℕ, List, length, get_or, ap₂, sym, ◌∙◌, subst}
 use Rattle.std.proofs.lemmas.List.{drop_all}
 use Rattle.std.specs.List.{slice_range}
 use Rattle.funnel_model.specs.WordSets.{pieces, EndAt}
@@ -8,13 +8,8 @@ use Rattle.word_cut.proofs.FoldLemmas.{pieces-next, EndAt-next}
 use Rattle.word_cut.proofs.Taking.{AreSplit, split_start, split_more, split_end}
 use Rattle.word_cut.proofs.folding.FoldedWords.found.Goals as goal
 
-pub slice_bounds-take_in-count : goal.slice_bounds-take_in-count
-slice_bounds-take_in-count c = (EndAt-next _ _ _ _ c.loop-end-test.true c.loop-end.invariant.within).0
-
-pub slice_bounds-take_in-end : goal.slice_bounds-take_in-end
-slice_bounds-take_in-end c =
-    let within : get_or c.as_slice-end-items.result.now c.loop-end.end-index 0 ≤ length c.as_slice-buffer.result.now =
-    start_within _ _ _ (EndAt-next _ _ _ _ c.loop-end-test.true c.loop-end.invariant.within).1 in search rules
+pub take_in-requires-clause-within : goal.take_in-requires-clause-within
+take_in-requires-clause-within c = start_within _ _ _ (EndAt-next _ _ _ _ c.loop-end-test.true c.loop-end.invariant.within).1
 
 pub loop-end-init : goal.loop-end-init
 loop-end-init c = record {

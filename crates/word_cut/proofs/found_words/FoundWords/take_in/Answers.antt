@@ -1,5 +1,5 @@
 -- A word that is passed over was there before.
-use Rattle.std.proofs.Common.{rules, ◌≡◌, ◌↔◌, ◌⊎◌, inl, ⊎_elim, ℕ, ◌<◌, List, map, length, get_or, ap, sym, subst, ◌∙◌, arith}
+use Rattle.std.proofs.Common.{rules, ◌≡◌, ◌↔◌, ◌⊎◌, inl, ⊎_elim, ℕ, ◌<◌, List, map, length, slice_range, get_or, ap, sym, subst, ◌∙◌, arith}
 use Rattle.std.proofs.lemmas.List.{get_or-map, length-map}
 use Rattle.std.specs.Cmp.Lexicographic.{bytes_decides}
 use Rattle.std.specs.List.{Contains}
@@ -17,16 +17,18 @@ at_index words i item word is less same = (
 
 pub returns-then-is : goal.returns-then-is
 returns-then-is c word =
-    let there : Contains c.args.self.now c.args.bytes.now =
-    subst (λ (ws : List (List ℕ)). Contains ws c.args.bytes.now) c.self.view_is
-    (at_index c.self.inside.words.items _ c.index.result.now c.args.bytes.now c.index.ensures (search rules)
-    ((bytes_decides c.index.result.now.bytes.now c.new-word.result.bytes.now).0 (sym c.is.ensures ∙ c.if-is.true) ∙ c.new-word.ensures)) in (
+    let piece : List ℕ = slice_range c.args.text.now c.args.start c.args.end in
+    let there : Contains c.args.self.now piece =
+    subst (λ (ws : List (List ℕ)). Contains ws piece) c.self.view_is
+    (at_index c.self.inside.words.items _ c.index.result.now piece c.index.ensures (search rules)
+    ((bytes_decides c.index.result.now.bytes.now c.at-word.result.bytes.now).0 (sym c.is.ensures ∙ c.if-is.true) ∙ c.at-word.ensures)) in (
       λ has. inl has,
       λ has. ⊎_elim (λ before. before) (λ same. subst (λ w. Contains c.args.self.now w) (sym same) there) has,
     )
 
 pub returns : goal.returns
 returns c word =
-    subst (λ (ws : List (List ℕ)). Contains (map (λ w. w.bytes.now) c.push.new.self.items) word ↔ (Contains ws word ⊎ (word ≡ c.args.bytes.now))) c.self.view_is
-    (subst (λ w. Contains (map (λ w. w.bytes.now) c.push.new.self.items) word ↔ (Contains (map (λ w. w.bytes.now) c.self.inside.words.items) word ⊎ (word ≡ w))) c.new-word.ensures
-    (bytes-push (λ w. w.bytes.now) c.self.inside.words.items c.push.new.self.items c.new-word.result word c.in_ok-push.ensures.items))
+    let piece : List ℕ = slice_range c.args.text.now c.args.start c.args.end in
+    subst (λ (ws : List (List ℕ)). Contains (map (λ w. w.bytes.now) c.push.new.self.items) word ↔ (Contains ws word ⊎ (word ≡ piece))) c.self.view_is
+    (subst (λ w. Contains (map (λ w. w.bytes.now) c.push.new.self.items) word ↔ (Contains (map (λ w. w.bytes.now) c.self.inside.words.items) word ⊎ (word ≡ w))) c.at-word.ensures
+    (bytes-push (λ w. w.bytes.now) c.self.inside.words.items c.push.new.self.items c.at-word.result word c.in_ok-push.ensures.items))

@@ -1,8 +1,0 @@
-use Rattle.commit_desk.proofs.CallEnds.{rests_put}
-use Rattle.engine.proofs.engine.Engine.put_last.Goals as goal
-
-pub returns-clause-rests : goal.returns-clause-rests
-returns-clause-rests g c =
-    let did = c.put.ensures in
-    rests_put g.N.PoolName.pool c.deref_mut.result.now.desk c.put.new.self c.args.pass.now c.put.new.seat c.requires.written.seated.same did.none_outstanding
-    c.args.doc.id c.args.doc.text c.args.claim c.args.bits.now.bits did.events

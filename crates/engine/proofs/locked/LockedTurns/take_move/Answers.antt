@@ -1,0 +1,11 @@
+use Rattle.std.proofs.Common.{◌∙◌}
+use Rattle.commit_desk.proofs.CallEnds.{writes_or_rests}
+use Rattle.engine.proofs.locked.LockedTurns.take_move.Goals as goal
+
+pub returns-clause-next : goal.returns-clause-next
+returns-clause-next g c =
+    let desk = c.deref_mut-named.result.now.desk in
+    let rests = c.requires.rests in
+    let took = c.take_move.ensures in
+    writes_or_rests c.args.pool.now desk c.take_move.new.self c.args.pass.now c.take_move.new.seat rests.seated.same took.none_outstanding rests.idle
+    (c.deref_mut-named.result.now.of_pool ∙ c.requires.at) desk.events_limit c.args.look c.take_move.result took.answer took.fresh took.events

@@ -1,0 +1,8 @@
+use Rattle.commit_desk.proofs.CallEnds.{rests_stats}
+use Rattle.engine.proofs.lone.LoneTurns.read_stats.Goals as goal
+
+pub returns-clause-rests : goal.returns-clause-rests
+returns-clause-rests c =
+    let rests = c.requires.rests in
+    let did = c.read_stats.ensures in
+    rests_stats c.args.pool.now c.args.self.now.desk c.read_stats.new.self c.args.pass.now c.read_stats.new.seat rests.seated.same did.none_outstanding rests.idle c.read_stats.result did.events
