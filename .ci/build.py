@@ -1,4 +1,5 @@
-"""Proves and builds the program, crates that don't stand on each other side by side: build.py. Says on standard error where it is.
+"""Proves and builds the program, or a library, crates that don't stand on each other side by side: build.py [CRATE]. Says on standard
+error where it is.
 
 `rt` lets one command at a time work in a crate and in those below it. So each crate is proved in a copy of what it stands on, and
 what was made goes back to its own folder."""
@@ -20,7 +21,7 @@ def libraries():
     """Each crate of the repository, with the crates of the repository that it stands on."""
     with open(f"{ROOT}/crates.txt", encoding="utf-8") as file:
         lines = [line.partition(":") for line in file if line.strip()]
-    named = {name.strip(): below.split() for name, _, below in lines}
+    named = {name.split()[0]: below.split() for name, _, below in lines}
     return {name: [it for it in below if it in named] for name, below in named.items()}
 
 
@@ -52,7 +53,7 @@ def set_apart(crate, below, folder):
     crates = needed(crate, below)
     shutil.copy2(f"{ROOT}/HANDLES", folder)
     with open(f"{ROOT}/crates.txt", encoding="utf-8") as file, open(f"{folder}/crates.txt", "w", encoding="utf-8") as copy:
-        copy.writelines(line for line in file if line.partition(":")[0].strip() in crates)
+        copy.writelines(line for line in file if line.strip() and line.partition(":")[0].split()[0] in crates)
     for it in crates:
         shutil.copytree(f"{ROOT}/crates/{it}", f"{folder}/crates/{it}", copy_function=link, ignore=shutil.ignore_patterns("out"))
         kept = "out" if it == crate else "out/rlib"
@@ -132,9 +133,10 @@ def main():
         say("there is no command rt on the path: it comes with the Rattle kit")
         return 1
     below = libraries()
-    say("proving and building the program, which takes 20 to 30 minutes on four processors the first time")
+    crate = sys.argv[1] if len(sys.argv) > 1 else PROGRAM
+    say(f"proving and building {'the program' if crate == PROGRAM else crate}, which takes 20 to 30 minutes on four processors the first time")
     say("it can be left alone, or broken off and begun again: what is proved stays so")
-    return 0 if build_all(below, needed(PROGRAM, below), lanes()) else 1
+    return 0 if build_all(below, needed(crate, below), lanes()) else 1
 
 
 if __name__ == "__main__":

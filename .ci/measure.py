@@ -66,7 +66,7 @@ def run_gate():
 
 def crates():
     with open(f"{ROOT}/crates.txt", encoding="utf-8") as file:
-        return [line.partition(":")[0].strip() for line in file if line.strip()]
+        return [line.partition(":")[0].split()[0] for line in file if line.strip()]
 
 
 def time_table(seconds, refused, elapsed):

@@ -122,8 +122,8 @@ some_columns config is =
     let product : 1 * 1 ≤ 64 * 2 ^ config.max_rank * config.blocks = mul-le 1 1 (64 * 2 ^ config.max_rank) config.blocks low is.blocks.0 in
     omega (arith, product)
 
--- the columns of all slices have numbers of 32 bits
-pub few_columns : (config : Config) → IsInRange config → config.slices * columns_of_slice config < 2 ^ 32
+-- the columns of all slices have numbers of 32 bits, and there are more of these
+pub few_columns : (config : Config) → IsInRange config → config.slices * columns_of_slice config + 1 < 2 ^ 32
 few_columns config is =
     let power = pow_below config.max_rank 7 (omega (arith, is.max_rank)) in
     let block : 64 * 2 ^ config.max_rank ≤ 64 * 128 = omega (arith, power) in

@@ -1,3 +1,4 @@
+pub mod AskedDocuments
 pub mod CallEnds
 pub mod CaughtUp
 pub mod Causes
@@ -13,16 +14,21 @@ pub mod EntriesKept
 pub mod ExactWords
 pub mod Found
 pub mod Given
+pub mod FreedDocuments
+pub mod GivenBack
 pub mod HandedBack
 pub mod HeldClaims
 pub mod HeldColumns
 pub mod Inside
 pub mod JobTurns
 pub mod Journals
+pub mod Keeping
+pub mod KeepingDesks
 pub mod KeptNew
 pub mod LaterStates
 pub mod LayoutEvents
 pub mod LayoutsKept
+pub mod LeftLooks
 pub mod ListedKept
 pub mod LiveCounts
 pub mod LiveLooks

@@ -1,6 +1,7 @@
 -- What a pass that takes room for a document may do, and what it knows of the layout of its slice afterwards.
 use Rattle.std.proofs.Common.{◌≡◌, ⊎_elim, ℕ, ◌<◌, false, List, [], ◌∷◌, length, sym, refl, ap, ◌∙◌, subst, append-nil, arith}
 use Rattle.std.proofs.lemmas.Bool.{both_ways}
+use Rattle.document_store.specs.Slots.{Table}
 use Rattle.funnel_model.specs.declared.claim.ClearJob.{ClearJob}
 use Rattle.funnel_model.specs.declared.event.Event.{Event}
 use Rattle.funnel_model.specs.declared.event.Event.TheVariants as event
@@ -25,7 +26,7 @@ use Rattle.commit_desk.proofs.LayoutEvents.{laid_after_clear, laid_after_take, l
 use Rattle.commit_desk.proofs.StageReadings.{full_by, left_has_room, may_take, none_has_room}
 use Rattle.commit_desk.proofs.Turns.{whole_is_front}
 
-module _ (now : DeskState) (i : Inside) (desk : IsDesk i.home.pool i.events_limit i.home.history (books_of i)) (view : desk_of i ≡ now) where
+module _ (now : DeskState) (i : Inside) (whole : Table) (desk : IsDesk i.home.pool i.events_limit i.home.history (books_of i whole)) (view : desk_of i ≡ now) where
   -- an idle pass may take the next column of the lowest slice with room
   pub may_from : (pass slice : ℕ) → IsIdle pass now.history → IsLowest (HasLeft i.stages.columns) i.stages slice →
       MayTake now.pool.limits now.history pass slice (length (claimed slice now.history))
@@ -34,14 +35,14 @@ module _ (now : DeskState) (i : Inside) (desk : IsDesk i.home.pool i.events_limi
       let lowest : IsLowest (HasLeft i.home.pool.limits.columns) i.stages slice = subst (λ n. IsLowest (HasLeft n) i.stages slice) kept.staged.columns_are is in
       let idle_then : IsIdle pass i.home.history = subst (λ (d : DeskState). IsIdle pass d.history) (sym view) idle in
       subst (λ (d : DeskState). MayTake d.pool.limits d.history pass slice (length (claimed slice d.history))) view
-      (may_take i.home.pool.limits i.home.history i.records kept.legal kept.recorded i.stages kept.staged.each kept.staged.count pass slice idle_then lowest)
+      (may_take i.home.pool.limits i.home.history whole kept.legal kept.recorded i.stages kept.staged.each kept.staged.count pass slice idle_then lowest)
 
   -- where none has a column left, no slice has room
   pub no_room_from : HoldsOfNone (HasLeft i.stages.columns) i.stages → (slice : ℕ) → slice < now.pool.limits.slices → HasRoom now.pool.limits.columns now.history slice → ⊥
   no_room_from none =
       let kept = desk.kept in
       subst (λ (d : DeskState). (slice : ℕ) → slice < d.pool.limits.slices → HasRoom d.pool.limits.columns d.history slice → ⊥) view
-      (none_has_room i.home.pool.limits i.home.history i.records kept.legal kept.recorded i.stages kept.staged.each kept.staged.count
+      (none_has_room i.home.pool.limits i.home.history whole kept.legal kept.recorded i.stages kept.staged.each kept.staged.count
       (subst (λ n. HoldsOfNone (HasLeft n) i.stages) kept.staged.columns_are none))
 
   -- the engine is full where no slice has room and none can be cleared
@@ -54,9 +55,9 @@ module _ (now : DeskState) (i : Inside) (desk : IsDesk i.home.pool i.events_limi
       let none_left : HoldsOfNone (HasLeft i.home.pool.limits.columns) i.stages =
       λ slice in' left.
       let below : slice < i.home.pool.limits.slices = (let count = kept.staged.count in omega (arith, count, in')) in
-      none_has slice below (left_has_room i.home.pool.limits i.home.history i.records kept.legal kept.recorded i.stages kept.staged.each slice below left) in
+      none_has slice below (left_has_room i.home.pool.limits i.home.history whole kept.legal kept.recorded i.stages kept.staged.each slice below left) in
       subst (λ (d : DeskState). IsFull d.pool.limits d.history) view
-      (full_by i.home.pool.limits i.home.history i.records kept.legal kept.recorded i.stages kept.staged.each kept.staged.count none_left
+      (full_by i.home.pool.limits i.home.history whole kept.legal kept.recorded i.stages kept.staged.each kept.staged.count none_left
       (subst (λ (d : DeskState). NoneCanClear d.pool.limits d.history) (sym view) none_can))
 
   -- its history is legal

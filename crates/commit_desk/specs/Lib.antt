@@ -6,6 +6,7 @@ pub mod Judging
 pub mod Kept
 pub mod Laws
 pub mod Layouts
+pub mod Leaving
 pub mod Moving
 pub mod Passes
 pub mod Records

@@ -9,11 +9,13 @@ ghost use Rattle.commit_desk.specs.Answers.{AnswersCommit, AnswersLastTake, Answ
 ghost use Rattle.commit_desk.specs.Answers.{call_asked, events_of_commit, events_of_opened_take, events_of_take};
 ghost use Rattle.commit_desk.specs.Desks.{HandsOver, IsCaughtUp, IsFresh, IsReused, IsUnwritten, Makes};
 ghost use Rattle.commit_desk.specs.Layouts.{IsCurrentLayout, IsLayoutOf};
+ghost use Rattle.commit_desk.specs.Leaving.{GivesBackOld, GivesBackReplaced};
 ghost use Rattle.commit_desk.specs.Passes.{HasWritten, HoldsCleared};
 
 use crate::answers::{AddFault, CommitFault, Put, Taken, ToClear};
 use crate::desk::Desk;
 use crate::entries::{Adds, Drops, Refuses};
+use crate::leaving::{Ended, let_go};
 use crate::shared_layout::SharedLayout;
 use document_store::{Doc, FreeSlots};
 use funnel_model::{Block, Blocked, Claim, ClearJob, Commit, Event, Memory};
@@ -119,7 +121,8 @@ impl Desk {
     }
 
     /// Adds the document to its column, all of whose bits the pass has set, in the place of the live document with its number where
-    /// there is one, whose column is over then. It takes no memory, and its document is never dropped.
+    /// there is one, whose column is over then. That document is given back, for its owner to drop where the desk is free, unless an open
+    /// find may ask for it. It takes no memory, and its document is never dropped.
     pub fn put(
         &mut self,
         pool: &Pool,
@@ -127,18 +130,24 @@ impl Desk {
         claim: Claim,
         doc: Doc,
         bits: &Bits,
-    ) -> Put
+    ) -> (Put, Option<Doc>)
         requires pool { pool.now ≡ self.old.pool }
         requires written { HasWritten self.old.pool claim doc.words bits.now.bits seat.old }
-        ensures answer { AnswersPut self.old.history doc.id result }
+        ensures answer { AnswersPut self.old.history doc.id result.0 }
+        ensures gone { GivesBackReplaced self.old.history doc.id result.0 result.1 }
         ensures events { Makes (event.Add seat.old.number doc.id doc.text claim.slice claim.column bits.now.bits ∷ []) self.old self.new seat.old seat.new }
         ensures none_outstanding { HasNoneOutstanding seat.new }
     {
         pool.catch_up(&mut self.home, seat);
         if self.place_of(doc.id()).is_some() {
-            return Put::Replaced(self.make_replace(pool, seat, claim, doc, bits));
+            let made = self.make_replace(pool, seat, claim, doc, bits);
+            let (place, gone) = made;
+            return (Put::Replaced(place), gone);
         }
-        Put::Added(self.make_add(pool, seat, claim, doc, bits))
+        (
+            Put::Added(self.make_add(pool, seat, claim, doc, bits)),
+            None,
+        )
     }
 
     // Whether a document with this number can be added, or why not.
@@ -373,7 +382,8 @@ impl Desk {
         place
     }
 
-    // Makes the add of the document in the place of the live one with its number, and gives its place.
+    // Makes the add of the document in the place of the live one with its number, and gives its place, and the old
+    // document unless an open find may ask for it.
     fn make_replace(
         &mut self,
         pool: &Pool,
@@ -381,13 +391,14 @@ impl Desk {
         claim: Claim,
         doc: Doc,
         bits: &Bits,
-    ) -> u64
+    ) -> (u64, Option<Doc>)
         requires pool { pool.now ≡ self.old.pool }
         requires caught_up { IsCaughtUp self.old seat.old }
         requires written { HasWritten self.old.pool claim doc.words bits.now.bits seat.old }
         requires of_words { All (λ b. b.bit < 64) bits.now.bits }
         requires present { is_live doc.id self.old.history ≡ true }
-        ensures place { result ≡ place self.old.history + 1 }
+        ensures place { result.0 ≡ place self.old.history + 1 }
+        ensures gone { GivesBackOld self.old.history doc.id result.1 }
         ensures made { Makes (event.Add seat.old.number doc.id doc.text claim.slice claim.column bits.now.bits ∷ []) self.old self.new seat.old seat.new }
         ensures none_outstanding { HasNoneOutstanding seat.new }
     {
@@ -407,13 +418,21 @@ impl Desk {
             unreachable!()
         };
         let Claim { slice, column } = claim;
-        self.records.delete(from, left, number);
+        let since = self.records.delete(from, left, number);
+        let ended = Ended {
+            slice: from,
+            column: left,
+            columns: self.columns,
+            since,
+            until: number,
+        };
+        let gone = let_go(&self.tokens, &mut self.leaving, &mut self.records, ended);
         self.records.live(slice, column, doc, place, number);
         self.live.add(id, slice, column);
         self.stages.end_column(from, number);
         self.journal.push(Commit { add: true, id }, documents);
         self.events = number;
-        place
+        (place, gone)
     }
 
     // Makes the drop of the document.

@@ -53,6 +53,15 @@ pub enum NotTaken {
     Memory(Doc),
 }
 
+/// What became of a move. The documents are for their owner to drop where the desk is free.
+#[derive(Debug, Drop)]
+pub enum EndedMove {
+    /// The document was moved. Where no open find may ask for it in its old column, this is the one that was there.
+    Moved(Option<Doc>),
+    /// The document is not any more where it was looked at: this is the copy.
+    Void(Doc),
+}
+
 /// Why no document was added.
 #[derive(Debug, Drop)]
 pub enum AddFault {

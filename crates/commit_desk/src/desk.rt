@@ -11,7 +11,7 @@ ghost use Rattle.commit_desk.specs.Answers.{in_the_way};
 use crate::journal::Journal;
 use crate::look::Looks;
 use crate::slice_layouts::SliceLayouts;
-use document_store::{Column, LiveList, Records};
+use document_store::{Column, Leaving, LiveList, Records};
 use funnel_model::{Commits, Config, Memory};
 use row_layout::Layout;
 use slice_rule::Home;
@@ -35,13 +35,15 @@ pub struct Desk {
     pub(crate) tokens: Tokens,
     pub(crate) stages: Stages,
     pub(crate) layouts: SliceLayouts,
+    // Which columns that are over have their documents still.
+    pub(crate) leaving: Leaving,
 }
 
 impl Model for Desk {
     ghost use Rattle.std.specs.Coded.{codes};
     ghost use Rattle.funnel_model.specs.contracts.expr.Expr as e;
     ghost use Rattle.commit_desk.specs.Desks.{DeskState};
-    ghost use Rattle.commit_desk.specs.Kept.{IsDesk};
+    ghost use Rattle.commit_desk.specs.Leaving.{IsKeepingDesk};
 
     ghost Value = { DeskState };
 
@@ -49,7 +51,7 @@ impl Model for Desk {
 
     ghost view = { λ d. record { pool = d.home.pool; events_limit = d.events_limit; history = d.home.history } };
 
-    ghost invariant = { λ d. IsDesk d.home.pool d.events_limit d.home.history (record {
+    ghost invariant = { λ d. IsKeepingDesk d.home.pool d.events_limit d.home.history (record {
       slices = d.slices;
       columns = d.columns;
       events = d.events;
@@ -59,7 +61,7 @@ impl Model for Desk {
       tokens = d.tokens;
       stages = d.stages;
       layouts = d.layouts;
-    }) };
+    }) d.leaving };
 }
 
 impl Desk {
@@ -98,6 +100,7 @@ impl Desk {
             tokens: Tokens::new(alloc, config.passes)?,
             stages: Stages::new(alloc, config.slices, columns)?,
             layouts: SliceLayouts::new(alloc, layout, config.slices)?,
+            leaving: Leaving::new(alloc, config.passes, config.slices * columns)?,
         };
         let looks = Looks::new(alloc, config.passes)?;
         Ok((desk, looks))

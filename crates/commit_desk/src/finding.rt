@@ -102,7 +102,7 @@ impl Desk {
         )
     }
 
-    /// Ends a find, whatever it has found.
+    /// Ends a find, whatever it has found. `free_some` is to be called then: there may be documents that only this find may ask for.
     pub fn end_find(&mut self, pool: &Pool, seat: &mut PassSeat, token: Token)
         requires pool { pool.now ≡ self.old.pool }
         requires seat { IsSeated self.old.pool seat.old }
@@ -150,7 +150,7 @@ impl Desk {
         }
     }
 
-    // Makes the event that ends a find.
+    // Makes the event that ends a find. The documents that were kept for it are to be freed then, or kept for another find.
     fn make_end(&mut self, pool: &Pool, seat: &mut PassSeat, token: Token)
         requires pool { pool.now ≡ self.old.pool }
         requires caught_up { IsCaughtUp self.old seat.old }
@@ -166,5 +166,6 @@ impl Desk {
         let pass = seat.number();
         self.events = pool.make_event(&mut self.home, seat, &Event::End { pass });
         self.tokens.end(pass);
+        self.leaving.end(pass);
     }
 }

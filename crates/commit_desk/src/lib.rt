@@ -16,8 +16,10 @@ mod desk;
 mod entries;
 mod find_layouts;
 mod finding;
+mod gone;
 mod journal;
 pub mod laws;
+mod leaving;
 mod look;
 mod making;
 mod moving;
@@ -29,12 +31,13 @@ mod slice_layouts;
 mod tuning;
 
 pub use answers::{
-    AddFault, ClearRefusal, CommitFault, DeleteFault, FindFault, JournalFault, NotTaken, Put,
-    Spent, Taken, TakenMove, TextRead, ToClear,
+    AddFault, ClearRefusal, CommitFault, DeleteFault, EndedMove, FindFault, JournalFault, NotTaken,
+    Put, Spent, Taken, TakenMove, TextRead, ToClear,
 };
 pub use desk::Desk;
 pub use find_layouts::{FindLayout, FindLayouts};
 pub use finding::Part;
+pub use gone::{Gone, MOST_FREED};
 pub use look::{Look, Looks, OpenLook};
 pub use named::Named;
 pub use shared_layout::SharedLayout;

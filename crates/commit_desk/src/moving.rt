@@ -6,18 +6,19 @@ ghost use Rattle.funnel_model.specs.declared.event.Event.TheVariants as event;
 ghost use Rattle.funnel_model.specs.Reserve.{HasReadyColumns, HasSpareColumns, HoldsColumns, IsSource};
 ghost use Rattle.funnel_model.specs.Slices.{IsInState, Live, claimed};
 ghost use Rattle.funnel_model.specs.Words.{AreWordsOf};
-ghost use Rattle.std.specs.Option.{is_none};
 ghost use Rattle.slice_rule.specs.Seats.{HasNoneOutstanding, HoldsClaim, IsSeated};
 ghost use Rattle.commit_desk.specs.Desks.{IsCaughtUp, IsFresh, Makes};
 ghost use Rattle.commit_desk.specs.Passes.{HasWritten};
+ghost use Rattle.commit_desk.specs.Leaving.{GivesBackOld, HandsBackMoved, is_moved};
 ghost use Rattle.commit_desk.specs.Moving.{AnswersLook, AnswersTakeMove, HoldsLook, MayTakeFor, MayTakeNone, HasLive, HasOneToMove, HasRoomToEmpty, IsLowestFree, LacksRoomToEmpty};
 ghost use Rattle.commit_desk.specs.Moving.{IsLowestLiveOrNone, IsPartlyHeld, IsFreeToMove, IsNextToMove, IsThereStill, IsToBeEmptied};
 ghost use Rattle.commit_desk.specs.Moving.{document_of, is_fewer, event_of_move, events_of_take_move, looks_after, looks_after_take, room_to_empty, with_look};
 
-use crate::answers::{NotTaken, TakenMove};
+use crate::answers::{EndedMove, NotTaken, TakenMove};
 use crate::clearing::move_mark;
 use crate::desk::Desk;
 use crate::entries::Moves;
+use crate::leaving::{Ended, let_go};
 use crate::look::{Look, Looks, OpenLook};
 use document_store::{Column, Doc};
 use funnel_model::{Claim, Event, Memory};
@@ -96,8 +97,8 @@ impl Desk {
     }
 
     /// Moves the document to the column that was claimed for it, all of whose bits the pass has set; or leaves the column void where
-    /// the document isn't any more where it was looked at, and hands the copy back, for its owner to drop where the desk is free. It takes
-    /// no memory.
+    /// the document isn't any more where it was looked at. The copy that isn't needed is handed back, and so is the document in the old
+    /// column unless an open find may ask for it. It takes no memory.
     pub fn end_move(
         &mut self,
         pool: &Pool,
@@ -106,24 +107,26 @@ impl Desk {
         claim: Claim,
         look: Look,
         bits: &Bits,
-    ) -> Option<Doc>
+    ) -> EndedMove
         requires pool { pool.now ≡ self.old.pool }
         requires look { HoldsLook seat.old look }
         requires written { HasWritten self.old.pool claim look.doc.words bits.now.bits seat.old }
-        ensures answer { IsTrue (is_none result) ↔ IsThereStill self.old.history look }
-        ensures doc { IfSome result (λ doc. doc ≡ look.doc) }
-        ensures events { Makes (event_of_move seat.old.number look claim bits.now.bits (is_none result) ∷ []) self.old self.new seat.old seat.new }
+        ensures answer { IsTrue (is_moved result) ↔ IsThereStill self.old.history look }
+        ensures doc { HandsBackMoved self.old.history look result }
+        ensures events { Makes (event_of_move seat.old.number look claim bits.now.bits (is_moved result) ∷ []) self.old self.new seat.old seat.new }
         ensures looks { looks.new ≡ with_look looks.old look.opened None }
         ensures none_outstanding { HasNoneOutstanding seat.new }
     {
         pool.catch_up(&mut self.home, seat);
         if self.is_there_still(&look) {
-            looks.close(self.make_move(pool, seat, claim, look, bits));
-            return None;
+            let made = self.make_move(pool, seat, claim, look, bits);
+            let (opened, gone) = made;
+            looks.close(opened);
+            return EndedMove::Moved(gone);
         }
         let doc = looks.end(look);
         self.make_void(pool, seat, claim);
-        Some(doc)
+        EndedMove::Void(doc)
     }
 
     // The slice out of which documents are to be moved before one with this number is added or put, where there is one.
@@ -349,7 +352,7 @@ impl Desk {
         }
     }
 
-    // Makes the move. The look is left to be ended.
+    // Makes the move. The look is left to be ended, and the document of the old column is given back unless an open find may ask for it.
     fn make_move(
         &mut self,
         pool: &Pool,
@@ -357,7 +360,7 @@ impl Desk {
         claim: Claim,
         look: Look,
         bits: &Bits,
-    ) -> OpenLook
+    ) -> (OpenLook, Option<Doc>)
         requires pool { pool.now ≡ self.old.pool }
         requires caught_up { IsCaughtUp self.old seat.old }
         requires written { HasWritten self.old.pool claim look.doc.words bits.now.bits seat.old }
@@ -366,7 +369,8 @@ impl Desk {
         requires there { IsThereStill self.old.history look }
         ensures made { Makes (event.Move seat.old.number look.doc.id claim.slice claim.column bits.now.bits ∷ []) self.old self.new seat.old seat.new }
         ensures none_outstanding { HasNoneOutstanding seat.new }
-        ensures opened { result ≡ look.opened }
+        ensures opened { result.0 ≡ look.opened }
+        ensures gone { GivesBackOld self.old.history look.doc.id result.1 }
     {
         let pass = seat.number();
         let id = look.doc.id();
@@ -386,13 +390,21 @@ impl Desk {
             doc,
             opened,
         } = look;
-        self.records.delete(from, left, number);
+        let since = self.records.delete(from, left, number);
+        let ended = Ended {
+            slice: from,
+            column: left,
+            columns: self.columns,
+            since,
+            until: number,
+        };
+        let gone = let_go(&self.tokens, &mut self.leaving, &mut self.records, ended);
         self.records.live(slice, column, doc, place, number);
         self.live.remove(id);
         self.live.add(id, slice, column);
         self.stages.end_column(from, number);
         self.events = number;
-        opened
+        (opened, gone)
     }
 
     // Leaves the column that was claimed without a document.

@@ -18,7 +18,10 @@ use slice_rule::{PassSeat, PoolName};
 
 impl<N: PoolName> Setting<N> {
     pub fn delete(&mut self, caller: &mut Caller<N>, id: u64) -> Result<u64, DeleteFault> {
-        self.desk.delete(&self.pool, &mut caller.seat, id)
+        let did = self.desk.delete(&self.pool, &mut caller.seat, id);
+        let (answer, old) = did;
+        drop(old);
+        answer
     }
 
     pub fn place(&mut self, caller: &mut Caller<N>) -> Result<u64, Spent> {
@@ -187,7 +190,9 @@ impl<N: PoolName> Setting<N> {
             bits,
             of,
         } = written;
-        let did = self.desk.put(&self.pool, &mut seat, claim, doc, &bits);
+        let put = self.desk.put(&self.pool, &mut seat, claim, doc, &bits);
+        let (did, old) = put;
+        drop(old);
         (Caller { seat, of }, did)
     }
 

@@ -16,6 +16,8 @@ mod filling;
 #[cfg(test)]
 mod finding;
 #[cfg(test)]
+mod leaving;
+#[cfg(test)]
 mod moving;
 #[cfg(test)]
 mod putting;

@@ -1,7 +1,7 @@
 //! Two passes that look at one document, to move it.
 use crate::caller::{Caller, Looked, Moving};
 use crate::setting::{Case, Setting, Two, run_two};
-use commit_desk::{NotTaken, TakenMove};
+use commit_desk::{EndedMove, NotTaken, TakenMove};
 use row_layout::Bits;
 use slice_rule::PoolName;
 use std::test::*;
@@ -112,10 +112,10 @@ impl<N: PoolName> Setting<N> {
             layout,
         } = taken;
         self.set_bits(&mut seat, &claim, &layout, look.doc.words(), &mut bits);
-        let left = self
+        let ended = self
             .desk
             .end_move(&self.pool, &mut seat, &mut self.looks, claim, look, &bits);
-        (Caller { seat, of }, left.is_none())
+        (Caller { seat, of }, is_moved(ended))
     }
 
     /// Two passes look at the next document. Then the first moves it, and after that the second would.
@@ -153,5 +153,12 @@ impl Case for LastDocument {
         let (mut first, filled) = setting.fill(first, (0, 1), 0);
         let emptied = setting.empty(&mut first, (1, 2), 64);
         Ok((filled, emptied, setting.look_both(first, second)))
+    }
+}
+
+fn is_moved(ended: EndedMove) -> bool {
+    match ended {
+        EndedMove::Moved(_) => true,
+        EndedMove::Void(_) => false,
     }
 }

@@ -10,7 +10,7 @@ use Rattle.document_store.specs.declared.column.Column.TheVariants as became
 use Rattle.document_store.specs.declared.slots.Slot.{Slot}
 use Rattle.document_store.proofs.HeldLemmas.{every_slot, free-all, held-back, held-long, held-new, held-none, held-set, held-there, none-out, slot_at-held, slot_at-there, slots_of-held, table-back, table-out, table-set, there-by}
 use Rattle.document_store.proofs.PassedLemmas.{passed-none}
-use Rattle.document_store.proofs.TableLemmas.{pending_has_none, slot_fits, table-end, table-with_slice, table-with_slot, table-without_slice}
+use Rattle.document_store.proofs.TableLemmas.{pending_has_none, slot_fits, table-end, table-same, table-with_slice, table-with_slot, table-without_slice}
 
 -- what the code read of a slice
 read : (held : List (Option (List Slot))) (slice : ℕ) (x o : Option (List Slot)) → x ≡ get_or held slice x → x ≡ o → slice < length held → get_or held slice None ≡ o
@@ -113,6 +113,15 @@ module _ (slices columns : ℕ) (held : List (Option (List Slot))) (first_over :
         held-set slices columns held kept.0 slice column slots slot slice_within has,
         subst (λ (t : Table). IsTable t first_over) (sym (table-set slices columns held kept.0 slice column slots slot slice_within column_within has))
             (table-with_slot before first_over slice column slot kept.1 here (subst (λ (t : Table). is_over (slot_at t slice column) ≡ false) (sym view) not_over) still fits),
+        kept.2,
+      )
+
+      -- or one that is over where that was
+      pub kept-same : (slot : Slot) → is_over slot ≡ is_over (slot_at now slice column) → HasDocRightly slot → AreKept slices columns (set held slice (Some (set slots column slot))) first_over free
+      kept-same slot same fits = (
+        held-set slices columns held kept.0 slice column slots slot slice_within has,
+        subst (λ (t : Table). IsTable t first_over) (sym (table-set slices columns held kept.0 slice column slots slot slice_within column_within has))
+            (table-same before first_over slice column slot kept.1 here (same ∙ ap (λ (t : Table). is_over (slot_at t slice column)) (sym view)) fits),
         kept.2,
       )
 

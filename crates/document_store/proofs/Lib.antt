@@ -6,6 +6,8 @@ pub mod WordSets
 pub mod EntryLemmas
 pub mod TreeLemmas
 pub mod ColumnLemmas
+pub mod LinkLemmas
+pub mod LeavingLemmas
 pub mod PassedLemmas
 pub mod RemovalLemmas
 pub mod TableLemmas

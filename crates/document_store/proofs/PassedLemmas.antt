@@ -1,5 +1,5 @@
 -- How far the first slots of a slice are over, once one of them is another.
-use Rattle.std.proofs.Common.{◌≡◌, ℕ, ◌<◌, ◌≤◌, true, false, List, length, get_or, set, replicate, refl, sym, ap, ◌∙◌, subst, ⊎_elim, arith}
+use Rattle.std.proofs.Common.{◌≡◌, ℕ, ◌<◌, ◌≤◌, true, false, List, length, get_or, set, replicate, sym, ap, ◌∙◌, ⊎_elim, arith}
 use Rattle.std.proofs.lemmas.Bool.{both_ways, cases_eq, cases_lt}
 use Rattle.std.proofs.lemmas.List.{get_or-replicate, get_or-set_other, get_or-set_same, length-replicate, length-set}
 use Rattle.document_store.specs.Slots.{ComesPastOver, free_slot, is_over}
@@ -49,3 +49,20 @@ module _ (slots : List Slot) (at : ℕ) (slot : Slot) (within : at < length slot
         (cases_lt place first);
     next = goes_on.next;
   }
+
+-- a slot that is another, and over where that was, changes nothing of that
+pub passed-same : (slots : List Slot) (at : ℕ) (slot : Slot) → at < length slots → is_over slot ≡ is_over (get_or slots at free_slot) → (first : ℕ) → ComesPastOver slots 0 first →
+    ComesPastOver (set slots at slot) 0 first
+passed-same slots at slot within same first is = record {
+  onward = is.onward;
+  within = let long = length-set slots at slot in let most = is.within in omega (arith, long, most);
+  over = λ place from below. still place ∙ is.over place from below;
+  next = λ more. still first ∙ is.next (omega (arith, more, length-set slots at slot));
+} where
+  still : (place : ℕ) → is_over (get_or (set slots at slot) place free_slot) ≡ is_over (get_or slots place free_slot)
+  still place =
+      ⊎_elim
+      (λ (here : place ≡ at).
+      ap (λ k. is_over (get_or (set slots at slot) k free_slot)) here ∙ ap is_over (get_or-set_same slots at slot free_slot within) ∙ same ∙ ap (λ k. is_over (get_or slots k free_slot)) (sym here))
+      (λ ne. ap is_over (get_or-set_other slots at place slot free_slot ne))
+      (cases_eq place at)

@@ -4,9 +4,9 @@ use Rattle.std.proofs.lemmas.Bool.{cases_eq}
 use Rattle.std.proofs.lemmas.List.{get_or-set_other, get_or-set_same, length-set}
 use Rattle.std.proofs.lemmas.List.Elements.{All-append, All-drop, All-get_or, All-replicate, All-set, All-take}
 use Rattle.std.specs.Prelude.{slice_index}
-use Rattle.document_store.proofs.PassedLemmas.{passed-end, passed-none, passed-set}
+use Rattle.document_store.proofs.PassedLemmas.{passed-end, passed-none, passed-same, passed-set}
 use Rattle.document_store.proofs.SlotLemmas.{column_within, length-slots_of, length-without_slice, slot_at-slots_of, slots_of-with_slot, slots_of-with_slot_other, slots_of-without_slice, slots_of-without_slice_other}
-use Rattle.document_store.specs.Slots.{ComesPastOver, FitsColumn, HasDocRightly, IsColumn, IsTable, Table, free_slot, is_over, slot_at, slots_of, with_slice, with_slot, without_slice}
+use Rattle.document_store.specs.Slots.{ComesPastOver, MayHold, HasDocRightly, IsColumn, IsTable, Table, free_slot, is_over, slot_at, slots_of, with_slice, with_slot, without_slice}
 use Rattle.document_store.specs.declared.column.Column.{Column}
 use Rattle.document_store.specs.declared.column.Column.TheVariants as became
 use Rattle.document_store.specs.declared.slots.Slot.{Slot}
@@ -18,7 +18,7 @@ slot_fits table first_over slice at is in' =
 
 -- a pending column has none
 pub pending_has_none : (slot : Slot) (pass : ℕ) → HasDocRightly slot → slot.column ≡ became.Pending pass → slot.doc ≡ None
-pending_has_none slot pass fits is = subst (λ (k : Column). FitsColumn k slot.doc) is fits
+pending_has_none slot pass fits is = subst (λ (k : Column). MayHold k slot.doc) is fits
 
 module _ (table : Table) (first_over : List ℕ) (slice at : ℕ) (slot : Slot) (is : IsTable table first_over) (in' : IsColumn table slice at) (not_over : is_over (slot_at table slice at) ≡ false) where
   abbrev next : Table
@@ -82,6 +82,28 @@ module _ (table : Table) (first_over : List ℕ) (slice at : ℕ) (slot : Slot) 
     every_slice = length-set first_over slice first ∙ is.every_slice;
     passed = passed_on first goes_on;
   }
+
+-- a column has another slot, which is over where that was
+pub table-same : (table : Table) (first_over : List ℕ) (slice at : ℕ) (slot : Slot) → IsTable table first_over → IsColumn table slice at → is_over slot ≡ is_over (slot_at table slice at) →
+    HasDocRightly slot → IsTable (with_slot table slice at slot) first_over
+table-same table first_over slice at slot is in' same fits = record {
+  every_column = length-set table.slots (slice * table.columns + at) slot ∙ is.every_column;
+  docs = All-set HasDocRightly table.slots (slice * table.columns + at) slot fits is.docs;
+  every_slice = is.every_slice;
+  passed = λ other here.
+      ⊎_elim
+      (λ (own : other ≡ slice).
+      let long = length-slots_of table slice in'.slice_in_range is.every_column in
+      let low = in'.column_in_range in
+      let past : ComesPastOver (slots_of (with_slot table slice at slot) slice) 0 (slice_index first_over slice) =
+      subst (λ slots. ComesPastOver slots 0 (slice_index first_over slice)) (sym (slots_of-with_slot table slice at slot in'.column_in_range))
+      (passed-same (slots_of table slice) at slot (omega (arith, long, low)) (same ∙ ap is_over (slot_at-slots_of table slice at in'.column_in_range)) (slice_index first_over slice)
+      (is.passed slice in'.slice_in_range)) in
+      subst (λ s. ComesPastOver (slots_of (with_slot table slice at slot) s) 0 (slice_index first_over s)) (sym own) past)
+      (λ ne.
+      subst (λ slots. ComesPastOver slots 0 (slice_index first_over other)) (sym (slots_of-with_slot_other table slice at other slot in'.column_in_range ne)) (is.passed other here))
+      (cases_eq other slice);
+}
 
 -- free slots are put back for a slice
 pub table-with_slice : (table : Table) (first_over : List ℕ) (slice : ℕ) → IsTable table first_over → IsTable (with_slice table slice) first_over

@@ -51,21 +51,21 @@ without_slice table slice = record table {
 abbrev pub with_slice : Table → ℕ → Table
 with_slice table slice = record table { out = slice_set table.out slice false }
 
--- the columns of which a document is kept: its document is live, or was deleted or moved away
-abbrev pub KeepsDoc : Column → Type 0
-KeepsDoc (column.Live place since) = ⊤
-KeepsDoc (column.Over place since until) = ⊤
-KeepsDoc _ = ⊥
-
--- a document is there exactly where the column keeps one
+-- a document is that of a column: a live one has it, one that is over had it, since it was deleted, replaced or moved away, and no other has one
 abbrev pub FitsColumn : Column → Option Parts → Type 0
 FitsColumn (column.Live place since) doc = (d : Parts) × (doc ≡ Some d)
 FitsColumn (column.Over place since until) doc = (d : Parts) × (doc ≡ Some d)
 FitsColumn _ doc = doc ≡ None
 
--- the column's document fits what became of it
+-- and this is there of it: a live one's document is, and that of one that is over may have gone
+abbrev pub MayHold : Column → Option Parts → Type 0
+MayHold (column.Live place since) doc = (d : Parts) × (doc ≡ Some d)
+MayHold (column.Over place since until) doc = ⊤
+MayHold _ doc = doc ≡ None
+
+-- what is kept of a column has its document, unless that has gone
 abbrev pub HasDocRightly : Slot → Type 0
-HasDocRightly slot = FitsColumn slot.column slot.doc
+HasDocRightly slot = MayHold slot.column slot.doc
 
 -- whether the column is over: its document was deleted or moved away, or it got none
 abbrev pub is_over_in : Column → Bool
@@ -75,6 +75,15 @@ is_over_in _ = false
 
 abbrev pub is_over : Slot → Bool
 is_over slot = is_over_in slot.column
+
+-- a document is live in the column
+abbrev pub IsLiveColumn : Column → Type 0
+IsLiveColumn (column.Live place since) = ⊤
+IsLiveColumn _ = ⊥
+
+-- what is kept of a column once its document has gone
+abbrev pub without_doc : Slot → Slot
+without_doc slot = record slot { doc = None }
 
 -- from one slot on up to another each is over, and that one isn't, unless it stands past the last
 pub record ComesPastOver (slots : List Slot) (from to : ℕ) : Type 0 where

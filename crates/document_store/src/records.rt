@@ -1,8 +1,8 @@
-ghost use Rattle.std.specs.Prelude.{◌≡◌, ◌↔◌, ℕ, ◌*◌, ◌<◌, length, replicate, false, true, IfOk, IsSome};
+ghost use Rattle.std.specs.Prelude.{◌≡◌, ℕ, ◌*◌, ◌<◌, length, replicate, false, true, IfOk, IsSome};
 ghost use Rattle.std.specs.declared.option.Option.TheVariants.{Some, None};
 ghost use Rattle.std.specs.Option.{option_map};
-ghost use Rattle.document_store.specs.Slots.{ComesPastOver, FitsColumn, HasDocRightly, IsColumn, KeepsDoc, free_slot, is_out, is_over, slot_at, slots_of};
-ghost use Rattle.document_store.specs.Slots.{with_slice, with_slot, without_slice};
+ghost use Rattle.document_store.specs.Slots.{ComesPastOver, MayHold, HasDocRightly, IsColumn, IsLiveColumn, free_slot, is_out, is_over, slot_at, slots_of};
+ghost use Rattle.document_store.specs.Slots.{with_slice, with_slot, without_doc, without_slice};
 ghost use Rattle.document_store.specs.declared.column.Column.TheVariants.{Dropped, Free, Live, Over, Pending};
 
 use crate::column::Column;
@@ -63,18 +63,18 @@ impl Records {
     pub fn state(&self, slice: u32, column: u32) -> Column
         requires { IsColumn self.now slice column }
         ensures state { result ≡ (slot_at self.now slice column).column }
-        ensures fits { FitsColumn (slot_at self.now slice column).column (slot_at self.now slice column).doc }
+        ensures fits { MayHold (slot_at self.now slice column).column (slot_at self.now slice column).doc }
         ensures every_column { length self.now.slots ≡ self.now.slices * self.now.columns }
     {
         self.slot(slice, column).column
     }
 
-    /// The column's document. A column that is live or over has one, and no other.
+    /// The column's document. A column that is live has one. One that is over has it until it is taken, and no other has one.
     pub fn doc(&self, slice: u32, column: u32) -> Option<&Doc>
         requires { IsColumn self.now slice column }
         ensures doc { option_map (λ d. d.now) result ≡ (slot_at self.now slice column).doc }
-        ensures kept { IsSome result ↔ KeepsDoc (slot_at self.now slice column).column }
-        ensures fits { FitsColumn (slot_at self.now slice column).column (slot_at self.now slice column).doc }
+        ensures kept { IsLiveColumn (slot_at self.now slice column).column → IsSome result }
+        ensures fits { MayHold (slot_at self.now slice column).column (slot_at self.now slice column).doc }
         ensures every_column { length self.now.slots ≡ self.now.slices * self.now.columns }
     {
         self.slot(slice, column).doc.as_ref()
@@ -84,7 +84,7 @@ impl Records {
     pub(crate) fn slot(&self, slice: u32, column: u32) -> &Slot
         requires { IsColumn self.now slice column }
         ensures slot { result.now ≡ slot_at self.now slice column }
-        ensures fits { FitsColumn (slot_at self.now slice column).column (slot_at self.now slice column).doc }
+        ensures fits { MayHold (slot_at self.now slice column).column (slot_at self.now slice column).doc }
         ensures every_column { length self.now.slots ≡ self.now.slices * self.now.columns }
     {
         match &self.held[slice as usize] {
@@ -138,12 +138,14 @@ impl Records {
         self.end(slice, column, Column::Dropped);
     }
 
-    /// The event with this number takes the document off a live column, which keeps it: finds that began before still see it.
-    pub fn delete(&mut self, slice: u32, column: u32, until: u64)
+    /// The event with this number takes the document off a live column, which keeps it until it is taken: finds that began before may still
+    /// see it. The number of the event that had put it there.
+    pub fn delete(&mut self, slice: u32, column: u32, until: u64) -> u64
         requires in_range { IsColumn self.old slice column }
         requires live { (place since : ℕ) × ((slot_at self.old slice column).column ≡ Live place since) }
-        ensures { (place since : ℕ) → (slot_at self.old slice column).column ≡ Live place since →
+        ensures table { (place since : ℕ) → (slot_at self.old slice column).column ≡ Live place since →
             self.new ≡ with_slot self.old slice column (record { column = Over place since until; doc = (slot_at self.old slice column).doc }) }
+        ensures since { (place since : ℕ) → (slot_at self.old slice column).column ≡ Live place since → result ≡ since }
     {
         let Column::Live { place, since } = self.state(slice, column) else {
             unreachable!()
@@ -157,6 +159,20 @@ impl Records {
                 until,
             },
         );
+        since
+    }
+
+    /// Takes the document of a column that is over, where it has it still. The column keeps its numbers.
+    pub fn take_doc(&mut self, slice: u32, column: u32) -> Option<Doc>
+        requires in_range { IsColumn self.old slice column }
+        requires over { is_over (slot_at self.old slice column) ≡ true }
+        ensures doc { result ≡ (slot_at self.old slice column).doc }
+        ensures table { self.new ≡ with_slot self.old slice column (without_doc (slot_at self.old slice column)) }
+    {
+        let Some(slots) = &mut self.held[slice as usize] else {
+            unreachable!()
+        };
+        slots.take_doc(column)
     }
 
     // Makes this what is kept of a column that is not over, before and after. Where it is free, its slice's slots are there.
@@ -180,7 +196,7 @@ impl Records {
         requires in_range { IsColumn self.old slice column }
         requires there { (slot_at self.old slice column).column ≡ Free → is_out self.old slice ≡ false }
         requires not_over { is_over (slot_at self.old slice column) ≡ false }
-        requires fits { FitsColumn became (slot_at self.old slice column).doc }
+        requires fits { MayHold became (slot_at self.old slice column).doc }
         ensures { self.new ≡ with_slot self.old slice column (record { column = became; doc = (slot_at self.old slice column).doc }) }
     {
         let Some(slots) = &mut self.held[slice as usize] else {

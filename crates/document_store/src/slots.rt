@@ -1,6 +1,6 @@
 //! The slots of a slice: in the records, and outside of them while the slice is cleared.
 ghost use Rattle.std.specs.Prelude.{◌≡◌, ◌<◌, ◌≤◌, length, replicate, slice_index_or, slice_set, IfOk};
-ghost use Rattle.document_store.specs.Slots.{ComesPastOver, free_slot, is_over};
+ghost use Rattle.document_store.specs.Slots.{ComesPastOver, free_slot, is_over, without_doc};
 
 use crate::column::Column;
 use crate::doc::Doc;
@@ -83,6 +83,15 @@ impl Slots {
         ensures { self.new ≡ slice_set self.old column (record { column = became; doc = (slice_index_or self.old column free_slot).doc }) }
     {
         self.slots[column as usize].column = became;
+    }
+
+    /// Takes the column's document, where there is one.
+    pub fn take_doc(&mut self, column: u32) -> Option<Doc>
+        requires { column < length self.old }
+        ensures doc { result ≡ (slice_index_or self.old column free_slot).doc }
+        ensures slots { self.new ≡ slice_set self.old column (without_doc (slice_index_or self.old column free_slot)) }
+    {
+        self.slots[column as usize].doc.take()
     }
 
     /// Comes from this slot on past those that are over. There are so many slots.

@@ -9,6 +9,7 @@ use Rattle.slice_rule.specs.Pools.{PoolId}
 use Rattle.slice_rule.specs.Seats.{PassState}
 use Rattle.commit_desk.specs.declared.find_layouts.FindLayouts.{FindLayouts}
 use Rattle.commit_desk.specs.Passes.{IsResting}
+use Rattle.document_store.specs.Documents.{Parts}
 
 -- a pass by its number, and the part of the history that it has seen
 pub record PassView : Type 0 where
@@ -28,6 +29,11 @@ pub record IsBetweenCalls (pool : PoolId) (seat : PassState) (layouts : FindLayo
   pub rests : IsResting pool seat
   pub none : layouts.entries.items ≡ []
   pub room : HasRoomForEach pool layouts
+
+-- and a pass of an engine that threads share keeps no document either that may go: its calls dropped those that they were handed
+pub record IsPassBetweenCalls (pool : PoolId) (seat : PassState) (layouts : FindLayouts) (gone : List Parts) : Type 0 where
+  pub between : IsBetweenCalls pool seat layouts
+  pub dropped : gone ≡ []
 
 -- a pass of a new engine, which has seen nothing
 abbrev pub new_pass : ℕ → PassView

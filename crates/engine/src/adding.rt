@@ -37,6 +37,8 @@ impl<N: PoolName> Engine<N> {
     /// of these turns, once; and once more each time that it waits for a slice. The documents of a slice that it clears are dropped while the lock is free. Its bits are set by the
     /// treatment of its slice.
     ///
+    /// Where documents wait to be freed, for which open finds could ask, it waits for the lock once more at its end, and frees some of them.
+    ///
     /// Where the engine is full but another pass is clearing a slice, it waits, without the lock, until that slice is open, and looks
     /// again: as often as there are passes, before it is refused as full.
     pub fn add<R: Wait>(
@@ -68,8 +70,11 @@ impl<N: PoolName> Engine<N> {
         ensures turns { AddTurns N.pool.config N.pool.limits pass.old.number id text.now pass.old.front pass.new.front result }
     {
         let mut turns = self.locked(rt);
-        self.pool
-            .add(&mut turns, alloc, &mut pass.seat, id, text, work)
+        let answer = self
+            .pool
+            .add(&mut turns, alloc, &mut pass.seat, id, text, work);
+        turns.free_some(&mut pass.gone);
+        answer
     }
 }
 

@@ -23,6 +23,7 @@ use slice_recycler::Recycled;
 use slice_rule::PoolName;
 use std::alloc::Global;
 use std::marker::{Model, PhantomData};
+use std::sync::atomic::AtomicBool;
 use std::sync::{Condvar, Mutex, Wait};
 
 /// An index that threads share: the one over the pool that `N` names. Contracts see this pool, by its sizes and its configuration.
@@ -32,6 +33,8 @@ pub struct Engine<N: PoolName> {
     pub(crate) desk: Mutex<Named<N>>,
     /// Told of each slice that was cleared and is open again. An add waits for it with the desk's lock given up.
     pub(crate) opened: Condvar,
+    /// Whether documents may wait to be freed.
+    pub(crate) to_free: AtomicBool,
 }
 
 impl<N: PoolName> Model for Engine<N> {
@@ -67,18 +70,22 @@ impl<N: PoolName> Engine<N> {
             pool,
             desk: Mutex::new(Named { desk, looks, of }),
             opened: Condvar::new(),
+            to_free: AtomicBool::new(false),
         };
         Ok((engine, passes))
     }
 
     /// Deletes the live document with this number, and gives the place of the delete. It waits for the lock once, and takes
-    /// no memory.
+    /// no memory. Unless an open find may ask for the document, it is dropped when the lock is free again. Where documents wait to be freed,
+    /// for which open finds could ask, it waits for the lock once more, and frees some of them.
     pub fn delete<R: Wait>(&self, rt: &R, pass: &mut Pass<N>, id: u64) -> Result<u64, DeleteFault>
         ensures call { MakesCall N.pool.limits (call.Delete id) (reply_of_delete result) pass.old pass.new }
         ensures turn { DeleteTurn N.pool.limits id result pass.old pass.new }
     {
         let mut turns = self.locked(rt);
-        self.pool.delete(&mut turns, &mut pass.seat, id)
+        let answer = self.pool.delete(&mut turns, &mut pass.seat, id);
+        turns.free_some(&mut pass.gone);
+        answer
     }
 
     /// The number of commits so far. It is refused where the engine is spent alone. It waits for the lock once, and takes no
@@ -164,6 +171,7 @@ impl<N: PoolName> Engine<N> {
             pool,
             desk,
             opened: _,
+            to_free: _,
         } = self;
         let pool = pool.into_shared();
         let Named {
@@ -187,6 +195,7 @@ impl<N: PoolName> Engine<N> {
         Locked {
             desk: &self.desk,
             opened: &self.opened,
+            to_free: &self.to_free,
             rt,
         }
     }

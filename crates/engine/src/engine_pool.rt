@@ -107,7 +107,10 @@ impl EnginePool {
         ensures rests { IsResting self.now pass.new }
         ensures at { T.made_at turns.new ≡ self.now }
     {
-        turns.delete(self, pass, id)
+        let did = turns.delete(self, pass, id);
+        let (answer, old) = did;
+        drop(old);
+        answer
     }
 
     pub(crate) fn place<T: Turns>(&self, turns: &mut T, pass: &mut PassSeat) -> Result<u64, Spent>

@@ -34,7 +34,8 @@ impl<N: PoolName> Engine<N> {
     /// The numbers of the documents that are live when the find begins and have every word of the query, in the order of their
     /// adds. It waits for the lock to begin, unless it has no memory for its words, and then, where it did begin, for each turn. One ends
     /// after 4,096 look-ups, or with the document at which it has looked for 256 words; and where slices have several treatments,
-    /// with the last candidate in those of one.
+    /// with the last candidate in those of one. Where documents wait to be freed, for which it or other finds could ask, it waits once more,
+    /// and frees some of them.
     pub fn find<R: Wait>(
         &self,
         rt: &R,
@@ -61,14 +62,16 @@ impl<N: PoolName> Engine<N> {
         ensures turns { FindTurns N.pool.limits pass.old.number query.now pass.old.front pass.new.front result }
     {
         let mut turns = self.locked(rt);
-        self.pool.find(
+        let answer = self.pool.find(
             &mut turns,
             alloc,
             &mut pass.seat,
             &mut pass.layouts,
             query,
             work,
-        )
+        );
+        turns.free_some(&mut pass.gone);
+        answer
     }
 
     /// Begins a find, which `finish_find` answers by what is live now, whatever others do meanwhile. It waits for the lock once,
@@ -88,6 +91,7 @@ impl<N: PoolName> Engine<N> {
         let Pass {
             mut seat,
             mut layouts,
+            gone,
             of,
         } = pass;
         let mut turns = self.locked(rt);
@@ -98,15 +102,25 @@ impl<N: PoolName> Engine<N> {
             Ok(begun) => Ok(OpenFind {
                 seat,
                 layouts,
+                gone,
                 begun,
                 of,
             }),
-            Err(fault) => Err((Pass { seat, layouts, of }, fault)),
+            Err(fault) => Err((
+                Pass {
+                    seat,
+                    layouts,
+                    gone,
+                    of,
+                },
+                fault,
+            )),
         }
     }
 
     /// Ends a find, and hands its pass back. Where there is no memory for the rows of its words, its candidates or its answer, the find
-    /// is ended all the same. It waits for the lock for each turn that looks at its candidates, and for one at least.
+    /// is ended all the same. It waits for the lock for each turn that looks at its candidates, and for one at least; and frees documents as a
+    /// find does.
     pub fn finish_find<R: Wait>(&self, rt: &R, find: OpenFind<N>) -> (Pass<N>, Result<Ids, Memory>)
         ensures found { IfOk result.1 (λ ids. (earlier : List Event) (query : List ℕ) → IsBegunAt find earlier query → ids ≡ answer earlier query) }
         ensures ended { FindEnds find.number find.front result.0.front }
@@ -115,6 +129,7 @@ impl<N: PoolName> Engine<N> {
         let OpenFind {
             mut seat,
             mut layouts,
+            mut gone,
             begun,
             of,
         } = find;
@@ -122,7 +137,14 @@ impl<N: PoolName> Engine<N> {
         let answer = self
             .pool
             .finish(&mut turns, &mut seat, begun, &mut layouts, &mut Direct);
-        (Pass { seat, layouts, of }, answer)
+        turns.free_some(&mut gone);
+        let pass = Pass {
+            seat,
+            layouts,
+            gone,
+            of,
+        };
+        (pass, answer)
     }
 }
 

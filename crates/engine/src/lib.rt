@@ -106,6 +106,9 @@
 //!   `oldest`, `begin_find`, `finish_find`, `journal`, `read_tuning` and `retune` take memory, and answer so where there is none; the others take none.
 //! - A deleted document keeps its column until all columns of its slice are done with, and the slice is cleared. So one live
 //!   document keeps its whole slice, unless the configuration has a `reserve`, for which adds move documents.
+//! - The text and the words of a deleted, replaced or moved document are dropped by the call, when the lock is free again, unless an open
+//!   find may ask for them: one that began after the document came and before it left. Then they wait for such finds to end, and calls after
+//!   that drop up to 64 of them each, in one more turn of the lock.
 //! - `AddFault::Full` tells what keeps documents out of each slice. It may pass without a delete: where another pass writes a column or
 //!   has a find open, an add that is made again later may find room. Where one clears a slice, an add waits for it before it is refused,
 //!   as often as there are passes.

@@ -1,19 +1,20 @@
 //! Turns at a desk that threads share.
-ghost use Rattle.std.specs.Prelude.{◌<◌, IfSome};
+ghost use Rattle.std.specs.Prelude.{◌≡◌, ◌<◌, [], IfSome};
 ghost use Rattle.std.specs.Sync.Mutex.{mutex_guard_value};
 ghost use Rattle.engine.specs.Adds.{IsOpenAgain};
 
 use crate::engine_pool::EnginePool;
 use crate::turns::{Turns, resolve_or_end};
 use commit_desk::{
-    CommitFault, DeleteFault, FindFault, FindLayouts, JournalFault, Look, Named, NotTaken, Part,
-    Put, Spent, Taken, TakenMove, TextRead,
+    CommitFault, DeleteFault, Desk, EndedMove, FindFault, FindLayouts, Gone, JournalFault, Look,
+    Named, NotTaken, Part, Put, Spent, Taken, TakenMove, TextRead,
 };
 use document_store::{Doc, Found, FreeSlots, Judge};
 use funnel_model::{Block, Claim, ClearJob, Commits, Memory, Stats, Token};
 use row_layout::Bits;
 use slice_rule::{PassSeat, PoolName};
 use std::alloc::Global;
+use std::sync::atomic::{AtomicBool, Ordering};
 use std::sync::{Condvar, Mutex, MutexGuard, Wait};
 
 /// Turns that take the lock of an engine, each for one call of its desk. A look for room may wait before, with the lock given up.
@@ -22,6 +23,8 @@ pub(crate) struct Locked<'a, N: PoolName, R: Wait> {
     pub desk: &'a Mutex<Named<N>>,
     /// Told of each slice that was cleared and is open again.
     pub opened: &'a Condvar,
+    /// Whether documents may wait to be freed, which the desk knows: so no call takes the lock for them where none does.
+    pub to_free: &'a AtomicBool,
     pub rt: &'a R,
 }
 
@@ -42,6 +45,36 @@ impl<'a, N: PoolName, R: Wait> Locked<'a, N, R> {
             named = self.opened.wait(self.rt, named);
         }
         unreachable!()
+    }
+
+    // Tells calls after this turn that documents wait to be freed, where they do.
+    fn tell_to_free(&self, desk: &Desk) {
+        if desk.has_to_free() {
+            self.to_free.store(true, Ordering::SeqCst);
+        }
+    }
+
+    /// Drops some of the documents that wait to be freed, where there are such: a turn hands them over, and they go when the lock is free again.
+    /// It makes no event.
+    pub fn free_some(&self, gone: &mut Gone)
+        requires { gone.old ≡ [] }
+        ensures { gone.new ≡ [] }
+    {
+        if self.to_free.load(Ordering::SeqCst) {
+            self.take_some(gone);
+            gone.drop_all();
+        }
+    }
+
+    // The turn in which documents are handed over that may go.
+    fn take_some(&self, gone: &mut Gone)
+        requires { gone.old ≡ [] }
+    {
+        let mut named = self.desk.lock(self.rt);
+        named.desk.free_some(gone);
+        if !named.desk.has_to_free() {
+            self.to_free.store(false, Ordering::SeqCst);
+        }
     }
 }
 
@@ -99,7 +132,7 @@ impl<'a, N: PoolName, R: Wait> Turns for Locked<'a, N, R> {
         claim: Claim,
         doc: Doc,
         bits: &Bits,
-    ) -> Put {
+    ) -> (Put, Option<Doc>) {
         self.desk
             .lock(self.rt)
             .desk
@@ -151,7 +184,7 @@ impl<'a, N: PoolName, R: Wait> Turns for Locked<'a, N, R> {
         claim: Claim,
         look: Look,
         bits: &Bits,
-    ) -> Option<Doc> {
+    ) -> EndedMove {
         let mut named = self.desk.lock(self.rt);
         let named = &mut *named;
         named
@@ -182,14 +215,15 @@ impl<'a, N: PoolName, R: Wait> Turns for Locked<'a, N, R> {
         out: &mut Found,
     ) -> Option<(Token, usize)> {
         let mut named = self.desk.lock(self.rt);
-        resolve_or_end(&mut named.desk, pool, pass, token, part, last, out)
+        let next = resolve_or_end(&mut named.desk, pool, pass, token, part, last, out);
+        self.tell_to_free(&named.desk);
+        next
     }
 
     fn drop_find(&mut self, pool: &EnginePool, pass: &mut PassSeat, token: Token) {
-        self.desk
-            .lock(self.rt)
-            .desk
-            .end_find(&pool.pool, pass, token)
+        let mut named = self.desk.lock(self.rt);
+        named.desk.end_find(&pool.pool, pass, token);
+        self.tell_to_free(&named.desk);
     }
 
     fn delete(
@@ -197,7 +231,7 @@ impl<'a, N: PoolName, R: Wait> Turns for Locked<'a, N, R> {
         pool: &EnginePool,
         pass: &mut PassSeat,
         id: u64,
-    ) -> Result<u64, DeleteFault> {
+    ) -> (Result<u64, DeleteFault>, Option<Doc>) {
         self.desk.lock(self.rt).desk.delete(&pool.pool, pass, id)
     }
 

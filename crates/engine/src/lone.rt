@@ -4,8 +4,8 @@ ghost use Rattle.std.specs.Prelude.{◌≡◌, ◌^◌, length};
 use crate::engine_pool::EnginePool;
 use crate::turns::{Turns, resolve_or_end};
 use commit_desk::{
-    CommitFault, DeleteFault, Desk, FindFault, FindLayouts, JournalFault, Look, Looks, NotTaken,
-    Part, Put, Spent, Taken, TakenMove, TextRead,
+    CommitFault, DeleteFault, Desk, EndedMove, FindFault, FindLayouts, JournalFault, Look, Looks,
+    NotTaken, Part, Put, Spent, Taken, TakenMove, TextRead,
 };
 use document_store::{Doc, Found, FreeSlots, Judge};
 use funnel_model::{Block, Claim, ClearJob, Commits, Memory, Stats, Token};
@@ -13,7 +13,8 @@ use row_layout::Bits;
 use slice_rule::PassSeat;
 use std::alloc::Global;
 
-/// The desk of a pool with one pass, and the look that this has open: whoever owns them makes the turns of the pass, and waits for nobody.
+/// The desk of a pool with one pass, and the look that this has open: whoever owns them makes the turns of the pass, and waits for nobody. No
+/// find is open while another call is made, so no document waits to be freed: each comes back from the turn that ends its column.
 #[derive(Drop)]
 pub(crate) struct Lone {
     pub desk: Desk,
@@ -71,7 +72,7 @@ impl Turns for Lone {
         claim: Claim,
         doc: Doc,
         bits: &Bits,
-    ) -> Put {
+    ) -> (Put, Option<Doc>) {
         self.desk.put(&pool.pool, pass, claim, doc, bits)
     }
 
@@ -114,7 +115,7 @@ impl Turns for Lone {
         claim: Claim,
         look: Look,
         bits: &Bits,
-    ) -> Option<Doc> {
+    ) -> EndedMove {
         self.desk
             .end_move(&pool.pool, pass, &mut self.looks, claim, look, bits)
     }
@@ -150,7 +151,7 @@ impl Turns for Lone {
         pool: &EnginePool,
         pass: &mut PassSeat,
         id: u64,
-    ) -> Result<u64, DeleteFault> {
+    ) -> (Result<u64, DeleteFault>, Option<Doc>) {
         self.desk.delete(&pool.pool, pass, id)
     }
 

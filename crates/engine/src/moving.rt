@@ -42,7 +42,8 @@ impl EnginePool {
         }
     }
 
-    // Moves the next document, and tells whether there was one that is to be moved, and a column for it.
+    // Moves the next document, and tells whether there was one that is to be moved, and a column for it. The document of the old column, or the
+    // copy of one that wasn't moved, is dropped when the turn is over.
     fn move_one<T: Turns, W: Work>(
         &self,
         turns: &mut T,

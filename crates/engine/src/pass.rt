@@ -4,7 +4,7 @@ ghost use Rattle.commit_desk.specs.Passes.{IsResting};
 ghost use Rattle.engine.specs.Engines.{EndsIn};
 ghost use Rattle.engine.specs.Passes.{view_of};
 
-use commit_desk::FindLayouts;
+use commit_desk::{FindLayouts, Gone};
 use funnel_model::Memory;
 use slice_rule::{Home, Note as SeatNote, PassSeat, Pool, PoolName};
 use std::alloc::Global;
@@ -18,13 +18,15 @@ pub struct Pass<N: PoolName> {
     /// Where its finds keep the layouts of their slices, with room for an entry for each. Between finds it is kept for its memory, and
     /// has none.
     pub(crate) layouts: FindLayouts,
+    /// Where its calls are handed documents that may go, which they drop. Between calls it is kept for its memory, and has none.
+    pub(crate) gone: Gone,
     pub(crate) of: PhantomData<N>,
 }
 
 impl<N: PoolName> Model for Pass<N> {
     ghost use Rattle.std.specs.Coded.{codes};
     ghost use Rattle.funnel_model.specs.contracts.expr.Expr as e;
-    ghost use Rattle.engine.specs.Passes.{IsBetweenCalls, PassView, view_of};
+    ghost use Rattle.engine.specs.Passes.{IsPassBetweenCalls, PassView, view_of};
 
     ghost Value = { PassView };
 
@@ -32,7 +34,7 @@ impl<N: PoolName> Model for Pass<N> {
 
     ghost view = { λ p. view_of p.seat };
 
-    ghost invariant = { λ p. IsBetweenCalls N.pool p.seat p.layouts };
+    ghost invariant = { λ p. IsPassBetweenCalls N.pool p.seat p.layouts p.gone };
 }
 
 impl<N: PoolName> Pass<N> {
@@ -85,8 +87,14 @@ pub(crate) fn name_passes<N: PoolName>(
     let mut passes = Vec::with_capacity(alloc, seats.len())?;
     for seat in seats {
         let layouts = FindLayouts::with_room(alloc, slices as usize)?;
+        let gone = Gone::new(alloc)?;
         let of = PhantomData;
-        passes.push(Pass { seat, layouts, of })?;
+        passes.push(Pass {
+            seat,
+            layouts,
+            gone,
+            of,
+        })?;
     }
     Ok(passes)
 }
@@ -114,6 +122,7 @@ fn end_pass<N: PoolName>(pool: &Pool, home: &mut Home, pass: Pass<N>)
     let Pass {
         seat,
         layouts: _,
+        gone: _,
         of: _,
     } = pass;
     pool.end_pass(home, seat);

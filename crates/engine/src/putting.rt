@@ -38,7 +38,8 @@ impl<N: PoolName> Engine<N> {
     /// finds the old text or the new one, and never none. It is refused for no live number.
     ///
     /// It takes its memory, moves documents, waits for the lock and for slices, and claims its column as an add does. What is live in its
-    /// last turn, which takes no memory, tells whether it replaces. The old text is dropped with its slice.
+    /// last turn, which takes no memory, tells whether it replaces. Unless an open find may ask for the old document, it is dropped when the
+    /// lock is free again.
     pub fn put<R: Wait>(
         &self,
         rt: &R,
@@ -68,8 +69,11 @@ impl<N: PoolName> Engine<N> {
         ensures turns { PutTurns N.pool.config N.pool.limits pass.old.number id text.now pass.old.front pass.new.front result }
     {
         let mut turns = self.locked(rt);
-        self.pool
-            .put(&mut turns, alloc, &mut pass.seat, id, text, work)
+        let answer = self
+            .pool
+            .put(&mut turns, alloc, &mut pass.seat, id, text, work);
+        turns.free_some(&mut pass.gone);
+        answer
     }
 }
 
@@ -146,6 +150,9 @@ impl EnginePool {
         };
         let (claim, layout) = claimed;
         self.write(pass, &claim, &layout, doc.words(), &mut bits, work);
-        Ok(turns.put_last(self, pass, claim, doc, &bits))
+        let did = turns.put_last(self, pass, claim, doc, &bits);
+        let (put, old) = did;
+        drop(old);
+        Ok(put)
     }
 }

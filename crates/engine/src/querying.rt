@@ -85,7 +85,8 @@ impl<N: PoolName> Engine<N> {
     /// The numbers of the documents that are live when the query begins and that its expression keeps, in the order in which they were
     /// added. It makes the events of a find of the empty query. It waits for the lock to begin, unless its text is refused or there is no
     /// memory for it, and then, where it did begin, for each turn. One ends as that of a find does, where each document counts as 8 words at
-    /// least that is looked at for more than words; and with the last candidate of which bits tell more than of the others.
+    /// least that is looked at for more than words; and with the last candidate of which bits tell more than of the others. It frees documents
+    /// as a find does.
     pub fn query<R: Wait>(
         &self,
         rt: &R,
@@ -112,14 +113,16 @@ impl<N: PoolName> Engine<N> {
         ensures turns { QueryTurns N.pool.limits pass.old.number text.now pass.old.front pass.new.front result }
     {
         let mut turns = self.locked(rt);
-        self.pool.query(
+        let answer = self.pool.query(
             &mut turns,
             alloc,
             &mut pass.seat,
             &mut pass.layouts,
             text,
             work,
-        )
+        );
+        turns.free_some(&mut pass.gone);
+        answer
     }
 
     /// How many documents are live when the search begins that it keeps: by a boolean query, or by words, as each document has each word of
@@ -135,8 +138,11 @@ impl<N: PoolName> Engine<N> {
         ensures turns { ToldTurns length N.pool.limits pass.old.number (sought kept.entry) pass.old.front pass.new.front result }
     {
         let mut turns = self.locked(rt);
-        self.pool
-            .count(&mut turns, alloc, &mut pass.seat, &mut pass.layouts, kept)
+        let answer = self
+            .pool
+            .count(&mut turns, alloc, &mut pass.seat, &mut pass.layouts, kept);
+        turns.free_some(&mut pass.gone);
+        answer
     }
 
     /// How many documents the search keeps, and the numbers of at most so many of them, of those that were added last, the newest first. It
@@ -153,14 +159,16 @@ impl<N: PoolName> Engine<N> {
         ensures turns { ToldTurns (last_of most) N.pool.limits pass.old.number (sought kept.entry) pass.old.front pass.new.front result }
     {
         let mut turns = self.locked(rt);
-        self.pool.newest(
+        let answer = self.pool.newest(
             &mut turns,
             alloc,
             &mut pass.seat,
             &mut pass.layouts,
             most,
             kept,
-        )
+        );
+        turns.free_some(&mut pass.gone);
+        answer
     }
 
     /// How many documents the search keeps, and the numbers of at most so many of them, of those that were added first, the oldest first. It
@@ -177,14 +185,16 @@ impl<N: PoolName> Engine<N> {
         ensures turns { ToldTurns (first_of most) N.pool.limits pass.old.number (sought kept.entry) pass.old.front pass.new.front result }
     {
         let mut turns = self.locked(rt);
-        self.pool.oldest(
+        let answer = self.pool.oldest(
             &mut turns,
             alloc,
             &mut pass.seat,
             &mut pass.layouts,
             most,
             kept,
-        )
+        );
+        turns.free_some(&mut pass.gone);
+        answer
     }
 }
 

@@ -1,7 +1,6 @@
 //! The turns of adds, puts, deletes, gets, finds and reads at the desk, each of which is one call of the desk that makes events, and the last of
 //! a find its end too. Whoever makes them has the desk under a lock (`Locked`), or is its only owner (`Lone`).
 ghost use Rattle.std.specs.Prelude.{◌≡◌, ◌<◌, ◌≤◌, ◌↔◌, true, [], ◌∷◌, IfOk, IfSome, IsTrue, MatchOption, MatchResult, None, string_bytes, string_capacity, vec_capacity};
-ghost use Rattle.std.specs.Option.{is_none};
 ghost use Rattle.funnel_model.specs.declared.event.Event.TheVariants as event;
 ghost use Rattle.funnel_model.specs.Legal.{IsLegal};
 ghost use Rattle.funnel_model.specs.Tokens.{HasToken};
@@ -10,6 +9,7 @@ ghost use Rattle.commit_desk.specs.Answers.{events_of_commit, events_of_delete, 
 ghost use Rattle.commit_desk.specs.Desks.{Makes};
 ghost use Rattle.commit_desk.specs.FindLayouts.{AreFindLayouts};
 ghost use Rattle.commit_desk.specs.Layouts.{IsLayoutOf};
+ghost use Rattle.commit_desk.specs.Leaving.{GivesBackDeleted, GivesBackReplaced, HandsBackMoved, is_moved};
 ghost use Rattle.commit_desk.specs.Moving.{AnswersTakeMove, HoldsLook, IsThereStill, event_of_move, events_of_take_move};
 ghost use Rattle.commit_desk.specs.Passes.{HasCleared, HasWritten, IsFinding, IsResting, IsToDo, IsToWrite, WritesOrRests};
 ghost use Rattle.commit_desk.specs.Resolving.{CanGoOn, FindsUpTo};
@@ -23,8 +23,8 @@ ghost use Rattle.slice_recycler.specs.Turns.{IsTurn};
 
 use crate::engine_pool::EnginePool;
 use commit_desk::{
-    CommitFault, DeleteFault, Desk, FindFault, FindLayouts, JournalFault, Look, NotTaken, Part,
-    Put, Spent, Taken, TakenMove, TextRead,
+    CommitFault, DeleteFault, Desk, EndedMove, FindFault, FindLayouts, JournalFault, Look,
+    NotTaken, Part, Put, Spent, Taken, TakenMove, TextRead,
 };
 use document_store::{Doc, Found, FreeSlots, Judge};
 use funnel_model::{Block, Claim, ClearJob, Commits, Memory, Stats, Token};
@@ -100,7 +100,8 @@ pub(crate) trait Turns {
         ensures legal { IsLegal pool.now.limits pass.new.front }
         ensures at { made_at self.new ≡ pool.now };
 
-    /// The last turn of a put.
+    /// The last turn of a put. The document that it replaces comes back, unless an open find may ask for it, to be dropped when the turn is
+    /// over.
     fn put_last(
         &mut self,
         pool: &EnginePool,
@@ -108,10 +109,11 @@ pub(crate) trait Turns {
         claim: Claim,
         doc: Doc,
         bits: &Bits,
-    ) -> Put
+    ) -> (Put, Option<Doc>)
         requires at { made_at self.old ≡ pool.now }
         requires written { HasWritten pool.now claim doc.words bits.now.bits pass.old }
-        ensures turn { IsTurn pass.old.number pass.old.front pass.new.front (λ history. AnswersPut history doc.id result)
+        ensures turn { IsTurn pass.old.number pass.old.front pass.new.front
+            (λ history. AnswersPut history doc.id result.0 × GivesBackReplaced history doc.id result.0 result.1)
             (event.Add pass.old.number doc.id doc.text claim.slice claim.column bits.now.bits ∷ []) }
         ensures rests { IsResting pool.now pass.new }
         ensures number { pass.new.number ≡ pass.old.number }
@@ -157,7 +159,8 @@ pub(crate) trait Turns {
         ensures number { pass.new.number ≡ pass.old.number }
         ensures at { made_at self.new ≡ pool.now };
 
-    /// The last turn of a move. Where the document isn't moved it comes back, to be dropped when the turn is over.
+    /// The last turn of a move. The copy of a document that isn't moved comes back, and of one that is the document of the old column, unless
+    /// an open find may ask for it, to be dropped when the turn is over.
     fn end_move(
         &mut self,
         pool: &EnginePool,
@@ -165,13 +168,13 @@ pub(crate) trait Turns {
         claim: Claim,
         look: Look,
         bits: &Bits,
-    ) -> Option<Doc>
+    ) -> EndedMove
         requires at { made_at self.old ≡ pool.now }
         requires written { HasWritten pool.now claim look.doc.words bits.now.bits pass.old }
         requires look { HoldsLook pass.old look }
-        ensures turn { IsTurn pass.old.number pass.old.front pass.new.front (λ history. IsTrue (is_none result) ↔ IsThereStill history look)
-            (event_of_move pass.old.number look claim bits.now.bits (is_none result) ∷ []) }
-        ensures doc { IfSome result (λ doc. doc ≡ look.doc) }
+        ensures turn { IsTurn pass.old.number pass.old.front pass.new.front
+            (λ history. (IsTrue (is_moved result) ↔ IsThereStill history look) × HandsBackMoved history look result)
+            (event_of_move pass.old.number look claim bits.now.bits (is_moved result) ∷ []) }
         ensures rests { IsResting pool.now pass.new }
         ensures number { pass.new.number ≡ pass.old.number }
         ensures at { made_at self.new ≡ pool.now };
@@ -231,17 +234,18 @@ pub(crate) trait Turns {
         ensures legal { IsLegal pool.now.limits pass.new.front }
         ensures at { made_at self.new ≡ pool.now };
 
-    /// The turn of a delete.
+    /// The turn of a delete. Its document comes back, unless an open find may ask for it, to be dropped when the turn is over.
     fn delete(
         &mut self,
         pool: &EnginePool,
         pass: &mut PassSeat,
         id: u64,
-    ) -> Result<u64, DeleteFault>
+    ) -> (Result<u64, DeleteFault>, Option<Doc>)
         requires at { made_at self.old ≡ pool.now }
         requires rests { IsResting pool.now pass.old }
-        ensures turn { IsTurn pass.old.number pass.old.front pass.new.front (λ history. AnswersDelete pool.now.limits.events history id result)
-            (events_of_delete pass.old.number id result) }
+        ensures turn { IsTurn pass.old.number pass.old.front pass.new.front
+            (λ history. AnswersDelete pool.now.limits.events history id result.0 × GivesBackDeleted history id result.0 result.1)
+            (events_of_delete pass.old.number id result.0) }
         ensures rests { IsResting pool.now pass.new }
         ensures number { pass.new.number ≡ pass.old.number }
         ensures legal { IsLegal pool.now.limits pass.new.front }

@@ -2,7 +2,7 @@
 ghost use Rattle.std.specs.Prelude.{◌≡◌, []};
 ghost use Rattle.funnel_model.specs.Configuration.{IsInRange};
 
-use crate::caller::Caller;
+use crate::caller::{Caller, has};
 use crate::setting::{Case, config, expect};
 use engine::{GetFault, PoolName, Put, PutFault, Search, Stats};
 use funnel_model::Config;
@@ -218,4 +218,52 @@ impl Case for AllAgain {
 fn puts_move_documents_so_that_slices_retire(rt: HostRuntime) {
     let alloc = rt.alloc();
     expect(&rt, alloc, with_reserve(alloc), &AllAgain)
+}
+
+/// Puts of a hundred numbers, and of each of them once more while a find runs that began between.
+struct BesideFind;
+
+impl BesideFind {
+    /// Whether each number is put.
+    fn puts_all<N: PoolName, R: Wait>(caller: &mut Caller<'_, N, R>, text: &str) -> bool {
+        let mut as_wanted = true;
+        for id in 1..101 {
+            as_wanted = as_wanted
+                && caller
+                    .engine
+                    .put(caller.rt, caller.alloc, &mut caller.pass, id, text)
+                    .is_ok();
+        }
+        as_wanted
+    }
+
+    fn is_answered<N: PoolName, R: Wait>(
+        caller: &mut Caller<'_, N, R>,
+        other: Caller<'_, N, R>,
+    ) -> bool {
+        let find = other.begin("x");
+        let replaced = BesideFind::puts_all(caller, "y") && caller.counts(Search::Query("x"), 0);
+        has(find, (1, 101)) && replaced && caller.counts(Search::Query("y"), 100)
+    }
+}
+
+impl Case for BesideFind {
+    fn holds<N: PoolName, R: Wait>(
+        &self,
+        caller: &mut Caller<'_, N, R>,
+        others: &mut Vec<Caller<'_, N, R>>,
+    ) -> bool {
+        let put = BesideFind::puts_all(caller, "x");
+        match others.pop() {
+            Some(other) => put && BesideFind::is_answered(caller, other),
+            None => false,
+        }
+    }
+}
+
+/// A find that began before documents were replaced is answered by their old texts, which are kept for it.
+#[test]
+fn a_find_has_the_old_texts_of_documents_replaced_since(rt: HostRuntime) {
+    let alloc = rt.alloc();
+    expect(&rt, alloc, config(alloc, 2, 4, 1, 1024), &BesideFind)
 }

@@ -1,6 +1,8 @@
-use Rattle.std.proofs.Common.{rules, ◌≡◌, ◌++◌, ◌∷◌, [], List, false, subst, sym}
+use Rattle.std.proofs.Common.{Some, rules, ◌≡◌, ◌++◌, ◌∷◌, [], List, false, subst, sym}
+use Rattle.std.proofs.lemmas.List.Elements.{All-pop}
 use Rattle.std.specs.List.{AllZip}
 use Rattle.funnel_server.specs.Started.{WorksWhere}
+use Rattle.funnel_server.specs.Workers.{HasMetNoFault}
 use Rattle.funnel_server.proofs.Zipped.{zip_more, zip_self}
 use Rattle.funnel_server.proofs.threads.+begin.Goals as goal
 
@@ -23,3 +25,12 @@ returns-in-Err-clause-work g t c =
     (subst (AllZip (Works c.decide-decided.result.value) (c.pop.new.self.items ++ c.in-Some.worker ∷ [])) (sym c.put_back-in-Err.ensures.all)
     (zip_more (Works c.decide-decided.result.value) c.pop.new.self.items c.pop.new.self.items c.in-Some.worker c.thread-joined.result.worker
     (subst (λ all. AllZip (Works all) c.pop.new.self.items c.pop.new.self.items) (sym stays) (zip_self c.pop.new.self.items)) kept))
+
+-- the worker that is handed back is the one that was taken out
+pub thread-joined-requires : goal.thread-joined-requires
+thread-joined-requires g t c κs within =
+    let popped : c.args.workers.now.items ≡ c.pop.new.self.items ++ c.in-Some.worker ∷ [] = search rules in
+    let same : c.in-Err.refused.value.2 ≡ c.in-Some.worker = search rules in
+    let ready : HasMetNoFault c.in-Some.worker.state =
+    (All-pop (λ worker. HasMetNoFault worker.state) c.args.workers.now.items c.pop.new.self.items (Some c.in-Some.worker) popped c.requires.ready).1 in
+    (within.0, (within.1.0, (within.1.1.0, (within.1.1.1, subst (λ worker. HasMetNoFault worker.state) (sym same) ready))))

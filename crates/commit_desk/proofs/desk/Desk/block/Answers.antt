@@ -18,9 +18,9 @@ blocked_now c = subst (λ (d : DeskState). IsBlocked d.pool.limits.columns d.his
 in_use_now : (c : In-InUse) → IsFilled c.args.self.now.pool.limits.columns c.args.slice c.args.self.now.history × (IsRetired c.args.self.now.pool.limits.columns c.args.slice c.args.self.now.history → ⊥)
 in_use_now c =
     let i = c.self.inside in
-    let kept = c.self.invariant.kept in
+    let kept = c.self.invariant.desk.kept in
     let slice = c.args.slice in
-    let is = blocked_in_use i.home.pool.limits i.home.history i.records kept.legal kept.recorded i.stages kept.staged.each slice c.in-InUse.claimed c.in-InUse.over (in_range_now c.before)
+    let is = blocked_in_use i.home.pool.limits i.home.history c.self.invariant.whole kept.legal kept.recorded i.stages kept.staged.each slice c.in-InUse.claimed c.in-InUse.over (in_range_now c.before)
     (sym c.stage.ensures ∙ c.in-InUse.is) (blocked_now c.before) in
     subst (λ (d : DeskState). IsFilled d.pool.limits.columns slice d.history × (IsRetired d.pool.limits.columns slice d.history → ⊥)) c.self.view_is (is.0, is.1)
 
@@ -36,18 +36,18 @@ retired_now c = sym c.stage.ensures ∙ c.in-Retired.is
 pub unreachable-requires : goal.unreachable-requires
 unreachable-requires c =
     let i = c.self.inside in
-    let kept = c.self.invariant.kept in
+    let kept = c.self.invariant.desk.kept in
     let slice = c.args.slice in
     let now = retired_now c.before in
     let in' = in_range_now c.before.before.before in
-    unguarded_by i.home.pool.limits i.home.history i.records kept.legal kept.recorded i.stages kept.staged.each i.tokens kept.tokens_are slice c.in-Retired.at in' now c.in_default.ensures
-    (blocked_retired i.home.pool.limits i.home.history i.records kept.legal kept.recorded i.stages kept.staged.each slice c.in-Retired.at in' now (blocked_now c.before.before.before))
+    unguarded_by i.home.pool.limits i.home.history c.self.invariant.whole kept.legal kept.recorded i.stages kept.staged.each i.tokens kept.tokens_are slice c.in-Retired.at in' now c.in_default.ensures
+    (blocked_retired i.home.pool.limits i.home.history c.self.invariant.whole kept.legal kept.recorded i.stages kept.staged.each slice c.in-Retired.at in' now (blocked_now c.before.before.before))
 
 pub returns-in-Some : goal.returns-in-Some
 returns-in-Some c =
     let i = c.self.inside in
-    let kept = c.self.invariant.kept in
+    let kept = c.self.invariant.desk.kept in
     let slice = c.args.slice in
     subst (λ (d : DeskState). IsLowestGuard d.pool.limits.columns d.history slice c.in-Some.pass c.in-Some.opened_at) c.self.view_is
-    (guard_by i.home.pool.limits i.home.history i.records kept.legal kept.recorded i.stages kept.staged.each i.tokens kept.tokens_are slice c.in-Retired.at c.in-Some.pass c.in-Some.opened_at
+    (guard_by i.home.pool.limits i.home.history c.self.invariant.whole kept.legal kept.recorded i.stages kept.staged.each i.tokens kept.tokens_are slice c.in-Retired.at c.in-Some.pass c.in-Some.opened_at
     (in_range_now c.before.before.before) (retired_now c.before) c.in-Some.ensures)

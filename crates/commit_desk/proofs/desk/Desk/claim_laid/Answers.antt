@@ -6,7 +6,7 @@ use Rattle.commit_desk.proofs.desk.Desk.claim_laid.Goals as goal
 
 pub returns-in_default-clause-made : goal.returns-in_default-clause-made
 returns-in_default-clause-made c =
-    makes_nothing c.args.self.now c.args.seat.now c.requires.caught_up (legal_from c.args.self.now c.self.inside c.self.invariant c.self.view_is)
+    makes_nothing c.args.self.now c.args.seat.now c.requires.caught_up (legal_from c.args.self.now c.self.inside c.self.invariant.whole c.self.invariant.desk c.self.view_is)
 
 pub returns-clause-fresh : goal.returns-clause-fresh
 returns-clause-fresh c =

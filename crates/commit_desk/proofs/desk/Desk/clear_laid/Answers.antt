@@ -9,7 +9,7 @@ unreachable-requires c =
 
 pub returns-in_default-clause-made : goal.returns-in_default-clause-made
 returns-in_default-clause-made c =
-    makes_nothing c.args.self.now c.args.seat.now c.requires.caught_up (legal_from c.args.self.now c.self.inside c.self.invariant c.self.view_is)
+    makes_nothing c.args.self.now c.args.seat.now c.requires.caught_up (legal_from c.args.self.now c.self.inside c.self.invariant.whole c.self.invariant.desk c.self.view_is)
 
 pub returns-clause-laid : goal.returns-clause-laid
 returns-clause-laid c =

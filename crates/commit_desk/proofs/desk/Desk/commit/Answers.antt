@@ -15,7 +15,7 @@ make_add-requires-clause-written c =
     let pool : c.args.self.now.pool ≡ home.pool = sym (up.home.pool ∙ ap (λ (d : DeskState). d.pool) c.self.view_is) in
     let whole : c.args.self.now.history ≡ c.catch_up.new.seat.front = sym (ap (λ (d : DeskState). d.history) c.self.view_is) ∙ sym (up.front ∙ up.home.history) in
     let legal : IsLegal c.args.self.now.pool.limits c.catch_up.new.seat.front =
-    subst (IsLegal c.args.self.now.pool.limits) whole (subst (λ (d : DeskState). IsLegal d.pool.limits d.history) c.self.view_is c.self.invariant.kept.legal) in
+    subst (IsLegal c.args.self.now.pool.limits) whole (subst (λ (d : DeskState). IsLegal d.pool.limits d.history) c.self.view_is c.self.invariant.desk.kept.legal) in
     subst (λ (p : PoolId). HasWritten p c.args.claim c.args.doc.words c.args.bits.now.bits c.catch_up.new.seat) pool
     (written_held c.args.seat.now c.catch_up.new.seat up.seat up.none_since c.args.self.now.pool c.args.claim c.args.doc.words c.args.bits.now.bits legal up.none_outstanding c.requires.written)
 

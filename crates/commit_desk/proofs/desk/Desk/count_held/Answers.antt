@@ -7,7 +7,7 @@ use Rattle.commit_desk.proofs.desk.Desk.count_held.Goals as goal
 pub returns : goal.returns
 returns c =
     let i = c.self.inside in
-    let kept = c.self.invariant.kept in
+    let kept = c.self.invariant.desk.kept in
     subst (λ (d : DeskState). HoldsColumns d.pool.limits.columns d.history c.args.slice c.held.result) c.self.view_is
     (subst (HoldsColumns i.home.pool.limits.columns i.home.history c.args.slice) (sym c.held.ensures)
-    (held_kept i.home.pool.limits i.home.history i.records i.tokens i.stages kept.legal kept.recorded kept.staged c.args.slice))
+    (held_kept i.home.pool.limits i.home.history c.self.invariant.whole i.tokens i.stages kept.legal kept.recorded kept.staged c.args.slice))

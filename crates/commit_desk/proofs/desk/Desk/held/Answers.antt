@@ -15,21 +15,21 @@ used_now : (c : After-stage) (held : ℕ) → IsPartlyHeld c.args.self.now.pool.
     (first : ℕ) × (over : ℕ) × (c.stage.result ≡ stage.InUse first over) × (first ≡ c.self.inside.columns) × (0 < over)
 used_now c held partly =
     let i = c.self.inside in
-    let kept = c.self.invariant.kept in
-    let p = not_partly i.home.pool.limits i.home.history i.records i.tokens i.stages kept.legal kept.recorded kept.staged c.args.slice held (in_range_now c)
+    let kept = c.self.invariant.desk.kept in
+    let p = not_partly i.home.pool.limits i.home.history c.self.invariant.whole i.tokens i.stages kept.legal kept.recorded kept.staged c.args.slice held (in_range_now c)
     (subst (λ (d : DeskState). IsPartlyHeld d.pool.limits.columns d.history c.args.slice held) (sym c.self.view_is) partly) in
     (p.0, p.1, c.stage.ensures ∙ p.2, p.3 ∙ sym kept.columns_are, p.4)
 
 pub returns-then-over-gt0 : goal.returns-then-over-gt0
 returns-then-over-gt0 c =
     let i = c.self.inside in
-    let kept = c.self.invariant.kept in
+    let kept = c.self.invariant.desk.kept in
     let slice = c.args.slice in
     let over = c.in-InUse.over in
     let stage' = c.before.before.before in
     subst (λ (d : DeskState). IsPartlyHeld d.pool.limits.columns d.history slice (i.columns - over)) c.self.view_is
     (subst (λ n. IsPartlyHeld i.home.pool.limits.columns i.home.history slice (n - over)) (sym kept.columns_are)
-    (partly_held i.home.pool.limits i.home.history i.records i.tokens i.stages kept.legal kept.recorded kept.staged slice c.in-InUse.claimed over (in_range_now stage')
+    (partly_held i.home.pool.limits i.home.history c.self.invariant.whole i.tokens i.stages kept.legal kept.recorded kept.staged slice c.in-InUse.claimed over (in_range_now stage')
     (sym c.stage.ensures ∙ c.in-InUse.is) (c.if-claimed-self.true ∙ kept.columns_are) c.if-over-gt0.true))
 
 pub returns-in_default : goal.returns-in_default

@@ -92,7 +92,7 @@ returns-clause-look c =
       live = subst (λ h. IsInState h look.slice look.column (Live (document_of look) look.since)) front_now
           (live_now start look c.in_ok-look.ensures.slice c.in_ok-look.ensures.column c.in_ok-look.ensures.live);
       of_text = c.in_ok-look.ensures.of_text;
-      cause = ap has_cause (up.front ∙ up.home.history) ∙ source_is_caused i.home.pool i.events_limit i.home.history (books_of i) c.in-Some.slice e.0 c.self.invariant source;
+      cause = ap has_cause (up.front ∙ up.home.history) ∙ source_is_caused i.home.pool i.events_limit i.home.history (books_of i c.self.invariant.whole) c.in-Some.slice e.0 c.self.invariant.desk source;
     }
 
 -- the looks, without what the pass itself had named

@@ -5,13 +5,17 @@ use Rattle.document_store.proofs.SlotLemmas.{column_is_over}
 use Rattle.commit_desk.specs.Desks.{DeskState}
 use Rattle.commit_desk.specs.Moving.{IsFreeToMove}
 use Rattle.commit_desk.proofs.Inside.{books_of}
+use Rattle.document_store.specs.Slots.{slot_at}
+use Rattle.commit_desk.proofs.Keeping.{column-left, over-left}
 use Rattle.commit_desk.proofs.LiveLooks.{none_live_over, none_next}
 use Rattle.commit_desk.proofs.desk.Desk.lowest_free.Goals as goal
 
 pub loop-column-init : goal.loop-column-init
 loop-column-init c lower d since below free =
     let i = c.self.inside in
-    none_live_over c.args.self.now i.home i.events_limit (books_of i) c.self.invariant c.self.view_is c.args.slice lower (λ at. column_is_over i.records c.args.slice c.first_over-column.result lower c.first_over-column.ensures at below) d since free.live
+    none_live_over c.args.self.now i.home i.events_limit (books_of i c.self.invariant.whole) c.self.invariant.desk c.self.view_is c.args.slice lower (λ at.
+    sym (over-left (slot_at c.self.invariant.whole c.args.slice lower) (slot_at i.records c.args.slice lower) (c.self.invariant.left.each c.args.slice lower at))
+    ∙ column_is_over i.records c.args.slice c.first_over-column.result lower c.first_over-column.ensures (column-left c.self.invariant.whole i.records c.args.slice lower c.self.invariant.left at) below) d since free.live
 
 pub loop-column-preserved : goal.loop-column-preserved
 loop-column-preserved c lower d since in' free =
@@ -25,7 +29,7 @@ loop-column-preserved c lower d since in' free =
 
 pub returns : goal.returns
 returns c column d since free =
-    let kept = c.self.invariant.kept in
+    let kept = c.self.invariant.desk.kept in
     let columns : c.self.inside.columns ≡ c.args.self.now.pool.limits.columns = kept.columns_are ∙ ap (λ (d : DeskState). d.pool.limits.columns) c.self.view_is in
     let end = c.loop-column.auto.column-end in
     let done = c.loop-column-test.false in

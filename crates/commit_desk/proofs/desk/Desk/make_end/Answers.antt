@@ -1,4 +1,4 @@
-use Rattle.std.proofs.Common.{◌≡◌, ℕ, ◌<◌, List, [], ◌∷◌, None, sym, ap, ◌∙◌, subst}
+use Rattle.std.proofs.Common.{◌≡◌, ℕ, ◌<◌, List, [], ◌∷◌, length, set, Option, None, sym, ap, ◌∙◌, subst, arith}
 use Rattle.funnel_model.specs.declared.event.Event.{Event}
 use Rattle.funnel_model.specs.declared.event.Event.TheVariants as event
 use Rattle.funnel_model.specs.Legal.{IsAllowed, IsLegal, awaited}
@@ -6,8 +6,10 @@ use Rattle.funnel_model.specs.Tokens.{HasToken}
 use Rattle.slice_rule.specs.Pools.{PoolId}
 use Rattle.slice_rule.specs.Seats.{PassState}
 use Rattle.commit_desk.specs.Desks.{DeskState, IsCaughtUp, Makes}
+use Rattle.commit_desk.specs.Leaving.{AreKept}
 use Rattle.commit_desk.proofs.FindEvents.{desk-end, end_allowed}
 use Rattle.commit_desk.proofs.Inside.{books_of, desk_of}
+use Rattle.commit_desk.proofs.Keeping.{kept-ended}
 use Rattle.commit_desk.proofs.MadeEvents.{desk_at, made_with}
 use Rattle.commit_desk.proofs.TokenEvents.{token_is_kept}
 use Rattle.commit_desk.proofs.desk.Desk.make_end.Goals as goal
@@ -30,15 +32,15 @@ make_event-self-inside-requires-clause-allowed c =
     let pool : i.home.pool ≡ c.args.pool.now = ap (λ (d : DeskState). d.pool) c.self.view_is ∙ sym c.requires.pool in
     let begun = begun_at desk c.args.self.now c.args.seat.now c.number-pass.result c.args.token.opened_at c.self.view_is c.number-pass.ensures.number c.requires.caught_up c.requires.token.begun in
     subst (λ (p : PoolId). IsAllowed p.limits i.home.history (event.End c.number-pass.result)) pool
-    (allowed_at desk c.args.self.now c.args.seat.now c.number-pass.result c.args.token.opened_at c.self.view_is c.number-pass.ensures.in_range c.self.invariant.kept.legal
-    c.self.invariant.none_awaited c.requires.caught_up begun)
+    (allowed_at desk c.args.self.now c.args.seat.now c.number-pass.result c.args.token.opened_at c.self.view_is c.number-pass.ensures.in_range c.self.invariant.desk.kept.legal
+    c.self.invariant.desk.none_awaited c.requires.caught_up begun)
 
 pub end-requires : goal.end-requires
 end-requires c =
     let i = c.self.inside in
     let desk = desk_of i in
     let begun = begun_at desk c.args.self.now c.args.seat.now c.number-pass.result c.args.token.opened_at c.self.view_is c.number-pass.ensures.number c.requires.caught_up c.requires.token.begun in
-    token_is_kept i.home.pool.limits i.home.history i.tokens c.number-pass.result c.args.token.opened_at c.self.invariant.kept.tokens_are begun
+    token_is_kept i.home.pool.limits i.home.history i.tokens c.number-pass.result c.args.token.opened_at c.self.invariant.desk.kept.tokens_are begun
 
 pub invariant_of-self : goal.invariant_of-self
 invariant_of-self c =
@@ -47,10 +49,17 @@ invariant_of-self c =
     let home = c.make_event-self-inside.new.home in
     let made = c.make_event-self-inside.ensures in
     let begun = begun_at desk c.args.self.now c.args.seat.now c.number-pass.result c.args.token.opened_at c.self.view_is c.number-pass.ensures.number c.requires.caught_up c.requires.token.begun in
-    let allowed = allowed_at desk c.args.self.now c.args.seat.now c.number-pass.result c.args.token.opened_at c.self.view_is c.number-pass.ensures.in_range c.self.invariant.kept.legal
-    c.self.invariant.none_awaited c.requires.caught_up begun in
-    desk-end i.home.pool i.events_limit i.home.history (books_of i) c.self.invariant home.pool home.history c.make_event-self-inside.result c.end.new.self made.home.pool
-    c.number-pass.result allowed made.home.history made.number c.end.ensures
+    let allowed = allowed_at desk c.args.self.now c.args.seat.now c.number-pass.result c.args.token.opened_at c.self.view_is c.number-pass.ensures.in_range c.self.invariant.desk.kept.legal
+    c.self.invariant.desk.none_awaited c.requires.caught_up begun in
+    let within : c.number-pass.result < length i.tokens = let h = c.self.invariant.desk.kept.tokens_are.count in let p = allowed.pass in omega (arith, h, p) in
+    record {
+      whole = c.self.invariant.whole;
+      desk = desk-end i.home.pool i.events_limit i.home.history (books_of i c.self.invariant.whole) c.self.invariant.desk home.pool home.history c.make_event-self-inside.result c.end.new.self made.home.pool
+          c.number-pass.result allowed made.home.history made.number c.end.ensures;
+      left = c.self.invariant.left;
+      documents = subst (λ (ts : List (Option ℕ)). AreKept ts i.records c.end-2.new.self) (sym c.end.ensures)
+          (subst (AreKept (set i.tokens c.number-pass.result None) i.records) (sym c.end-2.ensures) (kept-ended i.tokens i.records i.leaving c.self.invariant.documents c.number-pass.result within));
+    }
 
 pub returns-clause-made : goal.returns-clause-made
 returns-clause-made c =
@@ -59,4 +68,4 @@ returns-clause-made c =
     let home = c.make_event-self-inside.new.home in
     let seat = c.make_event-self-inside.new.seat in
     subst (λ n. Makes (event.End n ∷ []) c.args.self.now (desk_at home i.events_limit) c.args.seat.now seat) c.number-pass.ensures.number
-    (made_with c.args.self.now i.home home i.events_limit c.args.seat.now seat (event.End c.number-pass.result) c.self.view_is c.requires.caught_up made.home (invariant_of-self c).kept.legal made.seat)
+    (made_with c.args.self.now i.home home i.events_limit c.args.seat.now seat (event.End c.number-pass.result) c.self.view_is c.requires.caught_up made.home (invariant_of-self c).desk.kept.legal made.seat)

@@ -14,7 +14,7 @@ make_event-self-inside-requires-clause-allowed g c =
     let desk : DeskState = record { pool = i.home.pool; events_limit = i.events_limit; history = i.home.history } in
     let pool : i.home.pool ≡ c.args.pool.now = ap (λ (d : DeskState). d.pool) c.self.view_is ∙ sym c.requires.pool in
     subst (λ (p : PoolId). IsAllowed p.limits i.home.history (g.E.Entry.event c.args.entry.now)) pool
-    (allowed_now desk c.args.self.now c.args.seat.now.number (g.E.Entry.event c.args.entry.now) c.self.view_is c.self.invariant.none_awaited c.requires.caught_up.in_range c.requires.own c.requires.may)
+    (allowed_now desk c.args.self.now c.args.seat.now.number (g.E.Entry.event c.args.entry.now) c.self.view_is c.self.invariant.desk.none_awaited c.requires.caught_up.in_range c.requires.own c.requires.may)
 
 pub invariant_of-self : goal.invariant_of-self
 invariant_of-self g c =
@@ -23,14 +23,19 @@ invariant_of-self g c =
     let home = c.make_event-self-inside.new.home in
     let made = c.make_event-self-inside.ensures in
     let e = g.E.Entry.event c.args.entry.now in
-    desk-plain i.home.pool home.pool i.events_limit i.home.history home.history (books_of i) c.make_event-self-inside.result e c.self.invariant c.requires.plain
-    (allowed_now desk c.args.self.now c.args.seat.now.number e c.self.view_is c.self.invariant.none_awaited c.requires.caught_up.in_range c.requires.own c.requires.may)
-    (subst (λ (d : DeskState). length d.history < d.events_limit) (sym c.self.view_is) c.requires.takes_calls)
-    made.home.pool made.home.history made.number
+    record {
+      whole = c.self.invariant.whole;
+      desk = desk-plain i.home.pool home.pool i.events_limit i.home.history home.history (books_of i c.self.invariant.whole) c.make_event-self-inside.result e c.self.invariant.desk c.requires.plain
+          (allowed_now desk c.args.self.now c.args.seat.now.number e c.self.view_is c.self.invariant.desk.none_awaited c.requires.caught_up.in_range c.requires.own c.requires.may)
+          (subst (λ (d : DeskState). length d.history < d.events_limit) (sym c.self.view_is) c.requires.takes_calls)
+          made.home.pool made.home.history made.number;
+      left = c.self.invariant.left;
+      documents = c.self.invariant.documents;
+    }
 
 pub returns-clause-made : goal.returns-clause-made
 returns-clause-made g c =
     let i = c.self.inside in
     let made = c.make_event-self-inside.ensures in
     made_with c.args.self.now i.home c.make_event-self-inside.new.home i.events_limit c.args.seat.now c.make_event-self-inside.new.seat (g.E.Entry.event c.args.entry.now) c.self.view_is c.requires.caught_up
-    made.home (invariant_of-self g c).kept.legal made.seat
+    made.home (invariant_of-self g c).desk.kept.legal made.seat

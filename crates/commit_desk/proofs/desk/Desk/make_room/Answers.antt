@@ -20,7 +20,7 @@ may_clear c some =
 -- and else the engine is full
 full : (c : After-clearable) → is_some c.clearable.result ≡ false → IsFull c.args.self.now.pool.limits c.args.self.now.history
 full c none =
-    full_from c.args.self.now c.self.inside c.self.invariant c.self.view_is c.requires.may.no_room (when_none _ _ c.clearable.result c.clearable.ensures.answer none)
+    full_from c.args.self.now c.self.inside c.self.invariant.whole c.self.invariant.desk c.self.view_is c.requires.may.no_room (when_none _ _ c.clearable.result c.clearable.ensures.answer none)
 
 pub clear_laid-requires-clause-may : goal.clear_laid-requires-clause-may
 clear_laid-requires-clause-may c =

@@ -27,4 +27,4 @@ returns-clause-layouts c =
 
 -- what the desk keeps is of a history whose adds and moves have their bits
 pub returns-clause-sound : goal.returns-clause-sound
-returns-clause-sound c = subst (λ (d : DeskState). IsSound d.pool.config d.history) c.self.view_is c.self.invariant.kept.sound
+returns-clause-sound c = subst (λ (d : DeskState). IsSound d.pool.config d.history) c.self.view_is c.self.invariant.desk.kept.sound

@@ -11,11 +11,11 @@ use Rattle.commit_desk.proofs.desk.Desk.share_layouts.Goals as goal
 pub returns-clause-shared : goal.returns-clause-shared
 returns-clause-shared c =
     let i = c.self.inside in
-    let kept = c.self.invariant.kept in
+    let kept = c.self.invariant.desk.kept in
     let limits = i.home.pool.limits in
-    let rows : limits.slice_words ≡ words_of_slice i.home.pool.config = ap (λ (l : Limits). l.slice_words) c.self.invariant.sizes in
+    let rows : limits.slice_words ≡ words_of_slice i.home.pool.config = ap (λ (l : Limits). l.slice_words) c.self.invariant.desk.sizes in
     let used : (slice : ℕ) → Contains c.in_use-slices.result slice ↔ ((slice < limits.slices) × IsInUse limits.columns slice i.home.history) =
-    used_slices limits i.home.history i.records i.tokens i.stages c.in_use-slices.result kept.legal kept.recorded kept.staged c.in_use-slices.ensures in
+    used_slices limits i.home.history c.self.invariant.whole i.tokens i.stages c.in_use-slices.result kept.legal kept.recorded kept.staged c.in_use-slices.ensures in
     ok_then c.share_out.result
     (λ shared token same.
     let same_then : (slice : ℕ) → Contains token.slices slice ↔ ((slice < limits.slices) × IsInUse limits.columns slice i.home.history) =

@@ -16,14 +16,14 @@ returns-then-is_spent-clause-answer c pass idle =
     ]
 
 pub returns-in_default-clause-answer : goal.returns-in_default-clause-answer
-returns-in_default-clause-answer c pass idle = inr (inr (inl (no_room_from c.args.self.now c.self.inside c.self.invariant c.self.view_is c.in_default.ensures)))
+returns-in_default-clause-answer c pass idle = inr (inr (inl (no_room_from c.args.self.now c.self.inside c.self.invariant.whole c.self.invariant.desk c.self.view_is c.in_default.ensures)))
 
 pub returns-then-slice-look-clause-answer : goal.returns-then-slice-look-clause-answer
 returns-then-slice-look-clause-answer c pass idle =
     let now = c.args.self.now in
     elim c.then-slice-look.branch [
       | then-slice-look-via-then-slice-look w ↦
-          let may = may_from now c.self.inside c.self.invariant c.self.view_is pass c.in-Some.slice idle c.in-Some.ensures in
+          let may = may_from now c.self.inside c.self.invariant.whole c.self.invariant.desk c.self.view_is pass c.in-Some.slice idle c.in-Some.ensures in
           inr (inr (inr (inl (subst (λ k. (column : ℕ) × MayTake now.pool.limits now.history pass k column) w.if-slice-look.true (length (claimed c.in-Some.slice now.history), may)))))
       | then-slice-look-via-else-slice-look+then-not-has_room_to_empty w ↦ inr (inr (inr (inr w.if-not-has_room_to_empty.ensures.room)))
     ]
@@ -31,7 +31,7 @@ returns-then-slice-look-clause-answer c pass idle =
 pub returns-clause-answer : goal.returns-clause-answer
 returns-clause-answer c pass idle = record {
   takes_calls = takes_calls c.args.self.now.events_limit c.args.self.now.history c.if-is_spent.ensures.spent.1;
-  may = may_from c.args.self.now c.self.inside c.self.invariant c.self.view_is pass c.in-Some.slice idle c.in-Some.ensures;
+  may = may_from c.args.self.now c.self.inside c.self.invariant.whole c.self.invariant.desk c.self.view_is pass c.in-Some.slice idle c.in-Some.ensures;
   there = c.is_there_still.ensures.0 c.if-not-is_there_still.false;
   other = c.if-slice-look.false;
   room = c.if-not-has_room_to_empty.ensures.room;

@@ -36,7 +36,7 @@ loop-slice-preserved c =
 
 pub returns : goal.returns
 returns c =
-    let kept = c.self.invariant.kept in
+    let kept = c.self.invariant.desk.kept in
     let slices : c.self.inside.slices ≡ c.args.self.now.pool.limits.slices = kept.slices_are ∙ ap (λ (d : DeskState). d.pool.limits.slices) c.self.view_is in
     let end = c.loop-slice.auto.slice-end in
     let done = c.loop-slice-test.false in

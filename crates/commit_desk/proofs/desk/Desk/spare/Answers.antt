@@ -7,6 +7,6 @@ use Rattle.commit_desk.proofs.desk.Desk.spare.Goals as goal
 pub returns : goal.returns
 returns c =
     let i = c.self.inside in
-    let kept = c.self.invariant.kept in
+    let kept = c.self.invariant.desk.kept in
     subst (λ (d : DeskState). HasSpareColumns d.pool.limits d.history c.spare.result) c.self.view_is
-    (subst (HasSpareColumns i.home.pool.limits i.home.history) (sym c.spare.ensures) (spare_kept i.home.pool.limits i.home.history i.records i.tokens i.stages kept.legal kept.recorded kept.staged))
+    (subst (HasSpareColumns i.home.pool.limits i.home.history) (sym c.spare.ensures) (spare_kept i.home.pool.limits i.home.history c.self.invariant.whole i.tokens i.stages kept.legal kept.recorded kept.staged))

@@ -16,7 +16,7 @@ as_seen d e stats same are = subst (λ (x : DeskState). AreStats x.pool.limits x
 pub returns : goal.returns
 returns c =
     let i = c.self.inside in
-    let kept = c.self.invariant.kept in
+    let kept = c.self.invariant.desk.kept in
     let limits = i.home.pool.limits in
     let history = i.home.history in
     as_seen (desk_of i) c.args.self.now _ c.self.view_is
@@ -25,8 +25,8 @@ returns c =
       place_is = c.place.ensures ∙ kept.journal_is.place_is;
       base_is = c.base.ensures ∙ base-journal limits.commits history i.journal kept.journal_is;
       columns_are = ap₂ (λ n m. n * m) kept.slices_are kept.columns_are;
-      free_are = c.free.ensures ∙ free_kept limits history i.records i.tokens i.stages kept.legal kept.recorded kept.staged;
+      free_are = c.free.ensures ∙ free_kept limits history c.self.invariant.whole i.tokens i.stages kept.legal kept.recorded kept.staged;
       retired_are = subst (IsCount limits.slices (λ slice. IsRetired limits.columns slice history)) (sym c.retired.ensures)
-          (retired_kept limits history i.records i.tokens i.stages kept.legal kept.recorded kept.staged);
+          (retired_kept limits history c.self.invariant.whole i.tokens i.stages kept.legal kept.recorded kept.staged);
       finds_are = subst (IsCount limits.passes (IsFinding history)) (sym c.count.ensures) (finds_kept limits history i.tokens kept.tokens_are);
     })

@@ -3,8 +3,8 @@ use Rattle.commit_desk.specs.Passes.{HasWritten}
 use Rattle.slice_rule.specs.Pools.{PoolId}
 use Rattle.commit_desk_tests.proofs.setting.Setting.replace.Goals as goal
 
-pub put-did-requires : goal.put-did-requires
-put-did-requires g c =
+pub put-put-requires : goal.put-put-requires
+put-put-requires g c =
     let is = c.self.invariant in
     let written = c.written.inside in
     record {

@@ -1,6 +1,6 @@
 use Rattle.std.proofs.Common.{◌≡◌, List, None, Some, get_or, set, sym, ap, ◌∙◌, subst, arith}
 use Rattle.std.proofs.lemmas.List.{get_or_default}
-use Rattle.document_store.specs.Slots.{ComesPastOver, FitsColumn, free_slot, with_slot, table_of}
+use Rattle.document_store.specs.Slots.{ComesPastOver, MayHold, free_slot, with_slot, table_of}
 use Rattle.document_store.specs.declared.slots.Slot.{Slot}
 use Rattle.document_store.proofs.ChangeLemmas.{AreKept, held_within, kept-end, read-held, slot-read, slots-unless, view-set}
 use Rattle.document_store.proofs.records.Records.end.Goals as goal
@@ -20,7 +20,7 @@ invariant_of-self c =
     subst (λ (slots : List Slot). AreKept i.slices i.columns (set i.held.items c.args.slice (Some slots)) (set i.first_over.items c.args.slice c.past_over.result) i.free) (sym c.set_column.ensures)
     (kept-end i.slices i.columns i.held.items i.first_over.items i.free c.args.self.now c.self.invariant c.self.view_is c.args.slice at.slice_in_range c.args.column at.column_in_range c.in-Some.slots has
     slot c.past_over.result c.requires.not_over
-    (subst (λ (slot : Slot). FitsColumn c.args.became slot.doc) (slot-read i.slices i.columns i.held.items i.first_over.items i.free c.args.self.now c.self.invariant c.self.view_is c.args.slice at.slice_in_range c.args.column at.column_in_range c.in-Some.slots has) c.requires.fits)
+    (subst (λ (slot : Slot). MayHold c.args.became slot.doc) (slot-read i.slices i.columns i.held.items i.first_over.items i.free c.args.self.now c.self.invariant c.self.view_is c.args.slice at.slice_in_range c.args.column at.column_in_range c.in-Some.slots has) c.requires.fits)
     (subst (λ (slots : List Slot). ComesPastOver slots (get_or i.first_over.items c.args.slice 0) c.past_over.result) c.set_column.ensures
     (subst (λ n. ComesPastOver c.set_column.new.self n c.past_over.result) first c.past_over.ensures)))
 

@@ -28,6 +28,6 @@ returns-in-Err-clause-refused g c =
     let legal = subst (λ (p : PoolId). IsLegal p.limits next.front) c.self.invariant did.legal in
     rw (← c.pass.view_is)
     (record {
-      step = refused_step limits seat.number query seat.front next.front c.pass.invariant.rests.idle legal (subst (λ n. IsIdle n next.front) did.number did.rests.idle) c.in-Err.fault turns;
+      step = refused_step limits seat.number query seat.front next.front c.pass.invariant.between.rests.idle legal (subst (λ n. IsIdle n next.front) did.number did.rests.idle) c.in-Err.fault turns;
       number = did.number;
     })

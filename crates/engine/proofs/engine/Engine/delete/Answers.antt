@@ -7,22 +7,25 @@ use Rattle.engine.specs.Replies.{reply_of_delete}
 use Rattle.funnel_model.specs.declared.call.Call.TheVariants as call
 use Rattle.engine.proofs.engine.Engine.delete.Goals as goal
 
-pub delete-requires-clause-rests : goal.delete-requires-clause-rests
-delete-requires-clause-rests g c = subst (λ (p : PoolId). IsResting p c.pass.inside.seat) (sym c.self.invariant) c.pass.invariant.rests
+pub delete-answer-requires-clause-rests : goal.delete-answer-requires-clause-rests
+delete-answer-requires-clause-rests g c = subst (λ (p : PoolId). IsResting p c.pass.inside.seat) (sym c.self.invariant) c.pass.invariant.between.rests
 
 pub returns-clause-call : goal.returns-clause-call
 returns-clause-call g c =
     rw (← c.pass.view_is)
-    (subst (λ (p : PoolId). MakesCall p.limits (call.Delete c.args.id) (reply_of_delete c.delete.result) (view_of c.pass.inside.seat) (view_of c.delete.new.pass)) c.self.invariant c.delete.ensures.call)
+    (subst (λ (p : PoolId). MakesCall p.limits (call.Delete c.args.id) (reply_of_delete c.delete-answer.result) (view_of c.pass.inside.seat) (view_of c.delete-answer.new.pass)) c.self.invariant c.delete-answer.ensures.call)
 
 pub returns-clause-turn : goal.returns-clause-turn
 returns-clause-turn g c =
     rw (← c.pass.view_is)
-    (subst (λ (p : PoolId). DeleteTurn p.limits c.args.id c.delete.result (view_of c.pass.inside.seat) (view_of c.delete.new.pass)) c.self.invariant c.delete.ensures.turn)
+    (subst (λ (p : PoolId). DeleteTurn p.limits c.args.id c.delete-answer.result (view_of c.pass.inside.seat) (view_of c.delete-answer.new.pass)) c.self.invariant c.delete-answer.ensures.turn)
 
 pub invariant_of-pass : goal.invariant_of-pass
 invariant_of-pass g c = record {
-  rests = subst (λ (p : PoolId). IsResting p c.delete.new.pass) c.self.invariant c.delete.ensures.rests;
-  none = c.pass.invariant.none;
-  room = c.pass.invariant.room;
+  between = record {
+    rests = subst (λ (p : PoolId). IsResting p c.delete-answer.new.pass) c.self.invariant c.delete-answer.ensures.rests;
+    none = c.pass.invariant.between.none;
+    room = c.pass.invariant.between.room;
+  };
+  dropped = c.free_some.ensures;
 }

@@ -8,7 +8,7 @@ use Rattle.funnel_model.specs.declared.call.Call.TheVariants as call
 use Rattle.engine.proofs.engine.Engine.journal.Goals as goal
 
 pub journal-requires-clause-rests : goal.journal-requires-clause-rests
-journal-requires-clause-rests g c = subst (λ (p : PoolId). IsResting p c.pass.inside.seat) (sym c.self.invariant) c.pass.invariant.rests
+journal-requires-clause-rests g c = subst (λ (p : PoolId). IsResting p c.pass.inside.seat) (sym c.self.invariant) c.pass.invariant.between.rests
 
 pub returns-clause-call : goal.returns-clause-call
 returns-clause-call g c =
@@ -22,7 +22,10 @@ returns-clause-turn g c =
 
 pub invariant_of-pass : goal.invariant_of-pass
 invariant_of-pass g c = record {
-  rests = subst (λ (p : PoolId). IsResting p c.journal.new.pass) c.self.invariant c.journal.ensures.rests;
-  none = c.pass.invariant.none;
-  room = c.pass.invariant.room;
+  between = record {
+    rests = subst (λ (p : PoolId). IsResting p c.journal.new.pass) c.self.invariant c.journal.ensures.rests;
+    none = c.pass.invariant.between.none;
+    room = c.pass.invariant.between.room;
+  };
+  dropped = c.pass.invariant.dropped;
 }

@@ -11,7 +11,7 @@ returns-clause-seen g c =
     let note = c.note.inside.note in
     let met = c.join.ensures in
     rw (← c.pass.view_is)
-    (meets_others seat c.join.new.seat (longer seat.front note.front) (note.facts ++ seat.told) met.seat (met.none_since c.pass.invariant.rests.seated.none_outstanding))
+    (meets_others seat c.join.new.seat (longer seat.front note.front) (note.facts ++ seat.told) met.seat (met.none_since c.pass.invariant.between.rests.seated.none_outstanding))
 
 pub returns-clause-pass : goal.returns-clause-pass
 returns-clause-pass g c =
@@ -21,9 +21,9 @@ returns-clause-pass g c =
     let met = c.join.ensures in
     rw (← c.pass.view_is)
     (record {
-      calls = meets_no_call seat next (longer seat.front note.front) (note.facts ++ seat.told) met.seat (met.none_since c.pass.invariant.rests.seated.none_outstanding);
+      calls = meets_no_call seat next (longer seat.front note.front) (note.facts ++ seat.told) met.seat (met.none_since c.pass.invariant.between.rests.seated.none_outstanding);
       legal = subst (λ (p : PoolId). IsLegal p.limits next.front) (c.shared.ensures ∙ c.self.invariant) met.legal;
-      number = same_number seat next (longer seat.front note.front) (note.facts ++ seat.told) met.seat (met.none_since c.pass.invariant.rests.seated.none_outstanding);
+      number = same_number seat next (longer seat.front note.front) (note.facts ++ seat.told) met.seat (met.none_since c.pass.invariant.between.rests.seated.none_outstanding);
     })
 
 pub invariant_of-pass : goal.invariant_of-pass
@@ -32,7 +32,10 @@ invariant_of-pass g c =
     let note = c.note.inside.note in
     let met = c.join.ensures in
     record {
-      rests = rests_met seat c.join.new.seat (longer seat.front note.front) (note.facts ++ seat.told) met.seat (met.none_since c.pass.invariant.rests.seated.none_outstanding) g.N.PoolName.pool c.pass.invariant.rests met.own met.asked;
-      none = c.pass.invariant.none;
-      room = c.pass.invariant.room;
+      between = record {
+        rests = rests_met seat c.join.new.seat (longer seat.front note.front) (note.facts ++ seat.told) met.seat (met.none_since c.pass.invariant.between.rests.seated.none_outstanding) g.N.PoolName.pool c.pass.invariant.between.rests met.own met.asked;
+        none = c.pass.invariant.between.none;
+        room = c.pass.invariant.between.room;
+      };
+      dropped = c.pass.invariant.dropped;
     }

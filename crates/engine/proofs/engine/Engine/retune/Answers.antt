@@ -36,8 +36,8 @@ returns-in-Err-clause-call g c =
     let seat = c.pass.inside.seat in
     let room = ap (λ (p : PoolId). p.limits.slice_words) c.self.invariant in
     let did = c.in-Err.ensures in
-    let legal = subst (λ (p : PoolId). IsLegal p.limits seat.front) c.pass.invariant.rests.seated.same c.number.ensures.legal in
+    let legal = subst (λ (p : PoolId). IsLegal p.limits seat.front) c.pass.invariant.between.rests.seated.same c.number.ensures.legal in
     let turn = unfit_turn limits c.args.config.now c.self.inside.pool.limits.slice_words room c.in-Err.fault did.wide did.fits (view_of seat) in
     rw (← c.pass.view_is)
     (subst (λ (f : TuneFault). MakesTuneCall limits c.args.config.now (Err f) (view_of seat) (view_of seat)) (sym c.unfit.ensures)
-    (tune_call limits seat.number seat.front seat.front c.pass.invariant.rests.idle legal seat.number refl c.args.config.now (Err (fault_of_layout c.in-Err.fault)) turn))
+    (tune_call limits seat.number seat.front seat.front c.pass.invariant.between.rests.idle legal seat.number refl c.args.config.now (Err (fault_of_layout c.in-Err.fault)) turn))

@@ -26,8 +26,8 @@ pub returns-in_default-clause-call : goal.returns-in_default-clause-call
 returns-in_default-clause-call g c =
     let limits = g.N.PoolName.pool.limits in
     let seat = c.pass.inside.seat in
-    let legal = subst (λ (p : PoolId). IsLegal p.limits seat.front) c.pass.invariant.rests.seated.same c.number.ensures.legal in
-    rw (← c.pass.view_is) (tune_call limits seat.number seat.front seat.front c.pass.invariant.rests.idle legal seat.number refl c.args.config.now (Err tune.Memory) (c.requires.fits, refl))
+    let legal = subst (λ (p : PoolId). IsLegal p.limits seat.front) c.pass.invariant.between.rests.seated.same c.number.ensures.legal in
+    rw (← c.pass.view_is) (tune_call limits seat.number seat.front seat.front c.pass.invariant.between.rests.idle legal seat.number refl c.args.config.now (Err tune.Memory) (c.requires.fits, refl))
 
 pub returns-in_default-clause-turn : goal.returns-in_default-clause-turn
 returns-in_default-clause-turn g c = rw (← c.pass.view_is) (c.requires.fits, refl)
@@ -39,7 +39,7 @@ returns-in-Ok-tune_turn-clause-call g c =
     let next = c.tune_turn.new.pass in
     let did = c.in-Ok-tune_turn.ensures in
     rw (← c.pass.view_is)
-    (tune_call limits seat.number seat.front next.front c.pass.invariant.rests.idle did.legal next.number did.number c.args.config.now (Ok c.in-Ok-tune_turn.count) (c.requires.fits, told (Ok c.in-Ok-tune_turn.count) did.turn))
+    (tune_call limits seat.number seat.front next.front c.pass.invariant.between.rests.idle did.legal next.number did.number c.args.config.now (Ok c.in-Ok-tune_turn.count) (c.requires.fits, told (Ok c.in-Ok-tune_turn.count) did.turn))
 
 pub returns-in-Ok-tune_turn-clause-turn : goal.returns-in-Ok-tune_turn-clause-turn
 returns-in-Ok-tune_turn-clause-turn g c = rw (← c.pass.view_is) (c.requires.fits, told (Ok c.in-Ok-tune_turn.count) c.in-Ok-tune_turn.ensures.turn)
@@ -51,7 +51,7 @@ returns-clause-call g c =
     let next = c.tune_turn.new.pass in
     let did = c.in-Err.ensures in
     rw (← c.pass.view_is)
-    (tune_call limits seat.number seat.front next.front c.pass.invariant.rests.idle did.legal next.number did.number c.args.config.now (Err (tune.Spent c.in-Err.spent.events)) (c.requires.fits, told (Err c.in-Err.spent) did.turn))
+    (tune_call limits seat.number seat.front next.front c.pass.invariant.between.rests.idle did.legal next.number did.number c.args.config.now (Err (tune.Spent c.in-Err.spent.events)) (c.requires.fits, told (Err c.in-Err.spent) did.turn))
 
 pub returns-clause-turn : goal.returns-clause-turn
 returns-clause-turn g c = rw (← c.pass.view_is) (c.requires.fits, told (Err c.in-Err.spent) c.in-Err.ensures.turn)

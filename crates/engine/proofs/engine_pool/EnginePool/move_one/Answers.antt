@@ -1,10 +1,10 @@
-use Rattle.std.proofs.Common.{◌≡◌, ◌∙◌, ◌*◌, ◌≤◌, [], ◌∷◌, ℕ, List, Ok, Err, Option, None, IfSome, inl, inr, length, sym, ap, subst}
+use Rattle.std.proofs.Common.{◌≡◌, ◌∙◌, ◌*◌, ◌≤◌, ◌↔◌, [], ◌∷◌, ℕ, List, Ok, Err, Option, None, IfSome, IsTrue, inl, inr, length, sym, ap, subst}
 use Rattle.commit_desk.proofs.DocumentEvents.{bits_of_text}
-use Rattle.std.specs.Option.{is_none}
+use Rattle.commit_desk.specs.Leaving.{is_moved}
 use Rattle.commit_desk.specs.declared.answers.NotTaken.{NotTaken}
 use Rattle.commit_desk.specs.declared.answers.NotTaken.TheVariants as untaken
 use Rattle.commit_desk.specs.declared.look.Look.{Look}
-use Rattle.commit_desk.specs.Moving.{AnswersTakeMove, HoldsLook}
+use Rattle.commit_desk.specs.Moving.{AnswersTakeMove, HoldsLook, IsThereStill, event_of_move}
 use Rattle.commit_desk.specs.Passes.{HasWritten}
 use Rattle.engine.specs.Moves.{AreBitsAt, IsLookForMove}
 use Rattle.funnel_model.specs.declared.event.Event.{Event}
@@ -12,7 +12,7 @@ use Rattle.funnel_model.specs.declared.event.Event.TheVariants as event
 use Rattle.funnel_model.specs.History.{IsFrontOf}
 use Rattle.funnel_model.specs.Tunings.{treat}
 use Rattle.slice_recycler.specs.Turns.{IsTurn}
-use Rattle.slice_recycler.proofs.Steps.{turn_grows}
+use Rattle.slice_recycler.proofs.Steps.{turn_as, turn_grows}
 use Rattle.commit_desk.proofs.HeldClaims.{holds_by_own, holds_on}
 use Rattle.engine.proofs.MovePasses.{lacks_later, lacks_memory, looks_in_vain, move_turns}
 use Rattle.engine.proofs.Moves.{front_refl, silent_turn}
@@ -69,8 +69,12 @@ returns-clause-moved g c =
     let of_words = subst (λ (k : Look). HasWritten pool taken.claim k.doc.words bits wrote) same written in
     let of_text : AreBitsAt config pool.limits wrote.front look.doc.text taken.claim bits =
     bits_of_text pool.limits.slice_words (treat config taken.claim.slice wrote.front) look.doc.words look.doc.text taken.claim.slice taken.claim.column bits held.of_text of_words.document in
-    move_turns config pool.limits pass.number c.args.replaces c.args.id pass.front c.end_move.new.pass.front look taken bits (is_none c.end_move.result) seen took wrote looked c.look.ensures.number turn same c.take_move.ensures.number
-    c.write.ensures.seat of_text c.end_move.ensures.turn
+    let moved = is_moved c.end_move.result in
+    let after = c.end_move.new.pass.front in
+    let ended : IsTurn wrote.number wrote.front after (λ history. IsTrue moved ↔ IsThereStill history taken.look) (event_of_move wrote.number taken.look taken.claim bits moved ∷ []) =
+    turn_as wrote.number wrote.front after (event_of_move wrote.number taken.look taken.claim bits moved ∷ []) (λ history did. did.0) c.end_move.ensures.turn in
+    move_turns config pool.limits pass.number c.args.replaces c.args.id pass.front after look taken bits moved seen took wrote looked c.look.ensures.number turn same c.take_move.ensures.number
+    c.write.ensures.seat of_text ended
 
 -- no document is to be moved
 pub returns-in-Ok-None-clause-moved : goal.returns-in-Ok-None-clause-moved

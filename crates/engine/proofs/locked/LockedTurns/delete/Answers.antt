@@ -5,4 +5,4 @@ pub returns-clause-rests : goal.returns-clause-rests
 returns-clause-rests g c =
     let rests = c.requires.rests in
     let did = c.delete.ensures in
-    rests_delete c.args.pool.now c.deref_mut.result.now.desk c.delete.new.self c.args.pass.now c.delete.new.seat rests.seated.same did.none_outstanding rests.idle c.args.id c.delete.result did.events
+    rests_delete c.args.pool.now c.deref_mut.result.now.desk c.delete.new.self c.args.pass.now c.delete.new.seat rests.seated.same did.none_outstanding rests.idle c.args.id c.delete.result.0 did.events

@@ -8,7 +8,7 @@ at_most_one false = omega arith
 
 pub overflow_add-count : goal.overflow_add-count
 overflow_add-count c =
-    let few = c.self.invariant in
+    let few = c.self.invariant.0 in
     let sum = c.loop-token.invariant.1 in
     let one = at_most_one c.is_some.result in
     omega (arith, one)

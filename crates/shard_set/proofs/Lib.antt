@@ -1,0 +1,10 @@
+pub mod Lists
+pub mod Found
+pub mod Parts
+pub mod Shards
+pub mod Merged
+pub mod SetLemmas
+pub mod Refusals
+pub mod Asked
+pub mod FindLemmas
+pub mod OpenLemmas

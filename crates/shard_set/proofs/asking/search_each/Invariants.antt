@@ -1,0 +1,6 @@
+use Rattle.shard_set.specs.Asking.{HasFound}
+use Rattle.shard_set.specs.Calls.{SearchesIn}
+use Rattle.shard_set.proofs.asking.search_each.Given as goal
+
+abbrev pub invariant-loop-shard : goal.invariant-loop-shard
+invariant-loop-shard l = HasFound (SearchesIn l.text) l.homes.entries l.fn.shards.items l.shard-index l.shard-items l.found.items
